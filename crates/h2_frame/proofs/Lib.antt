@@ -1,0 +1,3 @@
+pub mod FrameLemmas
+pub mod HeadLemmas
+pub mod PairLemmas

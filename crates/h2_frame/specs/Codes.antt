@@ -1,0 +1,52 @@
+-- Names of error codes, and kinds of frames by their numbers (RFC 9113, sections 6 and 7).
+use Rattle.std.specs.Prelude.{ℕ, ◌==◌, if◌then◌else◌, List, codes}
+use Rattle.h2_frame.specs.declared.code.Code.{Code}
+use Rattle.h2_frame.specs.declared.code.Code.TheVariants.{NoError, ProtocolError, InternalError, FlowControlError, SettingsTimeout, StreamClosed, FrameSizeError, RefusedStream, Cancel, CompressionError, ConnectError, EnhanceYourCalm, InadequateSecurity, Http11Required}
+use Rattle.h2_frame.specs.declared.kind.Kind.{Kind}
+use Rattle.h2_frame.specs.declared.kind.Kind.TheVariants.{Data, Headers, Priority, RstStream, Settings, PushPromise, Ping, GoAway, WindowUpdate, Continuation, Unknown}
+
+-- the name of an error code (RFC 9113, section 7)
+abbrev pub name_of : Code → List ℕ
+name_of NoError = codes "NO_ERROR"
+name_of ProtocolError = codes "PROTOCOL_ERROR"
+name_of InternalError = codes "INTERNAL_ERROR"
+name_of FlowControlError = codes "FLOW_CONTROL_ERROR"
+name_of SettingsTimeout = codes "SETTINGS_TIMEOUT"
+name_of StreamClosed = codes "STREAM_CLOSED"
+name_of FrameSizeError = codes "FRAME_SIZE_ERROR"
+name_of RefusedStream = codes "REFUSED_STREAM"
+name_of Cancel = codes "CANCEL"
+name_of CompressionError = codes "COMPRESSION_ERROR"
+name_of ConnectError = codes "CONNECT_ERROR"
+name_of EnhanceYourCalm = codes "ENHANCE_YOUR_CALM"
+name_of InadequateSecurity = codes "INADEQUATE_SECURITY"
+name_of Http11Required = codes "HTTP_1_1_REQUIRED"
+
+-- the kind that an octet of a head names (RFC 9113, section 6); other numbers are unknown kinds
+unfoldable pub kind_of : ℕ → Kind
+kind_of number =
+    if number == 0 then Data
+    else if number == 1 then Headers
+    else if number == 2 then Priority
+    else if number == 3 then RstStream
+    else if number == 4 then Settings
+    else if number == 5 then PushPromise
+    else if number == 6 then Ping
+    else if number == 7 then GoAway
+    else if number == 8 then WindowUpdate
+    else if number == 9 then Continuation
+    else Unknown number
+
+-- the number of a kind
+abbrev pub number_of : Kind → ℕ
+number_of Data = 0
+number_of Headers = 1
+number_of Priority = 2
+number_of RstStream = 3
+number_of Settings = 4
+number_of PushPromise = 5
+number_of Ping = 6
+number_of GoAway = 7
+number_of WindowUpdate = 8
+number_of Continuation = 9
+number_of (Unknown number) = number

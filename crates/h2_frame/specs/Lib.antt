@@ -1,0 +1,4 @@
+pub mod Codes
+pub mod Heads
+pub mod Pairs
+pub mod Frames

@@ -1,0 +1,23 @@
+//! Laws of frames, each the contract of a function that does nothing.
+
+ghost use Rattle.std.specs.Prelude.{◌≡◌, ℕ, ◌≤◌, ◌++◌, List, length, None};
+ghost use Rattle.h2_frame.specs.declared.heads.Head.{Head};
+ghost use Rattle.h2_frame.specs.Heads.{head_of, form_fault, head_fault as fault_of};
+ghost use Rattle.h2_frame.specs.Frames.{Frame, Spells};
+
+/// Octets spell one frame at most.
+pub fn one_frame()
+    ensures { (frame other : Frame) (octets : List ℕ) → Spells frame octets → Spells other octets → frame ≡ other }
+{}
+
+/// A head is read from nine octets, whatever follows them.
+pub fn nine_octets()
+    ensures { (octets more : List ℕ) → 9 ≤ length octets → head_of (octets ++ more) ≡ head_of octets }
+{}
+
+/// A head without fault has a length within the limit, and no fault of its form, which is what is left of the faults with the
+/// limit put aside.
+pub fn within_limit()
+    ensures length { (read : Head) (limit : ℕ) → fault_of read limit ≡ None → read.length ≤ limit }
+    ensures form { (read : Head) (limit : ℕ) → fault_of read limit ≡ None → form_fault read ≡ None }
+{}

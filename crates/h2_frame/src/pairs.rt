@@ -1,0 +1,65 @@
+//! The pairs of SETTINGS (RFC 9113, section 6.5.1), lent.
+
+ghost use Rattle.std.specs.Prelude.{◌≡◌, ◌==◌, length};
+ghost use Rattle.std.specs.Iterator.{YieldsFirst, item_count};
+ghost use Rattle.h2_frame.specs.Pairs.{lent_pairs, pairs_left};
+
+use byteorder::{BigEndian, ByteOrder};
+
+/// The octets of a pair.
+const PAIR: usize = 6;
+
+/// The pairs of a SETTINGS frame, identifier and value, in the octets that spell them.
+#[derive(Clone, Copy, Debug, PartialEq, Eq)]
+pub struct Pairs<'a> {
+    pub(crate) octets: &'a [u8],
+}
+
+impl<'a> Pairs<'a> {
+    /// How many pairs there are.
+    pub fn len(&self) -> usize
+        ensures { result ≡ length (lent_pairs self.now) }
+    {
+        self.octets.len() / PAIR
+    }
+
+    /// Whether there is none.
+    pub fn is_empty(&self) -> bool
+        ensures { result ≡ (length (lent_pairs self.now) == 0) }
+    {
+        self.octets.len() < PAIR
+    }
+
+    /// The pairs in order.
+    pub fn iter(&self) -> PairIter<'a>
+        ensures { pairs_left result ≡ lent_pairs self.now }
+    {
+        PairIter {
+            octets: self.octets,
+        }
+    }
+}
+
+/// Goes over the pairs of a SETTINGS frame in order.
+#[derive(Debug, Drop)]
+pub struct PairIter<'a> {
+    octets: &'a [u8],
+}
+
+impl Iterator for PairIter<'_> {
+    type Item = (u16, u32);
+
+    ghost next_gives = { YieldsFirst pairs_left };
+
+    ghost remaining = { item_count pairs_left };
+
+    fn next(&mut self) -> Option<(u16, u32)> {
+        if self.octets.len() < PAIR {
+            return None;
+        }
+        let id = BigEndian::read_u16(self.octets);
+        let value = BigEndian::read_u32(&self.octets[2..]);
+        self.octets = &self.octets[PAIR..];
+        Some((id, value))
+    }
+}

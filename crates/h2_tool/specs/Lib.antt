@@ -1,0 +1,4 @@
+pub mod Statuses
+pub mod Hexadecimal
+pub mod Showing
+pub mod Telling

@@ -1,0 +1,81 @@
+//! What the words of a command line ask for.
+
+use clap::{Arg, ArgAction, Command, Error};
+use std::alloc::{AllocError, Global};
+
+/// What `h2 show` is asked for.
+#[derive(Clone, Copy, Debug, PartialEq, Eq)]
+pub struct ShowOrder {
+    /// Whether the input is hexadecimal text.
+    pub hex: bool,
+    /// The end that sent the octets.
+    pub from: Side,
+}
+
+/// An end of a connection.
+#[derive(Clone, Copy, Debug, PartialEq, Eq, Hash)]
+pub enum Side {
+    /// The client, which begins with the preface (RFC 9113, section 3.4).
+    Client,
+    /// The server.
+    Server,
+}
+
+/// Reads the words behind `show`.
+///
+/// # Errors
+///
+/// The kind is `DisplayHelp` where help is asked for, `OutOfMemory` where memory was refused, and another one where a word
+/// is wrong. The error's text is for the user.
+pub fn show_order(alloc: Global, words: &[String]) -> Result<ShowOrder, Error> {
+    let command = show_command(alloc)?.no_binary_name(true);
+    let matches = command.try_get_matches_from(words)?;
+    let from = match matches.get_str(FROM) {
+        Some("server") => Side::Server,
+        _ => Side::Client,
+    };
+    Ok(ShowOrder {
+        hex: matches.get_flag(HEX),
+        from,
+    })
+}
+
+/// Reads words that begin with no command's name. They ask for help or the version, or they are wrong.
+///
+/// # Errors
+///
+/// As [`show_order`], and `DisplayVersion` where the version is asked for.
+pub(crate) fn no_command(alloc: Global, words: &[String]) -> Result<(), Error> {
+    let command = Command::new(alloc, "h2")
+        .bin_name("h2")?
+        .about("Shows what HTTP/2 over cleartext holds")
+        .version("0.1.0")
+        .no_binary_name(true)
+        .subcommand_required(true)
+        .arg_required_else_help(true)
+        .subcommand(show_command(alloc)?)?;
+    command.try_get_matches_from(words)?;
+    Ok(())
+}
+
+const HEX: &str = "hex";
+
+const FROM: &str = "from";
+
+fn show_command<'a>(alloc: Global) -> Result<Command<'a>, AllocError> {
+    let hex = Arg::new(alloc, HEX)
+        .long(HEX)
+        .action(ArgAction::SetTrue)
+        .help("Read hexadecimal text, in which blanks are ignored");
+    let from = Arg::new(alloc, FROM)
+        .long(FROM)
+        .value_name("SIDE")
+        .value_parser(["client", "server"].as_slice())
+        .default_value("client")
+        .help("The end that sent the octets; a client begins with the preface");
+    Command::new(alloc, "show")
+        .bin_name("h2 show")?
+        .about("Prints the frames of standard input, one line each")
+        .arg(hex)?
+        .arg(from)
+}

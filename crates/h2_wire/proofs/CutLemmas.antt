@@ -1,0 +1,59 @@
+-- What a call answers, from what it made of its buffer.
+use Rattle.std.proofs.Common.{◌≡◌, ℕ, Bool, true, false, List, [], drop, Option, None, Some, IfSome, Result, Ok, Err, refl, ap, arith, inl, inr, lit<}
+use Rattle.std.proofs.lemmas.List.{take_all}
+use Rattle.h2_frame.specs.declared.heads.Head.{Head}
+use Rattle.h2_frame.specs.declared.frame.FrameRef.{FrameRef}
+use Rattle.h2_frame.specs.Frames.{frame_of, Carries}
+use Rattle.h2_wire.specs.declared.buffer.Buffer.{Buffer}
+use Rattle.h2_wire.specs.declared.fault.WireFault.{WireFault}
+use Rattle.h2_wire.specs.Streams.{preface, opening}
+use Rattle.h2_wire.specs.Cutting.{CutterState, Stands, Advances}
+use Rattle.h2_wire.proofs.StreamLemmas.{IsPartial-empty}
+use Rattle.h2_wire.specs.Buffers.{state_of}
+use Rattle.h2_wire.specs.Steps.{Continues, Completes}
+
+-- the whole piece was used
+pub advances_none : (old : CutterState) (piece : List ℕ) (used : ℕ) (new : Buffer) → Continues old piece used new
+    → Advances old piece (record { used = used; frame = None }) (state_of new)
+advances_none old piece used new more = record {
+  goes_on = rw (take_all used piece (omega (arith, more.all))) more.goes_on;
+  nothing_behind_a_frame = λ some. (cc);
+}
+
+-- a frame is lent
+pub advances_some : (old : CutterState) (piece : List ℕ) (used : ℕ) (head : Head) (frame : FrameRef) (new : Buffer) → Completes old piece used head new
+    → Carries head (drop 9 new.held.items) (frame_of frame) → Advances old piece (record { used = used; frame = Some frame }) (state_of new)
+advances_some old piece used head frame new whole carried = record {
+  goes_on = whole.goes_on (frame_of frame) carried;
+  nothing_behind_a_frame = λ some. whole.nothing_behind;
+}
+
+-- Where a call answered otherwise than by a fault there was none before.
+pub not_failed : {A B : Type 0} (fault : Option WireFault) (one : A) (other : B) → IfSome fault (λ known. ◌≡◌ {A = Result A WireFault} (Ok one) (Err known))
+    → IfSome fault (λ known. ◌≡◌ {A = Result B WireFault} (Ok other) (Err known))
+not_failed None one other failed = tt
+not_failed (Some known) one other failed = (cc)
+
+-- a fault that was answered below is answered above
+pub failed_again : (A B : Type 0) (known : Option WireFault) (fault : WireFault) → IfSome known (λ first. ◌≡◌ {A = Result A WireFault} (Err fault) (Err first))
+    → IfSome known (λ first. ◌≡◌ {A = Result B WireFault} (Err fault) (Err first))
+failed_again A B None fault failed = tt
+failed_again A B (Some first) fault failed = let same : fault ≡ first = cc in ap Err same
+
+-- The empty stream, of a cutter that has used nothing.
+pub stands_empty : (expects : Bool) (limit : ℕ) → Stands (record { limit = limit; before = expects; rest = []; place = 0; fault = None }) expects (λ _. limit) [] []
+unfolding opening preface
+stands_empty true limit = record {
+  sound = refl;
+  split = inl (record { missing = preface; opens = refl; short = lit< tt; none = refl; all = refl });
+  before = refl;
+  place = refl;
+  ahead = λ place later. refl;
+}
+stands_empty false limit = record {
+  sound = refl;
+  split = inr (record { part = []; joined = refl; sound = record { body = []; opened = refl; framed = refl }; partial = IsPartial-empty limit });
+  before = refl;
+  place = refl;
+  ahead = λ place later. refl;
+}

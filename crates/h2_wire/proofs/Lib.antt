@@ -1,0 +1,7 @@
+pub mod StreamLemmas
+pub mod BufferLemmas
+pub mod CallLemmas
+pub mod ReadingLemmas
+pub mod CutLemmas
+pub mod FaultLemmas
+pub mod StepLemmas

@@ -1,0 +1,32 @@
+-- A call advances, or fails.
+use Rattle.std.proofs.Common.{refl, arith}
+use Rattle.std.proofs.lemmas.List.{take_rest}
+use Rattle.std.proofs.lemmas.Result.{err_from_is_err_and}
+use Rattle.h2_wire.proofs.CutLemmas.{advances_none, advances_some, not_failed, failed_again}
+use Rattle.h2_wire.proofs.cutter.Cutter.cut.Goals as goal
+use Rattle.h2_wire.proofs.cutter.Cutter.cut.Goals.{in-None, in-Some}
+
+pub returns-in_err-step : goal.returns-in_err-step
+returns-in_err-step c =
+    let answer = err_from_is_err_and c.from_residual.result c.from_residual.ensures.1 in
+    rw (answer.1, answer.2, ← c.self.view_is) (
+      (refl, λ _. tt, c.in_err-step.ensures.takes),
+      record { used = tt; all = tt; some = tt; failed = failed_again _ _ _ c.in_err-step.field-0.0 c.in_err-step.ensures.failed; after = tt },
+    )
+
+pub returns : goal.returns
+returns c = elim c.match-step.branch [
+  | in-None w ↦
+      let more = rw w.in-None.is at c.in_ok-step.ensures.takes in
+      rw (w.self-is, w.frame-is, ← c.self.view_is) (
+        (refl, λ _. tt, advances_none _ c.args.piece.now c.in_ok-step.step.used c.take.new.self more),
+        record { used = omega (arith, more.all); all = λ _. more.all; some = λ some. (cc); failed = not_failed _ c.in_ok-step.step _ c.in_ok-step.ensures.failed; after = tt },
+      )
+  | in-Some w ↦
+      let whole = rw w.in-Some.is at c.in_ok-step.ensures.takes in
+      let carried = rw (take_rest w.deref.result.now 9, w.deref.ensures.value) at w.lend.ensures in
+      rw (w.self-is, w.frame-is, ← c.self.view_is) (
+        (refl, λ _. tt, advances_some _ c.args.piece.now c.in_ok-step.step.used w.in-Some.head w.lend.result c.take.new.self whole carried),
+        record { used = whole.within; all = λ none. (cc); some = λ _. whole.some; failed = not_failed _ c.in_ok-step.step _ c.in_ok-step.ensures.failed; after = tt },
+      )
+]

@@ -1,0 +1,14 @@
+-- By the lemmas on partial rests.
+use Rattle.std.proofs.Common.{refl, ◌++◌}
+use Rattle.h2_wire.proofs.FaultLemmas.{partial_no_head, partial_no_frame}
+use Rattle.h2_wire.proofs.ReadingLemmas.{partial_stops}
+use Rattle.h2_wire.proofs.laws.nothing_in_a_rest.Goals as goal
+
+pub returns-clause-frame : goal.returns-clause-frame
+returns-clause-frame c = λ limit front more frame partial sound. partial_stops limit (front ++ more) partial frame front more refl sound
+
+pub returns-clause-head : goal.returns-clause-head
+returns-clause-head c = partial_no_head
+
+pub returns-clause-payload : goal.returns-clause-payload
+returns-clause-payload c = λ limit front more code partial whole faulty. partial_no_frame limit front more partial whole

@@ -1,0 +1,5 @@
+pub mod Faults
+pub mod Streams
+pub mod Cutting
+pub mod Buffers
+pub mod Steps

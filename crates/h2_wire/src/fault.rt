@@ -1,0 +1,38 @@
+//! The faults of a stream of frames.
+
+ghost use Rattle.std.specs.Prelude.{◌≡◌};
+ghost use Rattle.h2_wire.specs.Faults.{code_of};
+
+use h2_frame::Code;
+use thiserror::Error;
+
+/// Why a stream isn't cut any further.
+#[derive(Clone, Copy, Debug, PartialEq, Eq, Error)]
+pub enum WireFault {
+    /// An octet isn't that of the preface (RFC 9113, section 3.4).
+    #[error("V1 BadPreface: the stream doesn't begin with the preface")]
+    BadPreface,
+    /// A head is at fault, known at its ninth octet.
+    #[error("V2 HeadFault: {0}")]
+    HeadFault(Code),
+    /// A payload is at fault, known at its last octet.
+    #[error("V3 PayloadFault: {0}")]
+    PayloadFault(Code),
+    /// Memory was refused.
+    #[error("V4 Memory: out of memory")]
+    Memory,
+}
+
+impl WireFault {
+    /// The code with which the connection ends: that of the fault, PROTOCOL_ERROR for a wrong preface, and INTERNAL_ERROR
+    /// for want of memory.
+    pub fn code(self) -> Code
+        ensures { result ≡ code_of self }
+    {
+        match self {
+            WireFault::BadPreface => Code::ProtocolError,
+            WireFault::HeadFault(code) | WireFault::PayloadFault(code) => code,
+            WireFault::Memory => Code::InternalError,
+        }
+    }
+}

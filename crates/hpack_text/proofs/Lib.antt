@@ -1,0 +1,10 @@
+pub mod BitLemmas
+pub mod CodeLemmas
+pub mod IntegerLemmas
+pub mod IntegerWriting
+pub mod ReadLemmas
+mod Rows
+pub mod StringLemmas
+pub mod TableLemmas
+pub mod TreeLemmas
+pub mod WriteLemmas

@@ -1,0 +1,66 @@
+-- The definitions, computed on rows whose values come from RFC 7541 and from the worked rows of the tool's description.
+use Rattle.std.proofs.Common.{◌≡◌, [], ◌∷◌, refl}
+use Rattle.hpack_text.specs.Bits.{bits_of, number_of, octets_of}
+use Rattle.hpack_text.specs.Huffman.{groups, code_in, code, coded}
+use Rattle.hpack_text.specs.Integers.{continuation_of, integer}
+use Rattle.hpack_text.specs.Strings.{string}
+
+-- opens all that computes
+unfoldable pub computing : Unit {0}
+unfolding bits_of number_of octets_of groups code_in code coded continuation_of integer string
+computing = tt
+
+-- 10 in 5 bits
+ten : integer 5 0 10 ≡ 0x0a ∷ []
+unfolding computing
+ten = refl
+
+-- 1337 in 5 bits
+leet : integer 5 0 1337 ≡ 0x1f ∷ 0x9a ∷ 0x0a ∷ []
+unfolding computing
+leet = refl
+
+forty_two : integer 8 0 42 ≡ 0x2a ∷ []
+unfolding computing
+forty_two = refl
+
+thirty_one : integer 5 0 31 ≡ 0x1f ∷ 0 ∷ []
+unfolding computing
+thirty_one = refl
+
+-- `www.example.com`
+example : coded (119 ∷ 119 ∷ 119 ∷ 46 ∷ 101 ∷ 120 ∷ 97 ∷ 109 ∷ 112 ∷ 108 ∷ 101 ∷ 46 ∷ 99 ∷ 111 ∷ 109 ∷ [])
+    ≡ 0xf1 ∷ 0xe3 ∷ 0xc2 ∷ 0xe5 ∷ 0xf2 ∷ 0x3a ∷ 0x6b ∷ 0xa0 ∷ 0xab ∷ 0x90 ∷ 0xf4 ∷ 0xff ∷ []
+unfolding computing
+example = refl
+
+letter_a : coded (97 ∷ []) ≡ 0x1f ∷ []
+unfolding computing
+letter_a = refl
+
+octet_zero : coded (0 ∷ []) ≡ 0xff ∷ 0xc7 ∷ []
+unfolding computing
+octet_zero = refl
+
+line_feed : coded (10 ∷ []) ≡ 0xff ∷ 0xff ∷ 0xff ∷ 0xf3 ∷ []
+unfolding computing
+line_feed = refl
+
+empty_string : string [] ≡ 0x80 ∷ []
+unfolding computing
+empty_string = refl
+
+-- raw is shorter
+string_zero : string (0 ∷ []) ≡ 0x01 ∷ 0x00 ∷ []
+unfolding computing
+string_zero = refl
+
+-- `302`
+string_302 : string (51 ∷ 48 ∷ 50 ∷ []) ≡ 0x82 ∷ 0x64 ∷ 0x02 ∷ []
+unfolding computing
+string_302 = refl
+
+-- `307`, as long as raw
+string_307 : string (51 ∷ 48 ∷ 55 ∷ []) ≡ 0x83 ∷ 0x64 ∷ 0x0e ∷ 0xff ∷ []
+unfolding computing
+string_307 = refl

@@ -1,0 +1,7 @@
+use Rattle.std.proofs.Common.{refl}
+use Rattle.hpack_text.specs.Bits.{bits_of}
+use Rattle.hpack_text.proofs.huffman.writer.nothing.Goals as goal
+
+pub returns-clause-empty : goal.returns-clause-empty
+unfolding bits_of
+returns-clause-empty c = refl

@@ -1,0 +1,6 @@
+use Rattle.hpack_text.proofs.IntegerLemmas.{only_int}
+use Rattle.hpack_text.proofs.integers.read_int.Goals as goal
+
+pub returns-clause-only : goal.returns-clause-only
+returns-clause-only c = λ value count within spelled.
+    only_int c.args.prefix c.args.octets.now value count c.int_at_front.result c.int_at_front.ensures.answer within spelled

@@ -1,0 +1,97 @@
+//! Reading a coded text, bit by bit.
+
+ghost use Rattle.std.specs.Prelude.{◌≡◌, ℕ, ◌+◌, ◌^◌, ◌<◌, ◌≤◌, [], ◌∷◌, ◌++◌, replicate, true, IfOk, IfErr, MatchBool, MatchResult};
+ghost use Rattle.std.specs.List.{AllByRecursion};
+ghost use Rattle.hpack_text.specs.Bits.{IsOctet, is_odd, bits_of, bits};
+ghost use Rattle.hpack_text.specs.Huffman.{Huff, HuffFault};
+ghost use Rattle.hpack_text.specs.Reading.{IsOpen, EndsWalk, bits_read};
+
+use crate::fault::TextFault;
+use crate::huffman::symbols::symbol_at;
+use std::alloc::Global;
+
+/// The symbol that ends a text.
+const END_SYMBOL: u16 = 256;
+
+/// The most ones that may fill the last octet.
+const MOST_FILLING: u32 = 7;
+
+/// The bits behind the last symbol that was read: how many, and the number that they are. No code begins them.
+#[derive(Clone, Copy)]
+struct Front {
+    count: u32,
+    value: u32,
+    ghost short: { count < 30 },
+    ghost within: { value < 2 ^ count },
+    ghost is_open: { IsOpen (bits_of count value) },
+}
+
+/// Reads all of `octets` as a text.
+pub fn read_text(alloc: Global, octets: &[u8]) -> Result<Vec<u8>, TextFault>
+    ensures answer { MatchResult result (λ text. Huff text.items octets.now) (HuffFault octets.now) }
+{
+    let mut text = Vec::new(alloc);
+    let mut front = no_bits();
+    for octet in octets {
+        front = read_octet(front, *octet, &mut text)?;
+    }
+    if is_filling(front) {
+        Ok(text)
+    } else {
+        Err(TextFault::BadPadding)
+    }
+}
+
+/// Walks over the bits of an octet, and appends the octets whose codes they end.
+fn read_octet(front: Front, octet: u8, text: &mut Vec<u8>) -> Result<Front, TextFault>
+    ensures ok { IfOk result (λ next. bits_read text.new.items next.count next.value
+        ≡ bits_read text.old.items front.count front.value ++ bits_of 8 octet) }
+    ensures fault { IfErr result (EndsWalk text.new.items
+        (bits_read text.old.items front.count front.value ++ bits_of 8 octet)) }
+    ensures octets { AllByRecursion IsOctet text.old.items → AllByRecursion IsOctet text.new.items }
+{
+    let mut front = front;
+    for place in 0..u8::BITS {
+        front = read_bit(front, octet >> (7 - place), text)?;
+    }
+    Ok(front)
+}
+
+/// Walks over the lowest bit of `bits`, and appends the octet whose code it ends.
+#[inline]
+fn read_bit(front: Front, bits: u8, text: &mut Vec<u8>) -> Result<Front, TextFault>
+    ensures ok { IfOk result (λ next. bits_read text.new.items next.count next.value
+        ≡ bits_read text.old.items front.count front.value ++ is_odd bits ∷ []) }
+    ensures fault { IfErr result (EndsWalk text.new.items
+        (bits_read text.old.items front.count front.value ++ is_odd bits ∷ [])) }
+    ensures octets { AllByRecursion IsOctet text.old.items → AllByRecursion IsOctet text.new.items }
+{
+    let count = front.count + 1;
+    let value = 2 * front.value + u32::from(bits % 2);
+    let Some(symbol) = symbol_at(count, value) else {
+        return Ok(Front { count, value });
+    };
+    if symbol == END_SYMBOL {
+        return Err(TextFault::EndSymbol);
+    }
+    if text.push(symbol as u8).is_err() {
+        return Err(TextFault::Memory);
+    }
+    Ok(no_bits())
+}
+
+/// No bits.
+#[inline]
+fn no_bits() -> Front
+    ensures { bits_of result.count result.value ≡ [] }
+{
+    Front { count: 0, value: 0 }
+}
+
+/// Whether the bits are ones alone, few enough to fill an octet.
+fn is_filling(front: Front) -> bool
+    ensures { MatchBool result ((filling : ℕ) × (filling ≤ 7) × (bits_of front.count front.value ≡ replicate filling true))
+        ((filling : ℕ) → filling ≤ 7 → bits_of front.count front.value ≡ replicate filling true → ⊥) }
+{
+    front.count <= MOST_FILLING && front.value + 1 == 1 << front.count
+}

@@ -1,0 +1,76 @@
+//! Writing a text in the code, an octet whenever eight bits are there.
+
+ghost use Rattle.std.specs.Prelude.{◌≡◌, ◌+◌, ◌*◌, ◌^◌, ◌<◌, ◌≤◌, [], ◌++◌, length, IfOk, OnOk, OnErr, vec_len};
+ghost use Rattle.std.specs.Vec.{vec_capacity};
+ghost use Rattle.hpack_text.specs.Bits.{bits_of};
+ghost use Rattle.hpack_text.specs.Huffman.{coded};
+ghost use Rattle.hpack_text.specs.Writing.{IsExtended, Adds, AddsFilled};
+
+use crate::huffman::codes::{Code, code_of};
+use std::alloc::AllocError;
+
+/// The bits that wait for an octet to be full: how many, and the number that they are.
+#[derive(Clone, Copy)]
+struct Pending {
+    count: u32,
+    value: u64,
+    ghost few: { count < 8 },
+    ghost within: { value < 2 ^ count },
+}
+
+/// Appends the text in the code. On `Err` a front of it stands behind what was there.
+pub fn append_coded(text: &[u8], out: &mut Vec<u8>) -> Result<(), AllocError>
+    ensures ok { OnOk result (out.new.items ≡ out.old.items ++ coded text.now) }
+    ensures extended { IsExtended out.old.items out.new.items }
+    ensures full { OnErr result (vec_capacity out.old < vec_len out.old + length (coded text.now)) }
+    ensures capacity { vec_capacity out.old ≤ vec_capacity out.new }
+{
+    let mut pending = nothing();
+    for octet in text {
+        pending = append_code(pending, code_of(*octet), out)?;
+    }
+    append_filled(pending, out)
+}
+
+/// Appends the octets that the code fills, and answers the bits that are left.
+#[inline]
+fn append_code(pending: Pending, code: Code, out: &mut Vec<u8>) -> Result<Pending, AllocError>
+    requires count { code.count ≤ 30 }
+    requires within { code.value < 2 ^ code.count }
+    ensures ok { IfOk result (λ next. Adds out.old.items out.new.items
+        (bits_of pending.count pending.value ++ bits_of code.count code.value) (bits_of next.count next.value)) }
+    ensures extended { IsExtended out.old.items out.new.items }
+    ensures full { OnErr result (8 * vec_capacity out.old + 8 ≤ 8 * vec_len out.old + pending.count + code.count) }
+    ensures capacity { vec_capacity out.old ≤ vec_capacity out.new }
+{
+    let mut count = pending.count + code.count;
+    let mut value = (pending.value << code.count) + u64::from(code.value);
+    while count >= 8 {
+        count -= 8;
+        out.push((value >> count) as u8)?;
+        value %= 1 << count;
+    }
+    Ok(Pending { count, value })
+}
+
+/// Appends the bits that are left, if any, and ones that fill their octet.
+fn append_filled(pending: Pending, out: &mut Vec<u8>) -> Result<(), AllocError>
+    ensures ok { OnOk result (AddsFilled out.old.items out.new.items (bits_of pending.count pending.value)) }
+    ensures extended { IsExtended out.old.items out.new.items }
+    ensures full { OnErr result (8 * vec_capacity out.old + 1 ≤ 8 * vec_len out.old + pending.count) }
+    ensures capacity { vec_capacity out.old ≤ vec_capacity out.new }
+{
+    if pending.count > 0 {
+        let missing = 8 - pending.count;
+        out.push(((pending.value << missing) + ((1 << missing) - 1)) as u8)?;
+    }
+    Ok(())
+}
+
+/// No bits.
+fn nothing() -> Pending
+    ensures empty { bits_of result.count result.value ≡ [] }
+    ensures none { result.count ≡ 0 }
+{
+    Pending { count: 0, value: 0 }
+}
