@@ -5,7 +5,9 @@ use Rattle.h2_frame.specs.declared.heads.Head.{Head}
 use Rattle.h2_frame.specs.declared.frame.FrameRef.{FrameRef}
 use Rattle.h2_frame.specs.Frames.{frame_of, Carries}
 use Rattle.h2_wire.specs.declared.buffer.Buffer.{Buffer}
+use Rattle.h2_frame.specs.declared.code.Code.{Code}
 use Rattle.h2_wire.specs.declared.fault.WireFault.{WireFault}
+use Rattle.h2_wire.specs.declared.fault.WireFault.TheVariants as faults
 use Rattle.h2_wire.specs.Streams.{preface, opening}
 use Rattle.h2_wire.specs.Cutting.{CutterState, Stands, Advances}
 use Rattle.h2_wire.proofs.StreamLemmas.{IsPartial-empty}
@@ -39,6 +41,19 @@ pub failed_again : (A B : Type 0) (known : Option WireFault) (fault : WireFault)
     → IfSome known (λ first. ◌≡◌ {A = Result B WireFault} (Err fault) (Err first))
 failed_again A B None fault failed = tt
 failed_again A B (Some first) fault failed = let same : fault ≡ first = cc in ap Err same
+
+-- Where a call answered otherwise than by a fault no head was at fault.
+pub not_judged : {A B : Type 0} (Judged : Code → Type 0) (one : A) (other : B)
+    → ((code : Code) → Judged code → ◌≡◌ {A = Result A WireFault} (Ok one) (Err (faults.HeadFault code)))
+    → (code : Code) → Judged code → ◌≡◌ {A = Result B WireFault} (Ok other) (Err (faults.HeadFault code))
+not_judged Judged one other judged code faulty = let never = judged code faulty in (cc)
+
+-- a head at fault that was told below is told above
+pub judged_again : (A B : Type 0) (Judged : Code → Type 0) (fault : WireFault)
+    → ((code : Code) → Judged code → ◌≡◌ {A = Result A WireFault} (Err fault) (Err (faults.HeadFault code)))
+    → (code : Code) → Judged code → ◌≡◌ {A = Result B WireFault} (Err fault) (Err (faults.HeadFault code))
+judged_again A B Judged fault judged code faulty =
+    let told = judged code faulty in let same : fault ≡ faults.HeadFault code = cc in ap Err same
 
 -- The empty stream, of a cutter that has used nothing.
 pub stands_empty : (expects : Bool) (limit : ℕ) → Stands (record { limit = limit; before = expects; rest = []; place = 0; fault = None }) expects (λ _. limit) [] []

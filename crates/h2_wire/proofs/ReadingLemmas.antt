@@ -12,6 +12,10 @@ use Rattle.h2_wire.specs.Streams.{opening, Limits, IsFrame, AreFrames, IsSound, 
 pub none_some : {Goal : Type 0} (code : Code) → ◌≡◌ {A = Option Code} None (Some code) → Goal
 none_some code e = (cc)
 
+-- some code is one code
+pub one_code : (code other : Code) → ◌≡◌ {A = Option Code} (Some code) (Some other) → code ≡ other
+one_code code other e = cc
+
 -- Two fronts of one length of one list are one.
 pub same_front : (xs ys rest others : List ℕ) → length xs ≡ length ys → xs ++ rest ≡ ys ++ others → xs ≡ ys
 same_front xs ys rest others same joined =

@@ -1,5 +1,7 @@
 -- What a cutter is between calls, and what each call makes of it, whatever the stream has been so far.
-use Rattle.std.specs.Prelude.{◌≡◌, ℕ, ◌-◌, ◌^◌, ◌<◌, min, nat_lt, ◌&&◌, Bool, List, [], ◌∷◌, ◌++◌, length, take, Option, None, Some, MatchOption, IsSome, Result, Ok, Err}
+use Rattle.std.specs.Prelude.{◌≡◌, ℕ, ◌-◌, ◌^◌, ◌<◌, min, nat_lt, ◌&&◌, Bool, List, [], ◌∷◌, ◌++◌, length, take, Option, None, Some, MatchOption, IsSome, Result, Ok, Err, false, ◌≤◌}
+use Rattle.h2_frame.specs.declared.code.Code.{Code}
+use Rattle.h2_frame.specs.Heads.{head_of, head_fault}
 use Rattle.h2_frame.specs.Frames.{Frame, frame_of}
 use Rattle.h2_wire.specs.declared.fault.WireFault.{WireFault}
 use Rattle.h2_wire.specs.declared.fault.WireFault.TheVariants as faults
@@ -48,6 +50,18 @@ pub record Breaks (old : CutterState) (piece : List ℕ) (fault : WireFault) (ne
   pub same_limit : new.limit ≡ old.limit
   pub at : (expects : Bool) (limits : Limits) (stream : List ℕ) (so_far : List Frame) → Stands old expects limits stream so_far
       → (place : ℕ) × FaultAt expects limits (stream ++ piece) so_far place fault × (new.place ≡ told place)
+
+-- At the front of these octets stands a head with this fault.
+pub record IsFaultyHead (octets : List ℕ) (limit : ℕ) (code : Code) : Type 0 where
+  pub nine : 9 ≤ length octets
+  pub faulty : head_fault (head_of octets) limit ≡ Some code
+
+-- Behind the preface, with no fault so far, the ninth octet of a head is in the piece, and the head is at fault.
+pub record FaultsAtHead (old : CutterState) (piece : List ℕ) (code : Code) : Type 0 where
+  pub sound : old.fault ≡ None
+  pub behind : old.before ≡ false
+  pub begun : length old.rest < 9
+  pub head : IsFaultyHead (old.rest ++ piece) old.limit code
 
 -- the frames that a call answered: one or none
 abbrev pub answered : Option FrameRef → List Frame

@@ -4,7 +4,8 @@ ghost use Rattle.std.specs.Prelude.{◌≡◌, ◌≢◌, ◌+◌, ◌-◌, ◌<
 ghost use Rattle.h2_frame.specs.Heads.{head_of, form_fault, head_fault as fault_of_head};
 ghost use Rattle.h2_frame.specs.Frames.{payload_fault};
 ghost use Rattle.h2_wire.specs.Streams.{preface as the_preface};
-ghost use Rattle.h2_wire.specs.Cutting.{told};
+ghost use Rattle.h2_frame.specs.declared.code.Code.{Code as AnyCode};
+ghost use Rattle.h2_wire.specs.Cutting.{told, IsFaultyHead, FaultsAtHead};
 ghost use Rattle.h2_wire.specs.Buffers.{state_of, rest_of, IsKept};
 ghost use Rattle.h2_wire.specs.Steps.{Opens, OpensSoundly, Takes};
 
@@ -62,6 +63,7 @@ impl Buffer {
     pub(crate) fn take(&mut self, piece: &[u8]) -> Result<Step, WireFault>
         requires { IsKept self.old }
         ensures failed { IfSome self.old.fault (λ fault. result ≡ Err fault) }
+        ensures judged { (code : AnyCode) → FaultsAtHead (state_of self.old) piece.now code → result ≡ Err (WireFault.HeadFault code) }
         ensures takes { Takes (state_of self.old) piece.now result self.new }
         ensures kept { IsKept self.new }
     {
@@ -140,6 +142,8 @@ impl Buffer {
         requires kept { IsKept self.old }
         requires within { start ≤ length piece.now }
         requires opens { Opens (state_of self.old) (take start piece.now) self.old.held.items }
+        ensures judged { (code : AnyCode) → length self.old.held.items < 9 → IsFaultyHead (self.old.held.items ++ drop start piece.now) self.old.limit code
+            → result ≡ Err (WireFault.HeadFault code) }
         ensures takes { Takes (state_of self.old) piece.now result self.new }
         ensures kept { IsKept self.new }
     {

@@ -5,7 +5,8 @@ ghost use Rattle.std.specs.Borrow.{sem};
 ghost use Rattle.std.specs.Io.BufRead.{Rests};
 ghost use Rattle.h2_frame.specs.Heads.{form_fault};
 ghost use Rattle.h2_frame.specs.Frames.{frame_of, Carries, payload_fault};
-ghost use Rattle.h2_wire.specs.Cutting.{Stands, Cuts};
+ghost use Rattle.h2_frame.specs.declared.code.Code.{Code};
+ghost use Rattle.h2_wire.specs.Cutting.{Stands, Cuts, FaultsAtHead};
 ghost use Rattle.h2_wire.specs.contracts.cutter.Cutter.{the_row};
 
 use crate::buffer::{Buffer, HEAD};
@@ -62,6 +63,9 @@ impl Cutter {
 
         // A fault is answered again.
         ensures failed { IfSome self.old.fault (λ fault. result ≡ Err fault) }
+
+        // A head at fault is told with its ninth octet, whatever memory there is.
+        ensures judged { (code : Code) → FaultsAtHead self.old piece.now code → result ≡ Err (WireFault.HeadFault code) }
 
         // Once the frame isn't used any more: whatever stream the cutter stood for, it stands for that stream with the
         // octets used behind it, and for its frames with the one answered; or that stream is at fault.

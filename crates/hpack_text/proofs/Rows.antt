@@ -1,7 +1,7 @@
--- The definitions, computed on rows whose values come from RFC 7541 and from the worked rows of the tool's description.
-use Rattle.std.proofs.Common.{◌≡◌, [], ◌∷◌, refl}
+-- The definitions, computed: the code is canonical, and rows of RFC 7541 and own ones come out as they should.
+use Rattle.std.proofs.Common.{◌≡◌, ℕ, ◌+◌, ◌-◌, ◌*◌, ◌^◌, ◌==◌, ◌&&◌, nat_lt, Bool, true, List, [], ◌∷◌, length, refl}
 use Rattle.hpack_text.specs.Bits.{bits_of, number_of, octets_of}
-use Rattle.hpack_text.specs.Huffman.{groups, code_in, code, coded}
+use Rattle.hpack_text.specs.Huffman.{Group, groups, code_in, code, coded}
 use Rattle.hpack_text.specs.Integers.{continuation_of, integer}
 use Rattle.hpack_text.specs.Strings.{string}
 
@@ -11,22 +11,22 @@ unfolding bits_of number_of octets_of groups code_in code coded continuation_of 
 computing = tt
 
 -- 10 in 5 bits
-ten : integer 5 0 10 ≡ 0x0a ∷ []
+row_10 : integer 5 0 10 ≡ 0x0a ∷ []
 unfolding computing
-ten = refl
+row_10 = refl
 
 -- 1337 in 5 bits
-leet : integer 5 0 1337 ≡ 0x1f ∷ 0x9a ∷ 0x0a ∷ []
+row_1337 : integer 5 0 1337 ≡ 0x1f ∷ 0x9a ∷ 0x0a ∷ []
 unfolding computing
-leet = refl
+row_1337 = refl
 
-forty_two : integer 8 0 42 ≡ 0x2a ∷ []
+row_42 : integer 8 0 42 ≡ 0x2a ∷ []
 unfolding computing
-forty_two = refl
+row_42 = refl
 
-thirty_one : integer 5 0 31 ≡ 0x1f ∷ 0 ∷ []
+row_31 : integer 5 0 31 ≡ 0x1f ∷ 0 ∷ []
 unfolding computing
-thirty_one = refl
+row_31 = refl
 
 -- `www.example.com`
 example : coded (119 ∷ 119 ∷ 119 ∷ 46 ∷ 101 ∷ 120 ∷ 97 ∷ 109 ∷ 112 ∷ 108 ∷ 101 ∷ 46 ∷ 99 ∷ 111 ∷ 109 ∷ [])
@@ -64,3 +64,21 @@ string_302 = refl
 string_307 : string (51 ∷ 48 ∷ 55 ∷ []) ≡ 0x83 ∷ 0x64 ∷ 0x0e ∷ 0xff ∷ []
 unfolding computing
 string_307 = refl
+
+-- Each symbol is above the one before it.
+unfoldable rise : List ℕ → Bool
+rise (symbol ∷ next ∷ more) = nat_lt symbol next && rise (next ∷ more)
+rise _ = true
+
+-- Each length's first code follows the last one of the length before, shifted to its own length; behind the longest no code
+-- is left.
+unfoldable is_canonical : ℕ → ℕ → List Group → Bool
+is_canonical code_length next [] = next == 2 ^ code_length
+is_canonical code_length next (group ∷ others) =
+    (group.first == next * 2 ^ (group.code_length - code_length)) && rise group.symbols
+    && is_canonical group.code_length (group.first + length group.symbols) others
+
+-- The code is canonical, and complete.
+canonical : is_canonical 0 0 groups ≡ true
+unfolding computing rise is_canonical
+canonical = refl

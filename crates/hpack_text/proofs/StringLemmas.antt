@@ -247,7 +247,15 @@ pub body_fault : (octets : List ℕ) (count named : ℕ) (fault : TextFault) →
     → BodyFault (nat_le 128 (get_or octets 0 0)) (take named (take (length octets - count) (drop count octets))) fault → StrFault octets fault
 body_fault octets count named faults.BadPadding h enough fault = coded_fault HasBadPadding octets count named h enough fault.0 fault.1
 body_fault octets count named faults.EndSymbol h enough fault = coded_fault HasEndSymbol octets count named h enough fault.0 fault.1
-body_fault octets count named faults.Memory h enough fault = tt
+body_fault octets count named faults.Memory h enough fault =
+    let body = has_body octets count named h.0 enough in
+    record {
+      head = take count octets;
+      body = take named (take (length octets - count) (drop count octets));
+      more = drop named (drop count octets);
+      joined = body.whole;
+      head_length = subst (λ n. Int 7 n (take count octets)) (sym body.as_long) h.1;
+    }
 body_fault octets count named faults.Truncated h enough fault = absurd fault
 body_fault octets count named faults.TooLong h enough fault = absurd fault
 

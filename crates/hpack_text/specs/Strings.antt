@@ -45,14 +45,22 @@ pub record HasCoded (Fault : List ℕ → Type 0) (octets : List ℕ) : Type 0 w
   pub is_coded : is_coded head ≡ true
   pub fault : Fault body
 
--- What a fault of reading a string says of the octets. Where they end inside the string it is Truncated, whatever its
+-- At the front stand a head and as many octets as it names.
+pub record IsWhole (octets : List ℕ) : Type 0 where
+  pub head : List ℕ
+  pub body : List ℕ
+  pub more : List ℕ
+  pub joined : octets ≡ head ++ (body ++ more)
+  pub head_length : Int 7 (length body) head
+
+-- What a fault of reading a string says of the octets. Memory is wanted only for a string that is whole. Where they end inside the string it is Truncated, whatever its
 -- text is.
 abbrev pub StrFault : List ℕ → TextFault → Type 0
 StrFault octets faults.Truncated = IsTruncated 7 octets ⊎ IsShort octets
 StrFault octets faults.TooLong = IsTooLong 7 octets
 StrFault octets faults.BadPadding = HasCoded HasBadPadding octets
 StrFault octets faults.EndSymbol = HasCoded HasEndSymbol octets
-StrFault octets faults.Memory = Unit {0}
+StrFault octets faults.Memory = IsWhole octets
 
 -- The spelling that is written: Huffman coded where that isn't longer than raw.
 unfoldable pub string : List ℕ → List ℕ

@@ -3,15 +3,19 @@
 //! A text is read exactly where the octets spell it, and written in one stated spelling. Each fault has a number.
 #![tactic(auto)]
 
-pub mod fault;
-pub mod huffman;
-pub mod integers;
-pub mod laws;
-pub mod strings;
+mod fault;
+mod huffman;
+mod integers;
+mod laws;
+mod strings;
 #[cfg(test)]
 mod tests;
 
 pub use fault::TextFault;
 pub use huffman::{huff_len, huff_read, huff_write};
 pub use integers::{read_int, write_int};
+pub use laws::{
+    no_code_begins_another, no_integer_begins_another, no_string_begins_another, one_coding,
+    one_coding_fault, one_text, shortest_integer, some_code_begins, written_string,
+};
 pub use strings::{read_string, write_string};

@@ -22,8 +22,9 @@ const CODED: u8 = 128;
 /// # Errors
 ///
 /// [`TextFault::Truncated`] where the octets end inside the string, whatever its text is, and [`TextFault::TooLong`] as
-/// for its length; then the faults of the coded text, as [`huff_read`](crate::huff_read) has them.
-/// [`TextFault::Memory`] comes at whichever growth is refused.
+/// [`read_int`](crate::read_int) has it for the length; then the faults of the coded text, as
+/// [`huff_read`](crate::huff_read) has them. [`TextFault::Memory`] comes at whichever growth is refused, and only where the
+/// whole string is there.
 pub fn read_string(alloc: Global, octets: &[u8]) -> Result<(Vec<u8>, usize), TextFault>
     ensures ok { IfOk result (λ read. (read.1 ≤ length octets.now) × Str read.0.items (take read.1 octets.now)) }
 

@@ -1,9 +1,10 @@
 -- Behind the preface, which may become whole now, a frame goes on.
-use Rattle.std.proofs.Common.{◌≡◌, take, drop, ℕ, arith, List, sym, ◌∙◌, length-drop, inl, inr, subst}
-use Rattle.std.proofs.lemmas.Bool.{le-ltb, lt-ltb, cases_lt}
+use Rattle.std.proofs.Common.{◌≤◌, ◌≡◌, take, drop, ℕ, arith, List, sym, ◌∙◌, length-drop, inl, inr, subst}
+use Rattle.std.proofs.lemmas.Bool.{ltb-false, le-ltb, lt-ltb, cases_lt}
 use Rattle.std.proofs.lemmas.List.{take_all}
 use Rattle.h2_wire.specs.Streams.{preface}
-use Rattle.h2_wire.specs.Buffers.{state_of}
+use Rattle.h2_wire.specs.Buffers.{state_of, rest_of}
+use Rattle.h2_wire.specs.Cutting.{CutterState, FaultsAtHead}
 use Rattle.h2_wire.specs.Steps.{Opens}
 use Rattle.h2_wire.proofs.BufferLemmas.{rest_of-matched, rest_of-held}
 use Rattle.h2_wire.proofs.StepLemmas.{opens_past, opens_first}
@@ -26,3 +27,13 @@ take_frame-requires-clause-opens c =
           subst (λ (items : List ℕ). Opens (state_of buffer) (take start c.args.piece.now) items)
           (rest_of-held buffer c.forget.ensures.sound behind c.forget.ensures.lent) (rw none (opens_past (state_of buffer) (le-ltb buffer.matched 24 behind)))
     ]
+
+pub returns-clause-judged : goal.returns-clause-judged
+returns-clause-judged c = λ code faulty.
+    let buffer = c.forget.new.self in
+    let piece = c.args.piece.now in
+    let now = subst (λ (state : CutterState). FaultsAtHead state piece code) (sym c.forget.ensures.state) faulty in
+    let behind : 24 ≤ buffer.matched = ltb-false buffer.matched 24 now.behind in
+    let start : c.go_on-start.result ≡ 0 = omega (arith, c.go_on-start.ensures.bound) in
+    let held : rest_of buffer ≡ buffer.held.items = rest_of-held buffer now.sound behind c.forget.ensures.lent in
+    c.take_frame.ensures.judged code (rw held at now.begun) (rw start (rw held at now.head))

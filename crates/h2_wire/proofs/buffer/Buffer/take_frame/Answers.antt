@@ -7,6 +7,7 @@ use Rattle.h2_wire.specs.declared.fault.WireFault.TheVariants as faults
 use Rattle.h2_wire.specs.Buffers.{state_of}
 use Rattle.h2_wire.proofs.BufferLemmas.{continues, sound_head, fails_head, read_head}
 use Rattle.h2_wire.proofs.CallLemmas.{breaks}
+use Rattle.h2_wire.proofs.ReadingLemmas.{none_some, one_code}
 use Rattle.h2_wire.proofs.StepLemmas.{wrong_head, limit_ahead}
 use Rattle.h2_wire.proofs.buffer.Buffer.take_frame.Goals as goal
 use Rattle.h2_wire.proofs.buffer.Buffer.take_frame.Goals.{then-len-lt-HEAD+in_default-head_fault, else-len-lt-HEAD}
@@ -72,3 +73,24 @@ take_payload-requires-clause-opens c = λ expects limits stream so_far stood.
             (take_payload-requires-clause-head c) (omega (arith, w.if-len-lt-HEAD.false, c.len.ensures, old.held.ok.0))
       ],
     )
+
+pub returns-in-Some-head_fault-clause-judged : goal.returns-in-Some-head_fault-clause-judged
+returns-in-Some-head_fault-clause-judged c = λ code few faulty.
+    let old = c.args.self.now in
+    let some = c.in-Some.ensures.some in
+    let is_head = (read_head old.held.items c.deref.result.now c.args.piece.now c.in-Some.octets c.args.start c.head-head.result c.deref.ensures.value some.0 some.1 c.head-head.ensures).1 in
+    let told : head_fault c.head-head.result old.limit ≡ Some c.in-Some-head_fault.code = sym c.head_fault.ensures.value ∙ c.in-Some-head_fault.is in
+    let found : head_fault c.head-head.result old.limit ≡ Some code = ap (λ (head : Head). head_fault head old.limit) is_head ∙ faulty.faulty in
+    let same : c.in-Some-head_fault.code ≡ code = one_code _ _ (sym told ∙ found) in
+    rw (c.break_off.ensures.fault, same) refl
+
+pub returns-clause-judged : goal.returns-clause-judged
+returns-clause-judged c = λ code few faulty.
+    let old = c.args.self.now in
+    let some = c.in-Some.ensures.some in
+    let is_head = (read_head old.held.items c.deref.result.now c.args.piece.now c.in-Some.octets c.args.start c.head-head.result c.deref.ensures.value some.0 some.1 c.head-head.ensures).1 in
+    let found : head_fault c.head-head.result old.limit ≡ Some code = ap (λ (head : Head). head_fault head old.limit) is_head ∙ faulty.faulty in
+    elim c.if-len-lt-HEAD.branch [
+      | then-len-lt-HEAD+in_default-head_fault w ↦ none_some code (sym (sym w.head_fault.ensures.value ∙ w.in_default-head_fault.is) ∙ found)
+      | else-len-lt-HEAD w ↦ absurd (omega (arith, few, w.if-len-lt-HEAD.false, c.len.ensures, old.held.ok.0))
+    ]

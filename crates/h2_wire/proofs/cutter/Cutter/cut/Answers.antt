@@ -2,7 +2,9 @@
 use Rattle.std.proofs.Common.{refl, arith}
 use Rattle.std.proofs.lemmas.List.{take_rest}
 use Rattle.std.proofs.lemmas.Result.{err_from_is_err_and}
-use Rattle.h2_wire.proofs.CutLemmas.{advances_none, advances_some, not_failed, failed_again}
+use Rattle.h2_wire.proofs.CutLemmas.{advances_none, advances_some, not_failed, failed_again, not_judged, judged_again}
+use Rattle.h2_wire.specs.Cutting.{FaultsAtHead}
+use Rattle.h2_wire.specs.Buffers.{state_of}
 use Rattle.h2_wire.proofs.cutter.Cutter.cut.Goals as goal
 use Rattle.h2_wire.proofs.cutter.Cutter.cut.Goals.{in-None, in-Some}
 
@@ -11,7 +13,14 @@ returns-in_err-step c =
     let answer = err_from_is_err_and c.from_residual.result c.from_residual.ensures.1 in
     rw (answer.1, answer.2, ← c.self.view_is) (
       (refl, λ _. tt, c.in_err-step.ensures.takes),
-      record { used = tt; all = tt; some = tt; failed = failed_again _ _ _ c.in_err-step.field-0.0 c.in_err-step.ensures.failed; after = tt },
+      record {
+        used = tt;
+        all = tt;
+        some = tt;
+        failed = failed_again _ _ _ c.in_err-step.field-0.0 c.in_err-step.ensures.failed;
+        judged = judged_again _ _ (λ code. FaultsAtHead (state_of c.self.inside.buffer) c.args.piece.now code) c.in_err-step.field-0.0 c.in_err-step.ensures.judged;
+        after = tt;
+      },
     )
 
 pub returns : goal.returns
@@ -20,13 +29,27 @@ returns c = elim c.match-step.branch [
       let more = rw w.in-None.is at c.in_ok-step.ensures.takes in
       rw (w.self-is, w.frame-is, ← c.self.view_is) (
         (refl, λ _. tt, advances_none _ c.args.piece.now c.in_ok-step.step.used c.take.new.self more),
-        record { used = omega (arith, more.all); all = λ _. more.all; some = λ some. (cc); failed = not_failed _ c.in_ok-step.step _ c.in_ok-step.ensures.failed; after = tt },
+        record {
+          used = omega (arith, more.all);
+          all = λ _. more.all;
+          some = λ some. (cc);
+          failed = not_failed _ c.in_ok-step.step _ c.in_ok-step.ensures.failed;
+          judged = not_judged (λ code. FaultsAtHead (state_of c.self.inside.buffer) c.args.piece.now code) c.in_ok-step.step _ c.in_ok-step.ensures.judged;
+          after = tt;
+        },
       )
   | in-Some w ↦
       let whole = rw w.in-Some.is at c.in_ok-step.ensures.takes in
       let carried = rw (take_rest w.deref.result.now 9, w.deref.ensures.value) at w.lend.ensures in
       rw (w.self-is, w.frame-is, ← c.self.view_is) (
         (refl, λ _. tt, advances_some _ c.args.piece.now c.in_ok-step.step.used w.in-Some.head w.lend.result c.take.new.self whole carried),
-        record { used = whole.within; all = λ none. (cc); some = λ _. whole.some; failed = not_failed _ c.in_ok-step.step _ c.in_ok-step.ensures.failed; after = tt },
+        record {
+          used = whole.within;
+          all = λ none. (cc);
+          some = λ _. whole.some;
+          failed = not_failed _ c.in_ok-step.step _ c.in_ok-step.ensures.failed;
+          judged = not_judged (λ code. FaultsAtHead (state_of c.self.inside.buffer) c.args.piece.now code) c.in_ok-step.step _ c.in_ok-step.ensures.judged;
+          after = tt;
+        },
       )
 ]

@@ -1,0 +1,307 @@
+-- Blocks: the fields, the updates in front of them, and that octets are one block at most.
+use Rattle.std.proofs.Common.{◌≡◌, ℕ, ◌<◌, ◌≤◌, ◌==◌, true, false, List, [], ◌∷◌, ◌++◌, length, take, refl, sym, ap, ◌∙◌, subst, arith, eq-eqb, append_assoc, append-nil, length-append}
+use Rattle.std.proofs.lemmas.Bool.{false≢true}
+use Rattle.std.proofs.lemmas.Bool.Decides.{nat_tests}
+use Rattle.hpack_text.specs.Integers.{Int}
+use Rattle.hpack_text.proofs.IntegerLemmas.{Int-unique}
+use Rattle.hpack.specs.declared.field.Field.{Field}
+use Rattle.hpack.specs.declared.field.List.{List as FieldList}
+use Rattle.hpack.specs.declared.field.List.TheVariants.{Whole, TooLarge}
+use Rattle.hpack.specs.declared.fault.Fault.{Fault}
+use Rattle.hpack.specs.declared.fault.Fault.TheVariants as faults
+use Rattle.hpack.specs.Tables.{Entries, resized}
+use Rattle.hpack.specs.Blocks.{FirstOctet, Update, Step, Fields, Updates, Block}
+use Rattle.hpack.specs.Lists.{NoBlock, DecodeFault, IsList}
+use Rattle.hpack.specs.Fronts.{NoFront, FrontFault, IsInt, IsStep, FieldsFault, BeginsUpdate, UpdatesSoFar, HasRoom}
+use Rattle.hpack.proofs.FrontLemmas.{behind_of, split_at_count, same_behind}
+use Rattle.hpack.proofs.StepLemmas.{front_first, int_first, int_long, no_update_step, step_long, step_unique}
+
+-- What was read of fields so far: with the fields of the rest behind them it is the whole, and the whole has fields of the rest.
+pub record ReadsSoFar (table : Entries) (octets : List ℕ) (now : Entries) (rest : List ℕ) (done : List Field) : Type 0 where
+  pub sound : (fields : List Field) (after : Entries) → Fields now rest fields after → Fields table octets (done ++ fields) after
+  pub whole : (fields : List Field) (after : Entries) → Fields table octets fields after → (others : List Field) × Fields now rest others after
+
+-- In the beginning nothing was read.
+pub reads_none : (table : Entries) (octets : List ℕ) → ReadsSoFar table octets table octets []
+reads_none table octets = record {
+  sound = λ fields after h. h;
+  whole = λ fields after h. (fields, h);
+}
+
+-- Octets with a front have one.
+front_long : (octets front others : List ℕ) → octets ≡ front ++ others → 0 < length front → 0 < length octets
+front_long octets front others e long = omega (arith, ap (λ (xs : List ℕ). length xs) e, length-append front others)
+
+-- what is left of the fields behind the first one
+fields_behind : (table next after : Entries) (octets front rest : List ℕ) (field : Field) (fields : List Field) → octets ≡ front ++ rest → Step table front field next
+    → Fields table octets fields after → (others : List Field) × (fields ≡ field ∷ others) × Fields next rest others after
+fields_behind table next after octets front rest field [] e step h =
+    absurd (let long = front_long octets front rest e (step_long table next front field step) in omega (arith, long, ap (λ (xs : List ℕ). length xs) h.0))
+fields_behind table next after octets front rest field (one ∷ fields) e step (first, others, between, joined, one_step, spelled) =
+    let same = step_unique table between next octets first front others rest one field joined e one_step step in
+    let rests : others ≡ rest = same_behind first front others rest same.fronts (sym joined ∙ e) in
+    (fields, ap (λ (f : Field). f ∷ fields) same.fields, subst (λ t. Fields t rest fields after) same.tables (subst (λ xs. Fields between xs fields after) rests spelled))
+
+-- One field more was read.
+pub reads_more : (table now next : Entries) (octets rest front others : List ℕ) (done : List Field) (field : Field) → rest ≡ front ++ others → Step now front field next
+    → ReadsSoFar table octets now rest done → ReadsSoFar table octets next others (done ++ field ∷ [])
+reads_more table now next octets rest front others done field e step so_far = record {
+  sound = λ fields after h.
+      subst (λ fs. Fields table octets fs after) (sym (append_assoc done (field ∷ []) fields)) (so_far.sound (field ∷ fields) after (front, others, next, e, step, h));
+  whole = λ fields after h.
+      let (left, spelled) = so_far.whole fields after h in
+      let (more, same, behind) = fields_behind now next after rest front others field left e step spelled in
+      (more, behind);
+}
+
+-- At the end all is read.
+pub reads_all : (table now : Entries) (octets rest : List ℕ) (done : List Field) → length rest ≡ 0 → ReadsSoFar table octets now rest done → Fields table octets done now
+reads_all table now octets [] done empty so_far = subst (λ fs. Fields table octets fs now) (append-nil done) (so_far.sound [] now (refl, refl))
+reads_all table now octets (x ∷ rest) done empty so_far = absurd (omega arith)
+
+-- Where no field is at the front of octets, they aren't fields.
+no_fields : (table : Entries) (octets : List ℕ) (fields : List Field) (after : Entries) → (length octets ≡ 0 → ⊥) → NoFront (IsStep table) octets → Fields table octets fields after → ⊥
+no_fields table octets [] after more none h = more (ap (λ (xs : List ℕ). length xs) h.0)
+no_fields table octets (field ∷ fields) after more none (first, others, between, joined, step, spelled) = none first others joined (field, between, step)
+
+-- A fault of the next field is one of all the fields.
+pub reads_fault : (table now : Entries) (octets rest : List ℕ) (done : List Field) (fault : Fault) → (length rest ≡ 0 → ⊥) → ReadsSoFar table octets now rest done
+    → FrontFault (IsStep now) rest fault → FieldsFault table octets fault
+reads_fault table now octets rest done faults.Compression more so_far none = λ fields after h.
+    let (left, spelled) = so_far.whole fields after h in
+    no_fields now rest left after more none spelled
+reads_fault table now octets rest done faults.Memory more so_far none = tt
+reads_fault table now octets rest done faults.Failed more so_far none = none
+
+-- An update is no field.
+update_no_field : (table after : Entries) (octets front others update more : List ℕ) (maximum : ℕ) (field : Field) → octets ≡ front ++ others → Step table front field after
+    → octets ≡ update ++ more → Update maximum update → ⊥
+update_no_field table after octets front others update more maximum field e step d is_update =
+    let first = front_first 0x20 0x40 octets update more d is_update.0 in
+    no_update_step table octets first.0 first.1 front others e (field, after, step)
+
+-- An update has an octet.
+update_long : (maximum : ℕ) (front : List ℕ) → Update maximum front → 0 < length front
+update_long maximum front is_update = int_long 5 maximum front is_update.1
+
+-- Fields don't begin as an update does.
+fields_begin_otherwise : (table after : Entries) (octets : List ℕ) (fields : List Field) → BeginsUpdate octets → Fields table octets fields after → ⊥
+fields_begin_otherwise table after octets [] begins h = subst (λ xs. FirstOctet 0x20 0x40 xs) h.0 begins
+fields_begin_otherwise table after octets (field ∷ fields) begins (first, others, between, joined, step, spelled) =
+    let range = front_first 0x20 0x40 octets octets [] (sym (append-nil octets)) begins in
+    no_update_step table octets range.0 range.1 first others joined (field, between, step)
+
+-- Fields don't begin with an update.
+fields_no_update : (table after : Entries) (octets update more : List ℕ) (maximum : ℕ) (fields : List Field) → octets ≡ update ++ more → Update maximum update
+    → Fields table octets fields after → ⊥
+fields_no_update table after octets update more maximum [] e is_update h =
+    let long = front_long octets update more e (update_long maximum update is_update) in
+    omega (arith, long, ap (λ (xs : List ℕ). length xs) h.0)
+fields_no_update table after octets update more maximum (field ∷ fields) e is_update (first, others, between, joined, step, spelled) =
+    update_no_field table between octets first others update more maximum field joined step e is_update
+
+-- In the beginning no update was read.
+pub updates_none : (table : Entries) (limit : ℕ) (octets : List ℕ) → UpdatesSoFar table limit octets table octets
+updates_none table limit octets = record {
+  sound = λ fields after h. h;
+  whole = λ fields after h. h;
+}
+
+-- A block behind an update is one with it.
+block_with : (table : Entries) (limit maximum : ℕ) (octets front others : List ℕ) (fields : List Field) (after : Entries) → octets ≡ front ++ others → Update maximum front
+    → maximum ≤ limit → Block (resized table maximum) limit others fields after → Block table limit octets fields after
+block_with table limit maximum octets front others fields after e is_update within block = record {
+  maxima = maximum ∷ block.maxima;
+  updated = block.updated;
+  others = block.others;
+  updates = (front, others, e, is_update, within, block.updates);
+  within = block.within;
+  spelled = block.spelled;
+}
+
+-- what is behind the first update of a block
+pub record BehindUpdate (table : Entries) (limit maximum : ℕ) (others : List ℕ) (fields : List Field) (after : Entries) : Type 0 where
+  pub allowed : maximum ≤ limit
+  pub block : Block (resized table maximum) limit others fields after
+
+-- A block that begins with an update has it.
+block_behind : (table : Entries) (limit maximum : ℕ) (octets front others : List ℕ) (fields : List Field) (after updated : Entries) (maxima left : List ℕ)
+    → octets ≡ front ++ others → Update maximum front → Updates limit table octets maxima updated left → updated.maximum ≤ limit → Fields updated left fields after
+    → BehindUpdate table limit maximum others fields after
+block_behind table limit maximum octets front others fields after updated [] left e is_update updates within spelled =
+    absurd (fields_no_update updated after left front others maximum fields (updates.1 ∙ e) is_update spelled)
+block_behind table limit maximum octets front others fields after updated (one ∷ maxima) left e is_update (first, more, joined, one_update, allowed, updates) within spelled =
+    let (fronts, maximums) = Int-unique 5 one maximum first front more others one_update.1 is_update.1 (sym joined ∙ e) in
+    let rests : more ≡ others = same_behind first front more others fronts (sym joined ∙ e) in
+    record {
+      allowed = omega arith;
+      block = record {
+        maxima = maxima;
+        updated = updated;
+        others = left;
+        updates = subst (λ n. Updates limit (resized table n) others maxima updated left) maximums (subst (λ xs. Updates limit (resized table one) xs maxima updated left) rests updates);
+        within = within;
+        spelled = spelled;
+      };
+    }
+
+-- the same of a block
+behind_update : (table : Entries) (limit maximum : ℕ) (octets front others : List ℕ) (fields : List Field) (after : Entries) → octets ≡ front ++ others → Update maximum front
+    → Block table limit octets fields after → BehindUpdate table limit maximum others fields after
+behind_update table limit maximum octets front others fields after e is_update block =
+    block_behind table limit maximum octets front others fields after block.updated block.maxima block.others e is_update block.updates block.within block.spelled
+
+-- One update more was read.
+pub updates_more : (table now : Entries) (limit maximum : ℕ) (octets rest front others : List ℕ) → rest ≡ front ++ others → Update maximum front → maximum ≤ limit
+    → UpdatesSoFar table limit octets now rest → UpdatesSoFar table limit octets (resized now maximum) others
+updates_more table now limit maximum octets rest front others e is_update allowed so_far = record {
+  sound = λ fields after h. so_far.sound fields after (block_with now limit maximum rest front others fields after e is_update allowed h);
+  whole = λ fields after h. (behind_update now limit maximum rest front others fields after e is_update (so_far.whole fields after h)).block;
+}
+
+-- An update above the limit is a fault.
+pub updates_above : (table now : Entries) (limit maximum : ℕ) (octets rest front others : List ℕ) → rest ≡ front ++ others → Update maximum front → limit < maximum
+    → UpdatesSoFar table limit octets now rest → NoBlock table limit octets
+updates_above table now limit maximum octets rest front others e is_update above so_far = λ fields after h.
+    let allowed = (behind_update now limit maximum rest front others fields after e is_update (so_far.whole fields after h)).allowed in
+    omega arith
+
+-- The first octet of a front is that of the whole.
+first_whole : (low high : ℕ) (octets front others : List ℕ) → octets ≡ front ++ others → FirstOctet low high front → FirstOctet low high octets
+first_whole low high octets [] others e h = absurd h
+first_whole low high octets (x ∷ front) others e h = subst (λ xs. FirstOctet low high xs) (sym e) h
+
+-- An integer that begins as an update does is one.
+pub update_read : (maximum count : ℕ) (octets : List ℕ) → BeginsUpdate octets → Int 5 maximum (take count octets) → Update maximum (take count octets)
+update_read maximum count octets begins int =
+    let range = front_first 0x20 0x40 octets octets [] (sym (append-nil octets)) begins in
+    (int_first 0x20 0x40 5 maximum octets (take count octets) (behind_of octets count) (split_at_count octets count) int range.0 range.1, int)
+
+-- Where an update should begin and no integer is, no block is.
+no_update_block : (maxima : List ℕ) (table updated after : Entries) (limit : ℕ) (octets left : List ℕ) (fields : List Field) → BeginsUpdate octets → NoFront (IsInt 5) octets
+    → Updates limit table octets maxima updated left → Fields updated left fields after → ⊥
+no_update_block [] table updated after limit octets left fields begins none updates spelled =
+    fields_begin_otherwise updated after octets fields begins (subst (λ xs. Fields updated xs fields after) updates.1 spelled)
+no_update_block (one ∷ maxima) table updated after limit octets left fields begins none (first, more, joined, is_update, allowed, updates) spelled =
+    none first more joined (one, is_update.1)
+
+-- the fault of an update that can't be read
+pub updates_fault : (table now : Entries) (limit : ℕ) (octets rest : List ℕ) (fault : Fault) → BeginsUpdate rest → UpdatesSoFar table limit octets now rest
+    → FrontFault (IsInt 5) rest fault → DecodeFault table limit octets fault
+updates_fault table now limit octets rest faults.Compression begins so_far none = λ fields after h.
+    let block = so_far.whole fields after h in
+    no_update_block block.maxima now block.updated after limit rest block.others fields begins none block.updates block.spelled
+updates_fault table now limit octets rest faults.Memory begins so_far none = tt
+updates_fault table now limit octets rest faults.Failed begins so_far none = none
+
+-- A block that begins with no update is its fields.
+pub record IsFields (table : Entries) (limit : ℕ) (octets : List ℕ) (fields : List Field) (after : Entries) : Type 0 where
+  pub within : table.maximum ≤ limit
+  pub spelled : Fields table octets fields after
+
+-- the same by the list of maxima
+no_updates : (table updated after : Entries) (limit : ℕ) (octets left maxima : List ℕ) (fields : List Field) → (BeginsUpdate octets → ⊥) → Updates limit table octets maxima updated left
+    → updated.maximum ≤ limit → Fields updated left fields after → IsFields table limit octets fields after
+no_updates table updated after limit octets left [] fields none updates within spelled = record {
+  within = subst (λ t. t.maximum ≤ limit) updates.0 within;
+  spelled = subst (λ t. Fields t octets fields after) updates.0 (subst (λ xs. Fields updated xs fields after) updates.1 spelled);
+}
+no_updates table updated after limit octets left (one ∷ maxima) fields none (first, more, joined, is_update, allowed, updates) within spelled =
+    absurd (none (first_whole 0x20 0x40 octets first more joined is_update.0))
+
+-- A block without updates in front.
+pub block_fields : (table : Entries) (limit : ℕ) (octets : List ℕ) (fields : List Field) (after : Entries) → (BeginsUpdate octets → ⊥) → Block table limit octets fields after
+    → IsFields table limit octets fields after
+block_fields table limit octets fields after none block =
+    no_updates table block.updated after limit octets block.others block.maxima fields none block.updates block.within block.spelled
+
+-- Fields at a table that is within the limit are a block.
+pub fields_block : (table : Entries) (limit : ℕ) (octets : List ℕ) (fields : List Field) (after : Entries) → table.maximum ≤ limit → Fields table octets fields after
+    → Block table limit octets fields after
+fields_block table limit octets fields after within spelled = record {
+  maxima = [];
+  updated = table;
+  others = octets;
+  updates = (refl, refl);
+  within = within;
+  spelled = spelled;
+}
+
+-- the same fields and the same table
+abbrev pub SameFields : List Field → List Field → Entries → Entries → Type 0
+SameFields fields others after other = (fields ≡ others) × (after ≡ other)
+
+-- Octets are fields in one way at most.
+fields_unique : (table after other : Entries) (octets : List ℕ) (fields others : List Field) → Fields table octets fields after → Fields table octets others other
+    → SameFields fields others after other
+fields_unique table after other octets [] [] a b = (refl, a.1 ∙ sym b.1)
+fields_unique table after other octets [] (one ∷ others) a (first, more, between, joined, step, spelled) =
+    absurd (let long = front_long octets first more joined (step_long table between first one step) in omega (arith, long, ap (λ (xs : List ℕ). length xs) a.0))
+fields_unique table after other octets (field ∷ fields) others (first, more, between, joined, step, spelled) b =
+    let (left, same, behind) = fields_behind table between other octets first more field others joined step b in
+    let (rests, tables) = fields_unique between after other more fields left spelled behind in
+    (ap (λ (fs : List Field). field ∷ fs) rests ∙ sym same, tables)
+
+-- Octets that are fields are no block with updates in front, and these fields as a block.
+fields_or_block : (maxima : List ℕ) (table updated after other : Entries) (limit : ℕ) (octets left : List ℕ) (fields others : List Field) → Fields table octets fields after
+    → Updates limit table octets maxima updated left → Fields updated left others other → SameFields fields others after other
+fields_or_block [] table updated after other limit octets left fields others a updates b =
+    fields_unique table after other octets fields others a (subst (λ t. Fields t octets others other) updates.0 (subst (λ xs. Fields updated xs others other) updates.1 b))
+fields_or_block (one ∷ maxima) table updated after other limit octets left fields others a (first, more, joined, is_update, allowed, updates) b =
+    absurd (fields_no_update table after octets first more one fields joined is_update a)
+
+-- Octets are a block in one way at most, by the list of maxima.
+block_unique : (maxima : List ℕ) (table updated after other : Entries) (limit : ℕ) (octets left : List ℕ) (fields others : List Field)
+    → Updates limit table octets maxima updated left → updated.maximum ≤ limit → Fields updated left fields after → Block table limit octets others other
+    → SameFields fields others after other
+block_unique [] table updated after other limit octets left fields others updates within spelled block =
+    fields_or_block block.maxima table block.updated after other limit octets block.others fields others
+    (subst (λ t. Fields t octets fields after) updates.0 (subst (λ xs. Fields updated xs fields after) updates.1 spelled)) block.updates block.spelled
+block_unique (one ∷ maxima) table updated after other limit octets left fields others (first, more, joined, is_update, allowed, updates) within spelled block =
+    block_unique maxima (resized table one) updated after other limit more left fields others updates within spelled
+    (behind_update table limit one octets first more others other joined is_update block).block
+
+-- Octets are one block at most.
+pub one_block_lem : (table after other : Entries) (limit : ℕ) (octets : List ℕ) (fields others : List Field) → Block table limit octets fields after → Block table limit octets others other
+    → SameFields fields others after other
+one_block_lem table after other limit octets fields others a b =
+    block_unique a.maxima table a.updated after other limit octets a.others fields others a.updates a.within a.spelled b
+
+-- A table above the limit, and no update: no block.
+pub above_limit : (table now : Entries) (limit : ℕ) (octets rest : List ℕ) → limit < now.maximum → (BeginsUpdate rest → ⊥) → UpdatesSoFar table limit octets now rest → NoBlock table limit octets
+above_limit table now limit octets rest above none so_far = λ fields after h.
+    let within = (block_fields now limit rest fields after none (so_far.whole fields after h)).within in
+    omega arith
+
+-- The fields behind the updates are the block's.
+pub block_read : (table now after : Entries) (limit : ℕ) (octets rest : List ℕ) (fields : List Field) → now.maximum ≤ limit → UpdatesSoFar table limit octets now rest
+    → Fields now rest fields after → Block table limit octets fields after
+block_read table now after limit octets rest fields within so_far spelled = so_far.sound fields after (fields_block now limit rest fields after within spelled)
+
+-- A fault of the fields behind the updates is one of the block.
+pub block_fault : (table now : Entries) (limit : ℕ) (octets rest : List ℕ) (fault : Fault) → (BeginsUpdate rest → ⊥) → UpdatesSoFar table limit octets now rest
+    → FieldsFault now rest fault → DecodeFault table limit octets fault
+block_fault table now limit octets rest faults.Compression none so_far wrong = λ fields after h.
+    wrong fields after (block_fields now limit rest fields after none (so_far.whole fields after h)).spelled
+block_fault table now limit octets rest faults.Memory none so_far wrong = tt
+block_fault table now limit octets rest faults.Failed none so_far wrong = wrong
+
+-- No octet is left.
+pub none_left : (n : ℕ) → true ≡ (n == 0) → n ≡ 0
+none_left n e = grind (arith, nat_tests)
+
+-- Some octet is left.
+pub some_left : (n : ℕ) → false ≡ (n == 0) → n ≡ 0 → ⊥
+some_left n e zero_left = false≢true (e ∙ eq-eqb n 0 zero_left)
+
+-- what is handed out of what was collected
+pub has_list : (bar : ℕ) (fields : List Field) (list : FieldList) (room : ℕ) → HasRoom bar fields list room → IsList bar fields list
+has_list bar fields (Whole items) room h = (h.0, omega (arith, h.1))
+has_list bar fields TooLarge room h = h
+
+-- Of a block only want of memory is a fault.
+pub fault_of_block : (table after : Entries) (limit : ℕ) (octets : List ℕ) (fields : List Field) → Block table limit octets fields after → (fault : Fault)
+    → DecodeFault table limit octets fault → fault ≡ faults.Memory
+fault_of_block table after limit octets fields block faults.Compression none = absurd (none fields after block)
+fault_of_block table after limit octets fields block faults.Memory none = refl
+fault_of_block table after limit octets fields block faults.Failed none = absurd none

@@ -1,0 +1,32 @@
+use Rattle.std.proofs.Common.{◌≡◌, ℕ, ◌-◌, ◌<◌, ap, ◌∙◌, arith}
+use Rattle.std.specs.Vec.{vec_capacity}
+use Rattle.std.proofs.Common.{vec_len}
+use Rattle.hpack.specs.Sizes.{entry_size, table_size, fit}
+use Rattle.hpack.proofs.SizeLemmas.{table_size-cons, one_more, inserted_first, added, added_none}
+use Rattle.hpack.proofs.table.Table.add.Goals as goal
+
+pub returns-then-size-maximum : goal.returns-then-size-maximum
+returns-then-size-maximum c =
+    rw (← c.self.view_is) (added_none c.self.inside.entries.items c.clear.new.self.items c.args.entry c.self.inside.maximum (omega (arith, c.size_of-size.ensures, c.if-size-maximum.true)) c.clear.ensures.items)
+
+pub invariant_of-self-2 : goal.invariant_of-self-2
+invariant_of-self-2 c =
+    let exact : c.size_of-size.result ≡ entry_size c.args.entry = omega (arith, c.size_of-size.ensures, c.if-size-maximum.false) in
+    let room : vec_len c.evict.new.entries < vec_capacity c.evict.new.entries =
+    omega (arith, one_more c.evict.new.entries.items c.self.inside.maximum c.size_of-size.result (vec_capacity c.evict.new.entries) (omega (arith, c.evict.ensures.size, c.evict.ensures.within)) (omega (arith, exact)) c.if-size-maximum.false (omega (arith, c.self.invariant.room, c.evict.ensures.capacity)), c.evict.new.entries.ok.0)
+    in
+    let items = inserted_first _ _ _ c.args.entry c.insert.ensures.items (c.insert.ensures.succeeds room) in
+    record {
+      counted = omega (arith, exact, c.evict.ensures.size, ap table_size items ∙ table_size-cons c.args.entry c.evict.new.entries.items);
+      within = omega (arith, c.evict.ensures.within, c.if-size-maximum.false);
+      room = omega (arith, c.self.invariant.room, c.evict.ensures.capacity, c.insert.ensures.capacity);
+    }
+
+pub returns : goal.returns
+returns c =
+    let exact : c.size_of-size.result ≡ entry_size c.args.entry = omega (arith, c.size_of-size.ensures, c.if-size-maximum.false) in
+    let room : vec_len c.evict.new.entries < vec_capacity c.evict.new.entries =
+    omega (arith, one_more c.evict.new.entries.items c.self.inside.maximum c.size_of-size.result (vec_capacity c.evict.new.entries) (omega (arith, c.evict.ensures.size, c.evict.ensures.within)) (omega (arith, exact)) c.if-size-maximum.false (omega (arith, c.self.invariant.room, c.evict.ensures.capacity)), c.evict.new.entries.ok.0)
+    in
+    let items = inserted_first _ _ _ c.args.entry c.insert.ensures.items (c.insert.ensures.succeeds room) in
+    rw (← c.self.view_is) (added c.self.inside.entries.items c.insert.new.self.items c.evict.new.entries.items c.args.entry c.self.inside.maximum (omega (arith, exact, c.if-size-maximum.false)) (c.evict.ensures.kept ∙ ap (λ (n : ℕ). fit c.self.inside.entries.items (c.self.inside.maximum - n)) exact) items)

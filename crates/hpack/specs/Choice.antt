@@ -1,0 +1,92 @@
+-- What the encoder writes: its choices, as functions (RFC 7541 leaves them open).
+use Rattle.std.specs.Prelude.{ℕ, suc, ◌+◌, ◌==◌, nat_lt, if◌then◌else◌, ◌&&◌, Bool, true, false, List, [], ◌∷◌, ◌++◌, length, position, fold, flat_map}
+use Rattle.std.specs.Option.{option_map_or}
+use Rattle.hpack_text.specs.Integers.{integer}
+use Rattle.hpack_text.specs.Strings.{string}
+use Rattle.hpack.specs.declared.entry.Entry.{Entry}
+use Rattle.hpack.specs.declared.field.Field.{Field}
+use Rattle.hpack.specs.declared.kind.Literal.{Literal}
+use Rattle.hpack.specs.declared.kind.Literal.TheVariants.{Added, Plain, Never}
+use Rattle.hpack.specs.Static.{static_entries}
+use Rattle.hpack.specs.Tables.{Entries, resized}
+use Rattle.hpack.specs.Blocks.{after_literal}
+use Rattle.hpack.specs.Lists.{EncoderState}
+
+abbrev pub same_octets : List ℕ → List ℕ → Bool
+same_octets [] [] = true
+same_octets [] (y ∷ ys) = false
+same_octets (x ∷ xs) [] = false
+same_octets (x ∷ xs) (y ∷ ys) = (x == y) && same_octets xs ys
+
+-- the least index whose entry passes, or 0 where none does
+unfoldable pub least_index : (Entry → Bool) → List Entry → ℕ
+least_index test entries = option_map_or suc (position test (static_entries ++ entries)) 0
+
+-- the least index of an entry with the field's name and value, or 0
+abbrev pub exact_index : List Entry → Field → ℕ
+exact_index entries field = least_index (λ one. same_octets one.name field.name && same_octets one.value field.value) entries
+
+-- the least index of an entry with the field's name, or 0
+abbrev pub name_index : List Entry → Field → ℕ
+name_index entries field = least_index (λ one. same_octets one.name field.name) entries
+
+-- how a field is written
+pub data Choice : Type 0 where
+  indexed : (index : ℕ) → Choice
+  literal : (kind : Literal) (index : ℕ) → Choice
+
+-- A sensitive field is never indexed. Otherwise an exact entry gives its index; a field that is larger than the maximum
+-- isn't added, and any other is.
+unfoldable pub choice : Entries → Field → Choice
+choice table field =
+    if field.sensitive then literal Never (name_index table.entries field)
+    else if nat_lt 0 (exact_index table.entries field) then indexed (exact_index table.entries field)
+    else if nat_lt table.maximum (length field.name + length field.value + 32) then literal Plain (name_index table.entries field)
+    else literal Added (name_index table.entries field)
+
+-- the octets of a literal's head
+abbrev pub literal_head : Literal → ℕ → List ℕ
+literal_head Added index = integer 6 0x40 index
+literal_head Plain index = integer 4 0x00 index
+literal_head Never index = integer 4 0x10 index
+
+-- the octets of a field, as it is written
+abbrev pub written : Choice → Field → List ℕ
+written (indexed index) field = integer 7 0x80 index
+written (literal kind index) field = literal_head kind index ++ ((if index == 0 then string field.name else []) ++ string field.value)
+
+-- the table behind a field
+abbrev pub after_choice : Entries → Choice → Field → Entries
+after_choice table (indexed index) field = table
+after_choice table (literal kind index) field = after_literal kind table (record { name = field.name; value = field.value })
+
+-- the octets of fields, one behind another
+unfoldable pub written_fields : Entries → List Field → List ℕ
+written_fields table [] = []
+written_fields table (field ∷ fields) = written (choice table field) field ++ written_fields (after_choice table (choice table field) field) fields
+
+-- the table behind fields
+unfoldable pub after_fields : Entries → List Field → Entries
+after_fields table [] = table
+after_fields table (field ∷ fields) = after_fields (after_choice table (choice table field) field) fields
+
+-- The updates at a block's beginning. Where the limit fell below the maximum since the last block, one to the least limit,
+-- and one to the limit now if that is another; where it didn't and is above the maximum, one to it.
+unfoldable pub signals : EncoderState → List ℕ
+signals state =
+    if nat_lt state.least state.table.maximum then state.least ∷ (if state.limit == state.least then [] else state.limit ∷ [])
+    else if nat_lt state.table.maximum state.limit then state.limit ∷ []
+    else []
+
+-- the table behind updates
+abbrev pub after_updates : Entries → List ℕ → Entries
+after_updates table maxima = fold resized table maxima
+
+-- the octets of a whole block
+unfoldable pub block_of : EncoderState → List Field → List ℕ
+block_of state fields = flat_map (integer 5 0x20) (signals state) ++ written_fields (after_updates state.table (signals state)) fields
+
+-- the encoder behind a block
+unfoldable pub after_block : EncoderState → List Field → EncoderState
+after_block state fields =
+    record { table = after_fields (after_updates state.table (signals state)) fields; least = state.limit; limit = state.limit }

@@ -1,0 +1,9 @@
+pub mod Sizes
+pub mod Static
+pub mod Tables
+pub mod Blocks
+pub mod Lists
+pub mod Kept
+pub mod Choice
+pub mod Fronts
+pub mod Written

@@ -1,0 +1,55 @@
+-- Lists of fields, and what a decoder or an encoder is between blocks.
+use Rattle.std.specs.Prelude.{◌≡◌, ◌<◌, ◌≤◌, ℕ, ◌+◌, Bool, false, List, [], length, sum_by}
+use Rattle.hpack.specs.declared.field.Field.{Field}
+use Rattle.hpack.specs.declared.field.List.{List as FieldList}
+use Rattle.hpack.specs.declared.field.List.TheVariants.{Whole, TooLarge}
+use Rattle.hpack.specs.declared.fault.Fault.{Fault}
+use Rattle.hpack.specs.declared.fault.Fault.TheVariants as faults
+use Rattle.hpack.specs.Tables.{Entries}
+use Rattle.hpack.specs.Blocks.{Block}
+
+-- the size of a list of fields (RFC 9113, section 6.5.2)
+abbrev pub list_size : List Field → ℕ
+list_size fields = sum_by (λ field. length field.name + length field.value + 32) fields
+
+-- The list that is handed out: the fields, or that they are above the bar.
+abbrev pub IsList : ℕ → List Field → FieldList → Type 0
+IsList bar fields (Whole items) = (items.items ≡ fields) × (list_size fields ≤ bar)
+IsList bar fields TooLarge = bar < list_size fields
+
+-- a decoder between blocks
+pub record DecoderState : Type 0 where
+  pub table : Entries
+  -- the greatest maximum that an update may set
+  pub limit : ℕ
+  pub failed : Bool
+
+-- an encoder between blocks
+pub record EncoderState : Type 0 where
+  pub table : Entries
+  -- the least limit since the last block, that of the last block included
+  pub least : ℕ
+  -- the limit now
+  pub limit : ℕ
+
+-- Nothing is a block of these octets.
+abbrev pub NoBlock : Entries → ℕ → List ℕ → Type 0
+NoBlock table limit octets = (fields : List Field) (after : Entries) → Block table limit octets fields after → ⊥
+
+-- what a fault of decoding says, of a decoder that hadn't failed
+abbrev pub DecodeFault : Entries → ℕ → List ℕ → Fault → Type 0
+DecodeFault table limit octets faults.Compression = NoBlock table limit octets
+DecodeFault table limit octets faults.Memory = Unit {0}
+DecodeFault table limit octets faults.Failed = ⊥
+
+-- A block was decoded: its fields are handed out, and its table stands.
+pub record Decodes (old : DecoderState) (octets : List ℕ) (bar : ℕ) (list : FieldList) (new : DecoderState) : Type 0 where
+  pub fields : List Field
+  pub after : Entries
+  pub block : Block old.table old.limit octets fields after
+  pub handed : IsList bar fields list
+  pub state : new ≡ record { table = after; limit = old.limit; failed = false }
+
+-- a decoder or an encoder that was made with a maximum
+abbrev pub empty_table : ℕ → Entries
+empty_table maximum = record { entries = []; maximum = maximum }

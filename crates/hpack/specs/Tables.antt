@@ -1,0 +1,12 @@
+-- A table as its entries, newest first, and its maximum.
+use Rattle.std.specs.Prelude.{ℕ, List}
+use Rattle.hpack.specs.declared.entry.Entry.{Entry}
+use Rattle.hpack.specs.Sizes.{fit}
+
+pub record Entries : Type 0 where
+  pub entries : List Entry
+  pub maximum : ℕ
+
+-- a table whose maximum is set: the oldest entries leave until the size is at most that
+abbrev pub resized : Entries → ℕ → Entries
+resized table maximum = record { entries = fit table.entries maximum; maximum = maximum }

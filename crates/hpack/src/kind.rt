@@ -1,0 +1,12 @@
+//! How a field is represented as a literal.
+
+/// The three literals of RFC 7541, section 6.2.
+#[derive(Clone, Copy, Debug, PartialEq, Eq)]
+pub enum Literal {
+    /// 6.2.1: the field is added to the table.
+    Added,
+    /// 6.2.2: it isn't.
+    Plain,
+    /// 6.2.3: it isn't, and never may be.
+    Never,
+}

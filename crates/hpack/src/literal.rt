@@ -1,0 +1,122 @@
+//! Literals and indices (RFC 7541, sections 6.1 and 6.2).
+
+ghost use Rattle.std.specs.Prelude.{◌≡◌, ◌≤◌, length, take, false, IfOk, IfErr};
+ghost use Rattle.hpack.specs.Blocks.{LiteralName, after_literal, is_sensitive};
+ghost use Rattle.hpack.specs.Fronts.{FrontFault, IsName, IsLiteral, SpellsLiteral, IsIndex, SpellsIndex, prefix_of};
+
+use crate::entry::Entry;
+use crate::fault::Fault;
+use crate::field::Field;
+use crate::kind::Literal;
+use crate::lookup::entry_at;
+use crate::octets::Octets;
+use crate::table::Table;
+use crate::texts::{int_at, text_at};
+use std::alloc::Global;
+
+/// How many bits of an indexed field's index stand in its first octet.
+const INDEX_PREFIX: u8 = 7;
+
+/// Reads the index at the front of `octets`, and answers the field that it names and how many octets spell it.
+pub(crate) fn indexed_at(
+    alloc: Global,
+    table: &Table,
+    octets: &[u8],
+) -> Result<(Field, usize), Fault>
+    ensures ok { IfOk result (λ read. (read.1 ≤ length octets.now)
+        × SpellsIndex table.now.entries (take read.1 octets.now) read.0.name read.0.value × (read.0.sensitive ≡ false)) }
+    ensures fault { IfErr result (FrontFault (IsIndex table.now.entries) octets.now) }
+{
+    let (index, count) = int_at(INDEX_PREFIX, octets)?;
+    let Some((name, value)) = entry_at(table, index) else {
+        return Err(Fault::Compression);
+    };
+    let field = Field {
+        name: Octets::copy_of(alloc, name)?,
+        value: Octets::copy_of(alloc, value)?,
+        sensitive: false,
+    };
+    Ok((field, count))
+}
+
+/// Reads the literal at the front of `octets`, and answers its field and how many octets spell it. What is to be added to
+/// the table is added.
+pub(crate) fn literal_at(
+    alloc: Global,
+    table: &mut Table,
+    kind: Literal,
+    octets: &[u8],
+) -> Result<(Field, usize), Fault>
+    ensures ok { IfOk result (λ read. (read.1 ≤ length octets.now)
+        × SpellsLiteral table.old.entries (prefix_of kind) (take read.1 octets.now) read.0.name read.0.value
+        × (read.0.sensitive ≡ is_sensitive kind)
+        × (table.new ≡ after_literal kind table.old (record { name = read.0.name; value = read.0.value }))) }
+    ensures fault { IfErr result (FrontFault (IsLiteral table.old.entries (prefix_of kind)) octets.now) }
+{
+    let (name, value, count) = parts_at(alloc, table, prefix_bits(kind), octets)?;
+    if kind == Literal::Added {
+        table.add(Entry {
+            name: Octets::copy_of(alloc, name.as_slice())?,
+            value: Octets::copy_of(alloc, value.as_slice())?,
+        });
+    }
+    let sensitive = kind == Literal::Never;
+    Ok((
+        Field {
+            name,
+            value,
+            sensitive,
+        },
+        count,
+    ))
+}
+
+/// How many bits of the index of a literal's name stand in its first octet.
+fn prefix_bits(kind: Literal) -> u8
+    ensures { result ≡ prefix_of kind }
+{
+    match kind {
+        Literal::Added => 6,
+        Literal::Plain | Literal::Never => 4,
+    }
+}
+
+/// Reads the name and the value of a literal, and how many octets spell it.
+fn parts_at(
+    alloc: Global,
+    table: &Table,
+    prefix: u8,
+    octets: &[u8],
+) -> Result<(Octets, Octets, usize), Fault>
+    requires at_least { 1 ≤ prefix }
+    requires at_most { prefix ≤ 8 }
+    ensures ok { IfOk result (λ read. (read.2 ≤ length octets.now)
+        × SpellsLiteral table.now.entries prefix (take read.2 octets.now) read.0 read.1) }
+    ensures fault { IfErr result (FrontFault (IsLiteral table.now.entries prefix) octets.now) }
+{
+    let (index, head_len) = int_at(prefix, octets)?;
+    let behind = &octets[head_len..];
+    let (name, name_len) = name_at(alloc, table, index, behind)?;
+    let (value, value_len) = text_at(alloc, &behind[name_len..])?;
+    Ok((name, value, head_len + name_len + value_len))
+}
+
+/// Reads the name of a literal behind its index, and how many octets spell it: none where the index is that of an entry.
+fn name_at(
+    alloc: Global,
+    table: &Table,
+    index: u64,
+    octets: &[u8],
+) -> Result<(Octets, usize), Fault>
+    ensures ok { IfOk result (λ read. (read.1 ≤ length octets.now)
+        × LiteralName table.now.entries index read.0 (take read.1 octets.now)) }
+    ensures fault { IfErr result (FrontFault (IsName table.now.entries index) octets.now) }
+{
+    if index == 0 {
+        return text_at(alloc, octets);
+    }
+    let Some((name, _)) = entry_at(table, index) else {
+        return Err(Fault::Compression);
+    };
+    Ok((Octets::copy_of(alloc, name)?, 0))
+}
