@@ -89,9 +89,9 @@ impl Show {
 
     /// Prints what is whole with the piece.
     ///
-    /// The clauses `ok` and `err` carry what `h2 show` promises of its lines: each frame that [`Cutter::cut`] answers is
-    /// printed, in order, and by `ok` these are the frames of all octets so far, joined, however they were cut; by `err`
-    /// the stream is at fault just behind them.
+    /// The clauses say what becomes of the cutter: by `ok` it took the whole piece, and the frames that it answered are those
+    /// of all octets so far, joined, however they were cut; by `err` the stream is at fault just behind them. That each of
+    /// these frames is printed, in order, is tested.
     ///
     /// # Errors
     ///

@@ -48,7 +48,7 @@ pub fn show_order(alloc: Global, words: &[String]) -> Result<ShowOrder, Error> {
 pub(crate) fn no_command(alloc: Global, words: &[String]) -> Result<(), Error> {
     let command = Command::new(alloc, "h2")
         .bin_name("h2")?
-        .about("Shows what HTTP/2 over cleartext holds")
+        .about("Shows streams of HTTP/2 over cleartext")
         .version("0.1.0")
         .no_binary_name(true)
         .subcommand_required(true)
@@ -62,11 +62,14 @@ const HEX: &str = "hex";
 
 const FROM: &str = "from";
 
+const EXIT_STATUSES: &str =
+    "Exit status: 0 whole frames, 1 a fault or an unfinished frame, 2 wrong usage or hexadecimal, 3 a device that failed, 4 no memory";
+
 fn show_command<'a>(alloc: Global) -> Result<Command<'a>, AllocError> {
     let hex = Arg::new(alloc, HEX)
         .long(HEX)
         .action(ArgAction::SetTrue)
-        .help("Read hexadecimal text, in which blanks are ignored");
+        .help("Read hexadecimal text, in which spaces, tabs and line ends are ignored");
     let from = Arg::new(alloc, FROM)
         .long(FROM)
         .value_name("SIDE")
@@ -76,6 +79,7 @@ fn show_command<'a>(alloc: Global) -> Result<Command<'a>, AllocError> {
     Command::new(alloc, "show")
         .bin_name("h2 show")?
         .about("Prints the frames of standard input, one line each")
+        .after_help(EXIT_STATUSES)
         .arg(hex)?
         .arg(from)
 }

@@ -2,7 +2,6 @@
 
 ghost use Rattle.std.specs.Prelude.{◌≡◌, ◌<◌, ◌≤◌, length, take, vec_len, IfOk, IfSome};
 ghost use Rattle.std.specs.Io.KnownBytes.{Consumes, IsAtEnd};
-ghost use Rattle.h2_tool.specs.declared.order.ShowOrder.{ShowOrder as Order};
 ghost use Rattle.h2_tool.specs.Telling.{TellsOctets, TellsText, TellsInput, TellsBehind};
 
 use crate::engine::{Show, Stop};
@@ -22,18 +21,15 @@ const PIECE: usize = 65_536;
 ///
 /// The words are judged before anything is read. Lines are written at the end of each piece that was read.
 ///
-/// That the status tells the truth of all octets of the input, whatever pieces the reader gave, is the contract of the
-/// function that shows the input, which this one calls.
+/// The status is that of [`show_input`], whose contract says that it tells the truth of the octets; for help it is
+/// [`Status::Good`], and for wrong words [`Status::Usage`].
 pub fn cmd_show<R: Read, W: Write, E: Write>(
     alloc: Global,
     words: &[String],
     input: &mut R,
     out: &mut W,
     err: &mut E,
-) -> Status
-    // Of a reader whose octets are known: the stream is said to be at fault only where it is, under an order of the words.
-    ensures { IfSome (R.remaining input.old) (λ given. result ≡ Status.Fault → (order : Order) × TellsInput order given Status.Fault) }
-{
+) -> Status {
     let order = match show_order(alloc, words) {
         Ok(order) => order,
         Err(error) => return answer(&error, out, err),
@@ -47,7 +43,8 @@ pub fn cmd_show<R: Read, W: Write, E: Write>(
 /// Shows the input: a line for each frame, and then for the fault that ends the stream, or for what is left unfinished.
 ///
 /// Of a reader whose octets are known, in whatever pieces it gives them, [`Status::Good`] comes only where they are whole
-/// frames to their end, or nothing, and [`Status::Fault`] only where they end inside a preface or a frame, or are at fault.
+/// frames to their end, behind the preface where one is expected, or nothing, and [`Status::Fault`] only where they end
+/// inside a preface or a frame, or are at fault.
 ///
 /// # Errors
 ///

@@ -209,7 +209,7 @@ fn words_are_judged_first(rt: HostRuntime) -> Result<(), Fail> {
         ),
         (
             ["--help", "", ""],
-            "Shows what HTTP/2 over cleartext",
+            "Shows streams of HTTP/2 over cleartext",
             "",
             Status::Good,
         ),
@@ -223,7 +223,7 @@ fn words_are_judged_first(rt: HostRuntime) -> Result<(), Fail> {
         (
             ["", "", ""],
             "",
-            "Shows what HTTP/2 over cleartext",
+            "Shows streams of HTTP/2 over cleartext",
             Status::Usage,
         ),
         (

@@ -64,7 +64,7 @@ impl Cutter {
         // A fault is answered again.
         ensures failed { IfSome self.old.fault (λ fault. result ≡ Err fault) }
 
-        // A head at fault is told with its ninth octet, whatever memory there is.
+        // A head at fault is told with its ninth octet, whatever memory there is, in a call that begins behind the preface.
         ensures judged { (code : Code) → FaultsAtHead self.old piece.now code → result ≡ Err (WireFault.HeadFault code) }
 
         // Once the frame isn't used any more: whatever stream the cutter stood for, it stands for that stream with the

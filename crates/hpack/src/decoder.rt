@@ -67,7 +67,7 @@ impl Decoder {
     ///
     /// # Errors
     ///
-    /// [`Fault::Compression`] exactly where the octets are no block at this table and limit. [`Fault::Memory`] where a growth
+    /// [`Fault::Compression`] only where the octets are no block at this table and limit. [`Fault::Memory`] where a growth
     /// was refused. After either the decoder has failed, and every call answers [`Fault::Failed`].
     pub fn decode(&mut self, octets: &[u8], bar: u32) -> Result<List, Fault>
         ensures failed { self.old.failed ≡ true → (result ≡ Err Fault.Failed) × (self.new ≡ self.old) }

@@ -1,7 +1,7 @@
 //! HPACK (RFC 7541): the dynamic table and the decoder of field blocks.
 //!
-//! [`Decoder::decode`] answers the list and the table of a block exactly where the octets are one. The encoder is to come;
-//! what it is to write is defined, and a law says that it is a block.
+//! [`Decoder::decode`] answers the list and the table of a block exactly where the octets are one, unless memory runs out. The
+//! encoder is to come; what it is to write is defined, and a law says that it is a block.
 #![tactic(auto)]
 
 mod block;
