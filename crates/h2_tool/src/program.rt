@@ -51,7 +51,6 @@ pub(crate) fn answer<W: Write, E: Write>(error: &Error, out: &mut W, err: &mut E
     }
     if error.use_stderr() {
         return match write!(err, "{error}") {
-            // No words are known that lead here: without a command's name they are help, the version, or wrong.
             Ok(()) => Status::Usage,
             Err(_) => Status::Device,
         };
