@@ -1,12 +1,13 @@
 -- Heads: which octets they are read from, and what a head without fault is.
-use Rattle.std.proofs.Common.{◌≡◌, ℕ, ◌≤◌, List, ◌++◌, length, drop, None, refl, ap, ◌∙◌, arith, get_or, length-drop}
+use Rattle.std.proofs.Common.{◌≡◌, ℕ, ◌<◌, ◌≤◌, List, ◌++◌, length, drop, None, refl, ap, ◌∙◌, arith, get_or, length-drop}
 use Rattle.std.proofs.lemmas.Bool.Decides.{nat_tests}
 use Rattle.std.proofs.Math.ListN.{get_or-append}
 use Rattle.std.proofs.lemmas.List.{drop-append-le}
 use Rattle.byteorder.specs.Endian.{big_number}
 use Rattle.byteorder.specs.Numbers.{big_from-append}
 use Rattle.h2_frame.specs.declared.heads.Head.{Head}
-use Rattle.h2_frame.specs.Heads.{head_of, form_fault, head_fault}
+use Rattle.h2_frame.specs.declared.kind.Kind.TheVariants.{Headers}
+use Rattle.h2_frame.specs.Heads.{head_of, form_fault, fits_stream, head_fault}
 
 -- a head is read from nine octets
 pub head_of-append : (octets more : List ℕ) → 9 ≤ length octets → head_of (octets ++ more) ≡ head_of octets
@@ -28,3 +29,8 @@ length-head_fault head limit sound = grind (arith, nat_tests)
 pub form_fault-head_fault : (head : Head) (limit : ℕ) → head_fault head limit ≡ None → form_fault head ≡ None
 unfolding head_fault
 form_fault-head_fault head limit sound = grind (arith, nat_tests)
+
+-- a head of HEADERS that has no fault of its form stands on a stream
+pub stream-Headers : (head : Head) → head.kind ≡ Headers → form_fault head ≡ None → 0 < head.stream
+unfolding form_fault fits_stream
+stream-Headers head kind sound = grind (arith, nat_tests)

@@ -1,3 +1,6 @@
 pub mod FrameLemmas
 pub mod HeadLemmas
+pub mod PaddingLemmas
 pub mod PairLemmas
+pub mod WritingLemmas
+pub mod WrittenLemmas

@@ -26,6 +26,12 @@ has_flag flags bit = not (bit_and flags bit == 0)
 abbrev pub has_ack : ℕ → Bool
 has_ack flags = has_flag flags 0x01
 
+abbrev pub has_end_stream : ℕ → Bool
+has_end_stream flags = has_flag flags 0x01
+
+abbrev pub has_end_headers : ℕ → Bool
+has_end_headers flags = has_flag flags 0x04
+
 abbrev pub has_padding : ℕ → Bool
 has_padding flags = has_flag flags 0x08
 

@@ -1,4 +1,4 @@
-//! Frames that lend what they hold.
+//! Frames that lend what they hold, as they are read.
 
 use crate::code::Code;
 use crate::pairs::Pairs;
@@ -7,7 +7,47 @@ use thiserror::Error;
 /// A frame whose payload is lent.
 #[derive(Clone, Copy, Debug, PartialEq, Eq)]
 pub enum FrameRef<'a> {
-    /// Settings, or that the settings of the peer were applied (RFC 9113, section 6.5).
+    /// Octets of a message's body (RFC 9113, section 6.1).
+    Data {
+        /// The stream, not 0.
+        stream: u32,
+        /// Whether the stream's sender sends nothing behind it (END_STREAM).
+        end: bool,
+        /// The octets, without padding.
+        octets: &'a [u8],
+        /// How many octets of padding there were, where there was a pad length.
+        pad: Option<u8>,
+    },
+    /// The beginning of a field block (section 6.2).
+    Headers {
+        /// The stream, not 0.
+        stream: u32,
+        /// Whether the stream's sender sends nothing behind the block (END_STREAM).
+        end: bool,
+        /// Whether the block ends with this frame (END_HEADERS).
+        whole: bool,
+        /// The block's octets in this frame.
+        fragment: &'a [u8],
+        /// How many octets of padding there were, where there was a pad length.
+        pad: Option<u8>,
+        /// The five octets of a priority, where there were any; they are ignored.
+        priority: Option<[u8; 5]>,
+    },
+    /// A priority, which is ignored (section 6.3).
+    Priority {
+        /// The stream, not 0.
+        stream: u32,
+        /// The octets.
+        octets: [u8; 5],
+    },
+    /// A stream ends at once (RST_STREAM, section 6.4).
+    Reset {
+        /// The stream, not 0.
+        stream: u32,
+        /// Why, by its number; any is allowed.
+        code: u32,
+    },
+    /// Settings, or that the settings of the peer were applied (section 6.5).
     Settings {
         /// Whether it acknowledges settings. Then it has no pairs.
         ack: bool,
@@ -21,6 +61,15 @@ pub enum FrameRef<'a> {
         /// The octets.
         octets: [u8; 8],
     },
+    /// The connection takes no further streams (section 6.8).
+    GoAway {
+        /// The greatest stream that its sender has taken, less than 2<sup>31</sup>.
+        last: u32,
+        /// Why, by its number; any is allowed.
+        code: u32,
+        /// Octets for whoever looks for the cause.
+        debug: &'a [u8],
+    },
     /// More octets may be sent (section 6.9).
     WindowUpdate {
         /// The stream, or 0 for the connection.
@@ -28,9 +77,18 @@ pub enum FrameRef<'a> {
         /// How many octets more, less than 2<sup>31</sup>; 0 is a fault that the connection judges.
         increment: u32,
     },
-    /// A frame of another kind, as it came.
+    /// A field block goes on (section 6.10).
+    Continuation {
+        /// The stream, not 0.
+        stream: u32,
+        /// Whether the block ends with this frame (END_HEADERS).
+        whole: bool,
+        /// The block's octets in this frame.
+        fragment: &'a [u8],
+    },
+    /// A frame of an unknown kind, as it came (section 5.5).
     Unknown {
-        /// The number of its kind.
+        /// The number of its kind, 10 or above.
         kind: u8,
         /// Its flags.
         flags: u8,

@@ -1,9 +1,10 @@
 //! Laws of frames, each the contract of a function that does nothing.
 
-ghost use Rattle.std.specs.Prelude.{◌≡◌, ℕ, ◌≤◌, ◌++◌, List, length, None};
+ghost use Rattle.std.specs.Prelude.{◌≡◌, ℕ, ◌+◌, ◌≤◌, ◌++◌, List, length, drop, None};
 ghost use Rattle.h2_frame.specs.declared.heads.Head.{Head};
 ghost use Rattle.h2_frame.specs.Heads.{head_of, form_fault, head_fault as fault_of};
-ghost use Rattle.h2_frame.specs.Frames.{Frame, Spells};
+ghost use Rattle.h2_frame.specs.Frames.{Frame, Spells, payload_fault};
+ghost use Rattle.h2_frame.specs.Writing.{payload_of, written, refusal, IsTyped};
 
 /// Octets spell one frame at most.
 pub fn one_frame()
@@ -20,4 +21,15 @@ pub fn nine_octets()
 pub fn within_limit()
     ensures length { (read : Head) (limit : ℕ) → fault_of read limit ≡ None → read.length ≤ limit }
     ensures form { (read : Head) (limit : ℕ) → fault_of read limit ≡ None → form_fault read ≡ None }
+{}
+
+/// What is written of a frame that no refusal keeps from it spells that frame, so it is read back; and neither its head nor its
+/// payload has a fault, where the limit allows its length.
+pub fn written_frame()
+    ensures length { (frame : Frame) → length (written frame) ≡ 9 + length (payload_of frame) }
+    ensures spelled { (frame : Frame) → IsTyped frame → refusal frame ≡ None → Spells frame (written frame) }
+    ensures sound_head { (frame : Frame) (limit : ℕ) → IsTyped frame → refusal frame ≡ None → length (payload_of frame) ≤ limit
+        → fault_of (head_of (written frame)) limit ≡ None }
+    ensures sound_payload { (frame : Frame) → IsTyped frame → refusal frame ≡ None
+        → payload_fault (head_of (written frame)) (drop 9 (written frame)) ≡ None }
 {}

@@ -1,51 +1,189 @@
 //! Reading payloads (RFC 9113, section 6).
 
-ghost use Rattle.std.specs.Prelude.{◌≡◌, length, None, MatchResult};
-ghost use Rattle.h2_frame.specs.Heads.{form_fault};
-ghost use Rattle.h2_frame.specs.Frames.{frame_of, Carries, payload_fault, Refuses};
+ghost use Rattle.std.specs.Prelude.{◌≡◌, ◌≤◌, ◌-◌, ◌+◌, ◌∷◌, ◌++◌, length, take, drop, slice_index, None, Some, true, MatchResult, MatchOption};
+ghost use Rattle.h2_frame.specs.Heads.{form_fault, has_padding, has_priority, octets_of_flags};
+ghost use Rattle.h2_frame.specs.Frames.{frame_of, Carries, IsPadded, IsPrioritized, payload_fault as fault_of_payload, pads_too_much, Refuses};
 
+use crate::code::Code;
 use crate::frame::{FrameRef, PayloadError};
 use crate::heads::Head;
 use crate::kind::Kind;
 use crate::pairs::Pairs;
-use crate::reading::ACK;
+use crate::reading::{ACK, END_HEADERS, END_STREAM, PADDED, PRIORITY, least_length};
 use byteorder::{BigEndian, ByteOrder};
+
+/// The fault of a payload behind a head without fault, or none: DATA whose pad length isn't less than its payload's length
+/// (RFC 9113, section 6.1), or HEADERS whose pad length is above what is left for the fragment (section 6.2), is a
+/// PROTOCOL_ERROR. It takes no memory.
+#[tactic(auto, unfolding(crate::specs::Heads::form_fault, crate::specs::Heads::fits_length, crate::specs::Frames::payload_fault, crate::specs::Frames::pads_too_much))]
+pub fn payload_fault(head: &Head, payload: &[u8]) -> Option<Code>
+    // The head has no fault of its form, the limit put aside.
+    requires form { form_fault head.now ≡ None }
+    requires whole { length payload.now ≡ head.now.length }
+    ensures { result ≡ fault_of_payload head.now payload.now }
+{
+    if head.flags & PADDED == 0 {
+        return None;
+    }
+    let prioritized = match head.kind {
+        Kind::Data => false,
+        Kind::Headers => head.flags & PRIORITY != 0,
+        _ => return None,
+    };
+    let left = payload.len() - least_length(true, prioritized) as usize;
+    if usize::from(payload[0]) > left {
+        return Some(Code::ProtocolError);
+    }
+    None
+}
 
 /// Reads the payload behind a head without fault, and lends it. It takes no memory.
 ///
 /// # Errors
 ///
-/// [`PayloadError::Code`] with the code of the payload's fault. The kinds that are read so far have none.
-#[tactic(auto, unfolding(crate::specs::Heads::form_fault, crate::specs::Heads::fits_stream, crate::specs::Heads::fits_length, crate::specs::Frames::payload_fault))]
+/// [`PayloadError::Code`] with the code of the payload's fault, which [`payload_fault`] answers.
+#[tactic(auto, unfolding(crate::specs::Heads::form_fault, crate::specs::Heads::fits_stream, crate::specs::Heads::fits_length))]
 pub fn read_payload<'a>(head: &Head, payload: &'a [u8]) -> Result<FrameRef<'a>, PayloadError>
     // The head has no fault of its form, the limit put aside.
     requires form { form_fault head.now ≡ None }
     requires whole { length payload.now ≡ head.now.length }
     ensures { MatchResult result
-        (λ frame. (payload_fault head.now payload.now ≡ None) × Carries head.now payload.now (frame_of frame))
+        (λ frame. (fault_of_payload head.now payload.now ≡ None) × Carries head.now payload.now (frame_of frame))
         (Refuses head.now payload.now) }
 {
+    if let Some(code) = payload_fault(head, payload) {
+        return Err(PayloadError::Code(code));
+    }
+    Ok(frame_behind(head, payload))
+}
+
+// The frame of a payload without fault.
+#[tactic(auto, unfolding(crate::specs::Heads::form_fault, crate::specs::Heads::fits_stream, crate::specs::Heads::fits_length, crate::specs::Frames::payload_fault, crate::specs::Frames::pads_too_much))]
+fn frame_behind<'a>(head: &Head, payload: &'a [u8]) -> FrameRef<'a>
+    requires form { form_fault head.now ≡ None }
+    requires whole { length payload.now ≡ head.now.length }
+    requires sound { fault_of_payload head.now payload.now ≡ None }
+    ensures { Carries head.now payload.now (frame_of result) }
+{
+    let stream = head.stream;
     let ack = head.flags & ACK != 0;
     match head.kind {
-        Kind::Settings => Ok(FrameRef::Settings {
+        Kind::Data => data(head, payload),
+        Kind::Headers => headers(head, payload),
+        Kind::Priority => FrameRef::Priority {
+            stream,
+            octets: five(payload),
+        },
+        Kind::RstStream => FrameRef::Reset {
+            stream,
+            code: BigEndian::read_u32(payload),
+        },
+        Kind::Settings => FrameRef::Settings {
             ack,
             pairs: Pairs { octets: payload },
-        }),
-        Kind::Ping => Ok(FrameRef::Ping {
+        },
+        // A head of this kind has a fault.
+        Kind::PushPromise => unreachable!(),
+        Kind::Ping => FrameRef::Ping {
             ack,
             octets: eight(payload),
-        }),
-        Kind::WindowUpdate => Ok(FrameRef::WindowUpdate {
-            stream: head.stream,
+        },
+        Kind::GoAway => FrameRef::GoAway {
+            last: BigEndian::read_u32(payload) & 0x7fff_ffff,
+            code: BigEndian::read_u32(&payload[4..]),
+            debug: &payload[8..],
+        },
+        Kind::WindowUpdate => FrameRef::WindowUpdate {
+            stream,
             increment: BigEndian::read_u32(payload) & 0x7fff_ffff,
-        }),
-        kind => Ok(FrameRef::Unknown {
-            kind: kind.number(),
+        },
+        Kind::Continuation => FrameRef::Continuation {
+            stream,
+            whole: head.flags & END_HEADERS != 0,
+            fragment: payload,
+        },
+        Kind::Unknown(kind) => FrameRef::Unknown {
+            kind,
             flags: head.flags,
-            stream: head.stream,
+            stream,
             payload,
-        }),
+        },
     }
+}
+
+// The frame of DATA whose payload has no fault.
+#[tactic(auto, unfolding(crate::specs::Heads::form_fault, crate::specs::Heads::fits_stream, crate::specs::Heads::fits_length, crate::specs::Frames::payload_fault, crate::specs::Frames::pads_too_much))]
+fn data<'a>(head: &Head, payload: &'a [u8]) -> FrameRef<'a>
+    requires kind { head.now.kind ≡ Kind.Data }
+    requires form { form_fault head.now ≡ None }
+    requires whole { length payload.now ≡ head.now.length }
+    requires sound { fault_of_payload head.now payload.now ≡ None }
+    ensures { Carries head.now payload.now (frame_of result) }
+{
+    let (octets, pad) = without_padding(head.flags, payload);
+    FrameRef::Data {
+        stream: head.stream,
+        end: head.flags & END_STREAM != 0,
+        octets,
+        pad,
+    }
+}
+
+// The frame of HEADERS whose payload has no fault.
+#[tactic(auto, unfolding(crate::specs::Heads::form_fault, crate::specs::Heads::fits_stream, crate::specs::Heads::fits_length, crate::specs::Frames::payload_fault, crate::specs::Frames::pads_too_much))]
+fn headers<'a>(head: &Head, payload: &'a [u8]) -> FrameRef<'a>
+    requires kind { head.now.kind ≡ Kind.Headers }
+    requires form { form_fault head.now ≡ None }
+    requires whole { length payload.now ≡ head.now.length }
+    requires sound { fault_of_payload head.now payload.now ≡ None }
+    ensures { Carries head.now payload.now (frame_of result) }
+{
+    let (body, pad) = without_padding(head.flags, payload);
+    let (fragment, priority) = without_priority(head.flags, body);
+    let (end, whole) = (head.flags & END_STREAM != 0, head.flags & END_HEADERS != 0);
+    FrameRef::Headers {
+        stream: head.stream,
+        end,
+        whole,
+        fragment,
+        pad,
+        priority,
+    }
+}
+
+// What stands between the pad length and the padding, and how much padding there is; or the whole payload.
+fn without_padding(flags: u8, payload: &[u8]) -> (&[u8], Option<u8>)
+    requires { has_padding flags ≡ true → 1 + slice_index payload.now 0 ≤ length payload.now }
+    ensures padded { IsPadded (has_padding flags) payload.now result.0.now result.1 }
+{
+    if flags & PADDED == 0 {
+        return (payload, None);
+    }
+    let pad = payload[0];
+    let end = payload.len() - usize::from(pad);
+    (&payload[1..end], Some(pad))
+}
+
+// What stands behind the priority, and the priority; or the whole body.
+fn without_priority(flags: u8, body: &[u8]) -> (&[u8], Option<[u8; 5]>)
+    requires { has_priority flags ≡ true → 5 ≤ length body.now }
+    ensures { IsPrioritized (has_priority flags) body.now result.0.now result.1 }
+{
+    if flags & PRIORITY == 0 {
+        return (body, None);
+    }
+    let (priority, fragment) = body.split_at(5);
+    (fragment, Some(five(priority)))
+}
+
+// A copy of five octets.
+fn five(payload: &[u8]) -> [u8; 5]
+    requires { length payload.now ≡ 5 }
+    ensures { result ≡ payload.now }
+{
+    let mut copied = [0; 5];
+    copied.copy_from_slice(payload);
+    copied
 }
 
 // A copy of eight octets.

@@ -11,11 +11,17 @@ use byteorder::{BigEndian, ByteOrder};
 /// The bit of ACK, in SETTINGS and PING.
 pub(crate) const ACK: u8 = 0x01;
 
+/// The bit of END_STREAM, in DATA and HEADERS.
+pub(crate) const END_STREAM: u8 = 0x01;
+
+/// The bit of END_HEADERS, in HEADERS and CONTINUATION.
+pub(crate) const END_HEADERS: u8 = 0x04;
+
 /// The bit of PADDED, in DATA and HEADERS.
-const PADDED: u8 = 0x08;
+pub(crate) const PADDED: u8 = 0x08;
 
 /// The bit of PRIORITY, in HEADERS.
-const PRIORITY: u8 = 0x20;
+pub(crate) const PRIORITY: u8 = 0x20;
 
 /// Reads the nine octets at a frame's front. The reserved bit is dropped (RFC 9113, section 4.1).
 #[tactic(auto, unfolding(crate::specs::Heads::head_of))]
@@ -56,9 +62,9 @@ pub fn head_fault(head: &Head, limit: u32) -> Option<Code>
     None
 }
 
-// Whether a frame of the kind may stand on the stream.
+/// Whether a frame of the kind may stand on the stream.
 #[tactic(auto, unfolding(crate::specs::Heads::fits_stream))]
-fn may_stand_on(kind: Kind, stream: u32) -> bool
+pub(crate) fn may_stand_on(kind: Kind, stream: u32) -> bool
     ensures { result ≡ fits_stream kind stream }
 {
     match kind {
@@ -91,8 +97,8 @@ fn may_have_length(kind: Kind, flags: u8, length: u32) -> bool
     }
 }
 
-// The octets that flags ask for: the pad length, and the priority.
-fn least_length(padded: bool, prioritized: bool) -> u32
+/// The octets that flags ask for: the pad length, and the priority.
+pub(crate) fn least_length(padded: bool, prioritized: bool) -> u32
     ensures { result ≡ octets_of_flags padded prioritized }
 {
     let pad_length = if padded { 1 } else { 0 };

@@ -2,7 +2,7 @@
 
 use crate::{
     Code, FrameRef, Head, Kind, PayloadError, head, head_fault, nine_octets, one_frame,
-    read_payload, within_limit,
+    payload_fault, read_payload, within_limit,
 };
 use std::test::Fail;
 
@@ -179,6 +179,166 @@ fn payloads_are_read(rt: HostRuntime) -> Result<(), Fail> {
     assert_eq!(rt; (kind, flags, stream), (66, 7, 3));
     assert_eq!(rt; payload, b"ab".as_slice());
     Ok(())
+}
+
+#[test]
+fn frames_of_a_body_are_read(rt: HostRuntime) {
+    let plain = FrameRef::Data {
+        stream: 3,
+        end: true,
+        octets: b"abc",
+        pad: None,
+    };
+    assert_eq!(rt;
+        frame_in(b"\x00\x00\x03\x00\x01\x00\x00\x00\x03abc"),
+        Some(plain)
+    );
+    let padded = FrameRef::Data {
+        stream: 3,
+        end: false,
+        octets: b"ab",
+        pad: Some(2),
+    };
+    assert_eq!(rt;
+        frame_in(b"\x00\x00\x05\x00\x0c\x00\x00\x00\x03\x02ab\xff\x00"),
+        Some(padded)
+    );
+    let empty = FrameRef::Data {
+        stream: 1,
+        end: false,
+        octets: b"",
+        pad: Some(4),
+    };
+    assert_eq!(rt;
+        frame_in(b"\x00\x00\x05\x00\x08\x00\x00\x00\x01\x04\x00\x00\x00\x00"),
+        Some(empty)
+    );
+}
+
+#[test]
+fn frames_of_a_block_are_read(rt: HostRuntime) {
+    let both = FrameRef::Headers {
+        stream: 1,
+        end: true,
+        whole: true,
+        fragment: b"ab",
+        pad: Some(1),
+        priority: Some([0x80, 0, 0, 7, 15]),
+    };
+    let octets = b"\x00\x00\x09\x01\x2d\x00\x00\x00\x01\x01\x80\x00\x00\x07\x0fab\x00";
+    assert_eq!(rt; frame_in(octets), Some(both));
+    let prioritized = FrameRef::Headers {
+        stream: 1,
+        end: false,
+        whole: false,
+        fragment: b"",
+        pad: None,
+        priority: Some([1, 2, 3, 4, 5]),
+    };
+    let octets = b"\x00\x00\x05\x01\x20\x00\x00\x00\x01\x01\x02\x03\x04\x05";
+    assert_eq!(rt; frame_in(octets), Some(prioritized));
+    let used_up = FrameRef::Headers {
+        stream: 1,
+        end: false,
+        whole: true,
+        fragment: b"",
+        pad: Some(1),
+        priority: None,
+    };
+    assert_eq!(rt;
+        frame_in(b"\x00\x00\x02\x01\x0c\x00\x00\x00\x01\x01\x00"),
+        Some(used_up)
+    );
+    let more = FrameRef::Continuation {
+        stream: 1,
+        whole: true,
+        fragment: b"c",
+    };
+    assert_eq!(rt;
+        frame_in(b"\x00\x00\x01\x09\x2d\x00\x00\x00\x01c"),
+        Some(more)
+    );
+}
+
+#[test]
+fn frames_about_streams_are_read(rt: HostRuntime) {
+    let priority = FrameRef::Priority {
+        stream: 3,
+        octets: [0, 0, 0, 0, 15],
+    };
+    let octets = b"\x00\x00\x05\x02\xff\x00\x00\x00\x03\x00\x00\x00\x00\x0f";
+    assert_eq!(rt; frame_in(octets), Some(priority));
+    let reset = FrameRef::Reset {
+        stream: 3,
+        code: 0xffff_fff8,
+    };
+    let octets = b"\x00\x00\x04\x03\x00\x00\x00\x00\x03\xff\xff\xff\xf8";
+    assert_eq!(rt; frame_in(octets), Some(reset));
+    let away = FrameRef::GoAway {
+        last: 0x7fff_ffff,
+        code: 2,
+        debug: b"why",
+    };
+    let octets = b"\x00\x00\x0b\x07\x00\x00\x00\x00\x00\xff\xff\xff\xff\x00\x00\x00\x02why";
+    assert_eq!(rt; frame_in(octets), Some(away), "the reserved bit is dropped");
+}
+
+// The fault of a payload of so many octets behind a head.
+fn fault_of(kind: Kind, flags: u8, payload: &[u8]) -> Option<Code> {
+    let read = Head {
+        length: payload.len().min(16) as u32,
+        kind,
+        flags,
+        stream: 1,
+    };
+    if head_fault(&read, 16384).is_some() || read.length as usize != payload.len() {
+        return None;
+    }
+    payload_fault(&read, payload)
+}
+
+#[test]
+fn faults_of_payloads(rt: HostRuntime) {
+    let fault = Some(Code::ProtocolError);
+    let rows: [(Kind, u8, &[u8], Option<Code>); 12] = [
+        // A pad length must be less than the payload's length.
+        (Kind::Data, 8, b"\x00", None),
+        (Kind::Data, 8, b"\x01", fault),
+        (Kind::Data, 8, b"\x04\x00\x00\x00\x00", None),
+        (Kind::Data, 8, b"\x05\x00\x00\x00\x00", fault),
+        (Kind::Data, 0, b"\x05\x00\x00\x00\x00", None),
+        // In HEADERS it may use up the fragment's room, which is behind the priority.
+        (Kind::Headers, 8, b"\x01\x00", None),
+        (Kind::Headers, 8, b"\x02\x00", fault),
+        (Kind::Headers, 0x28, b"\x00\x00\x00\x00\x00\x00", None),
+        (Kind::Headers, 0x28, b"\x01\x00\x00\x00\x00\x00", fault),
+        (Kind::Headers, 0x28, b"\x01\x00\x00\x00\x00\x00\x00", None),
+        // Other kinds have no padding.
+        (Kind::Continuation, 8, b"\xff", None),
+        (Kind::Unknown(66), 8, b"\xff", None),
+    ];
+    for (kind, flags, payload, want) in rows {
+        assert_eq!(rt;
+            fault_of(kind, flags, payload),
+            want,
+            "{kind:?} {flags} {payload:?}"
+        );
+    }
+}
+
+#[test]
+fn faults_of_payloads_are_errors(rt: HostRuntime) {
+    let read = Head {
+        length: 1,
+        kind: Kind::Data,
+        flags: 8,
+        stream: 1,
+    };
+    assert!(rt; head_fault(&read, 16384).is_none());
+    if head_fault(&read, 16384).is_none() {
+        let error = PayloadError::Code(Code::ProtocolError);
+        assert_eq!(rt; read_payload(&read, &[1]), Err(error));
+    }
 }
 
 #[test]

@@ -1,4 +1,5 @@
 pub mod Statuses
 pub mod Hexadecimal
-pub mod Showing
+pub mod Blocks
 pub mod Telling
+pub mod Showing

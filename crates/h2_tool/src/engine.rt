@@ -1,15 +1,17 @@
 //! Shows a stream of frames that comes in pieces.
 
-ghost use Rattle.std.specs.Prelude.{◌≡◌, ◌≢◌, ◌==◌, [], length, if◌then◌else◌, OnOk, IfOk, IfErr};
-ghost use Rattle.h2_wire.specs.Cutting.{Stands};
-ghost use Rattle.h2_tool.specs.Showing.{Shows, Stops};
+ghost use Rattle.std.specs.Prelude.{◌≡◌, ◌==◌, not, ◌&&◌, length, if◌then◌else◌, ℕ, Bool, List, [], OnOk, IfOk, IfErr};
+ghost use Rattle.std.specs.Option.{is_some};
+ghost use Rattle.h2_tool.specs.Showing.{IsShown, Shows, Stops, IsFault};
 ghost use Rattle.h2_tool.specs.Telling.{begins_with_preface, first_limits};
-ghost use Rattle.h2_tool.specs.declared.engine.Stop.TheVariants.{Wire, Output};
+ghost use Rattle.h2_tool.specs.declared.engine.Stop.TheVariants.{Wire, Block, Output};
 
+use crate::blocks::{Blocks, Misread};
 use crate::failure::Failure;
-use crate::lines::FrameLine;
+use crate::lines::{FrameLine, write_list};
 use crate::order::Side;
 use crate::status::Status;
+use h2_frame::Code;
 use h2_wire::{Cutter, WireFault};
 use std::alloc::Global;
 use std::io::{self, Write};
@@ -24,6 +26,7 @@ const PREFACE: usize = 24;
 #[derive(Debug, Drop)]
 pub(crate) struct Show {
     cutter: Cutter,
+    blocks: Blocks,
     preface: Preface,
 }
 
@@ -37,8 +40,10 @@ struct Preface {
 /// Why no more of a stream is shown.
 #[derive(Debug, Drop)]
 pub(crate) enum Stop {
-    /// The stream is at fault, or memory was refused.
+    /// An octet is at fault, or memory was refused.
     Wire(WireFault),
+    /// A frame doesn't group, or ends a block that doesn't decode, or memory was refused.
+    Block(Misread),
     /// A line wasn't printed.
     Output(io::Error),
 }
@@ -48,6 +53,14 @@ impl From<WireFault> for Stop {
 
     fn from(fault: WireFault) -> Stop {
         Stop::Wire(fault)
+    }
+}
+
+impl From<Misread> for Stop {
+    ghost from_gives = { λ misread stop. stop ≡ Block misread };
+
+    fn from(misread: Misread) -> Stop {
+        Stop::Block(misread)
     }
 }
 
@@ -75,81 +88,102 @@ impl Preface {
 
 impl Show {
     /// Begins with the first octet that the end sent.
-    pub(crate) fn new(alloc: Global, from: Side) -> Show
-        ensures { Stands result.cutter (begins_with_preface from) first_limits [] [] }
+    ///
+    /// # Errors
+    ///
+    /// [`Failure::Memory`] where memory was refused.
+    pub(crate) fn new(alloc: Global, from: Side) -> Result<Show, Failure>
+        ensures { IfOk result (λ show. IsShown show.cutter show.blocks (begins_with_preface from) first_limits []) }
     {
-        let expect_preface = matches!(from, Side::Client);
-        Show {
+        let expect_preface = from.begins_with_preface();
+        Ok(Show {
             cutter: Cutter::new(alloc, LIMIT, expect_preface),
+            blocks: Blocks::new(alloc)?,
             preface: Preface {
                 missing: if expect_preface { PREFACE } else { 0 },
             },
-        }
+        })
     }
 
     /// Prints what is whole with the piece.
     ///
-    /// The clauses say what becomes of the cutter: by `ok` it took the whole piece, and the frames that it answered are those
-    /// of all octets so far, joined, however they were cut; by `err` the stream is at fault just behind them. That each of
-    /// these frames is printed, in order, is tested.
+    /// The clauses say what becomes of the cutter and the blocks: by `ok` they used the whole piece, and the frames so far, which are
+    /// those of all octets, joined, however they were cut, are all read; by `err` the stream is at fault just behind such frames, or
+    /// with the last of them. That each of these frames is printed, in order, is tested.
     ///
     /// # Errors
     ///
-    /// [`Stop::Wire`] with the fault of the stream, and with [`WireFault::Memory`] where memory was refused;
-    /// [`Stop::Output`] where a line wasn't printed.
+    /// [`Stop::Wire`] and [`Stop::Block`] with the fault of the stream, or where memory was refused; [`Stop::Output`] where a line
+    /// wasn't printed.
     pub(crate) fn show_piece<W: Write>(&mut self, piece: &[u8], out: &mut W) -> Result<(), Stop>
-        ensures ok { OnOk result (Shows self.old.cutter piece.now self.new.cutter) }
-        ensures err { IfErr result (λ stop. Stops self.old.cutter piece.now stop self.new.cutter) }
+        ensures ok { OnOk result (Shows self.old.cutter self.old.blocks piece.now self.new.cutter self.new.blocks) }
+        ensures err { IfErr result (λ stop. Stops self.old.cutter self.old.blocks piece.now stop self.new.cutter) }
     {
         let mut done = 0;
         while done < piece.len() {
             let cut = self.cutter.cut(&piece[done..])?;
             done += cut.used;
+            let Some(frame) = cut.frame else {
+                self.preface.go_on(cut.used, out)?;
+                continue;
+            };
+            let list = self.blocks.take(frame)?;
             self.preface.go_on(cut.used, out)?;
-            if let Some(frame) = cut.frame {
-                writeln!(out, "{}", FrameLine(frame))?;
+            writeln!(out, "{}", FrameLine(frame))?;
+            if let Some(list) = list {
+                write_list(&list, out)?;
             }
         }
         Ok(())
     }
 
-    /// Prints the line of the fault that ended the stream.
+    /// Prints the line of the fault that stopped the stream.
     ///
     /// # Errors
     ///
-    /// Those of the writer; [`Failure::Memory`] where no fault ended the stream, but want of memory.
-    pub(crate) fn show_fault<W: Write>(
-        &mut self,
-        fault: WireFault,
-        out: &mut W,
-    ) -> Result<Status, Failure>
-        ensures { IfOk result (λ status. (status ≡ Status.Fault) × (fault ≢ WireFault.Memory)) }
+    /// Those of the writer; [`Failure::Memory`] where no fault stopped the stream, but want of memory, and [`Failure::Device`] where
+    /// a line wasn't printed.
+    pub(crate) fn show_stop<W: Write>(&mut self, stop: Stop, out: &mut W) -> Result<Status, Failure>
+        ensures { IfOk result (λ status. (status ≡ Status.Fault) × IsFault stop) }
     {
-        match fault {
-            WireFault::Memory => return Err(Failure::Memory),
-            WireFault::BadPreface => {}
-            WireFault::HeadFault(_) | WireFault::PayloadFault(_) => self
-                .preface
-                .go_on(PREFACE, out)?,
+        match stop {
+            Stop::Output(error) => Err(error.into()),
+            Stop::Wire(WireFault::Memory) | Stop::Block(Misread::Memory) => Err(Failure::Memory),
+            Stop::Wire(WireFault::BadPreface) => self.show_fault(Code::ProtocolError, out),
+            Stop::Wire(WireFault::HeadFault(code) | WireFault::PayloadFault(code))
+            | Stop::Block(Misread::Fault(code)) => {
+                self.preface.go_on(PREFACE, out)?;
+                self.show_fault(code, out)
+            }
         }
-        writeln!(out, "fault {} at {}", fault.code(), self.cutter.place())?;
+    }
+
+    // Prints the line of a fault with this code.
+    fn show_fault<W: Write>(&self, code: Code, out: &mut W) -> Result<Status, Failure>
+        ensures { IfOk result (λ status. status ≡ Status.Fault) }
+    {
+        writeln!(out, "fault {code} at {}", self.cutter.place())?;
         Ok(Status::Fault)
     }
 
-    /// Prints what the end of the input leaves unfinished.
+    /// Prints what the end of the input leaves unfinished: the rest of a frame or of the preface, or else a block.
     ///
     /// # Errors
     ///
     /// Those of the writer.
     pub(crate) fn show_end<W: Write>(&self, out: &mut W) -> Result<Status, Failure>
         ensures { IfOk result (λ status.
-            status ≡ (if length self.now.cutter.rest == 0 then Status.Good else Status.Fault)) }
+            status ≡ (if length self.now.cutter.rest == 0 && not (is_some self.now.blocks.gather.begun) then Status.Good else Status.Fault)) }
     {
         let held = self.cutter.held();
-        if held == 0 {
-            return Ok(Status::Good);
+        if held != 0 {
+            writeln!(out, "rest {held}")?;
+            return Ok(Status::Fault);
         }
-        writeln!(out, "rest {held}")?;
-        Ok(Status::Fault)
+        if self.blocks.is_inside() {
+            writeln!(out, "unfinished block")?;
+            return Ok(Status::Fault);
+        }
+        Ok(Status::Good)
     }
 }

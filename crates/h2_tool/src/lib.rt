@@ -4,6 +4,7 @@
 //! a reader and prints to two writers, so tests run it in memory.
 #![tactic(auto)]
 
+mod blocks;
 mod engine;
 mod failure;
 mod hexadecimal;

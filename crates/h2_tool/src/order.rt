@@ -1,5 +1,8 @@
 //! What the words of a command line ask for.
 
+ghost use Rattle.std.specs.Prelude.{◌≡◌};
+ghost use Rattle.h2_tool.specs.Telling.{begins_with_preface};
+
 use clap::{Arg, ArgAction, Command, Error};
 use std::alloc::{AllocError, Global};
 
@@ -19,6 +22,15 @@ pub enum Side {
     Client,
     /// The server.
     Server,
+}
+
+impl Side {
+    /// Whether the octets that the end sends begin with the preface.
+    pub(crate) fn begins_with_preface(self) -> bool
+        ensures { result ≡ begins_with_preface self }
+    {
+        matches!(self, Side::Client)
+    }
 }
 
 /// Reads the words behind `show`.
@@ -63,7 +75,7 @@ const HEX: &str = "hex";
 const FROM: &str = "from";
 
 const EXIT_STATUSES: &str =
-    "Exit status: 0 whole frames, 1 a fault or an unfinished frame, 2 wrong usage or hexadecimal, 3 a device that failed, 4 no memory";
+    "Exit status: 0 whole frames and field blocks, 1 a fault or an unfinished frame or block, 2 wrong usage or hexadecimal, 3 a device that failed, 4 no memory";
 
 fn show_command<'a>(alloc: Global) -> Result<Command<'a>, AllocError> {
     let hex = Arg::new(alloc, HEX)
@@ -78,7 +90,9 @@ fn show_command<'a>(alloc: Global) -> Result<Command<'a>, AllocError> {
         .help("The end that sent the octets; a client begins with the preface");
     Command::new(alloc, "show")
         .bin_name("h2 show")?
-        .about("Prints the frames of standard input, one line each")
+        .about(
+            "Prints the frames of standard input, one line each, and the header fields under each block",
+        )
         .after_help(EXIT_STATUSES)
         .arg(hex)?
         .arg(from)

@@ -2,9 +2,10 @@
 
 ghost use Rattle.std.specs.Prelude.{◌≡◌, ◌<◌, ◌≤◌, length, take, vec_len, IfOk, IfSome};
 ghost use Rattle.std.specs.Io.KnownBytes.{Consumes, IsAtEnd};
-ghost use Rattle.h2_tool.specs.Telling.{TellsOctets, TellsText, TellsInput, TellsBehind};
+ghost use Rattle.h2_tool.specs.Telling.{TellsOctets, TellsText, TellsInput};
+ghost use Rattle.h2_tool.specs.Showing.{TellsBehind};
 
-use crate::engine::{Show, Stop};
+use crate::engine::Show;
 use crate::failure::Failure;
 use crate::hexadecimal::from_hex;
 use crate::order::{ShowOrder, Side, show_order};
@@ -16,8 +17,8 @@ use std::io::{self, BufWriter, ErrorKind, Read, Write};
 /// How many octets are read at once, and held back before they are written.
 const PIECE: usize = 65_536;
 
-/// Runs `h2 show` with the words behind `show`: prints the frames of the input, one line each, then the fault that ends
-/// the stream or how much of a frame is left at its end.
+/// Runs `h2 show` with the words behind `show`: prints the frames of the input, one line each, the header fields under each block,
+/// and then the fault that ends the stream or what is left unfinished at its end.
 ///
 /// The words are judged before anything is read. Lines are written at the end of each piece that was read.
 ///
@@ -40,11 +41,13 @@ pub fn cmd_show<R: Read, W: Write, E: Write>(
     }
 }
 
-/// Shows the input: a line for each frame, and then for the fault that ends the stream, or for what is left unfinished.
+/// Shows the input: a line for each frame, the fields of a block under the frame that ends it, and then a line for the fault that
+/// ends the stream, or for what is left unfinished.
 ///
 /// Of a reader whose octets are known, in whatever pieces it gives them, [`Status::Good`] comes only where they are whole
-/// frames to their end, behind the preface where one is expected, or nothing, and [`Status::Fault`] only where they end
-/// inside a preface or a frame, or are at fault.
+/// frames to their end, behind the preface where one is expected, or nothing, which group to whole field blocks that all decode;
+/// and [`Status::Fault`] only where, behind frames that do, they end inside the preface, a frame or a block, or have an octet, a
+/// frame or a block at fault.
 ///
 /// # Errors
 ///
@@ -85,7 +88,7 @@ fn show_octets<R: Read, W: Write>(
     ensures { IfOk result (λ status. IfSome (R.remaining input.old) (λ octets. TellsOctets from octets status)) }
 {
     let mut buffer = zeros(alloc, PIECE)?;
-    let mut show = Show::new(alloc, from);
+    let mut show = Show::new(alloc, from)?;
     show_pieces(&mut show, input, &mut buffer, out)
 }
 
@@ -106,7 +109,7 @@ fn show_pieces<R: Read, W: Write>(
     requires { 0 < length buffer.old }
     // Of a reader whose octets are known, the status tells of all of them, whatever pieces it gave.
     ensures { IfOk result (λ status. IfSome (R.remaining input.old)
-        (λ octets. TellsBehind show.old.cutter octets status)) }
+        (λ octets. TellsBehind show.old.cutter show.old.blocks octets status)) }
 {
     for _ in 0..u64::MAX {
         let count = read_some(input, buffer)?;
@@ -115,8 +118,7 @@ fn show_pieces<R: Read, W: Write>(
         }
         match show.show_piece(&buffer[..count], out) {
             Ok(()) => out.flush()?,
-            Err(Stop::Wire(fault)) => return show.show_fault(fault, out),
-            Err(Stop::Output(error)) => return Err(error.into()),
+            Err(stop) => return show.show_stop(stop, out),
         }
     }
     Err(Failure::Device)
@@ -146,11 +148,10 @@ fn show_whole<W: Write>(
 ) -> Result<Status, Failure>
     ensures { IfOk result (TellsOctets from octets.now) }
 {
-    let mut show = Show::new(alloc, from);
+    let mut show = Show::new(alloc, from)?;
     match show.show_piece(octets, out) {
         Ok(()) => show.show_end(out),
-        Err(Stop::Wire(fault)) => show.show_fault(fault, out),
-        Err(Stop::Output(error)) => Err(error.into()),
+        Err(stop) => show.show_stop(stop, out),
     }
 }
 

@@ -8,7 +8,7 @@ ghost use Rattle.h2_tool.specs.Statuses.{code_of};
 pub enum Status {
     /// All went well.
     Good,
-    /// The stream is at fault, or ends inside a frame.
+    /// The stream is at fault, or ends inside the preface, a frame or a field block.
     Fault,
     /// The words or the text of the input can't be read.
     Usage,

@@ -1,109 +1,18 @@
 //! Tests of the commands, in memory.
 
 mod devices;
+mod examples;
+mod long;
+mod rows;
 
 use crate::{Status, cmd_show, from_hex, run};
 use devices::{Faulty, Memory, Pieces};
+use examples::EXAMPLES;
+use rows::{ROWS, Row};
 use std::alloc::Global;
 use std::io::ErrorKind;
 use std::process::Abort;
 use std::test::Fail;
-
-// The client's preface.
-const PRE: &str = "505249202a20485454502f322e300d0a0d0a534d0d0a0d0a";
-
-// SETTINGS with two pairs.
-const PAIRS: &str = "00000c040000000000 000300000064 00f000000007";
-
-// WINDOW_UPDATE of the connection.
-const UPDATE: &str = "000004080000000000 3fff0001";
-
-// What `h2 show` makes of octets in hexadecimal.
-struct Row<'a> {
-    from: &'a str,
-    octets: &'a [&'a str],
-    lines: &'a str,
-    status: Status,
-}
-
-const ROWS: [Row<'static>; 11] = [
-    Row {
-        from: "client",
-        octets: &[PRE, PAIRS, UPDATE],
-        lines: "preface\nSETTINGS 0 12 3=100 240=7\nWINDOW_UPDATE 0 4 add=1073676289\n",
-        status: Status::Good,
-    },
-    Row {
-        from: "client",
-        octets: &[PRE, "000018"],
-        lines: "preface\nrest 3\n",
-        status: Status::Fault,
-    },
-    Row {
-        from: "client",
-        octets: &["505249"],
-        lines: "rest 3\n",
-        status: Status::Fault,
-    },
-    Row {
-        from: "client",
-        octets: &["505249202b"],
-        lines: "fault PROTOCOL_ERROR at 5\n",
-        status: Status::Fault,
-    },
-    Row {
-        from: "client",
-        octets: &[PRE, "004001000000000001"],
-        lines: "preface\nfault FRAME_SIZE_ERROR at 33\n",
-        status: Status::Fault,
-    },
-    Row {
-        from: "client",
-        octets: &[],
-        lines: "",
-        status: Status::Good,
-    },
-    Row {
-        from: "server",
-        octets: &["00000101000000000182", "000000420000000000"],
-        lines: "KIND1 1 1 flags=0\nKIND66 0 0 flags=0\n",
-        status: Status::Good,
-    },
-    Row {
-        from: "server",
-        octets: &["000000420000000000"],
-        lines: "KIND66 0 0 flags=0\n",
-        status: Status::Good,
-    },
-    Row {
-        from: "server",
-        octets: &["004001000000000001"],
-        lines: "fault FRAME_SIZE_ERROR at 9\n",
-        status: Status::Fault,
-    },
-    Row {
-        from: "server",
-        octets: &[
-            "000000040000000000",
-            "000000040100000000",
-            "0000080600000000000001020304050607",
-            "00000806010000000000000000000000ff",
-        ],
-        lines: "SETTINGS 0 0\nSETTINGS 0 0 ack\nPING 0 8 0001020304050607\nPING 0 8 ack 00000000000000ff\n",
-        status: Status::Good,
-    },
-    Row {
-        from: "server",
-        octets: &[
-            "000004080000000005",
-            "8000000a",
-            "00000442ff80000007",
-            "00000000",
-        ],
-        lines: "WINDOW_UPDATE 5 4 add=10\nKIND66 7 4 flags=255\n",
-        status: Status::Good,
-    },
-];
 
 fn words(alloc: Global, texts: &[&str]) -> Result<Vec<String>, Fail> {
     let mut words = Vec::new(alloc);
@@ -139,7 +48,7 @@ fn run_row(
 
 #[test]
 fn rows_however_cut(rt: HostRuntime) -> Result<(), Fail> {
-    for row in &ROWS {
+    for row in ROWS.iter().chain(&EXAMPLES) {
         let text = text_of(rt.alloc(), row.octets)?;
         let octets = from_hex(rt.alloc(), text.as_bytes())?;
         run_row(&rt, row, Pieces::new(&octets, usize::MAX, usize::MAX))?;
@@ -153,7 +62,7 @@ fn rows_however_cut(rt: HostRuntime) -> Result<(), Fail> {
 
 #[test]
 fn rows_in_hexadecimal(rt: HostRuntime) -> Result<(), Fail> {
-    for row in &ROWS {
+    for row in ROWS.iter().chain(&EXAMPLES) {
         let text = text_of(rt.alloc(), row.octets)?;
         let words = words(rt.alloc(), &["show", "--hex", "--from", row.from])?;
         let mut out = Memory::new(rt.alloc());
@@ -216,7 +125,7 @@ fn words_are_judged_first(rt: HostRuntime) -> Result<(), Fail> {
         (["--version", "", ""], "h2 0.1.0\n", "", Status::Good),
         (
             ["help", "show", ""],
-            "Prints the frames of standard input, one line each\n\nUsage: h2 show",
+            "Prints the frames of standard input, one line each, and the header fields under each block\n\nUsage: h2 show",
             "",
             Status::Good,
         ),

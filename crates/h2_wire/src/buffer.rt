@@ -2,7 +2,6 @@
 
 ghost use Rattle.std.specs.Prelude.{◌≡◌, ◌≢◌, ◌+◌, ◌-◌, ◌<◌, ◌≤◌, ◌++◌, [], length, take, drop, slice_index, vec_len, IfSome, IfNone, IfErr, OnOk, None, Some, false};
 ghost use Rattle.h2_frame.specs.Heads.{head_of, form_fault, head_fault as fault_of_head};
-ghost use Rattle.h2_frame.specs.Frames.{payload_fault};
 ghost use Rattle.h2_wire.specs.Streams.{preface as the_preface};
 ghost use Rattle.h2_frame.specs.declared.code.Code.{Code as AnyCode};
 ghost use Rattle.h2_wire.specs.Cutting.{told, IsFaultyHead, FaultsAtHead};
@@ -11,7 +10,7 @@ ghost use Rattle.h2_wire.specs.Steps.{Opens, OpensSoundly, Takes};
 
 use crate::fault::WireFault;
 use crate::preface::{self, PREFACE};
-use h2_frame::{Code, Head, PayloadError, head, head_fault, read_payload};
+use h2_frame::{Head, head, head_fault, payload_fault};
 use std::alloc::Global;
 
 /// The octets of a head.
@@ -191,7 +190,7 @@ impl Buffer {
         }
         self.hold(&behind[..wanted])?;
         let used = start + wanted;
-        if let Some(code) = fault_of(&head, &self.held[HEAD..]) {
+        if let Some(code) = payload_fault(&head, &self.held[HEAD..]) {
             return Err(self.break_off(WireFault::PayloadFault(code), used));
         }
         self.pass(used);
@@ -236,18 +235,6 @@ impl Buffer {
         self.count(used);
         self.fault = Some(fault);
         fault
-    }
-}
-
-// The fault of a payload behind a head without fault.
-fn fault_of(head: &Head, payload: &[u8]) -> Option<Code>
-    requires form { form_fault head.now ≡ None }
-    requires whole { length payload.now ≡ head.now.length }
-    ensures { result ≡ payload_fault head.now payload.now }
-{
-    match read_payload(head, payload) {
-        Ok(_) => None,
-        Err(PayloadError::Code(code)) => Some(code),
     }
 }
 

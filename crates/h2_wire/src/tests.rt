@@ -23,38 +23,80 @@ fn add(sum: u64, number: u64) -> u64 {
     sum.wrapping_mul(31).wrapping_add(number)
 }
 
+// Goes on with a sum by octets.
+fn add_octets(sum: u64, octets: &[u8]) -> u64 {
+    let mut sum = sum;
+    for octet in octets {
+        sum = add(sum, u64::from(*octet));
+    }
+    sum
+}
+
+// Goes on with a sum by how much padding there is.
+fn add_pad(sum: u64, pad: Option<u8>) -> u64 {
+    match pad {
+        Some(pad) => add(add(sum, 1), u64::from(pad)),
+        None => add(sum, 0),
+    }
+}
+
 // Goes on with a sum by what a frame holds.
 fn add_frame(sum: u64, frame: &FrameRef<'_>) -> u64 {
-    let mut sum = sum;
-    match frame {
+    match *frame {
+        FrameRef::Data {
+            stream,
+            end,
+            octets,
+            pad,
+        } => {
+            let head = add(add(sum, u64::from(stream)), u64::from(end));
+            add_octets(add_pad(head, pad), octets)
+        }
+        FrameRef::Headers {
+            stream,
+            end,
+            whole,
+            fragment,
+            pad,
+            priority,
+        } => {
+            let head = add(add(sum, u64::from(stream)), u64::from(end));
+            let padded = add_pad(add(head, u64::from(whole)), pad);
+            add_octets(add(padded, u64::from(priority.is_some())), fragment)
+        }
+        FrameRef::Priority { stream, .. } => add(sum, u64::from(stream)),
+        FrameRef::Reset { stream, code } => add(add(sum, u64::from(stream)), u64::from(code)),
         FrameRef::Settings { ack, pairs } => {
-            sum = add(sum, u64::from(*ack));
+            let mut sum = add(sum, u64::from(ack));
             for (id, value) in pairs.iter() {
                 sum = add(add(sum, u64::from(id)), u64::from(value));
             }
+            sum
         }
         FrameRef::Ping { ack, octets } => {
-            sum = add(add(sum, u64::from(*ack)), u64::from_be_bytes(*octets));
+            add(add(sum, u64::from(ack)), u64::from_be_bytes(octets))
+        }
+        FrameRef::GoAway { last, code, debug } => {
+            add_octets(add(add(sum, u64::from(last)), u64::from(code)), debug)
         }
         FrameRef::WindowUpdate { stream, increment } => {
-            sum = add(add(sum, u64::from(*stream)), u64::from(*increment));
+            add(add(sum, u64::from(stream)), u64::from(increment))
         }
+        FrameRef::Continuation {
+            stream,
+            whole,
+            fragment,
+        } => add_octets(add(add(sum, u64::from(stream)), u64::from(whole)), fragment),
         FrameRef::Unknown {
             kind,
             flags,
             stream,
             payload,
         } => {
-            sum = add(
-                add(add(sum, u64::from(*kind)), u64::from(*flags)),
-                u64::from(*stream),
-            );
-            for octet in *payload {
-                sum = add(sum, u64::from(*octet));
-            }
+            let head = add(add(sum, u64::from(kind)), u64::from(flags));
+            add_octets(add(head, u64::from(stream)), payload)
         }
     }
-    sum
 }
 
 // Feeds one piece, whole. After a fault nothing is fed.
@@ -113,6 +155,10 @@ fn streams_are_cut_anywhere(rt: HostRuntime) {
         b"PRI * HTTP/2.0\r\n\r\nSM\r\n\r\n\x00\x00\x06\x04\x00\x00\x00\x00\x00\x00\x03\x00\x00\x00\x64\x00\x00\x03\x42\x00\x00\x00\x00\x01abc\x00\x00\x08";
     let long = b"\x00\x40\x01\x00\x00\x00\x00\x00\x01more";
     let odd = b"\x00\x00\x00\x42\x00\x00\x00\x00\x00\x00\x00\x07\x06\x00\x00\x00\x00\x00";
+    let kinds =
+        b"\x00\x00\x09\x01\x29\x00\x00\x00\x01\x01\x80\x00\x00\x0a\x0f\x61\x62\x00\x00\x00\x01\x09\x04\x00\x00\x00\x01\x63\x00\x00\x05\x00\x09\x00\x00\x00\x01\x02\x68\x69\x00\x00\x00\x00\x04\x03\x00\x00\x00\x00\x01\x00\x00\x00\x08\x00\x00\x09\x07\x00\x00\x00\x00\x00\x80\x00\x00\x03\x00\x00\x00\x02\x21\x00\x00\x05\x02\x00\x00\x00\x00\x03\x00\x00\x00\x00\x0f";
+    let padded =
+        b"\x00\x00\x00\x42\x00\x00\x00\x00\x00\x00\x00\x05\x00\x08\x00\x00\x00\x01\x05\x00\x00\x00\x00";
     // From a client?, the stream, frames, their sum, the fault, what is held, the place.
     let rows = [
         (true, opening.as_slice(), 2, 173177860544, None, 3, 54),
@@ -144,6 +190,24 @@ fn streams_are_cut_anywhere(rt: HostRuntime) {
             Some(WireFault::HeadFault(Code::FrameSizeError)),
             0,
             18,
+        ),
+        (
+            false,
+            kinds.as_slice(),
+            6,
+            14240605168090898539,
+            None,
+            0,
+            87,
+        ),
+        (
+            false,
+            padded.as_slice(),
+            1,
+            63426,
+            Some(WireFault::PayloadFault(Code::ProtocolError)),
+            0,
+            23,
         ),
     ];
     for (client, stream, frames, sum, fault, held, place) in rows {

@@ -6,13 +6,13 @@ use Rattle.hpack.specs.declared.entry.Entry.{Entry}
 use Rattle.hpack.specs.Static.{static_entries, entry}
 
 -- Within the first list, the second doesn't matter.
-slice_get-left : (xs ys : List Entry) (place : ℕ) → place < length xs → slice_get (xs ++ ys) place ≡ slice_get xs place
+pub slice_get-left : (xs ys : List Entry) (place : ℕ) → place < length xs → slice_get (xs ++ ys) place ≡ slice_get xs place
 slice_get-left [] ys place lt = absurd (omega arith)
 slice_get-left (x ∷ xs) ys zero lt = refl
 slice_get-left (x ∷ xs) ys (suc place) lt = slice_get-left xs ys place (omega arith)
 
 -- Past the first list, the second one is read.
-slice_get-right : (xs ys : List Entry) (place : ℕ) → slice_get (xs ++ ys) (length xs + place) ≡ slice_get ys place
+pub slice_get-right : (xs ys : List Entry) (place : ℕ) → slice_get (xs ++ ys) (length xs + place) ≡ slice_get ys place
 slice_get-right [] ys place = ap (λ (n : ℕ). slice_get ys n) (omega arith)
 slice_get-right (x ∷ xs) ys place =
     let next : suc (length xs) + place ≡ suc (length xs + place) = omega arith in

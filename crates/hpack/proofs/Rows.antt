@@ -8,6 +8,7 @@ use Rattle.hpack.specs.declared.field.Field.{Field}
 use Rattle.hpack.specs.Sizes.{fit, table_size}
 use Rattle.hpack.specs.Static.{static_entries, entry}
 use Rattle.hpack.specs.Lists.{EncoderState, empty_table}
+use Rattle.hpack.specs.Limits.{signals_over}
 use Rattle.hpack.specs.Choice.{least_index, choice, written_fields, after_fields, signals, block_of, after_block}
 
 -- opens all that computes
@@ -86,3 +87,13 @@ never_indexed = refl
 larger_than_the_maximum : block_of (made 50) (record { name = codes "c"; value = codes "dddddddddddddddddddd"; sensitive = false } ∷ []) ≡ 0x00 ∷ 0x81 ∷ 0x27 ∷ 0x8f ∷ 0x92 ∷ 0x49 ∷ 0x24 ∷ 0x92 ∷ 0x49 ∷ 0x24 ∷ 0x92 ∷ 0x49 ∷ 0x24 ∷ 0x92 ∷ 0x49 ∷ 0x24 ∷ 0x92 ∷ 0x49 ∷ 0x24 ∷ []
 unfolding computing made limited first_request second_request third_request
 larger_than_the_maximum = refl
+
+-- the limits as they were set, in order, for the rows above; and no limit at all
+limits_in_order : (signals_over 4096 (0 ∷ 4096 ∷ []) ≡ 0 ∷ 4096 ∷ [])
+    × (signals_over 4096 (100 ∷ 200 ∷ []) ≡ 100 ∷ 200 ∷ [])
+    × (signals_over 256 (300 ∷ []) ≡ 300 ∷ [])
+    × (signals_over 100 (300 ∷ 200 ∷ []) ≡ 200 ∷ [])
+    × (signals_over 4096 (200 ∷ 100 ∷ 300 ∷ 100 ∷ []) ≡ 100 ∷ [])
+    × (signals_over 4096 [] ≡ [])
+unfolding signals_over
+limits_in_order = (refl, refl, refl, refl, refl, refl)

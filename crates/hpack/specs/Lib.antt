@@ -6,4 +6,8 @@ pub mod Lists
 pub mod Kept
 pub mod Choice
 pub mod Fronts
+pub mod Search
+pub mod Drafts
+pub mod Chosen
 pub mod Written
+pub mod Limits

@@ -5,10 +5,13 @@ ghost use Rattle.hpack.specs.declared.field.Field.{Field as OneField};
 ghost use Rattle.hpack.specs.Lists.{IsList};
 ghost use Rattle.hpack.specs.Fronts.{HasRoom};
 
-use crate::eviction::size_of_parts;
+use crate::eviction::size_of_octets;
 use crate::fault::Fault;
 use crate::field::{Field, List};
 use std::alloc::Global;
+
+/// For how many fields room is taken at once: those of most requests.
+const ROOM: usize = 16;
 
 /// The list so far.
 #[derive(Debug, Drop)]
@@ -43,12 +46,15 @@ impl Collected {
                 room,
             });
         };
-        let size = size_of_parts(&field.name, &field.value);
+        let size = size_of_octets(field.name.as_slice(), field.value.as_slice());
         if size > room as usize {
             return Ok(Collected {
                 list: List::TooLarge,
                 room,
             });
+        }
+        if fields.is_empty() {
+            fields.reserve_exact(ROOM)?;
         }
         fields.push(field)?;
         Ok(Collected {

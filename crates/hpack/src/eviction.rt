@@ -5,7 +5,6 @@ ghost use Rattle.std.specs.Vec.{vec_capacity};
 ghost use Rattle.hpack.specs.Sizes.{entry_size, table_size, fit};
 
 use crate::entry::Entry;
-use crate::octets::Octets;
 
 /// What an entry takes beside its name and value.
 const OVERHEAD: usize = 32;
@@ -14,16 +13,16 @@ const OVERHEAD: usize = 32;
 pub(crate) fn size_of(entry: &Entry) -> usize
     ensures { result ≡ min (entry_size entry.now) (2 ^ 64 - 1) }
 {
-    size_of_parts(&entry.name, &entry.value)
+    size_of_octets(entry.name.as_slice(), entry.value.as_slice())
 }
 
 /// The size of an entry or a field of this name and value, or the greatest number where that is less.
-pub(crate) fn size_of_parts(name: &Octets, value: &Octets) -> usize
+pub(crate) fn size_of_octets(name: &[u8], value: &[u8]) -> usize
     ensures { result ≡ min (length name.now + length value.now + 32) (2 ^ 64 - 1) }
 {
-    let name_len = name.as_slice().len();
-    let value_len = value.as_slice().len();
-    name_len.saturating_add(value_len).saturating_add(OVERHEAD)
+    name.len()
+        .saturating_add(value.len())
+        .saturating_add(OVERHEAD)
 }
 
 /// Removes the oldest entries until the size of the others is at most the bound, and answers that size.

@@ -1,12 +1,16 @@
-//! HPACK (RFC 7541): the dynamic table and the decoder of field blocks.
+//! HPACK (RFC 7541): the dynamic table, the decoder and the encoder of field blocks.
 //!
-//! [`Decoder::decode`] answers the list and the table of a block exactly where the octets are one, unless memory runs out. The
-//! encoder is to come; what it is to write is defined, and a law says that it is a block.
+//! [`Decoder::decode`] answers the list and the table of a block exactly where the octets are one, unless memory runs out.
+//! [`Encoder::encode`] writes what the definitions say, and a law says that it is a block.
 #![tactic(auto)]
 
+mod append;
 mod block;
+mod choice;
 mod collected;
 mod decoder;
+mod draft;
+mod encoder;
 mod entry;
 mod eviction;
 mod fault;
@@ -17,19 +21,31 @@ mod laws;
 mod literal;
 mod lookup;
 mod octets;
+mod output;
+mod search;
+mod signals;
+mod size;
 mod static_table;
 mod step;
 mod table;
 #[cfg(test)]
 mod tests;
+#[cfg(test)]
+mod tests_encoder;
+#[cfg(test)]
+mod tests_in_step;
+#[cfg(test)]
+mod tests_lists;
 mod texts;
 mod updates;
 mod written;
 
 pub use decoder::Decoder;
+pub use encoder::Encoder;
 pub use fault::Fault;
 pub use field::{Field, List};
 pub use laws::one_block;
 pub use octets::Octets;
+pub use size::list_size;
 pub use table::Table;
-pub use written::written_block;
+pub use written::{least_and_last, written_block};

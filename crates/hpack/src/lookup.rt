@@ -10,6 +10,7 @@ use crate::table::Table;
 const STATIC_COUNT: u64 = 61;
 
 /// The name and the value of the entry that an index names: of the static table from 1 on, and then of the dynamic one.
+#[inline(always)]
 pub(crate) fn entry_at(table: &Table, index: u64) -> Option<(&[u8], &[u8])>
     ensures { MatchOption result (entry table.now.entries index ≡ None)
         (λ found. entry table.now.entries index ≡ Some (record { name = found.0.now; value = found.1.now })) }

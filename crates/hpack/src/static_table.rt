@@ -4,6 +4,7 @@ ghost use Rattle.std.specs.Prelude.{◌≡◌, ◌-◌, ◌≤◌, ◌<◌, ◌�
 ghost use Rattle.hpack.specs.Static.{static_entries};
 
 /// The name and the value of an entry of the static table, by its index, which begins with 1.
+#[inline(always)]
 #[tactic(auto, unfolding(crate::specs::Static::static_entries))]
 pub(crate) fn static_entry(index: u64) -> Option<(&'static [u8], &'static [u8])>
     ensures { MatchOption result ((index ≡ 0) ⊎ (61 < index))

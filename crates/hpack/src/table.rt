@@ -109,6 +109,25 @@ impl Table {
         Ok(())
     }
 
+    /// Sets the maximum to one and then to another; the oldest entries leave until the size is at most either.
+    ///
+    /// # Errors
+    ///
+    /// [`AllocError`] where room for a greater maximum was refused, and nothing has changed.
+    pub(crate) fn resize_twice(&mut self, first: u32, last: u32) -> Result<(), AllocError>
+        ensures ok { OnOk result (self.new ≡ resized (resized self.old first) last) }
+        ensures err { OnErr result (self.new ≡ self.old) }
+    {
+        let room = room_for(last);
+        if last > self.maximum {
+            self.entries.reserve_exact(room - self.entries.len())?;
+        }
+        let size = evict(&mut self.entries, self.size, first as usize);
+        self.size = evict(&mut self.entries, size, last as usize);
+        self.maximum = last;
+        Ok(())
+    }
+
     /// Puts the entry at the front; the oldest leave until the size is at most the maximum, and the table is empty where the
     /// entry alone is larger (section 4.4). It takes no memory.
     pub(crate) fn add(&mut self, entry: Entry)

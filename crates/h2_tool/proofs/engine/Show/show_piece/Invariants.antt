@@ -7,7 +7,7 @@ abbrev pub invariant-loop-done : goal.invariant-loop-done
 invariant-loop-done g l =
     record {
       within : l.done ≤ length l.piece;
-      shown : Shows l.initial.self.cutter (take l.done l.piece) l.self.cutter;
+      shown : Shows l.initial.self.cutter l.initial.self.blocks (take l.done l.piece) l.self.cutter l.self.blocks;
     }
 
 abbrev pub decreases-loop-done : goal.decreases-loop-done

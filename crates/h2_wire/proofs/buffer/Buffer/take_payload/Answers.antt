@@ -32,11 +32,11 @@ returns-then-behind-wanted-clause-takes c =
     let (past, sound) = c.requires.opens expects limits stream so_far stood in
     (past, λ nine. (rw (← c.requires.head) sound, rw (← c.requires.head) short)))
 
-pub fault_of-requires-clause-form : goal.fault_of-requires-clause-form
-fault_of-requires-clause-form c = form_fault-head_fault c.args.head c.args.self.now.limit c.requires.sound_head
+pub payload_fault-requires-clause-form : goal.payload_fault-requires-clause-form
+payload_fault-requires-clause-form c = form_fault-head_fault c.args.head c.args.self.now.limit c.requires.sound_head
 
-pub fault_of-requires-clause-whole : goal.fault_of-requires-clause-whole
-fault_of-requires-clause-whole c =
+pub payload_fault-requires-clause-whole : goal.payload_fault-requires-clause-whole
+payload_fault-requires-clause-whole c =
     let old = c.args.self.now in
     let piece = c.args.piece.now in
     let less = held_within old.held.items (drop c.args.start piece) old.limit c.args.head (c.requires.kept.partial c.requires.sound c.requires.lent) c.requires.head in
@@ -57,7 +57,7 @@ returns-in-Some-clause-takes c =
     let enough : 9 + c.args.head.length - c.len.result ≤ length (drop c.args.start piece) = rw behind at c.if-behind-wanted.false in
     let whole = length-whole old.held.items (drop c.args.start piece) (9 + c.args.head.length - c.len.result) c.args.head (omega (arith, c.len.ensures, old.held.ok.0, less)) enough in
     let front = whole_head old.held.items (drop c.args.start piece) (9 + c.args.head.length - c.len.result) (omega (arith, whole)) in
-    let faulty : payload_fault c.args.head (take (length c.deref.result.now - 9) (drop 9 c.deref.result.now)) ≡ Some c.in-Some.code = sym c.fault_of.ensures ∙ c.in-Some.is in
+    let faulty : payload_fault c.args.head (take (length c.deref.result.now - 9) (drop 9 c.deref.result.now)) ≡ Some c.in-Some.code = sym c.payload_fault.ensures ∙ c.in-Some.is in
     let faulty_now : payload_fault c.args.head (drop 9 (old.held.items ++ take (9 + c.args.head.length - c.len.result) (drop c.args.start piece))) ≡ Some c.in-Some.code =
     rw (take_rest c.deref.result.now 9, c.deref.ensures.value, items) at faulty in
     rw (c.break_off.ensures.fault, c.break_off.ensures.after, c.in_ok-hold-2.ensures.same)
@@ -73,7 +73,7 @@ returns-clause-takes c =
     let less = held_within old.held.items (drop c.args.start piece) old.limit c.args.head (c.requires.kept.partial c.requires.sound c.requires.lent) c.requires.head in
     let behind : take (length piece - c.args.start) (drop c.args.start piece) ≡ drop c.args.start piece = take_rest piece c.args.start in
     let enough : 9 + c.args.head.length - c.len.result ≤ length (drop c.args.start piece) = rw behind at c.if-behind-wanted.false in
-    let sound : payload_fault c.args.head (take (length c.deref.result.now - 9) (drop 9 c.deref.result.now)) ≡ None = sym c.fault_of.ensures ∙ c.in_default.is in
+    let sound : payload_fault c.args.head (take (length c.deref.result.now - 9) (drop 9 c.deref.result.now)) ≡ None = sym c.payload_fault.ensures ∙ c.in_default.is in
     completes old c.hold-2.new.self _ piece c.args.start (9 + c.args.head.length - c.len.result) c.args.head c.in_ok-hold-2.ensures.same
     (ap (λ (b : Buffer). record b { lent = true }) c.pass-2.ensures) (rw behind at c.in_ok-hold-2.ensures.ok) c.requires.sound
     (omega (arith, c.len.ensures, old.held.ok.0, less)) (omega (arith, c.len.ensures, old.held.ok.0, less)) c.requires.within enough c.requires.head

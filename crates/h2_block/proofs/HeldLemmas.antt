@@ -1,0 +1,146 @@
+-- What a call makes of what is held, from what it did.
+use Rattle.std.proofs.Common.{◌≡◌, ℕ, ◌+◌, ◌<◌, ◌≤◌, Bool, List, [], ◌∷◌, ◌++◌, length, Option, None, Some, MatchOption, refl, ap, sym, ◌∙◌, inl, inr}
+use Rattle.std.proofs.lemmas.Bool.{lt-ltb, le-ltb, eq-eqb, ne_eqb, cases_lt}
+use Rattle.h2_frame.specs.Frames.{Frame, Headers, Continuation, frame_of}
+use Rattle.h2_frame.specs.declared.frame.FrameRef.{FrameRef}
+use Rattle.h2_frame.specs.declared.frame.FrameRef.TheVariants as lent
+use Rattle.std.proofs.Common.{Bor}
+use Rattle.h2_block.specs.declared.fault.BlockFault.{BlockFault}
+use Rattle.h2_block.specs.declared.fault.BlockFault.TheVariants as faults
+use Rattle.h2_block.specs.declared.held.Held.{Held}
+use Rattle.h2_block.specs.Grouping.{Item, alone, Begun, most_octets, fault_outside, fault_inside, next_fault}
+use Rattle.h2_block.specs.Gathering.{GatherState, Stands, Breaks, Fails}
+use Rattle.h2_block.specs.Kept.{state_of}
+use Rattle.h2_block.proofs.GroupLemmas.{step_items, step_begun, none_some, Groups-step}
+
+-- A frame without fault was taken.
+pub goes_on : (old new : GatherState) (frame : Frame) (more : List Item) → new.fault ≡ None → next_fault old.begun frame ≡ None
+    → more ≡ step_items old.begun frame → new.begun ≡ step_begun old.begun frame
+    → (frames : List Frame) (items : List Item) → Stands old frames items → Stands new (frames ++ frame ∷ []) (items ++ more)
+goes_on old new frame more sound no_fault added begun frames items stood = record {
+  sound = sound;
+  split = rw (added, begun) (Groups-step frames items old.begun frame stood.split no_fault);
+}
+
+-- what holds where there was no fault before
+without : {First : Type 0} (Again : BlockFault → Type 0) (known : Option BlockFault) → known ≡ None → First → MatchOption known First Again
+without Again None none first = first
+without Again (Some fault) none first = none_some fault (sym none)
+
+-- a fault that isn't want of memory breaks off
+fails : (old : GatherState) (frame : Frame) (fault : BlockFault) (new : GatherState) → old.fault ≡ None → (fault ≡ faults.Memory → ⊥)
+    → Breaks old frame fault new → Fails old frame fault new
+fails old frame faults.Interrupted new sound never broken = without (λ known. new ≡ old) old.fault sound broken
+fails old frame faults.Stray new sound never broken = without (λ known. new ≡ old) old.fault sound broken
+fails old frame faults.TooLong new sound never broken = without (λ known. new ≡ old) old.fault sound broken
+fails old frame faults.Memory new sound never broken = absurd (never refl)
+
+-- A frame at fault breaks off.
+pub broken : (old new : Held) (fault : BlockFault) (frame : Frame) → old.fault ≡ None → (fault ≡ faults.Memory → ⊥)
+    → new ≡ record old { opening = None; octets = new.octets; fault = Some fault }
+    → next_fault (state_of old).begun frame ≡ Some fault → Fails (state_of old) frame fault (state_of new)
+broken old new fault frame sound never after faulty = fails (state_of old) frame fault (state_of new) sound never (record {
+  kept = ap (λ (held : Held). held.fault) after;
+  nothing_held = ap (λ (held : Held). (state_of held).begun) after;
+  faulty = faulty;
+  at = λ frames items stood. record { before = frames; last = frame; begun = (state_of old).begun; joined = refl; grouped = stood.split; faulty = faulty };
+})
+
+-- HEADERS above the most octets are too long
+pub headers_too_long : (stream : ℕ) (end whole : Bool) (fragment : List ℕ) (pad : Option ℕ) (priority : Option (List ℕ)) → most_octets < length fragment
+    → fault_outside (Headers stream end whole fragment pad priority) ≡ Some faults.TooLong
+unfolding fault_outside
+headers_too_long stream end whole fragment pad priority above = rw (lt-ltb most_octets (length fragment) above) refl
+
+-- HEADERS within the most octets are no fault
+pub headers_sound : (stream : ℕ) (end whole : Bool) (fragment : List ℕ) (pad : Option ℕ) (priority : Option (List ℕ)) → length fragment ≤ most_octets
+    → fault_outside (Headers stream end whole fragment pad priority) ≡ None
+unfolding fault_outside
+headers_sound stream end whole fragment pad priority within = rw (le-ltb most_octets (length fragment) within) refl
+
+-- a CONTINUATION of the block's stream with which it is above the most octets is too long
+pub continuation_too_long : (begun : Begun) (whole : Bool) (fragment : List ℕ) → most_octets < length begun.octets + length fragment
+    → fault_inside begun (Continuation begun.stream whole fragment) ≡ Some faults.TooLong
+unfolding fault_inside
+continuation_too_long begun whole fragment above =
+    rw (eq-eqb begun.stream begun.stream refl, lt-ltb most_octets (length begun.octets + length fragment) above) refl
+
+-- a CONTINUATION of the block's stream with which it is within the most octets is no fault
+pub continuation_sound : (begun : Begun) (whole : Bool) (fragment : List ℕ) → length begun.octets + length fragment ≤ most_octets
+    → fault_inside begun (Continuation begun.stream whole fragment) ≡ None
+unfolding fault_inside
+continuation_sound begun whole fragment within =
+    rw (eq-eqb begun.stream begun.stream refl, le-ltb most_octets (length begun.octets + length fragment) within) refl
+
+-- HEADERS have no fault but that they are too long
+pub headers_told : (stream : ℕ) (end whole : Bool) (fragment : List ℕ) (pad : Option ℕ) (priority : Option (List ℕ)) (fault : BlockFault)
+    → fault_outside (Headers stream end whole fragment pad priority) ≡ Some fault → (fault ≡ faults.TooLong) × (most_octets < length fragment)
+headers_told stream end whole fragment pad priority fault faulty = elim (cases_lt most_octets (length fragment)) [
+  | inl above ↦
+      let told : ◌≡◌ {A = Option BlockFault} (Some fault) (Some faults.TooLong) = sym faulty ∙ headers_too_long stream end whole fragment pad priority above in
+      ((cc), above)
+  | inr within ↦ none_some fault (sym (headers_sound stream end whole fragment pad priority within) ∙ faulty)
+]
+
+-- a CONTINUATION of the block's stream has no fault but that it is too long
+pub continuation_told : (begun : Begun) (whole : Bool) (fragment : List ℕ) (fault : BlockFault)
+    → fault_inside begun (Continuation begun.stream whole fragment) ≡ Some fault → (fault ≡ faults.TooLong) × (most_octets < length begun.octets + length fragment)
+continuation_told begun whole fragment fault faulty = elim (cases_lt most_octets (length begun.octets + length fragment)) [
+  | inl above ↦
+      let told : ◌≡◌ {A = Option BlockFault} (Some fault) (Some faults.TooLong) = sym faulty ∙ continuation_too_long begun whole fragment above in
+      ((cc), above)
+  | inr within ↦ none_some fault (sym (continuation_sound begun whole fragment within) ∙ faulty)
+]
+
+-- Outside blocks what is neither HEADERS nor a CONTINUATION passes.
+pub other_passes : (frame : FrameRef)
+    → ((stream : ℕ) (end whole : Bool) (fragment : Bor (List ℕ)) (pad : Option ℕ) (priority : Option (List ℕ)) → frame ≡ lent.Headers stream end whole fragment pad priority → ⊥)
+    → ((stream : ℕ) (whole : Bool) (fragment : Bor (List ℕ)) → frame ≡ lent.Continuation stream whole fragment → ⊥)
+    → (fault_outside (frame_of frame) ≡ None) × (alone (frame_of frame) ∷ [] ≡ step_items None (frame_of frame)) × (None ≡ step_begun None (frame_of frame))
+unfolding fault_outside
+other_passes (lent.Data stream end octets pad) headers continuation = (refl, refl, refl)
+other_passes (lent.Headers stream end whole fragment pad priority) headers continuation = absurd (headers stream end whole fragment pad priority refl)
+other_passes (lent.Priority stream octets) headers continuation = (refl, refl, refl)
+other_passes (lent.Reset stream code) headers continuation = (refl, refl, refl)
+other_passes (lent.Settings ack pairs) headers continuation = (refl, refl, refl)
+other_passes (lent.Ping ack octets) headers continuation = (refl, refl, refl)
+other_passes (lent.GoAway last code debug) headers continuation = (refl, refl, refl)
+other_passes (lent.WindowUpdate stream increment) headers continuation = (refl, refl, refl)
+other_passes (lent.Continuation stream whole fragment) headers continuation = absurd (continuation stream whole fragment refl)
+other_passes (lent.Unknown kind flags stream payload) headers continuation = (refl, refl, refl)
+
+-- Inside a block what is no CONTINUATION interrupts it.
+pub other_interrupts : (begun : Begun) (frame : FrameRef)
+    → ((stream : ℕ) (whole : Bool) (fragment : Bor (List ℕ)) → frame ≡ lent.Continuation stream whole fragment → ⊥)
+    → fault_inside begun (frame_of frame) ≡ Some faults.Interrupted
+unfolding fault_inside
+other_interrupts begun (lent.Data stream end octets pad) continuation = refl
+other_interrupts begun (lent.Headers stream end whole fragment pad priority) continuation = refl
+other_interrupts begun (lent.Priority stream octets) continuation = refl
+other_interrupts begun (lent.Reset stream code) continuation = refl
+other_interrupts begun (lent.Settings ack pairs) continuation = refl
+other_interrupts begun (lent.Ping ack octets) continuation = refl
+other_interrupts begun (lent.GoAway last code debug) continuation = refl
+other_interrupts begun (lent.WindowUpdate stream increment) continuation = refl
+other_interrupts begun (lent.Continuation stream whole fragment) continuation = absurd (continuation stream whole fragment refl)
+other_interrupts begun (lent.Unknown kind flags stream payload) continuation = refl
+
+-- A CONTINUATION of another stream interrupts a block.
+pub other_stream_interrupts : (begun : Begun) (stream : ℕ) (whole : Bool) (fragment : List ℕ) → (stream ≡ begun.stream → ⊥)
+    → fault_inside begun (Continuation stream whole fragment) ≡ Some faults.Interrupted
+unfolding fault_inside
+other_stream_interrupts begun stream whole fragment differs = rw (ne_eqb stream begun.stream differs) refl
+
+-- a CONTINUATION outside blocks is stray
+pub continuation_stray : (stream : ℕ) (whole : Bool) (fragment : List ℕ) → fault_outside (Continuation stream whole fragment) ≡ Some faults.Stray
+unfolding fault_outside
+continuation_stray stream whole fragment = refl
+
+-- one frame has one fault
+pub one_told : (fault other : BlockFault) (known : Option BlockFault) → known ≡ Some fault → known ≡ Some other → fault ≡ other
+one_told fault other known told again =
+    let same : ◌≡◌ {A = Option BlockFault} (Some fault) (Some other) = sym told ∙ again in (cc)
+
+-- no fault is none
+pub none_told : {Goal : Type 0} (fault : BlockFault) (known : Option BlockFault) → known ≡ None → known ≡ Some fault → Goal
+none_told fault known none told = none_some fault (sym none ∙ told)

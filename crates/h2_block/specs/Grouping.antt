@@ -1,0 +1,137 @@
+-- Field blocks in a list of frames (RFC 9113, sections 4.3, 6.2 and 6.10).
+use Rattle.std.specs.Prelude.{◌≡◌, ◌⊎◌, ℕ, ◌+◌, ◌≤◌, ◌==◌, nat_lt, not, Bool, true, false, if◌then◌else◌, List, [], ◌∷◌, ◌++◌, length, Option, Some, None}
+use Rattle.h2_frame.specs.Frames.{Frame, Data, Headers, Priority, Reset, Settings, Ping, GoAway, WindowUpdate, Continuation, Unknown}
+use Rattle.h2_block.specs.declared.fault.BlockFault.{BlockFault}
+use Rattle.h2_block.specs.declared.fault.BlockFault.TheVariants.{Interrupted, Stray, TooLong}
+
+-- the most octets of a block (own)
+abbrev pub most_octets : ℕ
+most_octets = 65552
+
+-- An item: a frame that is no part of a block, or a whole block with its stream, whether its sender sends nothing behind it, and
+-- its octets.
+pub data Item : Type 0 where
+  alone : (frame : Frame) → Item
+  block : (stream : ℕ) (end : Bool) (octets : List ℕ) → Item
+
+-- Whether a frame is no part of a block: it is neither HEADERS nor CONTINUATION.
+unfoldable pub stands_alone : Frame → Bool
+stands_alone (Data stream end octets pad) = true
+stands_alone (Headers stream end whole fragment pad priority) = false
+stands_alone (Priority stream octets) = true
+stands_alone (Reset stream code) = true
+stands_alone (Settings ack pairs) = true
+stands_alone (Ping ack octets) = true
+stands_alone (GoAway last code debug) = true
+stands_alone (WindowUpdate stream increment) = true
+stands_alone (Continuation stream whole fragment) = false
+stands_alone (Unknown kind flags stream payload) = true
+
+-- The frames are CONTINUATIONs of the stream, none of which ends the block, and the octets are their fragments, joined.
+abbrev pub AreContinuations : ℕ → List Frame → List ℕ → Type 0
+AreContinuations stream [] octets = octets ≡ []
+AreContinuations stream (frame ∷ frames) octets =
+    (fragment others : List ℕ) × (frame ≡ Continuation stream false fragment) × (octets ≡ fragment ++ others) × AreContinuations stream frames others
+
+-- The frames are a block that has begun and isn't whole: HEADERS that doesn't end it, and CONTINUATIONs of the same stream. The
+-- octets are the fragments, joined.
+pub record IsBegun (stream : ℕ) (end : Bool) (octets : List ℕ) (frames : List Frame) : Type 0 where
+  pub fragment : List ℕ
+  pub pad : Option ℕ
+  pub priority : Option (List ℕ)
+  pub behind : List Frame
+  pub others : List ℕ
+  pub opened : frames ≡ Headers stream end false fragment pad priority ∷ behind
+  pub continued : AreContinuations stream behind others
+  pub joined : octets ≡ fragment ++ others
+
+-- The frame is HEADERS that is a whole block alone.
+pub record IsSingle (stream : ℕ) (end : Bool) (octets : List ℕ) (frames : List Frame) : Type 0 where
+  pub pad : Option ℕ
+  pub priority : Option (List ℕ)
+  pub one : frames ≡ Headers stream end true octets pad priority ∷ []
+
+-- The frames are a block that had begun, and a CONTINUATION that ends it.
+pub record IsEnded (stream : ℕ) (end : Bool) (octets : List ℕ) (frames : List Frame) : Type 0 where
+  pub before : List Frame
+  pub front : List ℕ
+  pub last : List ℕ
+  pub begun : IsBegun stream end front before
+  pub ended : frames ≡ before ++ Continuation stream true last ∷ []
+  pub joined : octets ≡ front ++ last
+
+-- The frames are the item: a frame that stands alone, or a block, whose octets are no more than the most.
+abbrev pub IsItem : Item → List Frame → Type 0
+IsItem (alone frame) frames = (stands_alone frame ≡ true) × (frames ≡ frame ∷ [])
+IsItem (block stream end octets) frames =
+    (IsSingle stream end octets frames ⊎ IsEnded stream end octets frames) × (length octets ≤ most_octets)
+
+-- The frames are these items, one behind another.
+abbrev pub AreItems : List Item → List Frame → Type 0
+AreItems [] frames = frames ≡ []
+AreItems (item ∷ items) frames =
+    (first others : List Frame) × (frames ≡ first ++ others) × IsItem item first × AreItems items others
+
+-- a block that has begun: its stream, whether its sender sends nothing behind it, and its octets so far
+pub record Begun : Type 0 where
+  pub stream : ℕ
+  pub end : Bool
+  pub octets : List ℕ
+
+-- The frames at the end are a block that has begun, or none.
+abbrev pub IsLeft : Option Begun → List Frame → Type 0
+IsLeft None frames = frames ≡ []
+IsLeft (Some begun) frames = IsBegun begun.stream begun.end begun.octets frames × (length begun.octets ≤ most_octets)
+
+-- So far the frames are the items, and then a block that has begun, or none.
+pub record Groups (frames : List Frame) (items : List Item) (begun : Option Begun) : Type 0 where
+  pub whole : List Frame
+  pub left : List Frame
+  pub joined : frames ≡ whole ++ left
+  pub grouped : AreItems items whole
+  pub unfinished : IsLeft begun left
+
+-- The fault of a frame outside blocks: CONTINUATION is stray (section 6.10), and HEADERS begin no block above the most octets.
+unfoldable pub fault_outside : Frame → Option BlockFault
+fault_outside (Data stream end octets pad) = None
+fault_outside (Headers stream end whole fragment pad priority) = if nat_lt most_octets (length fragment) then Some TooLong else None
+fault_outside (Priority stream octets) = None
+fault_outside (Reset stream code) = None
+fault_outside (Settings ack pairs) = None
+fault_outside (Ping ack octets) = None
+fault_outside (GoAway last code debug) = None
+fault_outside (WindowUpdate stream increment) = None
+fault_outside (Continuation stream whole fragment) = Some Stray
+fault_outside (Unknown kind flags stream payload) = None
+
+-- The fault of a frame inside a block: anything but a CONTINUATION of its stream, an unknown kind too, interrupts it (section
+-- 6.10); and the block has no more than the most octets.
+unfoldable pub fault_inside : Begun → Frame → Option BlockFault
+fault_inside begun (Data stream end octets pad) = Some Interrupted
+fault_inside begun (Headers stream end whole fragment pad priority) = Some Interrupted
+fault_inside begun (Priority stream octets) = Some Interrupted
+fault_inside begun (Reset stream code) = Some Interrupted
+fault_inside begun (Settings ack pairs) = Some Interrupted
+fault_inside begun (Ping ack octets) = Some Interrupted
+fault_inside begun (GoAway last code debug) = Some Interrupted
+fault_inside begun (WindowUpdate stream increment) = Some Interrupted
+fault_inside begun (Continuation stream whole fragment) =
+    if not (stream == begun.stream) then Some Interrupted
+    else if nat_lt most_octets (length begun.octets + length fragment) then Some TooLong
+    else None
+fault_inside begun (Unknown kind flags stream payload) = Some Interrupted
+
+-- the fault of the frame that comes next
+abbrev pub next_fault : Option Begun → Frame → Option BlockFault
+next_fault None frame = fault_outside frame
+next_fault (Some begun) frame = fault_inside begun frame
+
+-- The last of the frames is at fault; those before it are the items, and then a block that has begun, or none. Nothing from
+-- it on is an item.
+pub record FaultAt (frames : List Frame) (items : List Item) (fault : BlockFault) : Type 0 where
+  pub before : List Frame
+  pub last : Frame
+  pub begun : Option Begun
+  pub joined : frames ≡ before ++ last ∷ []
+  pub grouped : Groups before items begun
+  pub faulty : next_fault begun last ≡ Some fault

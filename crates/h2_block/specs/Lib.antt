@@ -1,0 +1,4 @@
+pub mod Grouping
+pub mod Gathering
+pub mod Spreading
+pub mod Kept

@@ -1,0 +1,38 @@
+//! The faults of frames that don't group.
+
+ghost use Rattle.std.specs.Prelude.{◌≡◌};
+ghost use Rattle.h2_block.specs.Gathering.{code_of};
+
+use h2_frame::Code;
+use thiserror::Error;
+
+/// Why frames aren't grouped any further.
+#[derive(Clone, Copy, Debug, PartialEq, Eq, Error)]
+pub enum BlockFault {
+    /// Inside a block stands another frame than a CONTINUATION of its stream (RFC 9113, section 6.10).
+    #[error("B1 Interrupted: another frame stands inside a field block")]
+    Interrupted,
+    /// A CONTINUATION stands outside a block (section 6.10).
+    #[error("B2 Stray: a CONTINUATION stands outside a field block")]
+    Stray,
+    /// A block has more than 65,552 octets.
+    #[error("B3 TooLong: a field block has more than 65552 octets")]
+    TooLong,
+    /// Memory was refused.
+    #[error("B4 Memory: out of memory")]
+    Memory,
+}
+
+impl BlockFault {
+    /// The code with which the connection ends: PROTOCOL_ERROR for a block that is interrupted or stray, ENHANCE_YOUR_CALM for one
+    /// that is too long, and INTERNAL_ERROR for want of memory.
+    pub fn code(self) -> Code
+        ensures { result ≡ code_of self }
+    {
+        match self {
+            BlockFault::Interrupted | BlockFault::Stray => Code::ProtocolError,
+            BlockFault::TooLong => Code::EnhanceYourCalm,
+            BlockFault::Memory => Code::InternalError,
+        }
+    }
+}

@@ -1,0 +1,20 @@
+//! Field blocks in a stream of frames (RFC 9113, sections 4.3, 6.2 and 6.10).
+//!
+//! [`Gather::take`] joins HEADERS and the CONTINUATIONs behind it to one block, and passes every other frame on. [`spread`] writes
+//! a block over as many frames as it needs.
+#![tactic(auto)]
+
+mod fault;
+mod gather;
+mod gathered;
+mod held;
+mod laws;
+mod spreading;
+#[cfg(test)]
+mod tests;
+
+pub use fault::BlockFault;
+pub use gather::Gather;
+pub use gathered::Gathered;
+pub use laws::{no_grouping_past_a_fault, one_grouping, spread_block};
+pub use spreading::spread;

@@ -1,0 +1,79 @@
+//! Writing field blocks over frames.
+
+ghost use Rattle.std.specs.Prelude.{◌≡◌, ◌+◌, ◌^◌, ◌<◌, ◌≤◌, ◌++◌, length, take, vec_len, None, IfErr, OnOk, OnErr, IsOk};
+ghost use Rattle.std.specs.Vec.{vec_capacity};
+ghost use Rattle.h2_frame.specs.Frames.{frame_of};
+ghost use Rattle.h2_frame.specs.Writing.{written, refusal};
+ghost use Rattle.h2_block.specs.Spreading.{spread_frames, written_frames};
+
+use crate::fault::BlockFault;
+use h2_frame::{FrameRef, write_ref};
+
+/// The most octets of a frame's payload (RFC 9113, section 4.2).
+const MOST_PAYLOAD: usize = 16_384;
+
+/// Appends the frames of a field block on a stream: HEADERS and CONTINUATIONs, each filled to 16,384 octets but the last. An empty
+/// block is one empty HEADERS. `end` says that nothing comes behind the block on the stream.
+///
+/// # Errors
+///
+/// [`BlockFault::Memory`], and `out` is unchanged. It doesn't come where `out` has room for the frames.
+pub fn spread(stream: u32, end: bool, octets: &[u8], out: &mut Vec<u8>) -> Result<(), BlockFault>
+    requires at_least { 1 ≤ stream }
+    requires at_most { stream < 2 ^ 31 }
+    requires length { length octets.now ≤ 65552 }
+    ensures ok { OnOk result (out.new.items ≡ out.old.items ++ written_frames (spread_frames stream end octets.now)) }
+    ensures err { IfErr result (λ fault. (fault ≡ BlockFault.Memory) × (out.new.items ≡ out.old.items)) }
+    ensures room { vec_len out.old + length (written_frames (spread_frames stream end octets.now)) ≤ vec_capacity out.old → IsOk result }
+    ensures capacity { vec_capacity out.old ≤ vec_capacity out.new }
+{
+    let start = out.len();
+    if append_block(stream, end, octets, out).is_err() {
+        out.truncate(start);
+        return Err(BlockFault::Memory);
+    }
+    Ok(())
+}
+
+// Appends the frames. On `Err` some of them stand behind what was there.
+fn append_block(stream: u32, end: bool, octets: &[u8], out: &mut Vec<u8>) -> Result<(), BlockFault>
+    requires at_least { 1 ≤ stream }
+    requires at_most { stream < 2 ^ 31 }
+    ensures ok { OnOk result (out.new.items ≡ out.old.items ++ written_frames (spread_frames stream end octets.now)) }
+    ensures front { take (vec_len out.old) out.new.items ≡ out.old.items }
+    ensures full { OnErr result (vec_capacity out.old < vec_len out.old + length (written_frames (spread_frames stream end octets.now))) }
+    ensures capacity { vec_capacity out.old ≤ vec_capacity out.new }
+{
+    let (first, mut rest) = octets.split_at(octets.len().min(MOST_PAYLOAD));
+    let headers = FrameRef::Headers {
+        stream,
+        end,
+        whole: rest.is_empty(),
+        fragment: first,
+        pad: None,
+        priority: None,
+    };
+    append(headers, out)?;
+    while !rest.is_empty() {
+        let (fragment, behind) = rest.split_at(rest.len().min(MOST_PAYLOAD));
+        let continuation = FrameRef::Continuation {
+            stream,
+            whole: behind.is_empty(),
+            fragment,
+        };
+        append(continuation, out)?;
+        rest = behind;
+    }
+    Ok(())
+}
+
+// Appends a frame that can be written, or changes nothing.
+fn append(frame: FrameRef<'_>, out: &mut Vec<u8>) -> Result<(), BlockFault>
+    requires { refusal (frame_of frame) ≡ None }
+    ensures ok { OnOk result (out.new.items ≡ out.old.items ++ written (frame_of frame.entry)) }
+    ensures err { OnErr result (out.new.items ≡ out.old.items) }
+    ensures full { OnErr result (vec_capacity out.old < vec_len out.old + length (written (frame_of frame.entry))) }
+    ensures capacity { vec_capacity out.old ≤ vec_capacity out.new }
+{
+    write_ref(frame, out).map_err(|_| BlockFault::Memory)
+}

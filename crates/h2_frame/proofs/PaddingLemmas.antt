@@ -1,0 +1,14 @@
+-- What stands in a payload behind its pad length.
+use Rattle.std.proofs.Common.{◌≡◌, ℕ, suc, ◌+◌, ◌-◌, ◌≤◌, List, [], ◌∷◌, ◌++◌, length, take, drop, slice_index, refl, sym, ap, arith, length-drop}
+use Rattle.std.proofs.lemmas.List.{take-append-drop}
+
+-- a payload is its pad length, what stands behind it, and so many octets at its end
+pub padded_payload : (payload : List ℕ) → 1 + slice_index payload 0 ≤ length payload
+    → (padding : List ℕ) × (length padding ≡ slice_index payload 0)
+    × (payload ≡ slice_index payload 0 ∷ (take (length payload - slice_index payload 0 - 1) (drop 1 payload) ++ padding))
+padded_payload [] enough = absurd (omega arith)
+padded_payload (count ∷ rest) enough = (
+  drop (suc (length rest) - count - 1) rest,
+  simp length-drop (omega arith),
+  ap (λ (x : List ℕ). count ∷ x) (sym (take-append-drop (suc (length rest) - count - 1) rest)),
+)

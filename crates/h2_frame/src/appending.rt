@@ -1,0 +1,143 @@
+//! Appending the parts of a frame to a vector that has room for them, so that nothing fails.
+
+ghost use Rattle.std.specs.Prelude.{◌≡◌, ◌+◌, ◌*◌, ◌^◌, ◌<◌, ◌≤◌, ◌++◌, length, flat_map, vec_len, MatchOption};
+ghost use Rattle.std.specs.Vec.{vec_capacity};
+ghost use Rattle.h2_frame.specs.Writing.{pair_octets};
+ghost use Rattle.h2_frame.specs.Parts.{front_octets, body_octets, payload_octets, head_octets};
+
+use crate::parts::{Body, Front, PAIR, Parts};
+use byteorder::{BigEndian, ByteOrder};
+
+/// The octets of a head.
+pub(crate) const HEAD: usize = 9;
+
+// The most octets of a payload: 24 bits of a head say how many there are (RFC 9113, section 4.1).
+const MOST: usize = 0xff_ffff;
+
+impl Parts<'_> {
+    /// How many octets the payload has, or none where no head can say it.
+    pub(crate) fn payload_length(&self) -> Option<u32>
+        ensures { MatchOption result (16777215 < length (payload_octets self.now))
+            (λ count. (count ≡ length (payload_octets self.now)) × (count ≤ 16777215)) }
+    {
+        let body = self.body.len();
+        if body > MOST {
+            return None;
+        }
+        let padding = match self.pad {
+            Some(count) => 1 + usize::from(count),
+            None => 0,
+        };
+        let length = padding + self.front.len() + body;
+        if length > MOST {
+            return None;
+        }
+        Some(length as u32)
+    }
+
+    /// Appends the head of a payload of so many octets.
+    pub(crate) fn append_head(&self, length: u32, out: &mut Vec<u8>)
+        requires small { length < 2 ^ 24 }
+        requires room { vec_len out.old + 9 ≤ vec_capacity out.old }
+        ensures items { out.new.items ≡ out.old.items ++ head_octets self.now.kind self.now.flags self.now.stream length }
+        ensures capacity { vec_capacity out.old ≤ vec_capacity out.new }
+    {
+        let mut octets = [0; HEAD];
+        BigEndian::write_u24(&mut octets, length);
+        octets[3] = self.kind.number();
+        octets[4] = self.flags;
+        BigEndian::write_u32(&mut octets[5..], self.stream);
+        out.extend_from_slice(&octets).unwrap();
+    }
+
+    /// Appends the payload.
+    pub(crate) fn append_payload(&self, out: &mut Vec<u8>)
+        requires { vec_len out.old + length (payload_octets self.now) ≤ vec_capacity out.old }
+        ensures items { out.new.items ≡ out.old.items ++ payload_octets self.now }
+        ensures capacity { vec_capacity out.old ≤ vec_capacity out.new }
+    {
+        let Some(count) = self.pad else {
+            self.front.append(out);
+            self.body.append(out);
+            return;
+        };
+        out.push(count).unwrap();
+        self.front.append(out);
+        self.body.append(out);
+        let end = out.len() + usize::from(count);
+        out.resize(end, 0).unwrap();
+    }
+}
+
+impl Front {
+    // How many octets there are.
+    fn len(self) -> usize
+        ensures value { result ≡ length (front_octets self) }
+        ensures small { result ≤ 8 }
+    {
+        match self {
+            Front::Nothing => 0,
+            Front::Priority(octets) => octets.len(),
+            Front::Ping(octets) => octets.len(),
+            Front::Word(_) => 4,
+            Front::TwoWords(_, _) => 8,
+        }
+    }
+
+    // Appends the octets.
+    fn append(self, out: &mut Vec<u8>)
+        requires { vec_len out.old + length (front_octets self) ≤ vec_capacity out.old }
+        ensures items { out.new.items ≡ out.old.items ++ front_octets self }
+        ensures capacity { vec_capacity out.old ≤ vec_capacity out.new }
+    {
+        match self {
+            Front::Nothing => {}
+            Front::Priority(octets) => out.extend_from_slice(&octets).unwrap(),
+            Front::Ping(octets) => out.extend_from_slice(&octets).unwrap(),
+            Front::Word(word) => out.extend_from_slice(&word.to_be_bytes()).unwrap(),
+            Front::TwoWords(first, second) => {
+                out.extend_from_slice(&first.to_be_bytes()).unwrap();
+                out.extend_from_slice(&second.to_be_bytes()).unwrap();
+            }
+        }
+    }
+}
+
+impl Body<'_> {
+    // How many octets there are. Where that is more than a payload may have, it may be a lower number, above that too.
+    fn len(self) -> usize
+        ensures small { result ≤ 16777215 → result ≡ length (body_octets self.entry) }
+        ensures large { 16777215 < result → 16777215 < length (body_octets self.entry) }
+    {
+        match self {
+            Body::Octets(octets) => octets.len(),
+            Body::Pairs(pairs) => pairs.len().saturating_mul(PAIR),
+        }
+    }
+
+    // Appends the octets.
+    fn append(self, out: &mut Vec<u8>)
+        requires { vec_len out.old + length (body_octets self) ≤ vec_capacity out.old }
+        ensures items { out.new.items ≡ out.old.items ++ body_octets self.entry }
+        ensures capacity { vec_capacity out.old ≤ vec_capacity out.new }
+    {
+        match self {
+            Body::Octets(octets) => out.extend_from_slice(octets).unwrap(),
+            Body::Pairs(pairs) => append_pairs(pairs, out),
+        }
+    }
+}
+
+// Appends the pairs.
+fn append_pairs(pairs: &[(u16, u32)], out: &mut Vec<u8>)
+    requires { vec_len out.old + length (flat_map pair_octets pairs.now) ≤ vec_capacity out.old }
+    ensures items { out.new.items ≡ out.old.items ++ flat_map pair_octets pairs.now }
+    ensures capacity { vec_capacity out.old ≤ vec_capacity out.new }
+{
+    for (id, value) in pairs {
+        let mut octets = [0; PAIR];
+        BigEndian::write_u16(&mut octets, *id);
+        BigEndian::write_u32(&mut octets[2..], *value);
+        out.extend_from_slice(&octets).unwrap();
+    }
+}

@@ -1,0 +1,150 @@
+//! Writing frames (RFC 9113, sections 4.1 and 6).
+
+ghost use Rattle.std.specs.Prelude.{◌≡◌, ◌+◌, ◌≤◌, ◌++◌, length, vec_len, None, Some, IfErr, OnOk, OnErr, IsOk};
+ghost use Rattle.std.specs.Vec.{vec_capacity};
+ghost use Rattle.h2_frame.specs.Frames.{Frame as AnyFrame, frame_of, owned_frame};
+ghost use Rattle.h2_frame.specs.Writing.{written, refusal, IsRefused, IsTyped};
+ghost use Rattle.h2_frame.specs.Parts.{Describes};
+
+use crate::appending::HEAD;
+use crate::frame::FrameRef;
+use crate::owned::{Frame, Unwritable};
+use crate::parts::{ABOVE_31_BITS, Parts};
+use crate::reading::may_stand_on;
+
+/// Appends the frame: its head and its payload, with reserved bits, flags that its kind doesn't define, and octets of padding
+/// zero.
+///
+/// # Errors
+///
+/// The first of these, and `out` is unchanged: [`Unwritable::TooLong`], [`Unwritable::BadStream`], [`Unwritable::BadValue`], and
+/// [`Unwritable::Memory`], which doesn't come where `out` has room for the frame.
+pub fn write(frame: &Frame, out: &mut Vec<u8>) -> Result<(), Unwritable>
+    ensures ok { OnOk result ((refusal (owned_frame frame.now) ≡ None) × (out.new.items ≡ out.old.items ++ written (owned_frame frame.now))) }
+    ensures err { IfErr result (λ error. IsRefused (owned_frame frame.now) error × (out.new.items ≡ out.old.items)) }
+    ensures room { refusal (owned_frame frame.now) ≡ None → vec_len out.old + length (written (owned_frame frame.now)) ≤ vec_capacity out.old → IsOk result }
+    ensures capacity { vec_capacity out.old ≤ vec_capacity out.new }
+    ensures typed { IsTyped (owned_frame frame.now) }
+{
+    write_parts(&owned_parts(frame), out)
+}
+
+/// Appends a frame that is lent, as [`write`] does.
+///
+/// # Errors
+///
+/// Those of [`write`].
+pub fn write_ref(frame: FrameRef<'_>, out: &mut Vec<u8>) -> Result<(), Unwritable>
+    ensures ok { OnOk result ((refusal (frame_of frame.entry) ≡ None) × (out.new.items ≡ out.old.items ++ written (frame_of frame.entry))) }
+    ensures err { IfErr result (λ error. IsRefused (frame_of frame.entry) error × (out.new.items ≡ out.old.items)) }
+    ensures room { refusal (frame_of frame.entry) ≡ None → vec_len out.old + length (written (frame_of frame.entry)) ≤ vec_capacity out.old → IsOk result }
+    ensures capacity { vec_capacity out.old ≤ vec_capacity out.new }
+    ensures typed { IsTyped (frame_of frame.entry) }
+{
+    write_parts(&lent_parts(frame), out)
+}
+
+// Appends a frame that has these parts.
+fn write_parts(parts: &Parts<'_>, out: &mut Vec<u8>) -> Result<(), Unwritable>
+    ensures ok { (frame : AnyFrame) → Describes parts.now frame
+        → OnOk result ((refusal frame ≡ None) × (out.new.items ≡ out.old.items ++ written frame)) }
+    ensures err { (frame : AnyFrame) → Describes parts.now frame
+        → IfErr result (λ error. IsRefused frame error × (out.new.items ≡ out.old.items)) }
+    ensures room { (frame : AnyFrame) → Describes parts.now frame
+        → refusal frame ≡ None → vec_len out.old + length (written frame) ≤ vec_capacity out.old → IsOk result }
+    ensures capacity { vec_capacity out.old ≤ vec_capacity out.new }
+{
+    let Some(length) = parts.payload_length() else {
+        return Err(Unwritable::TooLong);
+    };
+    if parts.stream >= ABOVE_31_BITS || !may_stand_on(parts.kind, parts.stream) {
+        return Err(Unwritable::BadStream);
+    }
+    if !parts.has_good_values {
+        return Err(Unwritable::BadValue);
+    }
+    if out.reserve(HEAD + length as usize).is_err() {
+        return Err(Unwritable::Memory);
+    }
+    parts.append_head(length, out);
+    parts.append_payload(out);
+    Ok(())
+}
+
+// The parts of a frame that is lent.
+fn lent_parts(frame: FrameRef<'_>) -> Parts<'_>
+    ensures { Describes result (frame_of frame.entry) }
+{
+    match frame {
+        FrameRef::Data {
+            stream,
+            end,
+            octets,
+            pad,
+        } => Parts::data(stream, end, octets, pad),
+        FrameRef::Headers {
+            stream,
+            end,
+            whole,
+            fragment,
+            pad,
+            priority,
+        } => Parts::headers(stream, end, whole, fragment, pad, priority),
+        FrameRef::Priority { stream, octets } => Parts::priority(stream, octets),
+        FrameRef::Reset { stream, code } => Parts::reset(stream, code),
+        FrameRef::Settings { ack, pairs } => Parts::lent_settings(ack, pairs),
+        FrameRef::Ping { ack, octets } => Parts::ping(ack, octets),
+        FrameRef::GoAway { last, code, debug } => Parts::go_away(last, code, debug),
+        FrameRef::WindowUpdate { stream, increment } => Parts::window_update(stream, increment),
+        FrameRef::Continuation {
+            stream,
+            whole,
+            fragment,
+        } => Parts::continuation(stream, whole, fragment),
+        FrameRef::Unknown {
+            kind,
+            flags,
+            stream,
+            payload,
+        } => Parts::unknown(kind, flags, stream, payload),
+    }
+}
+
+// The parts of a frame that is owned.
+fn owned_parts(frame: &Frame) -> Parts<'_>
+    ensures { Describes result (owned_frame frame.now) }
+{
+    match frame {
+        Frame::Data {
+            stream,
+            end,
+            octets,
+            pad,
+        } => Parts::data(*stream, *end, octets, *pad),
+        Frame::Headers {
+            stream,
+            end,
+            whole,
+            fragment,
+            pad,
+            priority,
+        } => Parts::headers(*stream, *end, *whole, fragment, *pad, *priority),
+        Frame::Priority { stream, octets } => Parts::priority(*stream, *octets),
+        Frame::Reset { stream, code } => Parts::reset(*stream, *code),
+        Frame::Settings { ack, pairs } => Parts::settings(*ack, pairs),
+        Frame::Ping { ack, octets } => Parts::ping(*ack, *octets),
+        Frame::GoAway { last, code, debug } => Parts::go_away(*last, *code, debug),
+        Frame::WindowUpdate { stream, increment } => Parts::window_update(*stream, *increment),
+        Frame::Continuation {
+            stream,
+            whole,
+            fragment,
+        } => Parts::continuation(*stream, *whole, fragment),
+        Frame::Unknown {
+            kind,
+            flags,
+            stream,
+            payload,
+        } => Parts::unknown(*kind, *flags, *stream, payload),
+    }
+}

@@ -1,0 +1,23 @@
+use Rattle.hpack.specs.Drafts.{drafted}
+use Rattle.hpack.proofs.FieldLemmas.{write_step, after_step, write_end, after_end, extended_more}
+use Rattle.hpack.proofs.append.append_fields.Goals as goal
+
+pub loop-field-preserved : goal.loop-field-preserved
+loop-field-preserved c =
+    let table = drafted c.loop-field.draft c.args.table.now in
+    let after = drafted c.append_one.new.draft c.args.table.now in
+    record {
+      draft = c.in_ok-append_one.ensures.draft;
+      written = write_step c.args.out.now.items c.loop-field.out.items c.append_one.new.out.items table after c.args.fields.now c.loop-field.field-index c.field-item.result _ c.loop-field-test.true c.field-item.is c.in_ok-append_one.ensures.written c.in_ok-append_one.ensures.after c.loop-field.invariant.written;
+      after = after_step table after _ c.args.fields.now c.loop-field.field-index c.field-item.result c.loop-field-test.true c.field-item.is c.in_ok-append_one.ensures.after c.loop-field.invariant.after;
+      added = λ base is. c.in_ok-append_one.ensures.added base (c.loop-field.invariant.added base is);
+      extended = extended_more c.args.out.now.items c.loop-field.out.items c.append_one.new.out.items _ c.loop-field.invariant.extended c.in_ok-append_one.ensures.written;
+    }
+
+pub returns-clause-written : goal.returns-clause-written
+returns-clause-written c =
+    write_end c.loop-field.out.items _ (drafted c.loop-field.draft c.args.table.now) c.args.fields.now c.loop-field.field-index c.loop-field-test.false c.loop-field.invariant.written
+
+pub returns-clause-after : goal.returns-clause-after
+returns-clause-after c =
+    after_end (drafted c.loop-field.draft c.args.table.now) _ c.args.fields.now c.loop-field.field-index c.loop-field-test.false c.loop-field.invariant.after

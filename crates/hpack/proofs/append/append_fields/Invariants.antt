@@ -1,0 +1,15 @@
+use Rattle.std.proofs.Common.{◌≡◌, ◌++◌, drop}
+use Rattle.hpack_text.specs.Writing.{IsExtended}
+use Rattle.hpack.specs.Choice.{written_fields, after_fields}
+use Rattle.hpack.specs.Drafts.{drafted, IsDraft, KeepsAdded}
+use Rattle.hpack.proofs.append.append_fields.Given as goal
+
+abbrev pub invariant-loop-field : goal.invariant-loop-field
+invariant-loop-field l = record {
+  draft : IsDraft l.draft l.table;
+  written : l.out.items ++ written_fields (drafted l.draft l.table) (drop l.field-index l.fields)
+      ≡ l.initial.out.items ++ written_fields (drafted l.initial.draft l.table) l.fields;
+  after : after_fields (drafted l.draft l.table) (drop l.field-index l.fields) ≡ after_fields (drafted l.initial.draft l.table) l.fields;
+  added : KeepsAdded l.table l.initial.draft l.draft;
+  extended : IsExtended l.initial.out.items l.out.items;
+}

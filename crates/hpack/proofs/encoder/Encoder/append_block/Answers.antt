@@ -1,0 +1,28 @@
+use Rattle.std.proofs.Common.{◌∙◌, ◌++◌, sym, ap, refl}
+use Rattle.hpack.specs.Lists.{EncoderState}
+use Rattle.hpack.specs.Choice.{block_of, after_block}
+use Rattle.hpack.specs.Chosen.{maxima_of}
+use Rattle.hpack.proofs.WritingLemmas.{IsBegun, block_is_written, block_is_done}
+use Rattle.hpack.proofs.encoder.Encoder.append_block.Goals as goal
+
+pub returns-clause-written : goal.returns-clause-written
+returns-clause-written c =
+    let state : EncoderState = record { table = c.self.inside.table; least = c.self.inside.least; limit = c.self.inside.limit } in
+    let begun : IsBegun state (maxima_of c.due-signals.result) c.new-draft.result c.apply_to_draft.new.draft = record {
+      due = c.due-signals.ensures state (sym c.maximum.ensures) refl refl;
+      same = c.new-draft.ensures.same;
+      updates = c.apply_to_draft.ensures.resized;
+    } in
+    block_is_written state (maxima_of c.due-signals.result) c.new-draft.result c.apply_to_draft.new.draft c.args.fields.now c.args.out.now.items c.append.new.out.items c.append_fields.new.out.items begun c.in_ok-append.ensures.ok c.in_ok-append_fields.ensures.written
+    ∙ ap (λ (s : EncoderState). c.args.out.now.items ++ block_of s c.args.fields.now) c.self.view_is
+
+pub returns-clause-after : goal.returns-clause-after
+returns-clause-after c =
+    let state : EncoderState = record { table = c.self.inside.table; least = c.self.inside.least; limit = c.self.inside.limit } in
+    let begun : IsBegun state (maxima_of c.due-signals.result) c.new-draft.result c.apply_to_draft.new.draft = record {
+      due = c.due-signals.ensures state (sym c.maximum.ensures) refl refl;
+      same = c.new-draft.ensures.same;
+      updates = c.apply_to_draft.ensures.resized;
+    } in
+    block_is_done state (maxima_of c.due-signals.result) c.new-draft.result c.apply_to_draft.new.draft c.append_fields.new.draft c.args.fields.now c.apply.new.table c.commit.new.table begun c.new-draft.ensures.none_added c.apply_to_draft.ensures.added c.in_ok-append_fields.ensures.added c.in_ok-append_fields.ensures.after c.in_ok-apply.ensures.ok c.commit.ensures
+    ∙ ap (λ (s : EncoderState). after_block s c.args.fields.now) c.self.view_is

@@ -1,0 +1,107 @@
+//! The encoder of field blocks (RFC 7541, sections 3.2, 4.2 and 6).
+
+ghost use Rattle.std.specs.Prelude.{◌≡◌, ◌^◌, ◌<◌, ◌++◌, min, IfOk, IfErr, OnOk, OnErr};
+ghost use Rattle.hpack_text.specs.Writing.{IsExtended};
+ghost use Rattle.hpack.specs.Choice.{block_of, after_block};
+ghost use Rattle.hpack.specs.Lists.{list_size, empty_table};
+
+use crate::append::append_fields;
+use crate::draft::Draft;
+use crate::fault::Fault;
+use crate::field::Field;
+use crate::signals::Signals;
+use crate::table::Table;
+use std::alloc::Global;
+use std::marker::Model;
+
+/// Encodes the blocks of one direction of a connection, in order.
+#[derive(Debug, Drop)]
+pub struct Encoder {
+    alloc: Global,
+    table: Table,
+    /// The least limit since the last block.
+    least: u32,
+    /// The limit now.
+    limit: u32,
+}
+
+impl Model for Encoder {
+    ghost use Rattle.hpack.specs.Lists.{EncoderState};
+
+    ghost Value = { EncoderState };
+
+    ghost view = { λ encoder. record { table = encoder.table; least = encoder.least; limit = encoder.limit } };
+}
+
+impl Encoder {
+    /// An encoder with an empty table, whose maximum and limit are `maximum`.
+    ///
+    /// # Errors
+    ///
+    /// [`Fault::Memory`] where room for the table was refused.
+    pub fn new(alloc: Global, maximum: u32) -> Result<Encoder, Fault>
+        ensures ok { IfOk result (λ encoder. encoder ≡ record { table = empty_table maximum; least = maximum; limit = maximum }) }
+        ensures err { IfErr result (λ fault. fault ≡ Fault.Memory) }
+    {
+        Ok(Encoder {
+            alloc,
+            table: Table::new(alloc, maximum)?,
+            least: maximum,
+            limit: maximum,
+        })
+    }
+
+    /// Sets the limit of the table that the peer keeps. The next block signals what changed. It takes no memory.
+    pub fn set_limit(&mut self, limit: u32)
+        ensures { self.new ≡ record self.old { least = min self.old.least limit; limit = limit } }
+    {
+        self.least = self.least.min(limit);
+        self.limit = limit;
+    }
+
+    /// The table, for whoever looks. It takes no memory.
+    pub fn table(&self) -> &Table
+        ensures { result.now ≡ self.now.table }
+    {
+        &self.table
+    }
+
+    /// Appends the block of the fields: the updates that are due, then each field as the least index that names it, or as a
+    /// literal with the least index of its name, added to the table unless it is sensitive or larger than the maximum.
+    ///
+    /// # Errors
+    ///
+    /// [`Fault::Memory`], and neither the encoder nor `out` has changed.
+    pub fn encode(&mut self, fields: &[Field], out: &mut Vec<u8>) -> Result<(), Fault>
+        requires { list_size fields.now < 2 ^ 35 }
+        ensures ok { OnOk result ((out.new.items ≡ out.old.items ++ block_of self.old fields.now) × (self.new ≡ after_block self.old fields.now)) }
+        ensures err { IfErr result (λ fault. (fault ≡ Fault.Memory) × (out.new.items ≡ out.old.items) × (self.new ≡ self.old)) }
+    {
+        let start = out.len();
+        if self.append_block(fields, out).is_err() {
+            out.truncate(start);
+            return Err(Fault::Memory);
+        }
+        Ok(())
+    }
+
+    /// Appends the block of the fields. What can fail comes first: the table is changed once all is written and copied. On `Err`
+    /// a front of the block stands behind what was there.
+    fn append_block(&mut self, fields: &[Field], out: &mut Vec<u8>) -> Result<(), Fault>
+        requires { list_size fields.now < 2 ^ 35 }
+        ensures written { OnOk result (out.new.items ≡ out.old.items ++ block_of self.old fields.now) }
+        ensures after { OnOk result (self.new ≡ after_block self.old fields.now) }
+        ensures err { OnErr result (self.new ≡ self.old) }
+        ensures extended { IsExtended out.old.items out.new.items }
+    {
+        let signals = Signals::due(self.table.maximum(), self.least, self.limit);
+        signals.append(out)?;
+        let mut draft = Draft::new(self.alloc, &self.table);
+        signals.apply_to_draft(&mut draft, &self.table);
+        append_fields(self.alloc, &mut draft, &self.table, fields, out)?;
+        signals.apply(&mut self.table)?;
+        draft.commit(&mut self.table);
+        self.least = self.limit;
+        Ok(())
+    }
+}

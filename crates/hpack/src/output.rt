@@ -1,0 +1,83 @@
+//! Writing fields.
+
+ghost use Rattle.std.specs.Prelude.{◌≡◌, ◌%◌, ◌^◌, ◌<◌, ◌≤◌, ◌++◌, ◌==◌, if◌then◌else◌, [], OnOk, length};
+ghost use Rattle.hpack_text.specs.Integers.{integer};
+ghost use Rattle.hpack_text.specs.Strings.{string};
+ghost use Rattle.hpack_text.specs.Writing.{IsExtended};
+ghost use Rattle.hpack.specs.Choice.{written, literal_head};
+ghost use Rattle.hpack.specs.Chosen.{choice_of, index_of};
+
+use crate::choice::Choice;
+use crate::fault::Fault;
+use crate::field::Field;
+use crate::kind::Literal;
+use hpack_text::{write_int, write_string};
+
+/// Appends a field as it was chosen. On `Err` a front of it stands behind what was there.
+pub(crate) fn append_field(choice: Choice, field: &Field, out: &mut Vec<u8>) -> Result<(), Fault>
+    requires index { index_of choice < 2 ^ 35 }
+    requires name { length field.now.name < 2 ^ 35 }
+    requires value { length field.now.value < 2 ^ 35 }
+    ensures ok { OnOk result (out.new.items ≡ out.old.items ++ written (choice_of choice) field.now) }
+    ensures extended { IsExtended out.old.items out.new.items }
+{
+    match choice {
+        Choice::Indexed(index) => append_int(7, 0x80, index, out),
+        Choice::Literal(kind, index) => append_literal(kind, index, field, out),
+    }
+}
+
+/// Appends a field as a literal. On `Err` a front of it stands behind what was there.
+fn append_literal(kind: Literal, index: u64, field: &Field, out: &mut Vec<u8>) -> Result<(), Fault>
+    requires index { index < 2 ^ 35 }
+    requires name { length field.now.name < 2 ^ 35 }
+    requires value { length field.now.value < 2 ^ 35 }
+    ensures ok { OnOk result (out.new.items ≡ out.old.items ++ (literal_head kind index
+        ++ ((if index == 0 then string field.now.name else []) ++ string field.now.value))) }
+    ensures extended { IsExtended out.old.items out.new.items }
+{
+    append_head(kind, index, out)?;
+    if index == 0 {
+        append_string(field.name.as_slice(), out)?;
+    }
+    append_string(field.value.as_slice(), out)
+}
+
+/// Appends the head of a literal. On `Err` a front of it stands behind what was there.
+fn append_head(kind: Literal, index: u64, out: &mut Vec<u8>) -> Result<(), Fault>
+    requires { index < 2 ^ 35 }
+    ensures ok { OnOk result (out.new.items ≡ out.old.items ++ literal_head kind index) }
+    ensures extended { IsExtended out.old.items out.new.items }
+{
+    match kind {
+        Literal::Added => append_int(6, 0x40, index, out),
+        Literal::Plain => append_int(4, 0x00, index, out),
+        Literal::Never => append_int(4, 0x10, index, out),
+    }
+}
+
+/// Appends an integer. On `Err` nothing has changed.
+pub(crate) fn append_int(
+    prefix: u8,
+    first_bits: u8,
+    value: u64,
+    out: &mut Vec<u8>,
+) -> Result<(), Fault>
+    requires at_least { 1 ≤ prefix }
+    requires at_most { prefix ≤ 8 }
+    requires value { value < 2 ^ 35 }
+    requires first_bits { first_bits % 2 ^ prefix ≡ 0 }
+    ensures ok { OnOk result (out.new.items ≡ out.old.items ++ integer prefix first_bits value) }
+    ensures extended { IsExtended out.old.items out.new.items }
+{
+    write_int(prefix, first_bits, value, out).map_err(|_| Fault::Memory)
+}
+
+/// Appends a string. On `Err` nothing has changed.
+fn append_string(text: &[u8], out: &mut Vec<u8>) -> Result<(), Fault>
+    requires { length text.now < 2 ^ 35 }
+    ensures ok { OnOk result (out.new.items ≡ out.old.items ++ string text.now) }
+    ensures extended { IsExtended out.old.items out.new.items }
+{
+    write_string(text, out).map_err(|_| Fault::Memory)
+}
