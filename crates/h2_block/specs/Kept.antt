@@ -1,8 +1,8 @@
 -- How a gatherer keeps its state: what it holds stands for, and what is true of that between calls.
-use Rattle.std.specs.Prelude.{◌≡◌, ◌≤◌, List, [], length, Option, None}
+use Rattle.std.specs.Prelude.{◌≡◌, ◌≤◌, [], length, None}
 use Rattle.std.specs.Option.{option_map}
 use Rattle.h2_block.specs.declared.held.Held.{Held}
-use Rattle.h2_block.specs.Grouping.{most_octets, Begun}
+use Rattle.h2_block.specs.Grouping.{most_octets}
 use Rattle.h2_block.specs.Gathering.{GatherState}
 
 -- the state that what is held stands for

@@ -1,11 +1,11 @@
 //! The gatherer of field blocks.
 
-ghost use Rattle.std.specs.Prelude.{◌≡◌, ◌≤◌, [], length, IfSome, None, Some, Ok, Err};
+ghost use Rattle.std.specs.Prelude.{◌≡◌, ◌≤◌, [], length, IfSome, None, Some, Ok, Err, true, IsOk};
 ghost use Rattle.std.specs.Option.{is_some, option_map_or};
 ghost use Rattle.h2_frame.specs.Frames.{frame_of};
 ghost use Rattle.h2_frame.specs.declared.frame.FrameRef.{FrameRef as Lent};
 ghost use Rattle.h2_block.specs.declared.fault.BlockFault.{BlockFault as Fault};
-ghost use Rattle.h2_block.specs.Grouping.{next_fault};
+ghost use Rattle.h2_block.specs.Grouping.{next_fault, stands_alone};
 ghost use Rattle.h2_block.specs.Gathering.{Stands, Takes, LeavesNone};
 
 use crate::fault::BlockFault;
@@ -42,7 +42,8 @@ impl Gather {
         }
     }
 
-    /// Takes the next frame: one that is no part of a block is passed on; a block is answered with its last frame.
+    /// Takes the next frame (RFC 9113, sections 4.3 and 6.10): one that is no part of a block is passed on; a block is answered with
+    /// its last frame.
     ///
     /// # Errors
     ///
@@ -56,6 +57,9 @@ impl Gather {
 
         // A frame at fault is told, whatever memory there is.
         ensures told { (fault : Fault) → self.old.fault ≡ None → next_fault self.old.begun (frame_of frame.entry) ≡ Some fault → result ≡ Err fault }
+
+        // A frame that is no part of a block is passed on outside blocks, whatever memory there is.
+        ensures alone { self.old.fault ≡ None → self.old.begun ≡ None → stands_alone (frame_of frame.entry) ≡ true → IsOk result }
 
         // What is passed on is the frame itself.
         ensures passed { (other : Lent) → result ≡ Ok (Gathered.Pass other) → other ≡ frame.entry }

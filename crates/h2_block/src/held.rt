@@ -1,10 +1,10 @@
 //! What a gatherer holds between calls.
 
-ghost use Rattle.std.specs.Prelude.{◌≡◌, ℕ, ◌+◌, ◌<◌, ◌++◌, List, [], length, vec_len, Option, IfSome, IfOk, IfErr, OnOk, None, Some, Ok, Err};
+ghost use Rattle.std.specs.Prelude.{◌≡◌, ℕ, ◌+◌, ◌<◌, ◌++◌, List, [], length, vec_len, Option, IfSome, IfOk, IfErr, OnOk, None, Some, Ok, Err, true, IsOk};
 ghost use Rattle.h2_frame.specs.Frames.{frame_of, Headers, Continuation};
 ghost use Rattle.h2_frame.specs.declared.frame.FrameRef.{FrameRef as Lent};
 ghost use Rattle.h2_block.specs.declared.fault.BlockFault.{BlockFault as Fault};
-ghost use Rattle.h2_block.specs.Grouping.{next_fault};
+ghost use Rattle.h2_block.specs.Grouping.{next_fault, stands_alone};
 ghost use Rattle.h2_block.specs.Gathering.{Stands, Takes, LeavesNone};
 ghost use Rattle.h2_block.specs.Kept.{state_of, IsKept};
 
@@ -57,6 +57,7 @@ impl Held {
         requires { IsKept self.old }
         ensures failed { IfSome self.old.fault (λ fault. result ≡ Err fault) }
         ensures told { (fault : Fault) → self.old.fault ≡ None → next_fault (state_of self.old).begun (frame_of frame.entry) ≡ Some fault → result ≡ Err fault }
+        ensures alone { self.old.fault ≡ None → (state_of self.old).begun ≡ None → stands_alone (frame_of frame.entry) ≡ true → IsOk result }
         ensures passed { (other : Lent) → result ≡ Ok (Gathered.Pass other) → other ≡ frame.entry }
         ensures takes { Takes (state_of self.old) (frame_of frame.entry) result (state_of self.new) }
         ensures ended { LeavesNone result (state_of self.new) }
@@ -77,6 +78,7 @@ impl Held {
         requires outside { self.old.opening ≡ None }
         requires kept { IsKept self.old }
         ensures told { (fault : Fault) → next_fault None (frame_of frame.entry) ≡ Some fault → result ≡ Err fault }
+        ensures alone { stands_alone (frame_of frame.entry) ≡ true → IsOk result }
         ensures passed { (other : Lent) → result ≡ Ok (Gathered.Pass other) → other ≡ frame.entry }
         ensures takes { Takes (state_of self.old) (frame_of frame.entry) result (state_of self.new) }
         ensures ended { LeavesNone result (state_of self.new) }
@@ -211,7 +213,7 @@ impl Held {
         mem::replace(&mut self.octets, Vec::new(self.alloc))
     }
 
-    // The frames are at fault, and nothing is held any longer.
+    // The frames are at fault, and no octets are held any longer.
     fn break_off(&mut self, fault: BlockFault) -> BlockFault
         ensures fault { result ≡ fault }
         ensures none { self.new.octets.items ≡ [] }

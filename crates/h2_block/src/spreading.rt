@@ -12,8 +12,9 @@ use h2_frame::{FrameRef, write_ref};
 /// The most octets of a frame's payload (RFC 9113, section 4.2).
 const MOST_PAYLOAD: usize = 16_384;
 
-/// Appends the frames of a field block on a stream: HEADERS and CONTINUATIONs, each filled to 16,384 octets but the last. An empty
-/// block is one empty HEADERS. `end` says that nothing comes behind the block on the stream.
+/// Appends the frames of a field block on a stream, from 1 to 2<sup>31</sup> - 1, of 65,552 octets at most (RFC 9113, sections 4.3,
+/// 6.2 and 6.10): HEADERS and CONTINUATIONs, each filled to 16,384 octets but the last. An empty block is one empty HEADERS. `end`
+/// says that nothing comes behind the block on the stream.
 ///
 /// # Errors
 ///

@@ -72,6 +72,12 @@ fn continuation(whole: bool, fragment: &[u8]) -> FrameRef<'_> {
     }
 }
 
+// So many octets from a place on, or as many as there are.
+fn part(octets: &[u8], start: usize, count: usize) -> &[u8] {
+    let behind = &octets[start.min(octets.len())..];
+    &behind[..count.min(behind.len())]
+}
+
 const PING: FrameRef<'static> = FrameRef::Ping {
     ack: false,
     octets: [0; 8],
@@ -189,34 +195,32 @@ fn faults_are_told_and_stay(rt: HostRuntime) {
     }
 }
 
-// Takes HEADERS and three CONTINUATIONs of 16,384 octets each, and then a CONTINUATION with the first of these octets that ends the
-// block.
-fn take_long(gather: &mut Gather, octets: &[u8], last: usize) -> Came {
+// Takes HEADERS and three CONTINUATIONs with these octets each, none of which ends the block.
+fn take_four(gather: &mut Gather, octets: &[u8]) {
     take(gather, headers(false, false, octets));
     for _ in 0..3 {
         take(gather, continuation(false, octets));
     }
-    take(
-        gather,
-        continuation(true, &octets[..last.min(octets.len())]),
-    )
 }
 
 #[test]
 fn a_block_has_65552_octets_at_most(rt: HostRuntime) -> Result<(), Fail> {
-    let octets = vec![in rt.alloc(); 0u8; 16384]?;
-    let mut gather = Gather::new(rt.alloc());
     let longest = Came::Block {
         stream: 1,
         end: false,
         length: 65552,
         sum: 0,
     };
-    assert_eq!(rt; take_long(&mut gather, &octets, 16), longest);
     let too_long = Came::Fault(BlockFault::TooLong);
-    assert_eq!(rt; take_long(&mut gather, &octets, 17), too_long);
-    assert_eq!(rt; take(&mut gather, PING), too_long);
     let octets = vec![in rt.alloc(); 0u8; 65553]?;
+    let mut gather = Gather::new(rt.alloc());
+    for (last, want) in [(16, longest), (17, too_long)] {
+        take_four(&mut gather, &octets[..16384]);
+        assert_eq!(rt; gather.held(), 65536);
+        let ended = continuation(true, part(&octets, 0, last));
+        assert_eq!(rt; take(&mut gather, ended), want, "{last}");
+    }
+    assert_eq!(rt; take(&mut gather, PING), too_long);
     let mut gather = Gather::new(rt.alloc());
     assert_eq!(rt;
         take(&mut gather, headers(false, true, &octets[1..])),
@@ -241,12 +245,6 @@ fn empty_frames_hold_nothing(rt: HostRuntime) {
         sum: 0x82,
     };
     assert_eq!(rt; take(&mut gather, continuation(true, b"")), whole);
-}
-
-// So many octets from a place on, or as many as there are.
-fn part(octets: &[u8], start: usize, count: usize) -> &[u8] {
-    let behind = &octets[start.min(octets.len())..];
-    &behind[..count.min(behind.len())]
 }
 
 #[test]

@@ -1,5 +1,5 @@
 -- What stands in a payload behind its pad length.
-use Rattle.std.proofs.Common.{◌≡◌, ℕ, suc, ◌+◌, ◌-◌, ◌≤◌, List, [], ◌∷◌, ◌++◌, length, take, drop, slice_index, refl, sym, ap, arith, length-drop}
+use Rattle.std.proofs.Common.{◌≡◌, ℕ, suc, ◌+◌, ◌-◌, ◌≤◌, List, [], ◌∷◌, ◌++◌, length, take, drop, slice_index, sym, ap, arith, length-drop}
 use Rattle.std.proofs.lemmas.List.{take-append-drop}
 
 -- a payload is its pad length, what stands behind it, and so many octets at its end

@@ -1,6 +1,6 @@
 -- The one spelling of each frame that is written: reserved bits, flags that the kind doesn't define, and octets of padding are
 -- zero (RFC 9113, sections 4.1 and 6). And the frames that aren't written.
-use Rattle.std.specs.Prelude.{◌≡◌, ℕ, ◌+◌, ◌^◌, ◌<◌, ◌==◌, nat_lt, nat_le, not, ◌&&◌, ◌||◌, Bool, true, false, if◌then◌else◌, List, [], ◌∷◌, ◌++◌, length, replicate, flat_map, Option, Some, None}
+use Rattle.std.specs.Prelude.{◌≡◌, ℕ, ◌+◌, ◌^◌, ◌<◌, ◌==◌, nat_lt, nat_le, not, ◌&&◌, ◌||◌, Bool, true, if◌then◌else◌, List, ◌∷◌, ◌++◌, length, replicate, flat_map, Option, Some, None}
 use Rattle.std.specs.List.{AllByRecursion}
 use Rattle.std.specs.Option.{is_some}
 use Rattle.byteorder.specs.Endian.{big_bytes}

@@ -5,7 +5,8 @@ ghost use Rattle.std.specs.Vec.{vec_capacity};
 ghost use Rattle.h2_frame.specs.Writing.{pair_octets};
 ghost use Rattle.h2_frame.specs.Parts.{front_octets, body_octets, payload_octets, head_octets};
 
-use crate::parts::{Body, Front, PAIR, Parts};
+use crate::pairs::PAIR;
+use crate::parts::{Body, Front, Parts};
 use byteorder::{BigEndian, ByteOrder};
 
 /// The octets of a head.
@@ -104,7 +105,7 @@ impl Front {
 }
 
 impl Body<'_> {
-    // How many octets there are. Where that is more than a payload may have, it may be a lower number, above that too.
+    // How many octets there are; where that is more than a payload may have, some number above that.
     fn len(self) -> usize
         ensures small { result ≤ 16777215 → result ≡ length (body_octets self.entry) }
         ensures large { 16777215 < result → 16777215 < length (body_octets self.entry) }

@@ -7,7 +7,7 @@ ghost use Rattle.h2_frame.specs.Pairs.{lent_pairs, pairs_left};
 use byteorder::{BigEndian, ByteOrder};
 
 /// The octets of a pair.
-const PAIR: usize = 6;
+pub(crate) const PAIR: usize = 6;
 
 /// The pairs of a SETTINGS frame, identifier and value, in the octets that spell them.
 #[derive(Clone, Copy, Debug, PartialEq, Eq)]
@@ -27,7 +27,7 @@ impl<'a> Pairs<'a> {
     pub fn is_empty(&self) -> bool
         ensures { result ≡ (length (lent_pairs self.now) == 0) }
     {
-        self.octets.len() < PAIR
+        self.len() == 0
     }
 
     /// The pairs in order.

@@ -7,14 +7,11 @@ ghost use Rattle.h2_frame.specs.Pairs.{lent_pairs, pairs_of};
 ghost use Rattle.h2_frame.specs.Parts.{ArePairs, Describes, IsPlain};
 
 use crate::kind::Kind;
-use crate::pairs::Pairs;
+use crate::pairs::{PAIR, Pairs};
 use crate::reading::{ACK, END_HEADERS, END_STREAM, PADDED, PRIORITY};
 
 /// The least number that has more than 31 bits.
 pub(crate) const ABOVE_31_BITS: u32 = 0x8000_0000;
-
-/// The octets of a pair of SETTINGS.
-pub(crate) const PAIR: usize = 6;
 
 /// What stands between a pad length and a body.
 #[derive(Clone, Copy)]
@@ -216,7 +213,7 @@ fn whole_pairs(octets: &[u8]) -> &[u8]
     &octets[..count * PAIR]
 }
 
-// Reads each pair, from which a proof knows that its numbers have 16 and 32 bits. A compiler leaves nothing of it.
+// Reads each pair, from which a proof knows that its numbers have 16 and 32 bits. An optimizing compiler drops it.
 fn look_at(pairs: &[(u16, u32)])
     ensures { ArePairs pairs.now }
 {

@@ -14,7 +14,7 @@ use byteorder::{BigEndian, ByteOrder};
 
 /// The fault of a payload behind a head without fault, or none: DATA whose pad length isn't less than its payload's length
 /// (RFC 9113, section 6.1), or HEADERS whose pad length is above what is left for the fragment (section 6.2), is a
-/// PROTOCOL_ERROR. It takes no memory.
+/// PROTOCOL_ERROR. The slice has the head's length. It takes no memory.
 #[tactic(auto, unfolding(crate::specs::Heads::form_fault, crate::specs::Heads::fits_length, crate::specs::Frames::payload_fault, crate::specs::Frames::pads_too_much))]
 pub fn payload_fault(head: &Head, payload: &[u8]) -> Option<Code>
     // The head has no fault of its form, the limit put aside.
@@ -37,7 +37,8 @@ pub fn payload_fault(head: &Head, payload: &[u8]) -> Option<Code>
     None
 }
 
-/// Reads the payload behind a head without fault, and lends it. It takes no memory.
+/// Reads the payload behind a head without fault, and lends it (RFC 9113, section 6). The slice has the head's length. It takes no
+/// memory.
 ///
 /// # Errors
 ///

@@ -12,13 +12,15 @@ use crate::owned::{Frame, Unwritable};
 use crate::parts::{ABOVE_31_BITS, Parts};
 use crate::reading::may_stand_on;
 
-/// Appends the frame: its head and its payload, with reserved bits, flags that its kind doesn't define, and octets of padding
-/// zero.
+/// Appends the frame (RFC 9113, sections 4.1 and 6): its head and its payload, with reserved bits, flags that its kind doesn't
+/// define, and octets of padding zero.
 ///
 /// # Errors
 ///
-/// The first of these, and `out` is unchanged: [`Unwritable::TooLong`], [`Unwritable::BadStream`], [`Unwritable::BadValue`], and
-/// [`Unwritable::Memory`], which doesn't come where `out` has room for the frame.
+/// The first of these, and `out` is unchanged: [`Unwritable::TooLong`] where the payload has more than 16,777,215 octets;
+/// [`Unwritable::BadStream`] where the kind can't stand on the stream or its number is above 2<sup>31</sup> - 1;
+/// [`Unwritable::BadValue`] for a last stream or an increment above 2<sup>31</sup> - 1, for settings with ACK and pairs, and for an
+/// unknown kind with a number from 0 to 9; and [`Unwritable::Memory`], which doesn't come where `out` has room for the frame.
 pub fn write(frame: &Frame, out: &mut Vec<u8>) -> Result<(), Unwritable>
     ensures ok { OnOk result ((refusal (owned_frame frame.now) ≡ None) × (out.new.items ≡ out.old.items ++ written (owned_frame frame.now))) }
     ensures err { IfErr result (λ error. IsRefused (owned_frame frame.now) error × (out.new.items ≡ out.old.items)) }

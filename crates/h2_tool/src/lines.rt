@@ -39,14 +39,11 @@ impl fmt::Display for FrameLine<'_> {
                 pad,
                 priority,
             } => {
-                let prioritized = if priority.is_some() { PRIORITY } else { 0 };
-                let length = fragment
-                    .len()
-                    .saturating_add(padded(pad))
-                    .saturating_add(prioritized);
-                write!(f, "HEADERS {stream} {length}")?;
-                write!(f, "{}{}", Word(end, "end"), Word(whole, "whole"))?;
-                write!(f, "{}{}", Pad(pad), Word(priority.is_some(), "priority"))
+                let prioritized = priority.is_some();
+                let length = headers_length(fragment, pad, prioritized);
+                write!(f, "HEADERS {stream} {length}{}", Word(end, "end"))?;
+                write!(f, "{}{}", Word(whole, "whole"), Pad(pad))?;
+                write!(f, "{}", Word(prioritized, "priority"))
             }
             FrameRef::Priority { stream, .. } => write!(f, "PRIORITY {stream} {PRIORITY}"),
             FrameRef::Reset { stream, code } => write!(f, "RST_STREAM {stream} 4 code={code}"),
@@ -108,6 +105,15 @@ impl fmt::Display for Pad {
             None => Ok(()),
         }
     }
+}
+
+/// How many octets the payload of HEADERS has.
+fn headers_length(fragment: &[u8], pad: Option<u8>, prioritized: bool) -> usize {
+    let priority = if prioritized { PRIORITY } else { 0 };
+    fragment
+        .len()
+        .saturating_add(padded(pad))
+        .saturating_add(priority)
 }
 
 /// How many octets of a payload are pad length and padding.

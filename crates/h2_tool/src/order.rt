@@ -75,7 +75,7 @@ const HEX: &str = "hex";
 const FROM: &str = "from";
 
 const EXIT_STATUSES: &str =
-    "Exit status: 0 whole frames and field blocks, 1 a fault or an unfinished frame or block, 2 wrong usage or hexadecimal, 3 a device that failed, 4 no memory";
+    "Exit status: 0 whole frames and field blocks, 1 a fault or an unfinished frame or block, 2 wrong words, or text that is no hexadecimal, 3 a device that failed, 4 no memory";
 
 fn show_command<'a>(alloc: Global) -> Result<Command<'a>, AllocError> {
     let hex = Arg::new(alloc, HEX)

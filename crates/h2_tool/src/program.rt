@@ -1,6 +1,8 @@
 //! The program as a whole.
 
-ghost use Rattle.std.specs.Prelude.{◌≡◌, ◌≢◌};
+ghost use Rattle.std.specs.Prelude.{◌≡◌, ◌≢◌, IfSome};
+ghost use Rattle.h2_tool.specs.declared.order.ShowOrder.{ShowOrder as Order};
+ghost use Rattle.h2_tool.specs.Telling.{TellsInput};
 ghost use Rattle.h2_tool.specs.Statuses.{status_of};
 
 use crate::failure::Failure;
@@ -12,14 +14,17 @@ use clap::error::ErrorKind;
 use std::alloc::Global;
 use std::io::{self, Read, Write};
 
-/// Runs the program with the words behind its name.
+/// Runs the program with the words behind its name, and answers the status that it ends with: that of the command, or for words
+/// without one [`Status::Good`] where they ask for help or the version and [`Status::Usage`] where they are wrong.
 pub fn run<R: Read, W: Write, E: Write>(
     alloc: Global,
     words: &[String],
     input: &mut R,
     out: &mut W,
     err: &mut E,
-) -> Status {
+) -> Status
+    ensures fault { result ≡ Status.Fault → IfSome (R.remaining input.old) (λ given. (order : Order) × TellsInput order given result) }
+{
     if let Some((name, others)) = words.split_first() {
         if name.as_str() == "show" {
             return cmd_show(alloc, others, input, out, err);

@@ -1,9 +1,10 @@
 //! The command `h2 show`.
 
-ghost use Rattle.std.specs.Prelude.{◌≡◌, ◌<◌, ◌≤◌, length, take, vec_len, IfOk, IfSome};
+ghost use Rattle.std.specs.Prelude.{◌≡◌, ◌⊎◌, ◌<◌, ◌≤◌, length, take, vec_len, IfOk, IfSome};
 ghost use Rattle.std.specs.Io.KnownBytes.{Consumes, IsAtEnd};
 ghost use Rattle.h2_tool.specs.Telling.{TellsOctets, TellsText, TellsInput};
 ghost use Rattle.h2_tool.specs.Showing.{TellsBehind};
+ghost use Rattle.h2_tool.specs.declared.order.ShowOrder.{ShowOrder as Order};
 
 use crate::engine::Show;
 use crate::failure::Failure;
@@ -22,15 +23,19 @@ const PIECE: usize = 65_536;
 ///
 /// The words are judged before anything is read. Lines are written at the end of each piece that was read.
 ///
-/// The status is that of [`show_input`], whose contract says that it tells the truth of the octets; for help it is
-/// [`Status::Good`], and for wrong words [`Status::Usage`].
+/// The status is that of [`show_input`], and tells the truth of the octets under some order; for help it is [`Status::Good`] with
+/// nothing read, and for wrong words [`Status::Usage`].
 pub fn cmd_show<R: Read, W: Write, E: Write>(
     alloc: Global,
     words: &[String],
     input: &mut R,
     out: &mut W,
     err: &mut E,
-) -> Status {
+) -> Status
+    ensures fault { result ≡ Status.Fault → IfSome (R.remaining input.old) (λ given. (order : Order) × TellsInput order given result) }
+    ensures good { result ≡ Status.Good → IfSome (R.remaining input.old)
+        (λ given. ((order : Order) × TellsInput order given result) ⊎ (R.remaining input.new ≡ R.remaining input.old)) }
+{
     let order = match show_order(alloc, words) {
         Ok(order) => order,
         Err(error) => return answer(&error, out, err),

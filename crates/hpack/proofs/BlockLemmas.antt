@@ -1,6 +1,7 @@
 -- Blocks: the fields, the updates in front of them, and that octets are one block at most.
-use Rattle.std.proofs.Common.{◌≡◌, ℕ, ◌<◌, ◌≤◌, ◌==◌, true, false, List, [], ◌∷◌, ◌++◌, length, take, refl, sym, ap, ◌∙◌, subst, arith, eq-eqb, append_assoc, append-nil, length-append}
+use Rattle.std.proofs.Common.{◌≡◌, ℕ, ◌+◌, ◌<◌, ◌≤◌, ◌==◌, true, false, List, [], ◌∷◌, ◌++◌, length, take, refl, sym, ap, ◌∙◌, subst, arith, eq-eqb, append_assoc, append-nil, length-append}
 use Rattle.std.proofs.lemmas.Bool.{false≢true}
+use Rattle.std.proofs.lemmas.List.Sums.{sum_by-append}
 use Rattle.std.proofs.lemmas.Bool.Decides.{nat_tests}
 use Rattle.hpack_text.specs.Integers.{Int}
 use Rattle.hpack_text.proofs.IntegerLemmas.{Int-unique}
@@ -11,8 +12,8 @@ use Rattle.hpack.specs.declared.fault.Fault.{Fault}
 use Rattle.hpack.specs.declared.fault.Fault.TheVariants as faults
 use Rattle.hpack.specs.Tables.{Entries, resized}
 use Rattle.hpack.specs.Blocks.{FirstOctet, Update, Step, Fields, Updates, Block}
-use Rattle.hpack.specs.Lists.{NoBlock, DecodeFault, IsList}
-use Rattle.hpack.specs.Fronts.{NoFront, FrontFault, IsInt, IsStep, FieldsFault, BeginsUpdate, UpdatesSoFar, HasRoom}
+use Rattle.hpack.specs.Lists.{NoBlock, DecodeFault, IsList, list_size}
+use Rattle.hpack.specs.Fronts.{NoFront, FrontFault, IsInt, IsStep, FieldsFault, BeginsUpdate, UpdatesSoFar, HasRoom, Keeps}
 use Rattle.hpack.proofs.FrontLemmas.{behind_of, split_at_count, same_behind}
 use Rattle.hpack.proofs.StepLemmas.{front_first, int_first, int_long, no_update_step, step_long, step_unique}
 
@@ -298,6 +299,14 @@ some_left n e zero_left = false≢true (e ∙ eq-eqb n 0 zero_left)
 pub has_list : (bar : ℕ) (fields : List Field) (list : FieldList) (room : ℕ) → HasRoom bar fields list room → IsList bar fields list
 has_list bar fields (Whole items) room h = (h.0, omega (arith, h.1))
 has_list bar fields TooLarge room h = h
+
+-- a list above the bar is above it with one field more
+pub keeps_large : (list : FieldList) (room : ℕ) (field : Field) → list ≡ TooLarge → Keeps list room field list room
+keeps_large list room field large bar fields has =
+    let more = sum_by-append (λ (one : Field). length one.name + length one.value + 32) fields (field ∷ []) in
+    let above : bar < list_size fields = rw large at has in
+    let result : bar < list_size (fields ++ field ∷ []) = omega (arith, more, above) in
+    rw large result
 
 -- Of a block only want of memory is a fault.
 pub fault_of_block : (table after : Entries) (limit : ℕ) (octets : List ℕ) (fields : List Field) → Block table limit octets fields after → (fault : Fault)

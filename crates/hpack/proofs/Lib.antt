@@ -8,6 +8,7 @@ pub mod LookupLemmas
 mod Rows
 pub mod SearchLemmas
 pub mod SizeLemmas
+pub mod StateLemmas
 pub mod StepLemmas
 pub mod WritingLemmas
 pub mod WrittenBlocks

@@ -95,3 +95,24 @@ added entries new kept entry maximum small rest e =
 pub added_none : (entries new : List Entry) (entry : Entry) (maximum : ℕ) → maximum < entry_size entry → new ≡ []
     → table_of new maximum ≡ table_of (add entries entry maximum) maximum
 added_none entries new entry maximum large e = ap (λ (xs : List Entry). table_of xs maximum) (e ∙ sym (fit-none entry entries maximum large))
+
+-- What fits is a front.
+pub fit-front : (entries : List Entry) (bound : ℕ) → (left : List Entry) × (entries ≡ fit entries bound ++ left)
+unfolding fit
+fit-front [] bound = ([], refl)
+fit-front (entry ∷ entries) bound =
+    elim (cases_lt bound (entry_size entry)) [
+      | inl large ↦ (entry ∷ entries, rw (fit-none entry entries bound large) refl)
+      | inr small ↦
+          let (left, joined) = fit-front entries (bound - entry_size entry) in
+          (left, rw (fit-first entry entries bound small) (ap (λ (others : List Entry). entry ∷ others) joined))
+    ]
+
+-- No longer front fits.
+pub fit-longest : (front left : List Entry) (bound : ℕ) → table_size front ≤ bound → length front ≤ length (fit (front ++ left) bound)
+fit-longest [] left bound within = omega arith
+fit-longest (entry ∷ front) left bound within =
+    let whole = table_size-cons entry front in
+    let small : entry_size entry ≤ bound = omega (arith, whole) in
+    let rest = fit-longest front left (bound - entry_size entry) (omega (arith, whole)) in
+    rw (fit-first entry (front ++ left) bound small) (omega (arith, rest))

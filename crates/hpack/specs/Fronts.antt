@@ -1,5 +1,5 @@
 -- What stands at the front of octets, what a fault of reading it says, and what was read of a block so far.
-use Rattle.std.specs.Prelude.{◌≡◌, ℕ, ◌+◌, ◌≤◌, ◌<◌, List, ◌++◌, Some}
+use Rattle.std.specs.Prelude.{◌≡◌, ℕ, ◌+◌, ◌≤◌, ◌<◌, List, ◌++◌, Some, [], ◌∷◌}
 use Rattle.hpack_text.specs.declared.fault.TextFault.{TextFault}
 use Rattle.hpack_text.specs.declared.fault.TextFault.TheVariants as text_faults
 use Rattle.hpack_text.specs.Integers.{Int}
@@ -102,6 +102,11 @@ FieldsFault table octets faults.Failed = ⊥
 abbrev pub HasRoom : ℕ → List Field → FieldList → ℕ → Type 0
 HasRoom bar fields (Whole items) room = (items.items ≡ fields) × (list_size fields + room ≡ bar)
 HasRoom bar fields TooLarge room = bar < list_size fields
+
+-- Whatever fields the list held for whatever bar, it holds those and one more.
+abbrev pub Keeps : FieldList → ℕ → Field → FieldList → ℕ → Type 0
+Keeps list room field new_list new_room =
+    (bar : ℕ) (fields : List Field) → HasRoom bar fields list room → HasRoom bar (fields ++ field ∷ []) new_list new_room
 
 -- The first octet is that of an update.
 abbrev pub BeginsUpdate : List ℕ → Type 0

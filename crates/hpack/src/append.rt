@@ -2,7 +2,10 @@
 
 ghost use Rattle.std.specs.Prelude.{◌≡◌, ◌+◌, ◌^◌, ◌<◌, ◌≤◌, ◌++◌, length, OnOk, IfOk};
 ghost use Rattle.hpack_text.specs.Writing.{IsExtended};
+ghost use Rattle.std.specs.List.{AllByRecursion};
+ghost use Rattle.hpack_text.specs.Bits.{IsOctet};
 ghost use Rattle.hpack.specs.Lists.{list_size};
+ghost use Rattle.hpack.specs.Written.{AreOctets};
 ghost use Rattle.hpack.specs.Choice.{choice, written, after_choice, written_fields, after_fields};
 ghost use Rattle.hpack.specs.Drafts.{drafted, IsDraft, KeepsAdded, added_to};
 
@@ -30,12 +33,22 @@ pub(crate) fn append_fields(
     ensures written { OnOk result (out.new.items ≡ out.old.items ++ written_fields (drafted draft.old table.now) fields.now) }
     ensures after { OnOk result (drafted draft.new table.now ≡ after_fields (drafted draft.old table.now) fields.now) }
     ensures added { OnOk result (KeepsAdded table.now draft.old draft.new) }
+    ensures octets { OnOk result (AreOctets fields.now) }
     ensures extended { IsExtended out.old.items out.new.items }
 {
     for field in fields {
         append_one(alloc, draft, table, field, out)?;
+        are_octets(field.name.as_slice());
+        are_octets(field.value.as_slice());
     }
     Ok(())
+}
+
+/// What a slice holds are octets, which a proof knows from this call alone. It does nothing.
+fn are_octets(octets: &[u8])
+    ensures { AllByRecursion IsOctet octets.now }
+{
+    let _len = octets.len();
 }
 
 /// Appends one field, and does to the draft what it says. On `Err` a front of it stands behind what was there.

@@ -1,9 +1,8 @@
 //! The fields that a block hands out, while their size is within a bar (RFC 9113, section 6.5.2).
 
-ghost use Rattle.std.specs.Prelude.{◌≡◌, ℕ, [], ◌∷◌, ◌++◌, IfOk, IfErr, List as Items};
-ghost use Rattle.hpack.specs.declared.field.Field.{Field as OneField};
+ghost use Rattle.std.specs.Prelude.{◌≡◌, true, [], OnOk, IfErr};
 ghost use Rattle.hpack.specs.Lists.{IsList};
-ghost use Rattle.hpack.specs.Fronts.{HasRoom};
+ghost use Rattle.hpack.specs.Fronts.{HasRoom, Keeps};
 
 use crate::eviction::size_of_octets;
 use crate::fault::Fault;
@@ -33,33 +32,32 @@ impl Collected {
         }
     }
 
+    /// Whether the size is above the bar.
+    pub(crate) fn is_too_large(&self) -> bool
+        ensures { result ≡ true → self.now.list ≡ List.TooLarge }
+    {
+        matches!(self.list, List::TooLarge)
+    }
+
     /// One field more, which is kept where the size stays within the bar.
-    pub(crate) fn keep(self, field: Field) -> Result<Collected, Fault>
-        ensures ok { IfOk result (λ collected. (bar : ℕ) (fields : Items OneField) → HasRoom bar fields self.list self.room
-            → HasRoom bar (fields ++ field ∷ []) collected.list collected.room) }
+    #[inline(always)]
+    pub(crate) fn keep(&mut self, field: Field) -> Result<(), Fault>
+        ensures ok { OnOk result (Keeps self.old.list self.old.room field self.new.list self.new.room) }
         ensures err { IfErr result (λ fault. fault ≡ Fault.Memory) }
     {
-        let Collected { list, room } = self;
-        let List::Whole(mut fields) = list else {
-            return Ok(Collected {
-                list: List::TooLarge,
-                room,
-            });
-        };
         let size = size_of_octets(field.name.as_slice(), field.value.as_slice());
-        if size > room as usize {
-            return Ok(Collected {
-                list: List::TooLarge,
-                room,
-            });
+        let List::Whole(fields) = &mut self.list else {
+            return Ok(());
+        };
+        if size > self.room as usize {
+            self.list = List::TooLarge;
+            return Ok(());
         }
         if fields.is_empty() {
             fields.reserve_exact(ROOM)?;
         }
         fields.push(field)?;
-        Ok(Collected {
-            list: List::Whole(fields),
-            room: room - size as u32,
-        })
+        self.room -= size as u32;
+        Ok(())
     }
 }

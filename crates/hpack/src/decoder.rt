@@ -62,8 +62,9 @@ impl Decoder {
         &self.table
     }
 
-    /// Decodes a whole block: its fields in order, or [`List::TooLarge`] where their size is above `bar`; the table is as after
-    /// the whole block in either case. Past the bar no further field is kept.
+    /// Decodes a whole block: its fields in order, or [`List::TooLarge`] where their size is above `bar` octets, by
+    /// [`list_size`](crate::list_size) (RFC 9113, section 6.5.2); the table is as after the whole block in either case. Past the bar no
+    /// further field is kept.
     ///
     /// # Errors
     ///

@@ -1,9 +1,11 @@
 //! The encoder of field blocks (RFC 7541, sections 3.2, 4.2 and 6).
 
-ghost use Rattle.std.specs.Prelude.{◌≡◌, ◌^◌, ◌<◌, ◌++◌, min, IfOk, IfErr, OnOk, OnErr};
+ghost use Rattle.std.specs.Prelude.{◌≡◌, ℕ, ◌^◌, ◌<◌, ◌≤◌, ◌++◌, IfOk, IfErr, OnOk, OnErr};
 ghost use Rattle.hpack_text.specs.Writing.{IsExtended};
 ghost use Rattle.hpack.specs.Choice.{block_of, after_block};
 ghost use Rattle.hpack.specs.Lists.{list_size, empty_table};
+ghost use Rattle.hpack.specs.Blocks.{Block};
+ghost use Rattle.hpack.specs.Limits.{after_limit};
 
 use crate::append::append_fields;
 use crate::draft::Draft;
@@ -19,18 +21,21 @@ use std::marker::Model;
 pub struct Encoder {
     alloc: Global,
     table: Table,
-    /// The least limit since the last block.
+    /// The least limit since the last block, that block's own included.
     least: u32,
     /// The limit now.
     limit: u32,
 }
 
 impl Model for Encoder {
+    ghost use Rattle.std.specs.Prelude.{◌≤◌};
     ghost use Rattle.hpack.specs.Lists.{EncoderState};
 
     ghost Value = { EncoderState };
 
     ghost view = { λ encoder. record { table = encoder.table; least = encoder.least; limit = encoder.limit } };
+
+    ghost invariant = { λ encoder. encoder.least ≤ encoder.limit };
 }
 
 impl Encoder {
@@ -51,9 +56,11 @@ impl Encoder {
         })
     }
 
-    /// Sets the limit of the table that the peer keeps. The next block signals what changed. It takes no memory.
+    /// Sets the limit, in octets, of the table that the peer keeps (RFC 7541, section 4.2). The next block signals what changed. It takes
+    /// no memory; the next block takes room for `limit / 32` entries, and [`Encoder::encode`] answers [`Fault::Memory`] as long as
+    /// that is refused. So whoever is told the limit by a peer caps it first, which the standard allows.
     pub fn set_limit(&mut self, limit: u32)
-        ensures { self.new ≡ record self.old { least = min self.old.least limit; limit = limit } }
+        ensures { self.new ≡ after_limit self.old limit }
     {
         self.least = self.least.min(limit);
         self.limit = limit;
@@ -66,8 +73,9 @@ impl Encoder {
         &self.table
     }
 
-    /// Appends the block of the fields: the updates that are due, then each field as the least index that names it, or as a
-    /// literal with the least index of its name, added to the table unless it is sensitive or larger than the maximum.
+    /// Appends the block of the fields (RFC 7541, section 6): the updates that are due, then each field as the least index that names
+    /// it, or as a literal with the least index of its name, added to the table unless it is sensitive or larger than the maximum.
+    /// Strings are Huffman coded where that isn't longer. The list's size ([`list_size`](crate::list_size)) must be below 2<sup>35</sup>.
     ///
     /// # Errors
     ///
@@ -75,6 +83,10 @@ impl Encoder {
     pub fn encode(&mut self, fields: &[Field], out: &mut Vec<u8>) -> Result<(), Fault>
         requires { list_size fields.now < 2 ^ 35 }
         ensures ok { OnOk result ((out.new.items ≡ out.old.items ++ block_of self.old fields.now) × (self.new ≡ after_block self.old fields.now)) }
+
+        // It is a block of the list, for every decoder with the same table whose limit isn't below.
+        ensures block { OnOk result ((limit : ℕ) → self.old.limit ≤ limit
+            → Block self.old.table limit (block_of self.old fields.now) fields.now self.new.table) }
         ensures err { IfErr result (λ fault. (fault ≡ Fault.Memory) × (out.new.items ≡ out.old.items) × (self.new ≡ self.old)) }
     {
         let start = out.len();
@@ -89,6 +101,8 @@ impl Encoder {
     /// a front of the block stands behind what was there.
     fn append_block(&mut self, fields: &[Field], out: &mut Vec<u8>) -> Result<(), Fault>
         requires { list_size fields.now < 2 ^ 35 }
+        ensures block { OnOk result ((limit : ℕ) → self.old.limit ≤ limit
+            → Block self.old.table limit (block_of self.old fields.now) fields.now self.new.table) }
         ensures written { OnOk result (out.new.items ≡ out.old.items ++ block_of self.old fields.now) }
         ensures after { OnOk result (self.new ≡ after_block self.old fields.now) }
         ensures err { OnErr result (self.new ≡ self.old) }

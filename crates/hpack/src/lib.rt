@@ -1,7 +1,7 @@
 //! HPACK (RFC 7541): the dynamic table, the decoder and the encoder of field blocks.
 //!
 //! [`Decoder::decode`] answers the list and the table of a block exactly where the octets are one, unless memory runs out.
-//! [`Encoder::encode`] writes what the definitions say, and a law says that it is a block.
+//! [`Encoder::encode`] appends a block of the list, in the one spelling that `docs/PROTOCOL.md` states.
 #![tactic(auto)]
 
 mod append;
@@ -36,6 +36,8 @@ mod tests_encoder;
 mod tests_in_step;
 #[cfg(test)]
 mod tests_lists;
+#[cfg(test)]
+mod tests_static;
 mod texts;
 mod updates;
 mod written;
@@ -44,7 +46,7 @@ pub use decoder::Decoder;
 pub use encoder::Encoder;
 pub use fault::Fault;
 pub use field::{Field, List};
-pub use laws::one_block;
+pub use laws::{longest_front, one_block};
 pub use octets::Octets;
 pub use size::list_size;
 pub use table::Table;

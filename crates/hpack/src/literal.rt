@@ -1,10 +1,12 @@
 //! Literals and indices (RFC 7541, sections 6.1 and 6.2).
 
-ghost use Rattle.std.specs.Prelude.{◌≡◌, ◌≤◌, length, take, false, IfOk, IfErr};
+ghost use Rattle.std.specs.Prelude.{◌≡◌, ℕ, ◌≤◌, length, take, false, OnOk, IfOk, IfErr, List as Items};
 ghost use Rattle.hpack.specs.Blocks.{LiteralName, after_literal, is_sensitive};
+ghost use Rattle.hpack.specs.Drafts.{added_to};
 ghost use Rattle.hpack.specs.Fronts.{FrontFault, IsName, IsLiteral, SpellsLiteral, IsIndex, SpellsIndex, prefix_of};
 
 use crate::entry::Entry;
+use crate::eviction::size_of_octets;
 use crate::fault::Fault;
 use crate::field::Field;
 use crate::kind::Literal;
@@ -12,12 +14,13 @@ use crate::lookup::entry_at;
 use crate::octets::Octets;
 use crate::table::Table;
 use crate::texts::{int_at, text_at};
-use std::alloc::Global;
+use std::alloc::{AllocError, Global};
 
 /// How many bits of an indexed field's index stand in its first octet.
 const INDEX_PREFIX: u8 = 7;
 
 /// Reads the index at the front of `octets`, and answers the field that it names and how many octets spell it.
+#[inline(always)]
 pub(crate) fn indexed_at(
     alloc: Global,
     table: &Table,
@@ -39,6 +42,19 @@ pub(crate) fn indexed_at(
     Ok((field, count))
 }
 
+/// Reads the index at the front of `octets`, which names a field, and answers how many octets spell it.
+pub(crate) fn index_len(table: &Table, octets: &[u8]) -> Result<usize, Fault>
+    ensures ok { IfOk result (λ count. (name value : Items ℕ) × (count ≤ length octets.now)
+        × SpellsIndex table.now.entries (take count octets.now) name value) }
+    ensures fault { IfErr result (FrontFault (IsIndex table.now.entries) octets.now) }
+{
+    let (index, count) = int_at(INDEX_PREFIX, octets)?;
+    match entry_at(table, index) {
+        Some(_) => Ok(count),
+        None => Err(Fault::Compression),
+    }
+}
+
 /// Reads the literal at the front of `octets`, and answers its field and how many octets spell it. What is to be added to
 /// the table is added.
 pub(crate) fn literal_at(
@@ -55,10 +71,7 @@ pub(crate) fn literal_at(
 {
     let (name, value, count) = parts_at(alloc, table, prefix_bits(kind), octets)?;
     if kind == Literal::Added {
-        table.add(Entry {
-            name: Octets::copy_of(alloc, name.as_slice())?,
-            value: Octets::copy_of(alloc, value.as_slice())?,
-        });
+        add_copy(alloc, table, &name, &value)?;
     }
     let sensitive = kind == Literal::Never;
     Ok((
@@ -69,6 +82,26 @@ pub(crate) fn literal_at(
         },
         count,
     ))
+}
+
+/// Adds a copy of the name and the value to the table. No copy is made of what is larger than the table's maximum, which empties it.
+fn add_copy(
+    alloc: Global,
+    table: &mut Table,
+    name: &Octets,
+    value: &Octets,
+) -> Result<(), AllocError>
+    ensures { OnOk result (table.new ≡ added_to table.old (record { name = name.now; value = value.now })) }
+{
+    if size_of_octets(name.as_slice(), value.as_slice()) > table.maximum() as usize {
+        table.clear();
+        return Ok(());
+    }
+    table.add(Entry {
+        name: Octets::copy_of(alloc, name.as_slice())?,
+        value: Octets::copy_of(alloc, value.as_slice())?,
+    });
+    Ok(())
 }
 
 /// How many bits of the index of a literal's name stand in its first octet.

@@ -1,17 +1,19 @@
 //! One field of a block (RFC 7541, section 6).
 
 ghost use Rattle.std.specs.Prelude.{◌≡◌, ◌≤◌, ◌<◌, length, take, IfOk, IfErr, MatchOption};
+ghost use Rattle.hpack.specs.declared.field.Field.{Field as OneField};
 ghost use Rattle.hpack.specs.Blocks.{Step};
 ghost use Rattle.hpack.specs.Fronts.{FrontFault, IsStep, IsKind};
 
 use crate::fault::Fault;
 use crate::field::Field;
 use crate::kind::Literal;
-use crate::literal::{indexed_at, literal_at};
+use crate::literal::{index_len, indexed_at, literal_at};
 use crate::table::Table;
 use std::alloc::Global;
 
 /// Reads the field at the front of `octets`, and answers it and how many octets spell it.
+#[inline(always)]
 pub(crate) fn field_at(
     alloc: Global,
     table: &mut Table,
@@ -32,6 +34,23 @@ pub(crate) fn field_at(
         return Err(Fault::Compression);
     };
     literal_at(alloc, table, kind, octets)
+}
+
+/// Reads the field at the front of `octets` as [`field_at`] does, and answers only how many octets spell it: of what an index names
+/// no copy is made.
+pub(crate) fn skip_at(alloc: Global, table: &mut Table, octets: &[u8]) -> Result<usize, Fault>
+    ensures ok { IfOk result (λ count. (field : OneField) × (count ≤ length octets.now) × Step table.old (take count octets.now) field table.new) }
+    ensures fault { IfErr result (FrontFault (IsStep table.old) octets.now) }
+{
+    if octets.is_empty() {
+        return Err(Fault::Compression);
+    }
+    let first = octets[0];
+    if first >= 0x80 {
+        return index_len(table, octets);
+    }
+    let (_, count) = field_at(alloc, table, octets)?;
+    Ok(count)
 }
 
 /// The kind of a literal, by its first octet, or nothing where that is an update's.

@@ -128,6 +128,14 @@ impl Table {
         Ok(())
     }
 
+    /// Lets all entries leave. It takes no memory.
+    pub(crate) fn clear(&mut self)
+        ensures { self.new ≡ record { entries = []; maximum = self.old.maximum } }
+    {
+        self.entries.clear();
+        self.size = 0;
+    }
+
     /// Puts the entry at the front; the oldest leave until the size is at most the maximum, and the table is empty where the
     /// entry alone is larger (section 4.4). It takes no memory.
     pub(crate) fn add(&mut self, entry: Entry)
@@ -136,8 +144,7 @@ impl Table {
         let size = size_of(&entry);
         let maximum = self.maximum as usize;
         if size > maximum {
-            self.entries.clear();
-            self.size = 0;
+            self.clear();
             return;
         }
         self.size = size + evict(&mut self.entries, self.size, maximum - size);

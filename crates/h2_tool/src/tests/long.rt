@@ -35,15 +35,28 @@ fn check(
     lines: &[u8],
     status: Status,
 ) -> Result<(), Fail> {
-    for size in [usize::MAX, 1] {
-        let words = words(rt.alloc(), &["--from", "server"])?;
-        let mut input = Pieces::new(stream, size, size);
-        let mut out = Memory::new(rt.alloc());
-        let mut err = Memory::new(rt.alloc());
-        let ended = cmd_show(rt.alloc(), words.as_slice(), &mut input, &mut out, &mut err);
-        assert_eq!(rt; out.octets.as_slice(), lines);
-        assert_eq!(rt; ended, status);
-    }
+    check_pieces(
+        rt,
+        Pieces::new(stream, usize::MAX, usize::MAX),
+        lines,
+        status,
+    )?;
+    check_pieces(rt, Pieces::new(stream, 1, 1), lines, status)
+}
+
+// Shows a server's stream that comes in these pieces.
+fn check_pieces(
+    rt: &(impl Abort + AllocGlobal),
+    mut input: Pieces<'_>,
+    lines: &[u8],
+    status: Status,
+) -> Result<(), Fail> {
+    let words = words(rt.alloc(), &["--from", "server"])?;
+    let mut out = Memory::new(rt.alloc());
+    let mut err = Memory::new(rt.alloc());
+    let ended = cmd_show(rt.alloc(), words.as_slice(), &mut input, &mut out, &mut err);
+    assert_eq!(rt; out.octets.as_slice(), lines);
+    assert_eq!(rt; ended, status);
     Ok(())
 }
 
@@ -71,6 +84,14 @@ fn longer_block(rt: HostRuntime) -> Result<(), Fail> {
     let stream = long_block(rt.alloc(), 17)?;
     let lines =
         b"HEADERS 1 16384\nCONTINUATION 1 16384\nCONTINUATION 1 16384\nCONTINUATION 1 16384\nfault ENHANCE_YOUR_CALM at 65598\n";
+    for place in 1..stream.len() {
+        check_pieces(
+            &rt,
+            Pieces::new(&stream, place, usize::MAX),
+            lines,
+            Status::Fault,
+        )?;
+    }
     check(&rt, &stream, lines, Status::Fault)
 }
 

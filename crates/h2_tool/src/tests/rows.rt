@@ -22,7 +22,7 @@ pub(crate) struct Row<'a> {
     pub(crate) status: Status,
 }
 
-pub(crate) const ROWS: [Row<'static>; 29] = [
+pub(crate) const ROWS: [Row<'static>; 34] = [
     Row {
         from: "client",
         octets: &[PRE, PAIRS, UPDATE],
@@ -217,5 +217,38 @@ pub(crate) const ROWS: [Row<'static>; 29] = [
         ],
         lines: "WINDOW_UPDATE 5 4 add=10\nKIND66 7 4 flags=255\n",
         status: Status::Good,
+    },
+    Row {
+        from: "server",
+        octets: &["000006010400000001 00020a5c0162"],
+        lines: "HEADERS 1 6 whole\n  \\x0a\\x5c: b\n",
+        status: Status::Good,
+    },
+    Row {
+        from: "server",
+        octets: &[
+            "000004080000000000 00000000",
+            "00000c040000000000 0002 00000007 0005 00000001",
+        ],
+        lines: "WINDOW_UPDATE 0 4 add=0\nSETTINGS 0 12 2=7 5=1\n",
+        status: Status::Good,
+    },
+    Row {
+        from: "server",
+        octets: &["000001010000000001 82", "004001090000000001"],
+        lines: "HEADERS 1 1\nfault FRAME_SIZE_ERROR at 19\n",
+        status: Status::Fault,
+    },
+    Row {
+        from: "server",
+        octets: &["000004010400000001 3fe1ff03"],
+        lines: "HEADERS 1 4 whole\n",
+        status: Status::Good,
+    },
+    Row {
+        from: "server",
+        octets: &["000004010400000001 3fe2ff03"],
+        lines: "fault COMPRESSION_ERROR at 13\n",
+        status: Status::Fault,
     },
 ];

@@ -30,7 +30,11 @@ struct Front {
 pub fn read_text(alloc: Global, octets: &[u8]) -> Result<Vec<u8>, TextFault>
     ensures answer { MatchResult result (λ text. Huff text.items octets.now) (HuffFault octets.now) }
 {
-    let mut text = Vec::new(alloc);
+    // A code has five bits at least.
+    let most = octets.len() / 5 * 8 + octets.len() % 5 * 8 / 5;
+    let Ok(mut text) = Vec::with_capacity(alloc, most) else {
+        return Err(TextFault::Memory);
+    };
     let mut front = no_bits();
     for octet in octets {
         front = read_octet(front, *octet, &mut text)?;

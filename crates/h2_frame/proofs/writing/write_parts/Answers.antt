@@ -1,5 +1,5 @@
 -- By the lemmas on refusals, and on the octets that are written of parts.
-use Rattle.std.proofs.Common.{◌≡◌, ◌+◌, ◌^◌, ℕ, List, ◌++◌, nat_lt, ◌&&◌, false, refl, ap, ◌∙◌, arith, append_assoc}
+use Rattle.std.proofs.Common.{◌≡◌, ◌^◌, ℕ, List, ◌++◌, nat_lt, ◌&&◌, false, refl, ap, ◌∙◌, arith, append_assoc}
 use Rattle.std.proofs.lemmas.Bool.Decides.{nat_tests}
 use Rattle.h2_frame.specs.Heads.{fits_stream}
 use Rattle.h2_frame.specs.Parts.{payload_octets, head_octets}

@@ -1,6 +1,7 @@
 use Rattle.std.proofs.Common.{◌≡◌, ◌++◌, drop}
 use Rattle.hpack_text.specs.Writing.{IsExtended}
 use Rattle.hpack.specs.Choice.{written_fields, after_fields}
+use Rattle.hpack.specs.Written.{AreOctets}
 use Rattle.hpack.specs.Drafts.{drafted, IsDraft, KeepsAdded}
 use Rattle.hpack.proofs.append.append_fields.Given as goal
 
@@ -11,5 +12,6 @@ invariant-loop-field l = record {
       ≡ l.initial.out.items ++ written_fields (drafted l.initial.draft l.table) l.fields;
   after : after_fields (drafted l.draft l.table) (drop l.field-index l.fields) ≡ after_fields (drafted l.initial.draft l.table) l.fields;
   added : KeepsAdded l.table l.initial.draft l.draft;
+  octets : AreOctets (drop l.field-index l.fields) → AreOctets l.fields;
   extended : IsExtended l.initial.out.items l.out.items;
 }

@@ -1,8 +1,9 @@
 -- Outside blocks HEADERS begins one, a CONTINUATION is stray, and any other frame passes.
-use Rattle.std.proofs.Common.{◌∷◌, [], refl}
+use Rattle.std.proofs.Common.{◌∷◌, [], refl, true, false, ◌≡◌}
+use Rattle.std.proofs.lemmas.Bool.{false≢true}
 use Rattle.h2_frame.specs.Frames.{frame_of}
 use Rattle.h2_block.specs.declared.fault.BlockFault.TheVariants as faults
-use Rattle.h2_block.specs.Grouping.{alone}
+use Rattle.h2_block.specs.Grouping.{alone, stands_alone}
 use Rattle.h2_block.specs.Kept.{state_of}
 use Rattle.h2_block.proofs.HeldLemmas.{goes_on, broken, headers_told, continuation_stray, one_told, none_told, other_passes}
 use Rattle.h2_block.proofs.held.Held.take_outside.Goals as goal
@@ -31,8 +32,18 @@ returns-in_default c =
     let passes = other_passes c.args.frame c.in_default.not-Headers c.in_default.not-Continuation in
     record {
       told = λ fault faulty. none_told fault _ passes.0 faulty;
+      alone = λ stands. refl;
       passed = λ other same. (cc);
       takes = goes_on old old frame (alone frame ∷ []) c.requires.sound (rw c.requires.outside passes.0) (rw c.requires.outside passes.1) (rw c.requires.outside passes.2);
       ended = tt;
       kept = c.requires.kept;
     }
+
+pub returns-in-Headers-clause-alone : goal.returns-in-Headers-clause-alone
+unfolding stands_alone
+returns-in-Headers-clause-alone c = λ stands.
+    let inside : false ≡ true = rw c.in-Headers.is at stands in absurd (false≢true inside)
+
+pub returns-in-Continuation-clause-alone : goal.returns-in-Continuation-clause-alone
+unfolding stands_alone
+returns-in-Continuation-clause-alone c = λ stands. rw c.in-Continuation.is at stands

@@ -1,4 +1,8 @@
-use Rattle.std.proofs.Common.{◌∙◌, ◌++◌, sym, ap, refl}
+use Rattle.std.proofs.Common.{◌∙◌, ◌++◌, ◌^◌, ◌<◌, sym, ap, refl, subst, arith}
+use Rattle.hpack.specs.Blocks.{Block}
+use Rattle.hpack.proofs.WrittenBlocks.{block_spells}
+use Rattle.hpack.specs.Written.{IsWriting}
+use Rattle.hpack.proofs.StateLemmas.{writing_of}
 use Rattle.hpack.specs.Lists.{EncoderState}
 use Rattle.hpack.specs.Choice.{block_of, after_block}
 use Rattle.hpack.specs.Chosen.{maxima_of}
@@ -26,3 +30,12 @@ returns-clause-after c =
     } in
     block_is_done state (maxima_of c.due-signals.result) c.new-draft.result c.apply_to_draft.new.draft c.append_fields.new.draft c.args.fields.now c.apply.new.table c.commit.new.table begun c.new-draft.ensures.none_added c.apply_to_draft.ensures.added c.in_ok-append_fields.ensures.added c.in_ok-append_fields.ensures.after c.in_ok-apply.ensures.ok c.commit.ensures
     ∙ ap (λ (s : EncoderState). after_block s c.args.fields.now) c.self.view_is
+
+pub returns-clause-block : goal.returns-clause-block
+returns-clause-block c = λ limit le.
+    let state : EncoderState = record { table = c.self.inside.table; least = c.self.inside.least; limit = c.self.inside.limit } in
+    let small : state.limit < 2 ^ 32 = omega (arith, c.self.ranges) in
+    let writing : IsWriting c.args.self.now = subst IsWriting c.self.view_is (writing_of state c.new-draft.result c.new-draft.ensures.draft c.new-draft.ensures.same c.self.invariant small) in
+    subst (λ (new : EncoderState). Block c.args.self.now.table limit (block_of c.args.self.now c.args.fields.now) c.args.fields.now new.table)
+    (sym (returns-clause-after c))
+    (block_spells c.args.self.now limit c.args.fields.now writing c.in_ok-append_fields.ensures.octets c.requires le)
