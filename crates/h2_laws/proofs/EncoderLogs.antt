@@ -1,0 +1,42 @@
+-- The encoder of every log that comes about.
+use Rattle.std.proofs.Common.{◌≡◌, min, refl, arith}
+use Rattle.hpack.specs.Written.{IsWriting}
+use Rattle.h2_log.specs.declared.role.Role.{Role}
+use Rattle.h2_log.specs.Acts.{Values}
+use Rattle.h2_log.specs.Settings.{value_read}
+use Rattle.h2_log.specs.Log.{Log}
+use Rattle.h2_log.specs.Calling.{before_opening, opened}
+use Rattle.h2_log.specs.Histories.{IsLog}
+use Rattle.h2_log.specs.Taking.{used}
+use Rattle.h2_laws.proofs.EncoderLemmas.{LogIsLimited, wrote_limited, tells_limited, read_limited, call_limited}
+use Rattle.h2_laws.proofs.StepLemmas.{IsSteady, every_log}
+
+-- Each small change keeps an encoder that writes blocks, with the limit that was read last.
+encoder_is_steady : IsSteady LogIsLimited
+unfolding used
+encoder_is_steady =
+    record {
+      used = λ log octets rest is. is;
+      wrote = wrote_limited;
+      tells = tells_limited;
+      read = read_limited;
+      called = λ log act answer is. call_limited log.encoder log.ins act answer is;
+      due = λ log n is. is;
+      given = λ log n is. is;
+      failed = λ log code is. is;
+      frames = λ log frames is. is;
+      begun = λ log begun is. is;
+    }
+
+-- The encoder of a new end.
+begins_limited : (role : Role) (values : Values) → LogIsLimited (opened role values)
+unfolding opened value_read
+begins_limited role values =
+    wrote_limited (before_opening role) _
+    (record { writing = record { least = omega arith; limit = omega arith; maximum = omega arith; within = omega arith }; limit = refl })
+
+-- The encoder of every log.
+pub encoder_is_limited : (role : Role) (values : Values) (log : Log) → IsLog role values log
+    → IsWriting log.encoder × (log.encoder.limit ≡ min (value_read 1 4096 log.ins) 4096)
+encoder_is_limited role values log is =
+    let limited = every_log LogIsLimited encoder_is_steady begins_limited role values log is in (limited.writing, limited.limit)

@@ -1,0 +1,131 @@
+-- The numbers of streams that were written, and what a stream that is told as unprocessed says of what was read.
+use Rattle.std.proofs.Common.{◌≡◌, ◌⊎◌, ◌≢◌, ℕ, ◌+◌, ◌≤◌, ◌<◌, ◌==◌, ◌%◌, ◌&&◌, ◌||◌, nat_lt, max, Bool, true, false, if◌then◌else◌, List, [], ◌∷◌, refl, inl, inr, arith}
+use Rattle.std.specs.List.{list_any}
+use Rattle.std.proofs.lemmas.Bool.{both_ways, eqb-true, or_cases, cases_lt, eq-eqb, le-ltb, and_right, and_left, true_from_ne_false}
+use Rattle.h2_frame.specs.Frames.{Data, Headers, Priority, Reset, Settings, Ping, GoAway, WindowUpdate, Continuation, Unknown}
+use Rattle.h2_block.specs.Grouping.{Item, alone, block}
+use Rattle.h2_log.specs.declared.role.Role.{Role}
+use Rattle.h2_log.specs.declared.role.Role.TheVariants.{Client, Server}
+use Rattle.h2_log.specs.Items.{is_block_on, greatest_block, is_goaway}
+use Rattle.h2_log.specs.Settings.{is_server}
+use Rattle.h2_log.specs.States.{least_block}
+use Rattle.h2_log.specs.Log.{Log, live, greatest_number, least_last, next_number, next_unprocessed}
+use Rattle.h2_log.specs.Allowed.{Wrote, starts, reads, writes, Allowed, MayOpen, GoesOn}
+use Rattle.h2_laws.proofs.StateLemmas.{live_parts}
+
+-- the greater of two numbers is one of them
+max_is : (a b : ℕ) → (max a b ≡ a) ⊎ (max a b ≡ b)
+max_is a b = elim (cases_lt a b) [
+  | inl less ↦ inr (omega arith)
+  | inr most ↦ inl (omega arith)
+]
+
+-- A block's number is no greater than the greatest.
+pub block_below : (i : ℕ) (items : List Item) → list_any (is_block_on i) items ≡ true → i ≤ greatest_block items
+unfolding is_block_on greatest_block
+block_below i [] here = absurd (both_ways false refl here)
+block_below i (alone frame ∷ items) here = block_below i items here
+block_below i (block stream end octets ∷ items) here = elim (or_cases (stream == i) (list_any (is_block_on i) items) here) [
+  | inl same ↦ omega (arith, eqb-true stream i same)
+  | inr behind ↦ omega (arith, block_below i items behind)
+]
+
+-- what a client may write keeps to the greatest number
+low_by : (ins outs : List Item) (item : Item) → Allowed Client ins outs item → greatest_block outs ≤ greatest_number
+    → greatest_block (item ∷ outs) ≤ greatest_number
+unfolding greatest_block
+low_by ins outs (alone frame) allowed low = low
+low_by ins outs (block i end octets) allowed low = elim allowed.1 [
+  | inl may ↦ omega (arith, may.low)
+  | inr goes ↦ omega (arith, block_below i outs (live_parts Client i ins outs [] goes.live).opened)
+]
+
+-- A client writes blocks on no greater numbers than the greatest.
+pub client_low : (ins outs : List Item) → Wrote Client ins outs → greatest_block outs ≤ greatest_number
+unfolding greatest_block
+client_low _ _ (starts values ok) = omega arith
+client_low _ outs (reads {ins = ins} item wrote) = client_low ins outs wrote
+client_low ins _ (writes {outs = outs} item wrote allowed) = low_by ins outs item allowed (client_low ins outs wrote)
+
+-- the number of a block that may be written is odd
+odd_allowed : (role : Role) (i : ℕ) (ins outs : List Item) → MayOpen role i ins outs ⊎ GoesOn role i ins outs → i % 2 ≡ 1
+odd_allowed role i ins outs (inl may) = may.odd
+odd_allowed role i ins outs (inr goes) = eqb-true (i % 2) 1 (live_parts role i ins outs [] goes.live).odd
+
+-- a number of two, of which one is odd, and the other odd or nothing
+odd_max : (i n : ℕ) → i % 2 ≡ 1 → (n ≡ 0) ⊎ (n % 2 ≡ 1) → max i n % 2 ≡ 1
+odd_max i n odd (inl none) = let is : max i n ≡ i = omega arith in rw is odd
+odd_max i n odd (inr also) = elim (max_is i n) [
+  | inl one ↦ rw one odd
+  | inr other ↦ rw other also
+]
+
+-- what may be written keeps the greatest number odd
+odd_by : (role : Role) (ins outs : List Item) (item : Item) → Allowed role ins outs item → (greatest_block outs ≡ 0) ⊎ (greatest_block outs % 2 ≡ 1)
+    → (greatest_block (item ∷ outs) ≡ 0) ⊎ (greatest_block (item ∷ outs) % 2 ≡ 1)
+unfolding greatest_block
+odd_by role ins outs (alone frame) allowed odd = odd
+odd_by role ins outs (block i end octets) allowed odd = inr (odd_max i (greatest_block outs) (odd_allowed role i ins outs allowed.1) odd)
+
+-- The greatest number of a block that was written is odd, if there is one.
+pub odd_blocks : (role : Role) (ins outs : List Item) → Wrote role ins outs → (greatest_block outs ≡ 0) ⊎ (greatest_block outs % 2 ≡ 1)
+unfolding greatest_block
+odd_blocks role _ _ (starts values ok) = inl refl
+odd_blocks role _ outs (reads {ins = ins} item wrote) = odd_blocks role ins outs wrote
+odd_blocks role ins _ (writes {outs = outs} item wrote allowed) = odd_by role ins outs item allowed (odd_blocks role ins outs wrote)
+
+-- two more than an odd number
+odd_next : (n : ℕ) → n % 2 ≡ 1 → (n + 2) % 2 ≡ 1
+odd_next n odd = omega arith
+
+-- the next number by the test whether it is the first
+next_by : (n : ℕ) (b : Bool) → n == 0 ≡ b → (n ≡ 0) ⊎ (n % 2 ≡ 1) → ((if b then 1 else n + 2) % 2 ≡ 1) × (n < (if b then 1 else n + 2))
+next_by n true is odd = (refl, omega (arith, eqb-true n 0 is))
+next_by n false is (inl none) = absurd (both_ways _ is (eq-eqb n 0 none))
+next_by n false is (inr odd) = (odd_next n odd, omega arith)
+
+-- The next number is odd, and above all before it.
+pub next_odd : (log : Log) → Wrote log.role log.ins log.outs → (next_number log % 2 ≡ 1) × (greatest_block log.outs < next_number log)
+unfolding next_number
+next_odd log wrote = next_by (greatest_block log.outs) (greatest_block log.outs == 0) refl (odd_blocks log.role log.ins log.outs wrote)
+
+-- Where no GOAWAY was read, no stream is above the last one.
+last_none : (items : List Item) → list_any is_goaway items ≡ false → least_last items ≡ greatest_number
+unfolding is_goaway least_last
+last_none [] none = refl
+last_none (block stream end octets ∷ items) none = last_none items none
+last_none (alone (Data stream end octets pad) ∷ items) none = last_none items none
+last_none (alone (Headers stream end whole fragment pad priority) ∷ items) none = last_none items none
+last_none (alone (Priority stream octets) ∷ items) none = last_none items none
+last_none (alone (Reset stream code) ∷ items) none = last_none items none
+last_none (alone (Settings ack pairs) ∷ items) none = last_none items none
+last_none (alone (Ping ack octets) ∷ items) none = last_none items none
+last_none (alone (GoAway last code debug) ∷ items) none = absurd (both_ways _ none refl)
+last_none (alone (WindowUpdate stream increment) ∷ items) none = last_none items none
+last_none (alone (Continuation stream whole fragment) ∷ items) none = last_none items none
+last_none (alone (Unknown kind flags stream payload) ∷ items) none = last_none items none
+
+-- Where no number passes, there is no least one.
+least_none : (test : ℕ → Bool) (items : List Item) → ((j : ℕ) → j ≤ greatest_block items → test j ≡ false) → least_block test items ≡ 0
+unfolding least_block greatest_block
+least_none test [] none = refl
+least_none test (alone frame ∷ items) none = least_none test items none
+least_none test (block stream end octets ∷ items) none =
+    rw (and_left (test stream) (least_block test items == 0 || nat_lt stream (least_block test items)) (none stream (omega arith)))
+    (least_none test items (λ j below. none j (omega arith)))
+
+-- a server names no stream
+next_of : (role : Role) (n : ℕ) → (if is_server role then 0 else n) ≢ 0 → (role ≡ Client) × (n ≢ 0)
+next_of Client n some = (refl, some)
+next_of Server n some = absurd (some refl)
+
+-- A stream is told as unprocessed only where a GOAWAY was read.
+pub next_left : (log : Log) → Wrote log.role log.ins log.outs → next_unprocessed log ≢ 0 → list_any is_goaway log.ins ≡ true
+unfolding next_unprocessed
+next_left log wrote some =
+    let both = next_of log.role _ some in
+    let client : Wrote Client log.ins log.outs = rw (both.0) at wrote in
+    true_from_ne_false (list_any is_goaway log.ins) (λ none.
+    both.1 (least_none (λ j. live log j && nat_lt (least_last log.ins) j) log.outs (λ j below.
+    and_right (live log j) (nat_lt (least_last log.ins) j)
+    (le-ltb (least_last log.ins) j (omega (arith, last_none log.ins none, client_low log.ins log.outs client))))))

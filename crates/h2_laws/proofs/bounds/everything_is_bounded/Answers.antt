@@ -1,0 +1,16 @@
+-- By the lemmas on each step.
+use Rattle.h2_laws.proofs.BoundLemmas.{is_up, is_bounded, failed_bounded, ended_up}
+use Rattle.h2_laws.proofs.BoundItemLemmas.{frame_bounded}
+use Rattle.h2_laws.proofs.BoundCallLemmas.{new_bounded, call_bounded}
+use Rattle.h2_log.specs.Machine.{tells_unprocessed_at}
+use Rattle.h2_laws.proofs.bounds.everything_is_bounded.Goals as goal
+
+pub returns : goal.returns
+returns c =
+    record {
+      begins = new_bounded;
+      frame = frame_bounded;
+      fault = λ e code up bounded. failed_bounded e code e.taken (is_up e up bounded);
+      unprocessed = λ e i up bounded. is_bounded (tells_unprocessed_at e i) (ended_up e i 0 (is_up e up bounded));
+      call = call_bounded;
+    }

@@ -1,0 +1,5 @@
+pub mod Tables
+pub mod Accepting
+pub mod Bounds
+pub mod Turns
+pub mod Sending

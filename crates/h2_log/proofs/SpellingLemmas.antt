@@ -1,0 +1,166 @@
+-- A frame that comes in the spelling that is written is cut whole, where nothing stands between it and the frames before it.
+use Rattle.std.proofs.Common.{◌≡◌, ℕ, ◌+◌, ◌≤◌, ◌<◌, ◌==◌, nat_lt, nat_le, ◌&&◌, Bool, true, false, List, [], ◌∷◌, ◌++◌, length, Option, Some, None, refl, sym, ◌∙◌, subst, arith, inl, inr, append-nil, length-append}
+use Rattle.std.proofs.lemmas.Bool.Decides.{nat_tests}
+use Rattle.hpack.specs.declared.field.Field.{Field}
+use Rattle.hpack.specs.Tables.{Entries}
+use Rattle.h2_frame.specs.Frames.{Frame, Headers}
+use Rattle.h2_frame.specs.Writing.{payload_of, written, refusal, IsTyped}
+use Rattle.h2_frame.proofs.WrittenLemmas.{written_spells, sound_head, sound_payload}
+use Rattle.h2_wire.specs.Streams.{opening, Limits, IsFrame, AreFrames, IsSound, IsPast, Frames}
+use Rattle.h2_wire.proofs.StreamLemmas.{past_before, past_frame, IsSound-push, IsPartial-empty}
+use Rattle.h2_log.specs.declared.role.Role.{Role}
+use Rattle.h2_log.specs.Acts.{Values}
+use Rattle.h2_log.specs.Settings.{is_server, payload_limit}
+use Rattle.h2_log.specs.Log.{Log, acked}
+use Rattle.h2_log.specs.Taking.{Seen, limits_from, took_frame}
+use Rattle.h2_log.specs.Histories.{TakesOctets, IsLog, took_one, IsSeenOf}
+use Rattle.h2_log.specs.Examples.{before, takes, takes_block}
+use Rattle.h2_log.proofs.StreamLemmas.{stream_of_log}
+
+-- Frames have other limits as well, where these are the same up to their last octet.
+AreFrames-limits : (limits others : Limits) (start : ℕ) (frames : List Frame) (octets : List ℕ)
+    → ((place : ℕ) → place ≤ start + length octets → others place ≡ limits place) → AreFrames limits start frames octets
+    → AreFrames others start frames octets
+AreFrames-limits limits others start [] octets same none = none
+AreFrames-limits limits others start (frame ∷ frames) octets same (first, left, joined, whole, rest) =
+    let counted : length octets ≡ length first + length left = rw (joined, length-append) refl in
+    let long : 9 ≤ length first = omega (arith, whole.spelled.whole) in (
+      first,
+      left,
+      joined,
+      subst (λ limit. IsFrame limit frame first) (sym (same (start + 9) (omega arith))) whole,
+      AreFrames-limits limits others (start + length first) frames left (λ place below. same place (omega arith)) rest,
+    )
+
+-- The spelling that is written of a frame is a frame without fault.
+whole_frame : (limit : ℕ) (frame : Frame) → IsTyped frame → refusal frame ≡ None → length (payload_of frame) ≤ limit
+    → IsFrame limit frame (written frame)
+whole_frame limit frame typed writable fits =
+    record {
+      spelled = written_spells frame typed writable;
+      sound_head = sound_head frame limit typed writable fits;
+      sound_payload = sound_payload frame typed writable;
+    }
+
+-- A sound part with its frames has other limits as well.
+sound_limits : (expects : Bool) (limits others : Limits) (frames : List Frame) (part : List ℕ)
+    → ((place : ℕ) → place ≤ length part → others place ≡ limits place) → IsSound expects limits frames part → IsSound expects others frames part
+sound_limits expects limits others frames part same sound =
+    let counted : length part ≡ length (opening expects) + length sound.body = rw (sound.opened, length-append) refl in
+    record {
+      body = sound.body;
+      opened = sound.opened;
+      framed = AreFrames-limits limits others (length (opening expects)) frames sound.body (λ place below. same place (omega arith)) sound.framed;
+    }
+
+-- behind the opening no preface stands
+no_preface : (expects : Bool) (stream : List ℕ) → expects && nat_lt (length stream) 24 ≡ false → expects && length stream == 0 ≡ false
+no_preface false stream h = refl
+no_preface true stream h = grind (arith, nat_tests)
+
+-- What is said of the limits: they are as before up to the stream's last octet, and from there on this one is in force.
+record IsAhead (stream : List ℕ) (limits others : Limits) (limit : ℕ) : Type 0 where
+  same : (place : ℕ) → place ≤ length stream → others place ≡ limits place
+  ahead : (place : ℕ) → length stream < place → others place ≡ limit
+
+-- The first frame, behind a preface.
+first_frame : (limits others : Limits) (limit : ℕ) (frame : Frame) → IsAhead [] limits others limit → IsFrame limit frame (written frame)
+    → Frames true others ([] ++ (opening true ++ written frame)) ([] ++ frame ∷ []) []
+first_frame limits others limit frame ahead whole =
+    let here : IsFrame (others (length (opening true) + 9)) frame (written frame) = subst (λ bound. IsFrame bound frame (written frame)) (sym
+    (ahead.ahead _ (omega arith))) whole in
+    inr (record {
+      part = opening true ++ written frame;
+      joined = sym (append-nil _);
+      sound = IsSound-push true others [] (opening true) frame (written frame) (record {
+        body = [];
+        opened = sym
+            (append-nil _);
+        framed = refl;
+      }) here;
+      partial = IsPartial-empty _;
+    })
+
+-- A further frame.
+further_frame : (expects : Bool) (limits others : Limits) (limit : ℕ) (stream : List ℕ) (frames : List Frame) (frame : Frame)
+    → IsAhead stream limits others limit
+    → IsFrame limit frame (written frame) → IsPast expects limits stream frames [] → Frames expects others (stream ++ written frame) (frames
+    ++ frame ∷ []) []
+further_frame expects limits others limit stream frames frame ahead whole past =
+    let all : past.part ≡ stream = sym (past.joined ∙ append-nil past.part) in
+    let sound : IsSound expects others frames stream =
+    sound_limits expects limits others frames stream ahead.same (subst (λ part. IsSound expects limits frames part) all past.sound) in
+    let here : IsFrame (others (length stream + 9)) frame (written frame) = subst (λ bound. IsFrame bound frame (written frame)) (sym
+    (ahead.ahead _ (omega arith))) whole in
+    let standing : IsPast expects others stream frames [] = record {
+      part = stream;
+      joined = sym
+          (append-nil stream);
+      sound = sound;
+      partial = IsPartial-empty _;
+    } in
+    inr (past_frame expects others stream frames [] (written frame) frame standing here)
+
+-- Either of them.
+next_frame : (expects : Bool) (limits others : Limits) (limit : ℕ) (stream : List ℕ) (frames : List Frame) (frame : Frame)
+    → IsAhead stream limits others limit
+    → IsFrame limit frame (written frame) → Frames expects limits stream frames []
+    → Frames expects others (stream ++ (opening (expects && length stream == 0) ++ written frame)) (frames ++ frame ∷ []) []
+unfolding opening
+next_frame true limits others limit stream frames frame ahead whole (inl short) =
+    let start : [] ≡ stream = short.all in
+    rw (← start, short.none) (first_frame limits others limit frame (rw (← start) at ahead) whole)
+next_frame false limits others limit stream frames frame ahead whole (inl short) = absurd (omega (arith, short.short))
+next_frame expects limits others limit stream frames frame ahead whole (inr past) =
+    rw (no_preface expects stream (past_before expects limits stream frames [] past))
+    (further_frame expects limits others limit stream frames frame ahead whole past)
+
+-- The limits behind a log are its own up to its last octet, and from there on the one that is in force.
+limits_ahead : (log : Log) → IsAhead log.input log.limits (limits_from log) (payload_limit (acked log) log.outs)
+limits_ahead log = record {
+  same = λ place below.
+      let test : nat_le place (length log.input) ≡ true = grind (arith, nat_tests) in
+      rw test refl;
+  ahead = λ place above.
+      let test : nat_le place (length log.input) ≡ false = grind (arith, nat_tests) in
+      rw test refl;
+}
+
+-- A log takes a frame in its spelling.
+pub taken_frame : (role : Role) (values : Values) (log : Log) (frame : Frame) (seen : Option Seen) → IsLog role values log → TakesOctets log
+    → log.rest ≡ []
+    → IsTyped frame → refusal frame ≡ None → length (payload_of frame) ≤ payload_limit (acked log) log.outs
+    → IsSeenOf log seen frame
+    → IsLog role values (took_frame log (before log ++ written frame) seen frame)
+unfolding before
+taken_frame role values log frame seen is opened none typed writable fits says =
+    let has = stream_of_log role values log is in
+    let framed : Frames (is_server role) log.limits log.input log.frames [] = rw none at (has.framed opened.up) in
+    let next = next_frame (is_server role) log.limits (limits_from log) _ log.input log.frames frame (limits_ahead log)
+    (whole_frame _ frame typed writable fits) framed in
+    took_one is opened (opening (is_server log.role && length log.input == 0) ++ written frame) frame seen
+    (subst (λ (one : Role). Frames (is_server role) (limits_from log) (log.input ++ (opening (is_server one && length log.input == 0)
+    ++ written frame)) (log.frames ++ frame ∷ []) []) (sym has.role) next)
+    says
+
+-- One that makes no block whole.
+pub takes_comes : (role : Role) (values : Values) (log : Log) (frame : Frame) → IsLog role values log → TakesOctets log → log.rest ≡ []
+    → IsTyped frame → refusal frame ≡ None → length (payload_of frame) ≤ payload_limit (acked log) log.outs
+    → IsSeenOf log None frame
+    → IsLog role values (takes log frame)
+unfolding takes
+takes_comes role values log frame is opened none typed writable fits says =
+    taken_frame role values log frame None is opened none typed writable fits says
+
+-- And a block in one HEADERS frame.
+pub takes_block_comes : (role : Role) (values : Values) (log : Log) (stream : ℕ) (end : Bool) (octets : List ℕ) (fields : List Field)
+    (after : Entries)
+    → IsLog role values log → TakesOctets log → log.rest ≡ [] → refusal (Headers stream end true octets None None) ≡ None
+    → length octets ≤ payload_limit (acked log) log.outs
+    → IsSeenOf log (Some (record { fields = fields; after = after })) (Headers stream end true octets None None)
+    → IsLog role values (takes_block log stream end octets fields after)
+unfolding takes_block payload_of
+takes_block_comes role values log stream end octets fields after is opened none writable fits says =
+    taken_frame role values log (Headers stream end true octets None None) (Some (record { fields = fields; after = after })) is opened none
+    (tt, tt)
+    writable fits says

@@ -1,0 +1,29 @@
+//! One end of a connection by what it has read and written (RFC 9113, sections 3 to 8): the definitions that its promises cite.
+//!
+//! There is no code of an end here. Definitions are in `specs/`; the functions of this crate are laws above them.
+#![tactic(auto)]
+
+mod config;
+mod refusal;
+mod role;
+mod rows;
+mod streams;
+#[cfg(test)]
+mod tests;
+
+pub use config::{BadConfig, Config};
+pub use refusal::Refusal;
+pub use role::Role;
+pub use rows::{
+    any_body_as_far_as_windows_go, body_as_far_as_windows_go, body_is_released, clients_come_about,
+    dropped_body_is_given_back, faults_at_a_server, faults_of_padding,
+    faults_of_settings_at_a_client, faults_of_settings_at_a_server, first_frame_at_a_client,
+    first_frame_at_a_server, large_list_is_refused, last_body_is_released, live_stream_at_a_server,
+    message_is_refused, opening_of_a_client, own_window_from_the_acknowledgment_on, padding_counts,
+    ping_at_a_server, replies_are_bounded, request_at_a_server, reset_gives_back,
+    second_goaway_is_refused, second_ping_is_refused, servers_come_about,
+    settings_of_a_client_change, settings_of_a_server_change, several_table_limits,
+    stream_too_many_is_refused, streams_behind_a_goaway, table_limit_of_the_peer,
+    window_lowered_below_zero, window_raised_too_far, wrong_preface_at_a_server,
+};
+pub use streams::{block_in_its_spelling, frame_in_its_spelling, frames_of_a_log};
