@@ -4,7 +4,7 @@ use Rattle.std.proofs.lemmas.Int.{ints}
 use Rattle.h2_block.specs.Grouping.{Item}
 use Rattle.h2_log.specs.Items.{data_on, data_of, increment_on, total}
 use Rattle.h2_log.specs.Settings.{value_read, own_value}
-use Rattle.h2_log.specs.Windows.{first_window, given_on, given_on_connection, granted_on, granted_on_connection, room_of, connection_room, credit_of, connection_credit}
+use Rattle.h2_log.specs.Windows.{first_window, window, given_on, given_on_connection, granted_on, granted_on_connection, room_of, connection_room, credit_of, connection_credit}
 
 -- the sum over two lists, one behind the other
 pub total-append : (f : Item → ℕ) (xs ys : List Item) → total f (xs ++ ys) ≡ total f xs + total f ys
@@ -40,3 +40,16 @@ stream_meets i count ins outs other_ins other_outs way back sent gave same =
     ap (total (increment_on i)) gave ∙ total-append (increment_on i) back ins in
     meets (value_read 4 first_window ins + total (increment_on i) ins) (total (data_on i) outs) (total (data_on i) way) (total (increment_on i) back)
     (own_value 4 first_window count other_outs + total (increment_on i) other_outs) (total (data_on i) other_ins) taken (omega arith)
+
+-- the same, by the initial window that was read last
+pub stream_meets_read : (i : ℕ) (ins outs other_ins other_outs way back : List Item) → outs ≡ way ++ other_ins → other_outs ≡ back ++ ins
+    → (room_of i ins outs +ℤ pos (total (data_on i) way)) +ℤ pos (total (increment_on i) back)
+    ≡ window (value_read 4 first_window ins + total (increment_on i) other_outs) (total (data_on i) other_ins)
+unfolding given_on
+stream_meets_read i ins outs other_ins other_outs way back sent gave =
+    let taken : total (data_on i) outs ≡ total (data_on i) way + total (data_on i) other_ins =
+    ap (total (data_on i)) sent ∙ total-append (data_on i) way other_ins in
+    let increments : total (increment_on i) other_outs ≡ total (increment_on i) back + total (increment_on i) ins =
+    ap (total (increment_on i)) gave ∙ total-append (increment_on i) back ins in
+    meets (value_read 4 first_window ins + total (increment_on i) ins) (total (data_on i) outs) (total (data_on i) way) (total (increment_on i) back)
+    (value_read 4 first_window ins + total (increment_on i) other_outs) (total (data_on i) other_ins) taken (omega arith)

@@ -10,8 +10,8 @@ ghost use Rattle.h2_log.specs.declared.role.Role.{Role};
 ghost use Rattle.h2_log.specs.Acts.{Values, AreInRange};
 ghost use Rattle.h2_log.specs.Settings.{peer_of};
 ghost use Rattle.h2_log.specs.Log.{Log};
-ghost use Rattle.h2_log.specs.Verdicts.{Told, is_fault};
-ghost use Rattle.h2_log.specs.Taking.{Seen, most_list, settings_fault, verdict_by_rows};
+ghost use Rattle.h2_log.specs.Verdicts.{Silent, Told, is_fault};
+ghost use Rattle.h2_log.specs.Taking.{Seen, most_list, verdict_by_rows};
 ghost use Rattle.h2_log.specs.Calling.{opening_pairs};
 ghost use Rattle.h2_log.specs.Allowed.{IsSettled, GoesOn, MayOpen, MaySendData, MayReset, MayUpdateWindow, MayChangeSettings, Allowed, Wrote, IsReader};
 ghost use Rattle.h2_laws.specs.Accepting.{IsFair};
@@ -60,7 +60,7 @@ pub fn connection_update_is_no_fault()
 /// The SETTINGS that an end opens with are no fault for an end that has read nothing.
 pub fn first_settings_are_no_fault()
     ensures { (role : Role) (values : Values) (log : Log) → AreInRange values → log.role ≡ peer_of role → log.ins ≡ []
-        → settings_fault log (opening_pairs role values) ≡ None }
+        → verdict_by_rows log None (alone (Settings false (opening_pairs role values))) ≡ Silent }
 {}
 
 /// Changed SETTINGS are no fault: the shift brings no stream's window above the greatest.

@@ -9,7 +9,7 @@ ghost use Rattle.h2_log.specs.Log.{Log, owed};
 ghost use Rattle.h2_log.specs.Machine.{End, owed_total};
 ghost use Rattle.h2_log.specs.Stands.{Stands};
 ghost use Rattle.h2_laws.specs.Bounds.{sum_below};
-ghost use Rattle.h2_log.specs.Windows.{first_window, room_of, connection_room, credit_of, connection_credit};
+ghost use Rattle.h2_log.specs.Windows.{first_window, window, room_of, connection_room, credit_of, connection_credit};
 
 /// What one end may send on the connection, with its DATA under way and the increments that come back, is what the other end lets it send
 /// (RFC 9113, section 6.9).
@@ -18,9 +18,14 @@ pub fn connection_window_meets()
         → (connection_room ins outs +ℤ pos (total data_of way)) +ℤ pos (total (increment_on 0) back) ≡ connection_credit other_ins other_outs }
 {}
 
-/// The same of a stream, where the initial window that was read last is the one in force at the other end.
+/// What one end may send on a stream, with its DATA under way and the increments that come back, is what the other end lets it send, as far as
+/// the initial window is the one that was read last. Where that is the one in force at the other end, as it is where no acknowledgment is under
+/// way, it is the other end's credit.
 pub fn stream_window_meets()
-    ensures { (i count : ℕ) (ins outs other_ins other_outs way back : List Item) → outs ≡ way ++ other_ins → other_outs ≡ back ++ ins
+    ensures read { (i : ℕ) (ins outs other_ins other_outs way back : List Item) → outs ≡ way ++ other_ins → other_outs ≡ back ++ ins
+        → (room_of i ins outs +ℤ pos (total (data_on i) way)) +ℤ pos (total (increment_on i) back)
+        ≡ window (value_read 4 first_window ins + total (increment_on i) other_outs) (total (data_on i) other_ins) }
+    ensures in_force { (i count : ℕ) (ins outs other_ins other_outs way back : List Item) → outs ≡ way ++ other_ins → other_outs ≡ back ++ ins
         → value_read 4 first_window ins ≡ own_value 4 first_window count other_outs
         → (room_of i ins outs +ℤ pos (total (data_on i) way)) +ℤ pos (total (increment_on i) back) ≡ credit_of i count other_ins other_outs }
 {}
