@@ -17,3 +17,4 @@ pub mod Configs
 pub mod Examples
 pub mod Rows
 pub mod LongRows
+pub mod Corners

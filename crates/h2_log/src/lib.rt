@@ -4,6 +4,7 @@
 #![tactic(auto)]
 
 mod config;
+mod corners;
 mod refusal;
 mod role;
 mod rows;
@@ -12,6 +13,10 @@ mod streams;
 mod tests;
 
 pub use config::{BadConfig, Config};
+pub use corners::{
+    bars_to_the_octet, body_on_a_past_stream, goaway_does_not_grow, padding_takes_of_both_windows,
+    stream_behind_an_own_goaway,
+};
 pub use refusal::Refusal;
 pub use role::Role;
 pub use rows::{

@@ -1,16 +1,17 @@
 //! Values within their bounds, and the texts of refusals.
 
 use crate::{
-    BadConfig, Config, Refusal, Role, any_body_as_far_as_windows_go, block_in_its_spelling,
-    body_as_far_as_windows_go, body_is_released, clients_come_about, dropped_body_is_given_back,
-    faults_at_a_server, faults_of_padding, faults_of_settings_at_a_client,
-    faults_of_settings_at_a_server, first_frame_at_a_client, first_frame_at_a_server,
-    frame_in_its_spelling, frames_of_a_log, large_list_is_refused, last_body_is_released,
-    live_stream_at_a_server, message_is_refused, opening_of_a_client,
-    own_window_from_the_acknowledgment_on, padding_counts, ping_at_a_server, replies_are_bounded,
-    request_at_a_server, reset_gives_back, second_goaway_is_refused, second_ping_is_refused,
-    servers_come_about, settings_of_a_client_change, settings_of_a_server_change,
-    several_table_limits, stream_too_many_is_refused, streams_behind_a_goaway,
+    BadConfig, Config, Refusal, Role, any_body_as_far_as_windows_go, bars_to_the_octet,
+    block_in_its_spelling, body_as_far_as_windows_go, body_is_released, body_on_a_past_stream,
+    clients_come_about, dropped_body_is_given_back, faults_at_a_server, faults_of_padding,
+    faults_of_settings_at_a_client, faults_of_settings_at_a_server, first_frame_at_a_client,
+    first_frame_at_a_server, frame_in_its_spelling, frames_of_a_log, goaway_does_not_grow,
+    large_list_is_refused, last_body_is_released, live_stream_at_a_server, message_is_refused,
+    opening_of_a_client, own_window_from_the_acknowledgment_on, padding_counts,
+    padding_takes_of_both_windows, ping_at_a_server, replies_are_bounded, request_at_a_server,
+    reset_gives_back, second_goaway_is_refused, second_ping_is_refused, servers_come_about,
+    settings_of_a_client_change, settings_of_a_server_change, several_table_limits,
+    stream_behind_an_own_goaway, stream_too_many_is_refused, streams_behind_a_goaway,
     table_limit_of_the_peer, window_lowered_below_zero, window_raised_too_far,
     wrong_preface_at_a_server,
 };
@@ -82,6 +83,11 @@ fn roles_differ(rt: HostRuntime) {
 
 #[test]
 fn laws_are_called() {
+    bars_to_the_octet();
+    body_on_a_past_stream();
+    goaway_does_not_grow();
+    padding_takes_of_both_windows();
+    stream_behind_an_own_goaway();
     any_body_as_far_as_windows_go();
     block_in_its_spelling();
     body_as_far_as_windows_go();
