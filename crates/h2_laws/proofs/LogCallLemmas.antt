@@ -106,7 +106,7 @@ items_stand role log act answer items stands up is moves =
     (left_owing log (wrote (called log act answer) items) (stream_of_act act)) stands up refl moves (sym (zero-add _)))
 
 -- the calls of acts that release nothing
-released_refused : (j : ℕ) (act : Act) (refusal : Refusal) (calls : List (Act × Answer))
+pub released_refused : (j : ℕ) (act : Act) (refusal : Refusal) (calls : List (Act × Answer))
     → released j ((act, Refused refusal) ∷ calls) ≡ released j calls
 unfolding released
 released_refused j (Open fields end) refusal calls = refl

@@ -16,7 +16,7 @@ chosen_passes test stream least true here behind some = here refl
 chosen_passes test stream least false here behind some = behind some
 
 -- The least number that passes, passes.
-least_passes : (test : ℕ → Bool) (items : List Item) → least_block test items ≢ 0 → test (least_block test items) ≡ true
+pub least_passes : (test : ℕ → Bool) (items : List Item) → least_block test items ≢ 0 → test (least_block test items) ≡ true
 unfolding least_block
 least_passes test [] some = absurd (some refl)
 least_passes test (alone frame ∷ items) some = least_passes test items some
@@ -36,7 +36,7 @@ lesser_chosen stream least bound true nonzero some le = let here = nonzero refl 
 lesser_chosen stream least bound false nonzero some le = (some, le)
 
 -- A number of a block that passes is found, or a lesser one is.
-least_found : (test : ℕ → Bool) (i : ℕ) (items : List Item) → ((j : ℕ) → test j ≡ true → j ≢ 0) → test i ≡ true
+pub least_found : (test : ℕ → Bool) (i : ℕ) (items : List Item) → ((j : ℕ) → test j ≡ true → j ≢ 0) → test i ≡ true
     → list_any (is_block_on i) items ≡ true → (least_block test items ≢ 0) × (least_block test items ≤ i)
 unfolding least_block is_block_on
 least_found test i [] nonzero passes here = absurd (both_ways false refl here)

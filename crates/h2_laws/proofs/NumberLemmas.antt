@@ -90,7 +90,7 @@ unfolding next_number
 next_odd log wrote = next_by (greatest_block log.outs) (greatest_block log.outs == 0) refl (odd_blocks log.role log.ins log.outs wrote)
 
 -- Where no GOAWAY was read, no stream is above the last one.
-last_none : (items : List Item) → list_any is_goaway items ≡ false → least_last items ≡ greatest_number
+pub last_none : (items : List Item) → list_any is_goaway items ≡ false → least_last items ≡ greatest_number
 unfolding is_goaway least_last
 last_none [] none = refl
 last_none (block stream end octets ∷ items) none = last_none items none
@@ -106,7 +106,7 @@ last_none (alone (Continuation stream whole fragment) ∷ items) none = last_non
 last_none (alone (Unknown kind flags stream payload) ∷ items) none = last_none items none
 
 -- Where no number passes, there is no least one.
-least_none : (test : ℕ → Bool) (items : List Item) → ((j : ℕ) → j ≤ greatest_block items → test j ≡ false) → least_block test items ≡ 0
+pub least_none : (test : ℕ → Bool) (items : List Item) → ((j : ℕ) → j ≤ greatest_block items → test j ≡ false) → least_block test items ≡ 0
 unfolding least_block greatest_block
 least_none test [] none = refl
 least_none test (alone frame ∷ items) none = least_none test items none

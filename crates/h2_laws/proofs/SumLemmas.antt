@@ -9,23 +9,23 @@ use Rattle.h2_laws.specs.Bounds.{sum_below}
 use Rattle.h2_log.specs.Machine.{Entry, Streams, owed_entry, owed_sum, owed_total, each_entry}
 
 -- The first part of a test that holds, holds.
-first : (a b : Bool) → T (a && b) → T a
+pub first : (a b : Bool) → T (a && b) → T a
 first true b p = tt
 first false b p = p
 
 -- So does the second.
-second : (a b : Bool) → T (a && b) → T b
+pub second : (a b : Bool) → T (a && b) → T b
 second true b p = p
 second false b p = absurd p
 
 -- An order that is below is `Less`.
-less : (o : Ordering) → T (is_lt o) → o ≡ Less
+pub less : (o : Ordering) → T (is_lt o) → o ≡ Less
 less Less p = refl
 less Equal p = absurd p
 less Greater p = absurd p
 
 -- A key below one that is below all others is not found among these.
-not_found : (q x : ℕ) (es : List (ℕ × Entry)) → nat_cmp q x ≡ Less → T (below_all nat_cmp x es) → map.find nat_cmp q es ≡ None
+pub not_found : (q x : ℕ) (es : List (ℕ × Entry)) → nat_cmp q x ≡ Less → T (below_all nat_cmp x es) → map.find nat_cmp q es ≡ None
 not_found q x [] p h = refl
 not_found q x (e ∷ es) p h =
     let below : nat_cmp q e.0 ≡ Less =
@@ -157,7 +157,7 @@ total_of_none m none =
     ap owed_total (map.same_map nat_cmp_total map.nat_cmp-IsAntisymmetric m map.empty (λ q. none q ∙ sym (map.get-empty nat_cmp q))) ∙ total-empty
 
 -- entries, each of which is changed
-abbrev changed : (Entry → Entry) → List (ℕ × Entry) → List (ℕ × Entry)
+abbrev pub changed : (Entry → Entry) → List (ℕ × Entry) → List (ℕ × Entry)
 changed change es = each (λ entry. (entry.0, change entry.1)) es
 
 -- a key that is below all, where the entries are changed
@@ -171,7 +171,7 @@ sorted_changed change [] = refl
 sorted_changed change (e ∷ es) = ap₂ (λ (a b : Bool). a && b) (below_changed change e.0 es) (sorted_changed change es)
 
 -- the entries of streams that are changed
-entries_changed : (change : Entry → Entry) (m : Streams) → map.entries (each_entry change m) ≡ changed change (map.entries m)
+pub entries_changed : (change : Entry → Entry) (m : Streams) → map.entries (each_entry change m) ≡ changed change (map.entries m)
 entries_changed change m =
     map.entries-from_sorted nat_cmp (changed change (map.entries m)) (subst T (sym (sorted_changed change (map.entries m))) (map.entries_sorted m))
 

@@ -3,3 +3,4 @@ pub mod Accepting
 pub mod Bounds
 pub mod Turns
 pub mod Sending
+pub mod Machines

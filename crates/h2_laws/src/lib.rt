@@ -20,7 +20,7 @@ pub use accepts::{
     reset_is_no_fault, settings_are_no_fault, update_is_no_fault, what_may_be_written_is_no_fault,
 };
 pub use bounds::{connection_window_is_whole, everything_is_bounded};
-pub use machine::new_end_stands;
+pub use machine::{calls_keep_standing, new_end_stands, steps_without_frames_keep_standing};
 pub use origins::{origin, what_is_written_is_allowed};
 pub use output::written_items_are_read;
 pub use states::{next_live_stream, states_of_streams};

@@ -1,14 +1,15 @@
 //! The laws are called.
 
 use crate::{
-    acknowledgment_is_awaited, block_fits, block_is_no_fault, connection_update_is_no_fault,
-    connection_window_is_conserved, connection_window_is_whole, connection_window_meets,
-    connection_window_of_a_log, data_is_no_fault, encoder_of_a_log, everything_is_bounded,
-    first_settings_are_no_fault, goaway_is_no_fault, limits_agree, new_end_stands,
-    next_live_stream, opening_is_no_fault, origin, owed_on_all_streams, ping_is_no_fault,
-    reset_is_no_fault, settings_are_no_fault, states_of_streams, stream_window_meets,
-    tables_in_step, turns_of_a_log, update_is_no_fault, what_is_written_is_allowed,
-    what_may_be_written_is_no_fault, written_items_are_read,
+    acknowledgment_is_awaited, block_fits, block_is_no_fault, calls_keep_standing,
+    connection_update_is_no_fault, connection_window_is_conserved, connection_window_is_whole,
+    connection_window_meets, connection_window_of_a_log, data_is_no_fault, encoder_of_a_log,
+    everything_is_bounded, first_settings_are_no_fault, goaway_is_no_fault, limits_agree,
+    new_end_stands, next_live_stream, opening_is_no_fault, origin, owed_on_all_streams,
+    ping_is_no_fault, reset_is_no_fault, settings_are_no_fault, states_of_streams,
+    steps_without_frames_keep_standing, stream_window_meets, tables_in_step, turns_of_a_log,
+    update_is_no_fault, what_is_written_is_allowed, what_may_be_written_is_no_fault,
+    written_items_are_read,
 };
 
 #[test]
@@ -27,7 +28,9 @@ fn laws_are_called() {
     first_settings_are_no_fault();
     goaway_is_no_fault();
     limits_agree();
+    calls_keep_standing();
     new_end_stands();
+    steps_without_frames_keep_standing();
     next_live_stream();
     opening_is_no_fault();
     origin();
