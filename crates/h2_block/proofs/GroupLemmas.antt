@@ -4,7 +4,7 @@ use Rattle.std.proofs.lemmas.Bool.{ltb-false, eqb-true, cases_Bool}
 use Rattle.h2_frame.specs.Frames.{Frame, Data, Headers, Priority, Reset, Settings, Ping, GoAway, WindowUpdate, Continuation, Unknown}
 use Rattle.h2_block.specs.declared.fault.BlockFault.{BlockFault}
 use Rattle.h2_block.specs.declared.fault.BlockFault.TheVariants.{Interrupted, Stray, TooLong}
-use Rattle.h2_block.specs.Grouping.{Item, alone, block, Begun, most_octets, stands_alone, fault_outside, fault_inside, next_fault, AreContinuations, IsBegun, IsItem, AreItems, IsLeft, Groups}
+use Rattle.h2_block.specs.Grouping.{Item, alone, block, Begun, max_block_octets, is_standalone, fault_outside, fault_inside, next_fault, AreContinuations, IsBegun, IsItem, AreItems, IsLeft, Groups}
 
 -- what a frame without fault adds to the items
 abbrev pub step_items : Option Begun → Frame → List Item
@@ -67,7 +67,7 @@ nothing_left : (frames : List Frame) (items : List Item) (frame : Frame) → (gr
 nothing_left frames items frame groups = ap (λ (line : List Frame). line ++ frame ∷ []) groups.unfinished
 
 -- A frame that stands alone is an item outside blocks.
-stands : (frames : List Frame) (items : List Item) (frame : Frame) → stands_alone frame ≡ true → Groups frames items None
+stands : (frames : List Frame) (items : List Item) (frame : Frame) → is_standalone frame ≡ true → Groups frames items None
     → Groups (frames ++ frame ∷ []) (items ++ alone frame ∷ []) None
 stands frames items frame is_alone groups = closes frames items None frame (alone frame) groups (is_alone, nothing_left frames items frame groups)
 
@@ -93,15 +93,15 @@ IsBegun-push stream end octets fragment frames begun = record {
 }
 
 -- a test against the most octets that tells no fault
-within_most : (count : ℕ) (fault : BlockFault) → (if nat_lt most_octets count then Some fault else None) ≡ None → count ≤ most_octets
-within_most count fault sound = elim (cases_Bool (nat_lt most_octets count)) [
+within_most : (count : ℕ) (fault : BlockFault) → (if nat_lt max_block_octets count then Some fault else None) ≡ None → count ≤ max_block_octets
+within_most count fault sound = elim (cases_Bool (nat_lt max_block_octets count)) [
   | inl above ↦ none_some fault (sym (rw above at sound))
-  | inr below ↦ ltb-false most_octets count below
+  | inr below ↦ ltb-false max_block_octets count below
 ]
 
 -- a CONTINUATION that is no fault inside a block is of its stream, and the block stays within the most octets
 pub within_block : (begun : Begun) (stream : ℕ) (whole : Bool) (fragment : List ℕ) → fault_inside begun (Continuation stream whole fragment) ≡ None
-    → (stream ≡ begun.stream) × (length (begun.octets ++ fragment) ≤ most_octets)
+    → (stream ≡ begun.stream) × (length (begun.octets ++ fragment) ≤ max_block_octets)
 unfolding fault_inside
 within_block begun stream whole fragment sound = elim (cases_Bool (stream == begun.stream)) [
   | inl same ↦ (
@@ -114,7 +114,7 @@ within_block begun stream whole fragment sound = elim (cases_Bool (stream == beg
 -- A frame without fault goes on with a grouping.
 pub Groups-step : (frames : List Frame) (items : List Item) (begun : Option Begun) (frame : Frame) → Groups frames items begun → next_fault begun frame ≡ None
     → Groups (frames ++ frame ∷ []) (items ++ step_items begun frame) (step_begun begun frame)
-unfolding fault_outside fault_inside stands_alone
+unfolding fault_outside fault_inside is_standalone
 Groups-step frames items None (Data stream end octets pad) groups sound = stands frames items (Data stream end octets pad) refl groups
 Groups-step frames items None (Headers stream end true fragment pad priority) groups sound =
     closes frames items None (Headers stream end true fragment pad priority) (block stream end fragment) groups (

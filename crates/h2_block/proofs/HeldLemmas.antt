@@ -8,15 +8,15 @@ use Rattle.std.proofs.Common.{Bor}
 use Rattle.h2_block.specs.declared.fault.BlockFault.{BlockFault}
 use Rattle.h2_block.specs.declared.fault.BlockFault.TheVariants as faults
 use Rattle.h2_block.specs.declared.held.Held.{Held}
-use Rattle.h2_block.specs.Grouping.{Item, alone, Begun, most_octets, fault_outside, fault_inside, next_fault}
-use Rattle.h2_block.specs.Gathering.{GatherState, Stands, Breaks, Fails}
+use Rattle.h2_block.specs.Grouping.{Item, alone, Begun, max_block_octets, fault_outside, fault_inside, next_fault}
+use Rattle.h2_block.specs.Gather.{GatherState, GatherRepresents, GatherFaults, GatherFails}
 use Rattle.h2_block.specs.Kept.{state_of}
 use Rattle.h2_block.proofs.GroupLemmas.{step_items, step_begun, none_some, Groups-step}
 
 -- A frame without fault was taken.
 pub goes_on : (old new : GatherState) (frame : Frame) (more : List Item) → new.fault ≡ None → next_fault old.begun frame ≡ None
     → more ≡ step_items old.begun frame → new.begun ≡ step_begun old.begun frame
-    → (frames : List Frame) (items : List Item) → Stands old frames items → Stands new (frames ++ frame ∷ []) (items ++ more)
+    → (frames : List Frame) (items : List Item) → GatherRepresents old frames items → GatherRepresents new (frames ++ frame ∷ []) (items ++ more)
 goes_on old new frame more sound no_fault added begun frames items stood = record {
   sound = sound;
   split = rw (added, begun) (Groups-step frames items old.begun frame stood.split no_fault);
@@ -29,7 +29,7 @@ without Again (Some fault) none first = none_some fault (sym none)
 
 -- a fault that isn't want of memory breaks off
 fails : (old : GatherState) (frame : Frame) (fault : BlockFault) (new : GatherState) → old.fault ≡ None → (fault ≡ faults.Memory → ⊥)
-    → Breaks old frame fault new → Fails old frame fault new
+    → GatherFaults old frame fault new → GatherFails old frame fault new
 fails old frame faults.Interrupted new sound never broken = without (λ known. new ≡ old) old.fault sound broken
 fails old frame faults.Stray new sound never broken = without (λ known. new ≡ old) old.fault sound broken
 fails old frame faults.TooLong new sound never broken = without (λ known. new ≡ old) old.fault sound broken
@@ -38,7 +38,7 @@ fails old frame faults.Memory new sound never broken = absurd (never refl)
 -- A frame at fault breaks off.
 pub broken : (old new : Held) (fault : BlockFault) (frame : Frame) → old.fault ≡ None → (fault ≡ faults.Memory → ⊥)
     → new ≡ record old { opening = None; octets = new.octets; fault = Some fault }
-    → next_fault (state_of old).begun frame ≡ Some fault → Fails (state_of old) frame fault (state_of new)
+    → next_fault (state_of old).begun frame ≡ Some fault → GatherFails (state_of old) frame fault (state_of new)
 broken old new fault frame sound never after faulty = fails (state_of old) frame fault (state_of new) sound never (record {
   kept = ap (λ (held : Held). held.fault) after;
   nothing_held = ap (λ (held : Held). (state_of held).begun) after;
@@ -47,35 +47,35 @@ broken old new fault frame sound never after faulty = fails (state_of old) frame
 })
 
 -- HEADERS above the most octets are too long
-pub headers_too_long : (stream : ℕ) (end whole : Bool) (fragment : List ℕ) (pad : Option ℕ) (priority : Option (List ℕ)) → most_octets < length fragment
+pub headers_too_long : (stream : ℕ) (end whole : Bool) (fragment : List ℕ) (pad : Option ℕ) (priority : Option (List ℕ)) → max_block_octets < length fragment
     → fault_outside (Headers stream end whole fragment pad priority) ≡ Some faults.TooLong
 unfolding fault_outside
-headers_too_long stream end whole fragment pad priority above = rw (lt-ltb most_octets (length fragment) above) refl
+headers_too_long stream end whole fragment pad priority above = rw (lt-ltb max_block_octets (length fragment) above) refl
 
 -- HEADERS within the most octets are no fault
-pub headers_sound : (stream : ℕ) (end whole : Bool) (fragment : List ℕ) (pad : Option ℕ) (priority : Option (List ℕ)) → length fragment ≤ most_octets
+pub headers_sound : (stream : ℕ) (end whole : Bool) (fragment : List ℕ) (pad : Option ℕ) (priority : Option (List ℕ)) → length fragment ≤ max_block_octets
     → fault_outside (Headers stream end whole fragment pad priority) ≡ None
 unfolding fault_outside
-headers_sound stream end whole fragment pad priority within = rw (le-ltb most_octets (length fragment) within) refl
+headers_sound stream end whole fragment pad priority within = rw (le-ltb max_block_octets (length fragment) within) refl
 
 -- a CONTINUATION of the block's stream with which it is above the most octets is too long
-pub continuation_too_long : (begun : Begun) (whole : Bool) (fragment : List ℕ) → most_octets < length begun.octets + length fragment
+pub continuation_too_long : (begun : Begun) (whole : Bool) (fragment : List ℕ) → max_block_octets < length begun.octets + length fragment
     → fault_inside begun (Continuation begun.stream whole fragment) ≡ Some faults.TooLong
 unfolding fault_inside
 continuation_too_long begun whole fragment above =
-    rw (eq-eqb begun.stream begun.stream refl, lt-ltb most_octets (length begun.octets + length fragment) above) refl
+    rw (eq-eqb begun.stream begun.stream refl, lt-ltb max_block_octets (length begun.octets + length fragment) above) refl
 
 -- a CONTINUATION of the block's stream with which it is within the most octets is no fault
-pub continuation_sound : (begun : Begun) (whole : Bool) (fragment : List ℕ) → length begun.octets + length fragment ≤ most_octets
+pub continuation_sound : (begun : Begun) (whole : Bool) (fragment : List ℕ) → length begun.octets + length fragment ≤ max_block_octets
     → fault_inside begun (Continuation begun.stream whole fragment) ≡ None
 unfolding fault_inside
 continuation_sound begun whole fragment within =
-    rw (eq-eqb begun.stream begun.stream refl, le-ltb most_octets (length begun.octets + length fragment) within) refl
+    rw (eq-eqb begun.stream begun.stream refl, le-ltb max_block_octets (length begun.octets + length fragment) within) refl
 
 -- HEADERS have no fault but that they are too long
 pub headers_told : (stream : ℕ) (end whole : Bool) (fragment : List ℕ) (pad : Option ℕ) (priority : Option (List ℕ)) (fault : BlockFault)
-    → fault_outside (Headers stream end whole fragment pad priority) ≡ Some fault → (fault ≡ faults.TooLong) × (most_octets < length fragment)
-headers_told stream end whole fragment pad priority fault faulty = elim (cases_lt most_octets (length fragment)) [
+    → fault_outside (Headers stream end whole fragment pad priority) ≡ Some fault → (fault ≡ faults.TooLong) × (max_block_octets < length fragment)
+headers_told stream end whole fragment pad priority fault faulty = elim (cases_lt max_block_octets (length fragment)) [
   | inl above ↦
       let told : ◌≡◌ {A = Option BlockFault} (Some fault) (Some faults.TooLong) = sym faulty ∙ headers_too_long stream end whole fragment pad priority above in
       ((cc), above)
@@ -84,8 +84,8 @@ headers_told stream end whole fragment pad priority fault faulty = elim (cases_l
 
 -- a CONTINUATION of the block's stream has no fault but that it is too long
 pub continuation_told : (begun : Begun) (whole : Bool) (fragment : List ℕ) (fault : BlockFault)
-    → fault_inside begun (Continuation begun.stream whole fragment) ≡ Some fault → (fault ≡ faults.TooLong) × (most_octets < length begun.octets + length fragment)
-continuation_told begun whole fragment fault faulty = elim (cases_lt most_octets (length begun.octets + length fragment)) [
+    → fault_inside begun (Continuation begun.stream whole fragment) ≡ Some fault → (fault ≡ faults.TooLong) × (max_block_octets < length begun.octets + length fragment)
+continuation_told begun whole fragment fault faulty = elim (cases_lt max_block_octets (length begun.octets + length fragment)) [
   | inl above ↦
       let told : ◌≡◌ {A = Option BlockFault} (Some fault) (Some faults.TooLong) = sym faulty ∙ continuation_too_long begun whole fragment above in
       ((cc), above)

@@ -2,13 +2,13 @@
 use Rattle.std.specs.Prelude.{◌≡◌, ℕ, true, false, List, [], ◌∷◌, length, None, Some, refl}
 use Rattle.h2_frame.specs.Frames.{Data, Headers, Ping, Continuation, Unknown}
 use Rattle.h2_block.specs.declared.fault.BlockFault.TheVariants.{Interrupted, Stray, TooLong}
-use Rattle.h2_block.specs.Grouping.{block, Begun, stands_alone, fault_outside, fault_inside, next_fault, Groups}
-use Rattle.h2_block.specs.Spreading.{continuations, spread_frames}
+use Rattle.h2_block.specs.Grouping.{block, Begun, is_standalone, fault_outside, fault_inside, next_fault, Groups}
+use Rattle.h2_block.specs.Spread.{continuations, spread_frames}
 use Rattle.h2_block.proofs.GroupLemmas.{Groups-step}
 
 -- opens all that computes
 unfoldable computing : Unit {0}
-unfolding stands_alone fault_outside fault_inside continuations spread_frames
+unfolding is_standalone fault_outside fault_inside continuations spread_frames
 computing = tt
 
 -- a block of stream 1 that has begun with the octet 82

@@ -2,7 +2,7 @@
 use Rattle.std.proofs.Common.{◌≡◌, ℕ, ◌+◌, ◌≤◌, Bool, true, false, List, [], ◌∷◌, ◌++◌, length, Option, None, Some, refl, ap, sym, ◌∙◌, inl, inr, arith, subst, append_assoc, append-nil, length-append}
 use Rattle.h2_frame.specs.Frames.{Frame, Data, Headers, Priority, Reset, Settings, Ping, GoAway, WindowUpdate, Continuation, Unknown}
 use Rattle.h2_block.specs.declared.fault.BlockFault.{BlockFault}
-use Rattle.h2_block.specs.Grouping.{Item, alone, block, Begun, most_octets, stands_alone, fault_outside, next_fault, AreContinuations, IsBegun, IsItem, AreItems, IsLeft, Groups, FaultAt}
+use Rattle.h2_block.specs.Grouping.{Item, alone, block, Begun, max_block_octets, is_standalone, fault_outside, next_fault, AreContinuations, IsBegun, IsItem, AreItems, IsLeft, Groups, GroupingFaultAt}
 use Rattle.h2_block.proofs.GroupLemmas.{step_items, step_begun}
 use Rattle.h2_block.proofs.HeldLemmas.{headers_sound, continuation_sound, one_told, none_told}
 
@@ -69,15 +69,15 @@ one_fault start (frame ∷ frames) (first ∷ before) more last end items others
 
 -- CONTINUATIONs inside a block go on with it.
 continuations_run : (stream : ℕ) (end : Bool) (octets others : List ℕ) (frames : List Frame) → AreContinuations stream frames others
-    → length (octets ++ others) ≤ most_octets
+    → length (octets ++ others) ≤ max_block_octets
     → Runs (Some (record { stream = stream; end = end; octets = octets })) frames [] (Some (record { stream = stream; end = end; octets = octets ++ others }))
 continuations_run stream end octets others [] none within =
     (refl, ap (λ (line : List ℕ). Some (record { stream = stream; end = end; octets = line })) (ap (λ (line : List ℕ). octets ++ line) none ∙ append-nil octets))
 continuations_run stream end octets others (frame ∷ frames) (fragment, rest, is, joined, goes) within =
     let begun : Begun = record { stream = stream; end = end; octets = octets } in
     let line : octets ++ others ≡ (octets ++ fragment) ++ rest = ap (λ (line : List ℕ). octets ++ line) joined ∙ sym (append_assoc octets fragment rest) in
-    let within_now : length ((octets ++ fragment) ++ rest) ≤ most_octets = rw (← line) within in
-    let few : length octets + length fragment ≤ most_octets = omega (arith, within_now, length-append (octets ++ fragment) rest, length-append octets fragment) in
+    let within_now : length ((octets ++ fragment) ++ rest) ≤ max_block_octets = rw (← line) within in
+    let few : length octets + length fragment ≤ max_block_octets = omega (arith, within_now, length-append (octets ++ fragment) rest, length-append octets fragment) in
     let run = continuations_run stream end (octets ++ fragment) rest frames goes within_now in
     subst (λ (first : Frame). Runs (Some begun) (first ∷ frames) [] (Some (record { stream = stream; end = end; octets = octets ++ others }))) (sym is) (
       continuation_sound begun false fragment few,
@@ -88,11 +88,11 @@ continuations_run stream end octets others (frame ∷ frames) (fragment, rest, i
     )
 
 -- A block that has begun is a run.
-begun_runs : (stream : ℕ) (end : Bool) (octets : List ℕ) (frames : List Frame) → IsBegun stream end octets frames → length octets ≤ most_octets
+begun_runs : (stream : ℕ) (end : Bool) (octets : List ℕ) (frames : List Frame) → IsBegun stream end octets frames → length octets ≤ max_block_octets
     → Runs None frames [] (Some (record { stream = stream; end = end; octets = octets }))
 begun_runs stream end octets frames begun within =
-    let within_now : length (begun.fragment ++ begun.others) ≤ most_octets = rw (← begun.joined) within in
-    let few : length begun.fragment ≤ most_octets = omega (arith, within_now, length-append begun.fragment begun.others) in
+    let within_now : length (begun.fragment ++ begun.others) ≤ max_block_octets = rw (← begun.joined) within in
+    let few : length begun.fragment ≤ max_block_octets = omega (arith, within_now, length-append begun.fragment begun.others) in
     let run = continuations_run stream end begun.fragment begun.others begun.behind begun.continued within_now in
     subst (λ (line : List Frame). Runs None line [] (Some (record { stream = stream; end = end; octets = octets }))) (sym begun.opened) (
       headers_sound stream end false begun.fragment begun.pad begun.priority few,
@@ -103,8 +103,8 @@ begun_runs stream end octets frames begun within =
     )
 
 -- A frame that stands alone is a run.
-alone_runs : (frame : Frame) → stands_alone frame ≡ true → Runs None (frame ∷ []) (alone frame ∷ []) None
-unfolding stands_alone fault_outside
+alone_runs : (frame : Frame) → is_standalone frame ≡ true → Runs None (frame ∷ []) (alone frame ∷ []) None
+unfolding is_standalone fault_outside
 alone_runs (Data stream end octets pad) is_alone = (refl, [], refl, (refl, refl))
 alone_runs (Headers stream end whole fragment pad priority) is_alone = let never : false ≡ true = is_alone in (cc)
 alone_runs (Priority stream octets) is_alone = (refl, [], refl, (refl, refl))
@@ -124,8 +124,8 @@ item_runs (block stream end octets) frames (inl single, within) =
     subst (λ (line : List Frame). Runs None line (block stream end octets ∷ []) None) (sym single.one)
     (headers_sound stream end true octets single.pad single.priority within, [], refl, (refl, refl))
 item_runs (block stream end octets) frames (inr ended, within) =
-    let within_now : length (ended.front ++ ended.last) ≤ most_octets = rw (← ended.joined) within in
-    let few : length ended.front + length ended.last ≤ most_octets = omega (arith, within_now, length-append ended.front ended.last) in
+    let within_now : length (ended.front ++ ended.last) ≤ max_block_octets = rw (← ended.joined) within in
+    let few : length ended.front + length ended.last ≤ max_block_octets = omega (arith, within_now, length-append ended.front ended.last) in
     let begun : Begun = record { stream = stream; end = end; octets = ended.front } in
     let run = begun_runs stream end ended.front ended.before ended.begun (omega (arith, few)) in
     subst (λ (line : List Frame). Runs None line (block stream end octets ∷ []) None) (sym ended.ended)
@@ -162,19 +162,19 @@ one_grouping_lem frames items others begun other groups again =
     one_run None frames items others begun other (Groups-runs frames items begun groups) (Groups-runs frames others other again)
 
 -- the line of frames at fault, with what comes behind them
-fault_line : (frames more : List Frame) (items : List Item) (fault : BlockFault) → (at : FaultAt frames items fault) → frames ++ more ≡ at.before ++ at.last ∷ more
+fault_line : (frames more : List Frame) (items : List Item) (fault : BlockFault) → (at : GroupingFaultAt frames items fault) → frames ++ more ≡ at.before ++ at.last ∷ more
 fault_line frames more items fault at = ap (λ (line : List Frame). line ++ more) at.joined ∙ append_assoc at.before (at.last ∷ []) more
 
 -- Frames at fault have no grouping.
 pub no_grouping_lem : (frames more : List Frame) (items others : List Item) (fault : BlockFault) (begun : Option Begun)
-    → FaultAt frames items fault → Groups (frames ++ more) others begun → ⊥
+    → GroupingFaultAt frames items fault → Groups (frames ++ more) others begun → ⊥
 no_grouping_lem frames more items others fault begun at groups =
     no_fault_inside None at.before more at.last items others at.begun begun fault (Groups-runs at.before items at.begun at.grouped) at.faulty
     (subst (λ (line : List Frame). Runs None line others begun) (fault_line frames more items fault at) (Groups-runs (frames ++ more) others begun groups))
 
 -- Frames at fault have one fault, whatever comes behind them.
 pub one_fault_lem : (frames more : List Frame) (items others : List Item) (fault other : BlockFault)
-    → FaultAt frames items fault → FaultAt (frames ++ more) others other → (items ≡ others) × (fault ≡ other) × (more ≡ [])
+    → GroupingFaultAt frames items fault → GroupingFaultAt (frames ++ more) others other → (items ≡ others) × (fault ≡ other) × (more ≡ [])
 one_fault_lem frames more items others fault other at by =
     one_fault None at.before by.before more at.last by.last items others at.begun by.begun fault other
     (Groups-runs at.before items at.begun at.grouped) at.faulty (Groups-runs by.before others by.begun by.grouped) by.faulty

@@ -7,33 +7,33 @@ use Rattle.std.proofs.Math.Seq.{take-append_seam}
 use Rattle.std.specs.List.{AllByRecursion}
 use Rattle.h2_frame.specs.Heads.{fits_stream}
 use Rattle.h2_frame.specs.Frames.{Frame, Headers, Continuation}
-use Rattle.h2_frame.specs.Writing.{kind_of_frame, stream_of, payload_of, has_good_values, refusal, written, IsTyped}
-use Rattle.h2_block.specs.Grouping.{block, most_octets, AreContinuations, Groups}
-use Rattle.h2_block.specs.Spreading.{most_payload, continuations, spread_frames, written_frames}
+use Rattle.h2_frame.specs.Writing.{kind_of_frame, stream_of, payload_of, has_good_values, refusal, encoding_of, IsTyped}
+use Rattle.h2_block.specs.Grouping.{block, max_block_octets, AreContinuations, Groups}
+use Rattle.h2_block.specs.Spread.{max_payload, continuations, spread_frames, encoding_of_frames}
 
 -- octets that fit a frame are its last
-pub continuations-few : (count stream : ℕ) (octets : List ℕ) → length octets ≤ most_payload
+pub continuations-few : (count stream : ℕ) (octets : List ℕ) → length octets ≤ max_payload
     → continuations (suc count) stream octets ≡ Continuation stream true octets ∷ []
 unfolding continuations
-continuations-few count stream octets few = rw (le-leb (length octets) most_payload few) refl
+continuations-few count stream octets few = rw (le-leb (length octets) max_payload few) refl
 
 -- more octets fill a frame, and go on behind it
-pub continuations-more : (count stream : ℕ) (octets : List ℕ) → most_payload < length octets
-    → continuations (suc count) stream octets ≡ Continuation stream false (take most_payload octets) ∷ continuations count stream (drop most_payload octets)
+pub continuations-more : (count stream : ℕ) (octets : List ℕ) → max_payload < length octets
+    → continuations (suc count) stream octets ≡ Continuation stream false (take max_payload octets) ∷ continuations count stream (drop max_payload octets)
 unfolding continuations
-continuations-more count stream octets more = rw (lt-leb (length octets) most_payload more) refl
+continuations-more count stream octets more = rw (lt-leb (length octets) max_payload more) refl
 
 -- octets that fit HEADERS are one frame
-pub spread_frames-few : (stream : ℕ) (end : Bool) (octets : List ℕ) → length octets ≤ most_payload
+pub spread_frames-few : (stream : ℕ) (end : Bool) (octets : List ℕ) → length octets ≤ max_payload
     → spread_frames stream end octets ≡ Headers stream end true octets None None ∷ []
 unfolding spread_frames
-spread_frames-few stream end octets few = rw (le-leb (length octets) most_payload few) refl
+spread_frames-few stream end octets few = rw (le-leb (length octets) max_payload few) refl
 
 -- more octets fill HEADERS, and go on behind it
-pub spread_frames-more : (stream : ℕ) (end : Bool) (octets : List ℕ) → most_payload < length octets
-    → spread_frames stream end octets ≡ Headers stream end false (take most_payload octets) None None ∷ continuations (length octets) stream (drop most_payload octets)
+pub spread_frames-more : (stream : ℕ) (end : Bool) (octets : List ℕ) → max_payload < length octets
+    → spread_frames stream end octets ≡ Headers stream end false (take max_payload octets) None None ∷ continuations (length octets) stream (drop max_payload octets)
 unfolding spread_frames
-spread_frames-more stream end octets more = rw (lt-leb (length octets) most_payload more) refl
+spread_frames-more stream end octets more = rw (lt-leb (length octets) max_payload more) refl
 
 -- The frames are CONTINUATIONs of the octets, of which the last alone ends the block.
 record AreSpread (stream : ℕ) (octets : List ℕ) (frames : List Frame) : Type 0 where
@@ -47,17 +47,17 @@ record AreSpread (stream : ℕ) (octets : List ℕ) (frames : List Frame) : Type
 -- The CONTINUATIONs of octets are so.
 continuations_spread : (count stream : ℕ) (octets : List ℕ) → length octets < count → AreSpread stream octets (continuations count stream octets)
 continuations_spread zero stream octets enough = absurd (omega arith)
-continuations_spread (suc count) stream octets enough = elim (cases_lt most_payload (length octets)) [
+continuations_spread (suc count) stream octets enough = elim (cases_lt max_payload (length octets)) [
   | inl more ↦
-      let rest = continuations_spread count stream (drop most_payload octets) (omega (arith, length-drop most_payload octets)) in
+      let rest = continuations_spread count stream (drop max_payload octets) (omega (arith, length-drop max_payload octets)) in
       record {
-        before = Continuation stream false (take most_payload octets) ∷ rest.before;
-        front = take most_payload octets ++ rest.front;
+        before = Continuation stream false (take max_payload octets) ∷ rest.before;
+        front = take max_payload octets ++ rest.front;
         last = rest.last;
-        ended = continuations-more count stream octets more ∙ ap (λ (line : List Frame). Continuation stream false (take most_payload octets) ∷ line) rest.ended;
-        continued = (take most_payload octets, rest.front, refl, refl, rest.continued);
-        joined = sym (take-append-drop most_payload octets) ∙ ap (λ (line : List ℕ). take most_payload octets ++ line) rest.joined
-            ∙ sym (append_assoc (take most_payload octets) rest.front rest.last);
+        ended = continuations-more count stream octets more ∙ ap (λ (line : List Frame). Continuation stream false (take max_payload octets) ∷ line) rest.ended;
+        continued = (take max_payload octets, rest.front, refl, refl, rest.continued);
+        joined = sym (take-append-drop max_payload octets) ∙ ap (λ (line : List ℕ). take max_payload octets ++ line) rest.joined
+            ∙ sym (append_assoc (take max_payload octets) rest.front rest.last);
       }
   | inr few ↦ record {
     before = [];
@@ -70,11 +70,11 @@ continuations_spread (suc count) stream octets enough = elim (cases_lt most_payl
 ]
 
 -- The frames over which a block is spread are it.
-pub spread_grouped : (stream : ℕ) (end : Bool) (octets : List ℕ) → length octets ≤ most_octets
+pub spread_grouped : (stream : ℕ) (end : Bool) (octets : List ℕ) → length octets ≤ max_block_octets
     → Groups (spread_frames stream end octets) (block stream end octets ∷ []) None
-spread_grouped stream end octets within = elim (cases_lt most_payload (length octets)) [
+spread_grouped stream end octets within = elim (cases_lt max_payload (length octets)) [
   | inl more ↦
-      let rest = continuations_spread (length octets) stream (drop most_payload octets) (omega (arith, length-drop most_payload octets)) in
+      let rest = continuations_spread (length octets) stream (drop max_payload octets) (omega (arith, length-drop max_payload octets)) in
       record {
         whole = spread_frames stream end octets;
         left = [];
@@ -85,11 +85,11 @@ spread_grouped stream end octets within = elim (cases_lt most_payload (length oc
           sym (append-nil _),
           (
             inr (record {
-              before = Headers stream end false (take most_payload octets) None None ∷ rest.before;
-              front = take most_payload octets ++ rest.front;
+              before = Headers stream end false (take max_payload octets) None None ∷ rest.before;
+              front = take max_payload octets ++ rest.front;
               last = rest.last;
               begun = record {
-                fragment = take most_payload octets;
+                fragment = take max_payload octets;
                 pad = None;
                 priority = None;
                 behind = rest.before;
@@ -99,9 +99,9 @@ spread_grouped stream end octets within = elim (cases_lt most_payload (length oc
                 joined = refl;
               };
               ended = spread_frames-more stream end octets more
-                  ∙ ap (λ (line : List Frame). Headers stream end false (take most_payload octets) None None ∷ line) rest.ended;
-              joined = sym (take-append-drop most_payload octets) ∙ ap (λ (line : List ℕ). take most_payload octets ++ line) rest.joined
-                  ∙ sym (append_assoc (take most_payload octets) rest.front rest.last);
+                  ∙ ap (λ (line : List Frame). Headers stream end false (take max_payload octets) None None ∷ line) rest.ended;
+              joined = sym (take-append-drop max_payload octets) ∙ ap (λ (line : List ℕ). take max_payload octets ++ line) rest.joined
+                  ∙ sym (append_assoc (take max_payload octets) rest.front rest.last);
             }),
             within,
           ),
@@ -126,10 +126,10 @@ spread_grouped stream end octets within = elim (cases_lt most_payload (length oc
 
 -- A frame can be written, and its payload isn't above the most octets.
 abbrev pub IsWritable : Frame → Type 0
-IsWritable frame = (refusal frame ≡ None) × IsTyped frame × (length (payload_of frame) ≤ most_payload)
+IsWritable frame = (refusal frame ≡ None) × IsTyped frame × (length (payload_of frame) ≤ max_payload)
 
 -- HEADERS that hold no more than the most octets can be written
-pub headers_writable : (stream : ℕ) (end whole : Bool) (octets : List ℕ) → 1 ≤ stream → stream < 2 ^ 31 → length octets ≤ most_payload
+pub headers_writable : (stream : ℕ) (end whole : Bool) (octets : List ℕ) → 1 ≤ stream → stream < 2 ^ 31 → length octets ≤ max_payload
     → IsWritable (Headers stream end whole octets None None)
 unfolding refusal payload_of stream_of kind_of_frame fits_stream has_good_values
 headers_writable stream end whole octets at_least at_most few = (
@@ -139,7 +139,7 @@ headers_writable stream end whole octets at_least at_most few = (
 )
 
 -- a CONTINUATION that holds no more than the most octets can be written
-pub continuation_writable : (stream : ℕ) (whole : Bool) (octets : List ℕ) → 1 ≤ stream → stream < 2 ^ 31 → length octets ≤ most_payload
+pub continuation_writable : (stream : ℕ) (whole : Bool) (octets : List ℕ) → 1 ≤ stream → stream < 2 ^ 31 → length octets ≤ max_payload
     → IsWritable (Continuation stream whole octets)
 unfolding refusal payload_of stream_of kind_of_frame fits_stream has_good_values
 continuation_writable stream whole octets at_least at_most few = (
@@ -153,10 +153,10 @@ continuations_writable : (count stream : ℕ) (octets : List ℕ) → 1 ≤ stre
     → AllByRecursion IsWritable (continuations count stream octets)
 unfolding continuations
 continuations_writable zero stream octets at_least at_most = tt
-continuations_writable (suc count) stream octets at_least at_most = elim (cases_lt most_payload (length octets)) [
+continuations_writable (suc count) stream octets at_least at_most = elim (cases_lt max_payload (length octets)) [
   | inl more ↦ subst (λ (line : List Frame). AllByRecursion IsWritable line) (sym (continuations-more count stream octets more)) (
-    continuation_writable stream false (take most_payload octets) at_least at_most (omega (arith, length-take most_payload octets)),
-    continuations_writable count stream (drop most_payload octets) at_least at_most,
+    continuation_writable stream false (take max_payload octets) at_least at_most (omega (arith, length-take max_payload octets)),
+    continuations_writable count stream (drop max_payload octets) at_least at_most,
   )
   | inr few ↦ subst (λ (line : List Frame). AllByRecursion IsWritable line) (sym (continuations-few count stream octets few))
       (continuation_writable stream true octets at_least at_most few, tt)
@@ -165,10 +165,10 @@ continuations_writable (suc count) stream octets at_least at_most = elim (cases_
 -- The frames over which a block is spread can be written.
 pub spread_writable : (stream : ℕ) (end : Bool) (octets : List ℕ) → 1 ≤ stream → stream < 2 ^ 31
     → AllByRecursion IsWritable (spread_frames stream end octets)
-spread_writable stream end octets at_least at_most = elim (cases_lt most_payload (length octets)) [
+spread_writable stream end octets at_least at_most = elim (cases_lt max_payload (length octets)) [
   | inl more ↦ subst (λ (line : List Frame). AllByRecursion IsWritable line) (sym (spread_frames-more stream end octets more)) (
-    headers_writable stream end false (take most_payload octets) at_least at_most (omega (arith, length-take most_payload octets)),
-    continuations_writable (length octets) stream (drop most_payload octets) at_least at_most,
+    headers_writable stream end false (take max_payload octets) at_least at_most (omega (arith, length-take max_payload octets)),
+    continuations_writable (length octets) stream (drop max_payload octets) at_least at_most,
   )
   | inr few ↦ subst (λ (line : List Frame). AllByRecursion IsWritable line) (sym (spread_frames-few stream end octets few))
       (headers_writable stream end true octets at_least at_most few, tt)
@@ -179,11 +179,11 @@ continuations-count : (count other stream : ℕ) (octets : List ℕ) → length 
     → continuations count stream octets ≡ continuations other stream octets
 continuations-count zero other stream octets enough plenty = absurd (omega arith)
 continuations-count (suc count) zero stream octets enough plenty = absurd (omega arith)
-continuations-count (suc count) (suc other) stream octets enough plenty = elim (cases_lt most_payload (length octets)) [
+continuations-count (suc count) (suc other) stream octets enough plenty = elim (cases_lt max_payload (length octets)) [
   | inl more ↦
       continuations-more count stream octets more
-      ∙ ap (λ (line : List Frame). Continuation stream false (take most_payload octets) ∷ line)
-      (continuations-count count other stream (drop most_payload octets) (omega (arith, length-drop most_payload octets)) (omega (arith, length-drop most_payload octets)))
+      ∙ ap (λ (line : List Frame). Continuation stream false (take max_payload octets) ∷ line)
+      (continuations-count count other stream (drop max_payload octets) (omega (arith, length-drop max_payload octets)) (omega (arith, length-drop max_payload octets)))
       ∙ sym (continuations-more other stream octets more)
   | inr few ↦ continuations-few count stream octets few ∙ sym (continuations-few other stream octets few)
 ]
@@ -207,39 +207,39 @@ left_frames-none stream (octet ∷ octets) none = absurd (omega (arith, none))
 
 -- Octets cut at a frame's most: a piece, what is behind it, and whether that is nothing.
 pub record IsCut (octets piece behind : List ℕ) (whole : Bool) : Type 0 where
-  pub first : piece ≡ take (min (length octets) most_payload) octets
-  pub rest : behind ≡ drop (min (length octets) most_payload) octets
+  pub first : piece ≡ take (min (length octets) max_payload) octets
+  pub rest : behind ≡ drop (min (length octets) max_payload) octets
   pub ends : whole ≡ (length behind == 0)
 
 -- a piece has no more than the most octets
-pub cut_few : (octets piece behind : List ℕ) (whole : Bool) → IsCut octets piece behind whole → length piece ≤ most_payload
-cut_few octets piece behind whole cut = rw cut.first (omega (arith, length-take (min (length octets) most_payload) octets))
+pub cut_few : (octets piece behind : List ℕ) (whole : Bool) → IsCut octets piece behind whole → length piece ≤ max_payload
+cut_few octets piece behind whole cut = rw cut.first (omega (arith, length-take (min (length octets) max_payload) octets))
 
 -- octets that fit a frame are one piece
-cut_all : (octets piece behind : List ℕ) (whole : Bool) → IsCut octets piece behind whole → length octets ≤ most_payload
+cut_all : (octets piece behind : List ℕ) (whole : Bool) → IsCut octets piece behind whole → length octets ≤ max_payload
     → (piece ≡ octets) × (length behind ≡ 0) × (whole ≡ true)
 cut_all octets piece behind whole cut few =
-    let none : length behind ≡ 0 = rw cut.rest (omega (arith, length-drop (min (length octets) most_payload) octets)) in
-    (cut.first ∙ take_all (min (length octets) most_payload) octets (omega arith), none, cut.ends ∙ eq-eqb (length behind) 0 none)
+    let none : length behind ≡ 0 = rw cut.rest (omega (arith, length-drop (min (length octets) max_payload) octets)) in
+    (cut.first ∙ take_all (min (length octets) max_payload) octets (omega arith), none, cut.ends ∙ eq-eqb (length behind) 0 none)
 
 -- more octets are a full piece, and some behind it
-cut_more : (octets piece behind : List ℕ) (whole : Bool) → IsCut octets piece behind whole → most_payload < length octets
-    → (piece ≡ take most_payload octets) × (behind ≡ drop most_payload octets) × (0 < length behind) × (whole ≡ false)
+cut_more : (octets piece behind : List ℕ) (whole : Bool) → IsCut octets piece behind whole → max_payload < length octets
+    → (piece ≡ take max_payload octets) × (behind ≡ drop max_payload octets) × (0 < length behind) × (whole ≡ false)
 cut_more octets piece behind whole cut more =
-    let at : min (length octets) most_payload ≡ most_payload = omega arith in
-    let rest : behind ≡ drop most_payload octets = cut.rest ∙ ap (λ (n : ℕ). drop n octets) at in
-    let some : 0 < length behind = rw rest (omega (arith, length-drop most_payload octets)) in
+    let at : min (length octets) max_payload ≡ max_payload = omega arith in
+    let rest : behind ≡ drop max_payload octets = cut.rest ∙ ap (λ (n : ℕ). drop n octets) at in
+    let some : 0 < length behind = rw rest (omega (arith, length-drop max_payload octets)) in
     (cut.first ∙ ap (λ (n : ℕ). take n octets) at, rest, some, cut.ends ∙ ne_eqb (length behind) 0 (λ none. omega (arith, some, none)))
 
 -- The frames of a block are HEADERS with the first piece, and those of what is left.
 pub spread_frames-cut : (stream : ℕ) (end : Bool) (octets piece behind : List ℕ) (whole : Bool) → IsCut octets piece behind whole
     → spread_frames stream end octets ≡ Headers stream end whole piece None None ∷ left_frames stream behind
-spread_frames-cut stream end octets piece behind whole cut = elim (cases_lt most_payload (length octets)) [
+spread_frames-cut stream end octets piece behind whole cut = elim (cases_lt max_payload (length octets)) [
   | inl more ↦
       let (is_piece, is_behind, some, is_open) = cut_more octets piece behind whole cut more in
-      let rest : left_frames stream behind ≡ continuations (length octets) stream (drop most_payload octets) =
+      let rest : left_frames stream behind ≡ continuations (length octets) stream (drop max_payload octets) =
       left_frames-some stream behind some ∙ continuations-count (suc (length behind)) (length octets) stream behind (omega arith)
-      (rw is_behind (omega (arith, length-drop most_payload octets))) ∙ ap (λ (line : List ℕ). continuations (length octets) stream line) is_behind in
+      (rw is_behind (omega (arith, length-drop max_payload octets))) ∙ ap (λ (line : List ℕ). continuations (length octets) stream line) is_behind in
       spread_frames-more stream end octets more ∙ sym (rw (is_piece, is_open, rest) refl)
   | inr few ↦
       let (is_piece, none, is_whole) = cut_all octets piece behind whole cut few in
@@ -249,12 +249,12 @@ spread_frames-cut stream end octets piece behind whole cut = elim (cases_lt most
 -- The frames of octets that are left are a CONTINUATION with the first piece, and those of what is left then.
 pub left_frames-cut : (stream : ℕ) (octets piece behind : List ℕ) (whole : Bool) → 0 < length octets → IsCut octets piece behind whole
     → left_frames stream octets ≡ Continuation stream whole piece ∷ left_frames stream behind
-left_frames-cut stream octets piece behind whole any cut = elim (cases_lt most_payload (length octets)) [
+left_frames-cut stream octets piece behind whole any cut = elim (cases_lt max_payload (length octets)) [
   | inl more ↦
       let (is_piece, is_behind, some, is_open) = cut_more octets piece behind whole cut more in
-      let rest : left_frames stream behind ≡ continuations (length octets) stream (drop most_payload octets) =
+      let rest : left_frames stream behind ≡ continuations (length octets) stream (drop max_payload octets) =
       left_frames-some stream behind some ∙ continuations-count (suc (length behind)) (length octets) stream behind (omega arith)
-      (rw is_behind (omega (arith, length-drop most_payload octets))) ∙ ap (λ (line : List ℕ). continuations (length octets) stream line) is_behind in
+      (rw is_behind (omega (arith, length-drop max_payload octets))) ∙ ap (λ (line : List ℕ). continuations (length octets) stream line) is_behind in
       left_frames-some stream octets any ∙ continuations-more (length octets) stream octets more ∙ sym (rw (is_piece, is_open, rest) refl)
   | inr few ↦
       let (is_piece, none, is_whole) = cut_all octets piece behind whole cut few in
@@ -265,31 +265,31 @@ left_frames-cut stream octets piece behind whole any cut = elim (cases_lt most_p
 pub record IsSoFar (old now whole : List ℕ) (stream : ℕ) (rest : List ℕ) : Type 0 where
   pub added : List ℕ
   pub extended : now ≡ old ++ added
-  pub left : added ++ written_frames (left_frames stream rest) ≡ whole
+  pub left : added ++ encoding_of_frames (left_frames stream rest) ≡ whole
 
 -- the first frame was appended
 pub so_far-first : (old new : List ℕ) (frames : List Frame) (frame : Frame) (stream : ℕ) (behind : List ℕ) → frames ≡ frame ∷ left_frames stream behind
-    → new ≡ old ++ written frame → IsSoFar old new (written_frames frames) stream behind
+    → new ≡ old ++ encoding_of frame → IsSoFar old new (encoding_of_frames frames) stream behind
 so_far-first old new frames frame stream behind split appended = record {
-  added = written frame;
+  added = encoding_of frame;
   extended = appended;
-  left = sym (ap written_frames split ∙ flat_map-cons written frame (left_frames stream behind));
+  left = sym (ap encoding_of_frames split ∙ flat_map-cons encoding_of frame (left_frames stream behind));
 }
 
 -- a further frame was appended
 pub so_far-more : (old now new whole : List ℕ) (stream : ℕ) (rest behind : List ℕ) (frame : Frame) → IsSoFar old now whole stream rest
-    → left_frames stream rest ≡ frame ∷ left_frames stream behind → new ≡ now ++ written frame → IsSoFar old new whole stream behind
+    → left_frames stream rest ≡ frame ∷ left_frames stream behind → new ≡ now ++ encoding_of frame → IsSoFar old new whole stream behind
 so_far-more old now new whole stream rest behind frame so_far split appended = record {
-  added = so_far.added ++ written frame;
-  extended = appended ∙ ap (λ (line : List ℕ). line ++ written frame) so_far.extended ∙ append_assoc old so_far.added (written frame);
-  left = append_assoc so_far.added (written frame) (written_frames (left_frames stream behind))
-      ∙ ap (λ (line : List ℕ). so_far.added ++ line) (sym (ap written_frames split ∙ flat_map-cons written frame (left_frames stream behind))) ∙ so_far.left;
+  added = so_far.added ++ encoding_of frame;
+  extended = appended ∙ ap (λ (line : List ℕ). line ++ encoding_of frame) so_far.extended ∙ append_assoc old so_far.added (encoding_of frame);
+  left = append_assoc so_far.added (encoding_of frame) (encoding_of_frames (left_frames stream behind))
+      ∙ ap (λ (line : List ℕ). so_far.added ++ line) (sym (ap encoding_of_frames split ∙ flat_map-cons encoding_of frame (left_frames stream behind))) ∙ so_far.left;
 }
 
 -- nothing is left
 pub so_far-all : (old now whole : List ℕ) (stream : ℕ) (rest : List ℕ) → IsSoFar old now whole stream rest → length rest ≡ 0 → now ≡ old ++ whole
 so_far-all old now whole stream rest so_far none =
-    let all : so_far.added ≡ whole = sym (append-nil so_far.added) ∙ ap (λ (frames : List Frame). so_far.added ++ written_frames frames) (sym (left_frames-none stream rest none)) ∙ so_far.left in
+    let all : so_far.added ≡ whole = sym (append-nil so_far.added) ∙ ap (λ (frames : List Frame). so_far.added ++ encoding_of_frames frames) (sym (left_frames-none stream rest none)) ∙ so_far.left in
     so_far.extended ∙ ap (λ (line : List ℕ). old ++ line) all
 
 -- what was there stands in front
@@ -298,21 +298,21 @@ so_far-front old now whole stream rest so_far = ap (take (length old)) so_far.ex
 
 -- where a frame has no room, the whole has none
 pub so_far-full : (old now whole : List ℕ) (stream : ℕ) (rest behind : List ℕ) (frame : Frame) (room : ℕ) → IsSoFar old now whole stream rest
-    → left_frames stream rest ≡ frame ∷ left_frames stream behind → room < length now + length (written frame) → room < length old + length whole
+    → left_frames stream rest ≡ frame ∷ left_frames stream behind → room < length now + length (encoding_of frame) → room < length old + length whole
 so_far-full old now whole stream rest behind frame room so_far split full =
-    let parts : length so_far.added + (length (written frame) + length (written_frames (left_frames stream behind))) ≡ length whole =
-    ap (λ (n : ℕ). length so_far.added + n) (sym (length-append (written frame) (written_frames (left_frames stream behind))))
-    ∙ sym (length-append so_far.added (written frame ++ written_frames (left_frames stream behind)))
-    ∙ ap (λ (line : List ℕ). length (so_far.added ++ line)) (sym (ap written_frames split ∙ flat_map-cons written frame (left_frames stream behind)))
+    let parts : length so_far.added + (length (encoding_of frame) + length (encoding_of_frames (left_frames stream behind))) ≡ length whole =
+    ap (λ (n : ℕ). length so_far.added + n) (sym (length-append (encoding_of frame) (encoding_of_frames (left_frames stream behind))))
+    ∙ sym (length-append so_far.added (encoding_of frame ++ encoding_of_frames (left_frames stream behind)))
+    ∙ ap (λ (line : List ℕ). length (so_far.added ++ line)) (sym (ap encoding_of_frames split ∙ flat_map-cons encoding_of frame (left_frames stream behind)))
     ∙ ap length so_far.left in
     omega (arith, full, parts, ap length so_far.extended ∙ length-append old so_far.added)
 
 -- where the first frame has no room, the whole has none
 pub first-full : (before room : ℕ) (frames : List Frame) (frame : Frame) (stream : ℕ) (behind : List ℕ) → frames ≡ frame ∷ left_frames stream behind
-    → room < before + length (written frame) → room < before + length (written_frames frames)
+    → room < before + length (encoding_of frame) → room < before + length (encoding_of_frames frames)
 first-full before room frames frame stream behind split full =
-    let parts : length (written_frames frames) ≡ length (written frame) + length (written_frames (left_frames stream behind)) =
-    ap length (ap written_frames split ∙ flat_map-cons written frame (left_frames stream behind)) ∙ length-append (written frame) (written_frames (left_frames stream behind)) in
+    let parts : length (encoding_of_frames frames) ≡ length (encoding_of frame) + length (encoding_of_frames (left_frames stream behind)) =
+    ap length (ap encoding_of_frames split ∙ flat_map-cons encoding_of frame (left_frames stream behind)) ∙ length-append (encoding_of frame) (encoding_of_frames (left_frames stream behind)) in
     omega (arith, full, parts)
 
 -- what holds holds on an error
@@ -321,7 +321,7 @@ OnErr-from (Ok value) holds = tt
 OnErr-from (Err error) holds = holds
 
 -- octets that were split at a frame's most are cut
-pub cut_at : (at : ℕ) (octets piece behind : List ℕ) (whole : Bool) → at ≡ min (length octets) most_payload → piece ≡ take at octets → behind ≡ drop at octets
+pub cut_at : (at : ℕ) (octets piece behind : List ℕ) (whole : Bool) → at ≡ min (length octets) max_payload → piece ≡ take at octets → behind ≡ drop at octets
     → whole ≡ (length behind == 0) → IsCut octets piece behind whole
 cut_at at octets piece behind whole is first rest ends = record {
   first = first ∙ ap (λ (n : ℕ). take n octets) is;

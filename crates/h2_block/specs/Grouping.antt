@@ -5,8 +5,8 @@ use Rattle.h2_block.specs.declared.fault.BlockFault.{BlockFault}
 use Rattle.h2_block.specs.declared.fault.BlockFault.TheVariants.{Interrupted, Stray, TooLong}
 
 -- the most octets of a block (own)
-abbrev pub most_octets : ℕ
-most_octets = 65552
+abbrev pub max_block_octets : ℕ
+max_block_octets = 65552
 
 -- An item: a frame that is no part of a block, or a whole block with its stream, whether its sender sends nothing behind it, and
 -- its octets.
@@ -15,17 +15,17 @@ pub data Item : Type 0 where
   block : (stream : ℕ) (end : Bool) (octets : List ℕ) → Item
 
 -- Whether a frame is no part of a block: it is neither HEADERS nor CONTINUATION.
-unfoldable pub stands_alone : Frame → Bool
-stands_alone (Data stream end octets pad) = true
-stands_alone (Headers stream end whole fragment pad priority) = false
-stands_alone (Priority stream octets) = true
-stands_alone (Reset stream code) = true
-stands_alone (Settings ack pairs) = true
-stands_alone (Ping ack octets) = true
-stands_alone (GoAway last code debug) = true
-stands_alone (WindowUpdate stream increment) = true
-stands_alone (Continuation stream whole fragment) = false
-stands_alone (Unknown kind flags stream payload) = true
+unfoldable pub is_standalone : Frame → Bool
+is_standalone (Data stream end octets pad) = true
+is_standalone (Headers stream end whole fragment pad priority) = false
+is_standalone (Priority stream octets) = true
+is_standalone (Reset stream code) = true
+is_standalone (Settings ack pairs) = true
+is_standalone (Ping ack octets) = true
+is_standalone (GoAway last code debug) = true
+is_standalone (WindowUpdate stream increment) = true
+is_standalone (Continuation stream whole fragment) = false
+is_standalone (Unknown kind flags stream payload) = true
 
 -- The frames are CONTINUATIONs of the stream, none of which ends the block, and the octets are their fragments, joined.
 abbrev pub AreContinuations : ℕ → List Frame → List ℕ → Type 0
@@ -62,9 +62,9 @@ pub record IsEnded (stream : ℕ) (end : Bool) (octets : List ℕ) (frames : Lis
 
 -- The frames are the item: a frame that stands alone, or a block, whose octets are no more than the most.
 abbrev pub IsItem : Item → List Frame → Type 0
-IsItem (alone frame) frames = (stands_alone frame ≡ true) × (frames ≡ frame ∷ [])
+IsItem (alone frame) frames = (is_standalone frame ≡ true) × (frames ≡ frame ∷ [])
 IsItem (block stream end octets) frames =
-    (IsSingle stream end octets frames ⊎ IsEnded stream end octets frames) × (length octets ≤ most_octets)
+    (IsSingle stream end octets frames ⊎ IsEnded stream end octets frames) × (length octets ≤ max_block_octets)
 
 -- The frames are these items, one behind another.
 abbrev pub AreItems : List Item → List Frame → Type 0
@@ -81,7 +81,7 @@ pub record Begun : Type 0 where
 -- The frames at the end are a block that has begun, or none.
 abbrev pub IsLeft : Option Begun → List Frame → Type 0
 IsLeft None frames = frames ≡ []
-IsLeft (Some begun) frames = IsBegun begun.stream begun.end begun.octets frames × (length begun.octets ≤ most_octets)
+IsLeft (Some begun) frames = IsBegun begun.stream begun.end begun.octets frames × (length begun.octets ≤ max_block_octets)
 
 -- So far the frames are the items, and then a block that has begun, or none.
 pub record Groups (frames : List Frame) (items : List Item) (begun : Option Begun) : Type 0 where
@@ -94,7 +94,7 @@ pub record Groups (frames : List Frame) (items : List Item) (begun : Option Begu
 -- The fault of a frame outside blocks: CONTINUATION is stray (section 6.10), and HEADERS begin no block above the most octets.
 unfoldable pub fault_outside : Frame → Option BlockFault
 fault_outside (Data stream end octets pad) = None
-fault_outside (Headers stream end whole fragment pad priority) = if nat_lt most_octets (length fragment) then Some TooLong else None
+fault_outside (Headers stream end whole fragment pad priority) = if nat_lt max_block_octets (length fragment) then Some TooLong else None
 fault_outside (Priority stream octets) = None
 fault_outside (Reset stream code) = None
 fault_outside (Settings ack pairs) = None
@@ -117,7 +117,7 @@ fault_inside begun (GoAway last code debug) = Some Interrupted
 fault_inside begun (WindowUpdate stream increment) = Some Interrupted
 fault_inside begun (Continuation stream whole fragment) =
     if not (stream == begun.stream) then Some Interrupted
-    else if nat_lt most_octets (length begun.octets + length fragment) then Some TooLong
+    else if nat_lt max_block_octets (length begun.octets + length fragment) then Some TooLong
     else None
 fault_inside begun (Unknown kind flags stream payload) = Some Interrupted
 
@@ -128,7 +128,7 @@ next_fault (Some begun) frame = fault_inside begun frame
 
 -- The last of the frames is at fault; those before it are the items, and then a block that has begun, or none. Nothing from
 -- it on is an item.
-pub record FaultAt (frames : List Frame) (items : List Item) (fault : BlockFault) : Type 0 where
+pub record GroupingFaultAt (frames : List Frame) (items : List Item) (fault : BlockFault) : Type 0 where
   pub before : List Frame
   pub last : Frame
   pub begun : Option Begun

@@ -1,7 +1,7 @@
 //! The faults of frames that don't group.
 
 ghost use Rattle.std.specs.Prelude.{◌≡◌};
-ghost use Rattle.h2_block.specs.Gathering.{code_of};
+ghost use Rattle.h2_block.specs.Gather.{block_fault_code};
 
 use h2_frame::Code;
 use thiserror::Error;
@@ -27,7 +27,7 @@ impl BlockFault {
     /// The code with which the connection ends: PROTOCOL_ERROR for a block that is interrupted or stray, ENHANCE_YOUR_CALM for one
     /// that is too long, and INTERNAL_ERROR for want of memory.
     pub fn code(self) -> Code
-        ensures { result ≡ code_of self }
+        ensures { result ≡ block_fault_code self }
     {
         match self {
             BlockFault::Interrupted | BlockFault::Stray => Code::ProtocolError,

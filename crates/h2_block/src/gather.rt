@@ -5,8 +5,8 @@ ghost use Rattle.std.specs.Option.{is_some, option_map_or};
 ghost use Rattle.h2_frame.specs.Frames.{frame_of};
 ghost use Rattle.h2_frame.specs.declared.frame.FrameRef.{FrameRef as Lent};
 ghost use Rattle.h2_block.specs.declared.fault.BlockFault.{BlockFault as Fault};
-ghost use Rattle.h2_block.specs.Grouping.{next_fault, stands_alone};
-ghost use Rattle.h2_block.specs.Gathering.{Stands, Takes, LeavesNone};
+ghost use Rattle.h2_block.specs.Grouping.{next_fault, is_standalone};
+ghost use Rattle.h2_block.specs.Gather.{GatherRepresents, GatherTakes, LeavesNone};
 
 use crate::fault::BlockFault;
 use crate::gathered::Gathered;
@@ -22,7 +22,7 @@ pub struct Gather {
 }
 
 impl Model for Gather {
-    ghost use Rattle.h2_block.specs.Gathering.{GatherState};
+    ghost use Rattle.h2_block.specs.Gather.{GatherState};
     ghost use Rattle.h2_block.specs.Kept.{state_of, IsKept};
 
     ghost Value = { GatherState };
@@ -35,7 +35,7 @@ impl Model for Gather {
 impl Gather {
     /// A gatherer that has taken no frame.
     pub fn new(alloc: Global) -> Gather
-        ensures { Stands result [] [] }
+        ensures { GatherRepresents result [] [] }
     {
         Gather {
             held: Held::new(alloc),
@@ -59,14 +59,14 @@ impl Gather {
         ensures told { (fault : Fault) → self.old.fault ≡ None → next_fault self.old.begun (frame_of frame.entry) ≡ Some fault → result ≡ Err fault }
 
         // A frame that is no part of a block is passed on outside blocks, whatever memory there is.
-        ensures alone { self.old.fault ≡ None → self.old.begun ≡ None → stands_alone (frame_of frame.entry) ≡ true → IsOk result }
+        ensures alone { self.old.fault ≡ None → self.old.begun ≡ None → is_standalone (frame_of frame.entry) ≡ true → IsOk result }
 
         // What is passed on is the frame itself.
         ensures passed { (other : Lent) → result ≡ Ok (Gathered.Pass other) → other ≡ frame.entry }
 
         // Whatever frames it stood for, it stands for those with this one behind them, and for their items with the one answered; or
         // they are at fault with this one.
-        ensures takes { Takes self.old (frame_of frame.entry) result self.new }
+        ensures takes { GatherTakes self.old (frame_of frame.entry) result self.new }
 
         // Behind a block that was answered none has begun.
         ensures ended { LeavesNone result self.new }

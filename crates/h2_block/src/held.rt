@@ -4,8 +4,8 @@ ghost use Rattle.std.specs.Prelude.{◌≡◌, ℕ, ◌+◌, ◌<◌, ◌++◌, 
 ghost use Rattle.h2_frame.specs.Frames.{frame_of, Headers, Continuation};
 ghost use Rattle.h2_frame.specs.declared.frame.FrameRef.{FrameRef as Lent};
 ghost use Rattle.h2_block.specs.declared.fault.BlockFault.{BlockFault as Fault};
-ghost use Rattle.h2_block.specs.Grouping.{next_fault, stands_alone};
-ghost use Rattle.h2_block.specs.Gathering.{Stands, Takes, LeavesNone};
+ghost use Rattle.h2_block.specs.Grouping.{next_fault, is_standalone};
+ghost use Rattle.h2_block.specs.Gather.{GatherRepresents, GatherTakes, LeavesNone};
 ghost use Rattle.h2_block.specs.Kept.{state_of, IsKept};
 
 use crate::fault::BlockFault;
@@ -41,7 +41,7 @@ pub(crate) struct Held {
 impl Held {
     /// No frame was taken.
     pub(crate) fn new(alloc: Global) -> Held
-        ensures stands { Stands (state_of result) [] [] }
+        ensures stands { GatherRepresents (state_of result) [] [] }
         ensures kept { IsKept result }
     {
         Held {
@@ -57,9 +57,9 @@ impl Held {
         requires { IsKept self.old }
         ensures failed { IfSome self.old.fault (λ fault. result ≡ Err fault) }
         ensures told { (fault : Fault) → self.old.fault ≡ None → next_fault (state_of self.old).begun (frame_of frame.entry) ≡ Some fault → result ≡ Err fault }
-        ensures alone { self.old.fault ≡ None → (state_of self.old).begun ≡ None → stands_alone (frame_of frame.entry) ≡ true → IsOk result }
+        ensures alone { self.old.fault ≡ None → (state_of self.old).begun ≡ None → is_standalone (frame_of frame.entry) ≡ true → IsOk result }
         ensures passed { (other : Lent) → result ≡ Ok (Gathered.Pass other) → other ≡ frame.entry }
-        ensures takes { Takes (state_of self.old) (frame_of frame.entry) result (state_of self.new) }
+        ensures takes { GatherTakes (state_of self.old) (frame_of frame.entry) result (state_of self.new) }
         ensures ended { LeavesNone result (state_of self.new) }
         ensures kept { IsKept self.new }
     {
@@ -78,9 +78,9 @@ impl Held {
         requires outside { self.old.opening ≡ None }
         requires kept { IsKept self.old }
         ensures told { (fault : Fault) → next_fault None (frame_of frame.entry) ≡ Some fault → result ≡ Err fault }
-        ensures alone { stands_alone (frame_of frame.entry) ≡ true → IsOk result }
+        ensures alone { is_standalone (frame_of frame.entry) ≡ true → IsOk result }
         ensures passed { (other : Lent) → result ≡ Ok (Gathered.Pass other) → other ≡ frame.entry }
-        ensures takes { Takes (state_of self.old) (frame_of frame.entry) result (state_of self.new) }
+        ensures takes { GatherTakes (state_of self.old) (frame_of frame.entry) result (state_of self.new) }
         ensures ended { LeavesNone result (state_of self.new) }
         ensures kept { IsKept self.new }
     {
@@ -108,7 +108,7 @@ impl Held {
         requires kept { IsKept self.old }
         ensures told { (fault : Fault) → next_fault (state_of self.old).begun (frame_of frame.entry) ≡ Some fault → result ≡ Err fault }
         ensures passed { (other : Lent) → result ≡ Ok (Gathered.Pass other) → ⊥ }
-        ensures takes { Takes (state_of self.old) (frame_of frame.entry) result (state_of self.new) }
+        ensures takes { GatherTakes (state_of self.old) (frame_of frame.entry) result (state_of self.new) }
         ensures ended { LeavesNone result (state_of self.new) }
         ensures kept { IsKept self.new }
     {
@@ -135,7 +135,7 @@ impl Held {
         ensures told { 65552 < length fragment.now → result ≡ Err BlockFault.TooLong }
         ensures passed { (other : Lent) → result ≡ Ok (Gathered.Pass other) → ⊥ }
         ensures takes { (pad : Option ℕ) (priority : Option (List ℕ))
-            → Takes (state_of self.old) (Headers opening.stream opening.end whole fragment.now pad priority) result (state_of self.new) }
+            → GatherTakes (state_of self.old) (Headers opening.stream opening.end whole fragment.now pad priority) result (state_of self.new) }
         ensures ended { LeavesNone result (state_of self.new) }
         ensures kept { IsKept self.new }
     {
@@ -166,7 +166,7 @@ impl Held {
         requires kept { IsKept self.old }
         ensures told { 65552 < vec_len self.old.octets + length fragment.now → result ≡ Err BlockFault.TooLong }
         ensures passed { (other : Lent) → result ≡ Ok (Gathered.Pass other) → ⊥ }
-        ensures takes { Takes (state_of self.old) (Continuation opening.stream whole fragment.now) result (state_of self.new) }
+        ensures takes { GatherTakes (state_of self.old) (Continuation opening.stream whole fragment.now) result (state_of self.new) }
         ensures ended { LeavesNone result (state_of self.new) }
         ensures kept { IsKept self.new }
     {

@@ -5,8 +5,8 @@ ghost use Rattle.std.specs.List.{AllByRecursion};
 ghost use Rattle.h2_frame.specs.Frames.{Frame};
 ghost use Rattle.h2_frame.specs.Writing.{payload_of, refusal, IsTyped};
 ghost use Rattle.h2_block.specs.declared.fault.BlockFault.{BlockFault};
-ghost use Rattle.h2_block.specs.Grouping.{Item, block, Begun, Groups, FaultAt};
-ghost use Rattle.h2_block.specs.Spreading.{spread_frames};
+ghost use Rattle.h2_block.specs.Grouping.{Item, block, Begun, Groups, GroupingFaultAt};
+ghost use Rattle.h2_block.specs.Spread.{spread_frames};
 
 /// Frames have one grouping: their items, and the block that has begun behind them, are the same, however they were found.
 pub fn one_grouping()
@@ -17,9 +17,9 @@ pub fn one_grouping()
 /// Frames at fault have no grouping, whatever comes behind them, and no other fault: nothing from the frame at fault on is an item.
 pub fn no_grouping_past_a_fault()
     ensures grouping { (frames more : List Frame) (items others : List Item) (fault : BlockFault) (begun : Option Begun)
-        → FaultAt frames items fault → Groups (frames ++ more) others begun → ⊥ }
+        → GroupingFaultAt frames items fault → Groups (frames ++ more) others begun → ⊥ }
     ensures fault { (frames more : List Frame) (items others : List Item) (fault other : BlockFault)
-        → FaultAt frames items fault → FaultAt (frames ++ more) others other → (items ≡ others) × (fault ≡ other) × (more ≡ []) }
+        → GroupingFaultAt frames items fault → GroupingFaultAt (frames ++ more) others other → (items ≡ others) × (fault ≡ other) × (more ≡ []) }
 {}
 
 /// The frames over which a block is spread are one block of its octets, can be written, and have payloads of 16,384 octets at most.

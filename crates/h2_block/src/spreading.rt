@@ -3,8 +3,8 @@
 ghost use Rattle.std.specs.Prelude.{◌≡◌, ◌+◌, ◌^◌, ◌<◌, ◌≤◌, ◌++◌, length, take, vec_len, None, IfErr, OnOk, OnErr, IsOk};
 ghost use Rattle.std.specs.Vec.{vec_capacity};
 ghost use Rattle.h2_frame.specs.Frames.{frame_of};
-ghost use Rattle.h2_frame.specs.Writing.{written, refusal};
-ghost use Rattle.h2_block.specs.Spreading.{spread_frames, written_frames};
+ghost use Rattle.h2_frame.specs.Writing.{encoding_of, refusal};
+ghost use Rattle.h2_block.specs.Spread.{spread_frames, encoding_of_frames};
 
 use crate::fault::BlockFault;
 use h2_frame::{FrameRef, write_ref};
@@ -23,9 +23,9 @@ pub fn spread(stream: u32, end: bool, octets: &[u8], out: &mut Vec<u8>) -> Resul
     requires at_least { 1 ≤ stream }
     requires at_most { stream < 2 ^ 31 }
     requires length { length octets.now ≤ 65552 }
-    ensures ok { OnOk result (out.new.items ≡ out.old.items ++ written_frames (spread_frames stream end octets.now)) }
+    ensures ok { OnOk result (out.new.items ≡ out.old.items ++ encoding_of_frames (spread_frames stream end octets.now)) }
     ensures err { IfErr result (λ fault. (fault ≡ BlockFault.Memory) × (out.new.items ≡ out.old.items)) }
-    ensures room { vec_len out.old + length (written_frames (spread_frames stream end octets.now)) ≤ vec_capacity out.old → IsOk result }
+    ensures room { vec_len out.old + length (encoding_of_frames (spread_frames stream end octets.now)) ≤ vec_capacity out.old → IsOk result }
     ensures capacity { vec_capacity out.old ≤ vec_capacity out.new }
 {
     let start = out.len();
@@ -40,9 +40,9 @@ pub fn spread(stream: u32, end: bool, octets: &[u8], out: &mut Vec<u8>) -> Resul
 fn append_block(stream: u32, end: bool, octets: &[u8], out: &mut Vec<u8>) -> Result<(), BlockFault>
     requires at_least { 1 ≤ stream }
     requires at_most { stream < 2 ^ 31 }
-    ensures ok { OnOk result (out.new.items ≡ out.old.items ++ written_frames (spread_frames stream end octets.now)) }
+    ensures ok { OnOk result (out.new.items ≡ out.old.items ++ encoding_of_frames (spread_frames stream end octets.now)) }
     ensures front { take (vec_len out.old) out.new.items ≡ out.old.items }
-    ensures full { OnErr result (vec_capacity out.old < vec_len out.old + length (written_frames (spread_frames stream end octets.now))) }
+    ensures full { OnErr result (vec_capacity out.old < vec_len out.old + length (encoding_of_frames (spread_frames stream end octets.now))) }
     ensures capacity { vec_capacity out.old ≤ vec_capacity out.new }
 {
     let (first, mut rest) = octets.split_at(octets.len().min(MOST_PAYLOAD));
@@ -71,9 +71,9 @@ fn append_block(stream: u32, end: bool, octets: &[u8], out: &mut Vec<u8>) -> Res
 // Appends a frame that can be written, or changes nothing.
 fn append(frame: FrameRef<'_>, out: &mut Vec<u8>) -> Result<(), BlockFault>
     requires { refusal (frame_of frame) ≡ None }
-    ensures ok { OnOk result (out.new.items ≡ out.old.items ++ written (frame_of frame.entry)) }
+    ensures ok { OnOk result (out.new.items ≡ out.old.items ++ encoding_of (frame_of frame.entry)) }
     ensures err { OnErr result (out.new.items ≡ out.old.items) }
-    ensures full { OnErr result (vec_capacity out.old < vec_len out.old + length (written (frame_of frame.entry))) }
+    ensures full { OnErr result (vec_capacity out.old < vec_len out.old + length (encoding_of (frame_of frame.entry))) }
     ensures capacity { vec_capacity out.old ≤ vec_capacity out.new }
 {
     write_ref(frame, out).map_err(|_| BlockFault::Memory)

@@ -7,7 +7,7 @@ use Rattle.h2_frame.specs.declared.kind.Kind.{Kind}
 use Rattle.h2_frame.specs.declared.kind.Kind.TheVariants as kinds
 use Rattle.h2_frame.specs.Heads.{head_of, has_ack, has_end_stream, has_end_headers, has_padding, has_priority}
 use Rattle.h2_frame.specs.Pairs.{pairs_of}
-use Rattle.h2_frame.specs.Frames.{Frame, Data, Headers, Priority, Reset, Settings, Ping, GoAway, WindowUpdate, Continuation, Unknown, IsPadded, IsPrioritized, Carries, Spells}
+use Rattle.h2_frame.specs.Frames.{Frame, Data, Headers, Priority, Reset, Settings, Ping, GoAway, WindowUpdate, Continuation, Unknown, IsPadded, IsPrioritized, Carries, Encodes}
 
 -- what stands between the pad length and the padding of a payload, or the whole payload
 body_in : Bool → List ℕ → List ℕ
@@ -104,6 +104,6 @@ Carries-carried (Continuation stream whole fragment) head payload (kind, on, som
 Carries-carried (Unknown kind flags stream octets) head payload (known, flagged, on, read) = rw (known, flagged, on, read) refl
 
 -- octets spell one frame at most
-pub one_frame_lem : (frame other : Frame) (octets : List ℕ) → Spells frame octets → Spells other octets → frame ≡ other
+pub one_frame_lem : (frame other : Frame) (octets : List ℕ) → Encodes frame octets → Encodes other octets → frame ≡ other
 one_frame_lem frame other octets spelled again =
     Carries-carried frame (head_of octets) (drop 9 octets) spelled.carried ∙ sym (Carries-carried other (head_of octets) (drop 9 octets) again.carried)

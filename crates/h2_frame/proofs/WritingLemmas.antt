@@ -11,7 +11,7 @@ use Rattle.h2_frame.specs.declared.parts.Parts.{Parts}
 use Rattle.h2_frame.specs.Heads.{fits_stream}
 use Rattle.h2_frame.specs.Frames.{Frame}
 use Rattle.h2_frame.specs.Pairs.{first_pair, pairs_in, pairs_of}
-use Rattle.h2_frame.specs.Writing.{pair_octets, payload_of, stream_of, kind_of_frame, has_good_values, refusal, written}
+use Rattle.h2_frame.specs.Writing.{pair_octets, payload_of, stream_of, kind_of_frame, has_good_values, refusal, encoding_of}
 use Rattle.h2_frame.specs.Parts.{ArePairs, body_octets, payload_octets, head_octets, Describes}
 
 -- each pair has six octets
@@ -125,19 +125,19 @@ refusal-none parts frame parted short good values =
     rw (test, moved, value) refl
 
 -- the octets of a head and of a payload, by the parts, are those that are written
-pub written-parts : (parts : Parts) (frame : Frame) (count : ℕ) → Describes parts frame → count ≡ length (payload_octets parts)
-    → head_octets parts.kind parts.flags parts.stream count ++ payload_octets parts ≡ written frame
-unfolding written
-written-parts parts frame count parted counted =
+pub encoding_of-parts : (parts : Parts) (frame : Frame) (count : ℕ) → Describes parts frame → count ≡ length (payload_octets parts)
+    → head_octets parts.kind parts.flags parts.stream count ++ payload_octets parts ≡ encoding_of frame
+unfolding encoding_of
+encoding_of-parts parts frame count parted counted =
     rw (counted, parted.payload, parted.kind, parted.flags, parted.stream) refl
 
 -- a head has nine octets
-pub length-written : (frame : Frame) → length (written frame) ≡ 9 + length (payload_of frame)
-unfolding written
-length-written frame = omega arith
+pub length-encoding_of : (frame : Frame) → length (encoding_of frame) ≡ 9 + length (payload_of frame)
+unfolding encoding_of
+length-encoding_of frame = omega arith
 
 -- how many octets are written of parts
-pub length-written_parts : (parts : Parts) (frame : Frame) (count : ℕ) → Describes parts frame → count ≡ length (payload_octets parts) → length (written frame) ≡ 9 + count
+pub length-written_parts : (parts : Parts) (frame : Frame) (count : ℕ) → Describes parts frame → count ≡ length (payload_octets parts) → length (encoding_of frame) ≡ 9 + count
 length-written_parts parts frame count parted counted =
     let same : length (payload_octets parts) ≡ length (payload_of frame) = ap (λ (xs : List ℕ). length xs) parted.payload in
-    omega (arith, length-written frame)
+    omega (arith, length-encoding_of frame)

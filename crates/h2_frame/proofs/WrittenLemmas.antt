@@ -11,11 +11,11 @@ use Rattle.h2_frame.specs.declared.owned.Unwritable.TheVariants.{TooLong, BadStr
 use Rattle.h2_frame.specs.Codes.{kind_of, number_of}
 use Rattle.h2_frame.specs.Heads.{head_of, has_flag, fits_stream, octets_of_flags, is_refused, fits_length, form_fault, head_fault}
 use Rattle.h2_frame.specs.Pairs.{pairs_in, pairs_of}
-use Rattle.h2_frame.specs.Frames.{Frame, Data, Headers, Priority, Reset, Settings, Ping, GoAway, WindowUpdate, Continuation, Unknown, IsPadded, IsPrioritized, Carries, Spells, pad_length, pads_too_much, payload_fault}
-use Rattle.h2_frame.specs.Writing.{kind_of_frame, stream_of, flag, flags_of, padded, prioritized, pair_octets, payload_of, written, has_good_values, refusal, IsPriority, IsTyped}
+use Rattle.h2_frame.specs.Frames.{Frame, Data, Headers, Priority, Reset, Settings, Ping, GoAway, WindowUpdate, Continuation, Unknown, IsPadded, IsPrioritized, Carries, Encodes, pad_length, pads_too_much, payload_fault}
+use Rattle.h2_frame.specs.Writing.{kind_of_frame, stream_of, flag, flags_of, padded, prioritized, pair_octets, payload_of, encoding_of, has_good_values, refusal, IsPriority, IsTyped}
 use Rattle.h2_frame.specs.Parts.{ArePairs}
 use Rattle.h2_frame.proofs.PairLemmas.{pairs_of-first}
-use Rattle.h2_frame.proofs.WritingLemmas.{length-written, length-pair_octets}
+use Rattle.h2_frame.proofs.WritingLemmas.{length-encoding_of, length-pair_octets}
 
 -- A chain of three tests that ends in none passed all of them.
 chain_passed : (long on good : Bool)
@@ -69,16 +69,16 @@ abbrev written_head : Frame → Head
 written_head frame = record { length = length (payload_of frame); kind = kind_of_frame frame; flags = flags_of frame; stream = stream_of frame }
 
 -- the payload stands behind nine octets
-drop-written : (frame : Frame) → drop 9 (written frame) ≡ payload_of frame
-unfolding written
-drop-written frame = refl
+drop-encoding_of : (frame : Frame) → drop 9 (encoding_of frame) ≡ payload_of frame
+unfolding encoding_of
+drop-encoding_of frame = refl
 
 -- the head is read back
-head_of-written : (frame : Frame) → IsAllowed frame → head_of (written frame) ≡ written_head frame
-unfolding head_of written
-head_of-written frame may =
+head_of-encoding_of : (frame : Frame) → IsAllowed frame → head_of (encoding_of frame) ≡ written_head frame
+unfolding head_of encoding_of
+head_of-encoding_of frame may =
     let behind = number_of (kind_of_frame frame) ∷ flags_of frame ∷ (big_bytes 4 (stream_of frame) ++ payload_of frame) in
-    let counted : big_number 3 (written frame) ≡ length (payload_of frame) = big_number-reads_back 3 (length (payload_of frame)) behind (omega (arith, may.short)) in
+    let counted : big_number 3 (encoding_of frame) ≡ length (payload_of frame) = big_number-reads_back 3 (length (payload_of frame)) behind (omega (arith, may.short)) in
     let on : big_number 4 (big_bytes 4 (stream_of frame) ++ payload_of frame) ≡ stream_of frame = big_number-reads_back 4 (stream_of frame) (payload_of frame) (omega (arith, may.below)) in
     let stream : big_number 4 (big_bytes 4 (stream_of frame) ++ payload_of frame) % 2 ^ 31 ≡ stream_of frame = ap (λ (n : ℕ). n % 2 ^ 31) on ∙ mod-eq_of_lt may.below in
     let kind = kind_of-number_of frame may.good in
@@ -146,16 +146,16 @@ prioritized_is flagged fragment None same typed = (same, refl)
 prioritized_is flagged fragment (Some priority) same typed = (same, typed, refl)
 
 -- the pairs that are written are read back
-pairs_of-written : (pairs : List (ℕ × ℕ)) → ArePairs pairs → pairs_of (flat_map pair_octets pairs) ≡ pairs
+pairs_of-encoding_of : (pairs : List (ℕ × ℕ)) → ArePairs pairs → pairs_of (flat_map pair_octets pairs) ≡ pairs
 unfolding pairs_in
-pairs_of-written [] typed = refl
-pairs_of-written (pair ∷ pairs) typed =
+pairs_of-encoding_of [] typed = refl
+pairs_of-encoding_of (pair ∷ pairs) typed =
     let octets = pair_octets pair ++ flat_map pair_octets pairs in
     let enough : 6 ≤ length octets = omega arith in
     let first = pairs_of-first octets enough in
     let id : big_number 2 octets ≡ pair.0 = big_number-reads_back 2 pair.0 (big_bytes 4 pair.1 ++ flat_map pair_octets pairs) typed.0.0 in
     let value : big_number 4 (drop 2 octets) ≡ pair.1 = big_number-reads_back 4 pair.1 (flat_map pair_octets pairs) typed.0.1 in
-    let rest = pairs_of-written pairs typed.1 in
+    let rest = pairs_of-encoding_of pairs typed.1 in
     first ∙ (λ i. (id i, value i) ∷ rest i)
 
 -- an acknowledgment of settings that is written has no pairs
@@ -190,7 +190,7 @@ carries_written (Headers stream end whole fragment pad priority) typed may =
 carries_written (Priority stream octets) typed may = (refl, refl, above_0 stream may.fits, typed, refl)
 carries_written (Reset stream code) typed may = (refl, refl, above_0 stream may.fits, refl, sym (big_number-reads_back 4 code [] typed))
 carries_written (Settings ack pairs) typed may =
-    (refl, refl, one_read ack, omega (arith, length-pair_octets pairs), (λ acked. ap (λ (xs : List (ℕ × ℕ)). flat_map pair_octets xs) (acked_empty ack pairs may.good acked)), sym (pairs_of-written pairs typed))
+    (refl, refl, one_read ack, omega (arith, length-pair_octets pairs), (λ acked. ap (λ (xs : List (ℕ × ℕ)). flat_map pair_octets xs) (acked_empty ack pairs may.good acked)), sym (pairs_of-encoding_of pairs typed))
 carries_written (Ping ack octets) typed may = (refl, refl, one_read ack, typed, refl)
 carries_written (GoAway last code debug) typed may =
     let small : last < 2 ^ 31 = below_test last (2 ^ 31) may.good in
@@ -204,13 +204,13 @@ carries_written (Continuation stream whole fragment) typed may = (refl, refl, ab
 carries_written (Unknown kind flags stream payload) typed may = (refl, refl, refl, refl)
 
 -- What is written spells the frame.
-pub written_spells : (frame : Frame) → IsTyped frame → refusal frame ≡ None → Spells frame (written frame)
-written_spells frame typed none =
+pub encoding_encodes : (frame : Frame) → IsTyped frame → refusal frame ≡ None → Encodes frame (encoding_of frame)
+encoding_encodes frame typed none =
     let may = allowed frame none in
-    let head = head_of-written frame may in
+    let head = head_of-encoding_of frame may in
     record {
-      whole = length-written frame ∙ ap (λ (read : Head). 9 + read.length) (sym head);
-      carried = subst (λ read. Carries read (drop 9 (written frame)) frame) (sym head) (subst (λ xs. Carries (written_head frame) xs frame) (sym (drop-written frame)) (carries_written frame typed may));
+      whole = length-encoding_of frame ∙ ap (λ (read : Head). 9 + read.length) (sym head);
+      carried = subst (λ read. Carries read (drop 9 (encoding_of frame)) frame) (sym head) (subst (λ xs. Carries (written_head frame) xs frame) (sym (drop-encoding_of frame)) (carries_written frame typed may));
     }
 
 -- how many octets padding adds
@@ -266,21 +266,21 @@ settings_fit false pairs good = eq_passes (length (flat_map pair_octets pairs) %
 settings_fit true pairs good = let none = acked_empty true pairs good refl in rw none refl
 
 -- the length that is written fits the kind
-fits_length-written : (frame : Frame) → IsTyped frame → has_good_values frame ≡ true → fits_length (kind_of_frame frame) (flags_of frame) (length (payload_of frame)) ≡ true
+fits_length-encoding_of : (frame : Frame) → IsTyped frame → has_good_values frame ≡ true → fits_length (kind_of_frame frame) (flags_of frame) (length (payload_of frame)) ≡ true
 unfolding fits_length kind_of_frame flags_of payload_of has_good_values
-fits_length-written (Data stream end octets pad) typed good =
+fits_length-encoding_of (Data stream end octets pad) typed good =
     le_passes _ (length (padded octets pad)) (enough_octets _ false octets pad None (pad_read end (is_some pad)) refl tt)
-fits_length-written (Headers stream end whole fragment pad priority) typed good =
+fits_length-encoding_of (Headers stream end whole fragment pad priority) typed good =
     let flags = four_flags end whole (is_some pad) (is_some priority) in
     le_passes _ (length (padded (prioritized fragment priority) pad)) (enough_octets _ _ fragment pad priority flags.is_padded flags.is_prioritized typed.1)
-fits_length-written (Priority stream octets) typed good = eq_passes (length octets) 5 typed
-fits_length-written (Reset stream code) typed good = refl
-fits_length-written (Settings ack pairs) typed good = settings_fit ack pairs good
-fits_length-written (Ping ack octets) typed good = eq_passes (length octets) 8 typed
-fits_length-written (GoAway last code debug) typed good = le_passes 8 (length (big_bytes 4 last ++ (big_bytes 4 code ++ debug))) (omega arith)
-fits_length-written (WindowUpdate stream increment) typed good = refl
-fits_length-written (Continuation stream whole fragment) typed good = refl
-fits_length-written (Unknown kind flags stream payload) typed good = refl
+fits_length-encoding_of (Priority stream octets) typed good = eq_passes (length octets) 5 typed
+fits_length-encoding_of (Reset stream code) typed good = refl
+fits_length-encoding_of (Settings ack pairs) typed good = settings_fit ack pairs good
+fits_length-encoding_of (Ping ack octets) typed good = eq_passes (length octets) 8 typed
+fits_length-encoding_of (GoAway last code debug) typed good = le_passes 8 (length (big_bytes 4 last ++ (big_bytes 4 code ++ debug))) (omega arith)
+fits_length-encoding_of (WindowUpdate stream increment) typed good = refl
+fits_length-encoding_of (Continuation stream whole fragment) typed good = refl
+fits_length-encoding_of (Unknown kind flags stream payload) typed good = refl
 
 -- no kind that is written is refused
 not_refused : (frame : Frame) → is_refused (kind_of_frame frame) ≡ false
@@ -297,40 +297,40 @@ not_refused (Continuation stream whole fragment) = refl
 not_refused (Unknown kind flags stream payload) = refl
 
 -- the padding that is written is not too long
-pads_too_much-written : (frame : Frame) → IsTyped frame → pads_too_much (kind_of_frame frame) (flags_of frame) (payload_of frame) ≡ false
+pads_too_much-encoding_of : (frame : Frame) → IsTyped frame → pads_too_much (kind_of_frame frame) (flags_of frame) (payload_of frame) ≡ false
 unfolding pads_too_much kind_of_frame flags_of payload_of
-pads_too_much-written (Data stream end octets pad) typed = data_pads _ octets pad (pad_read end (is_some pad))
-pads_too_much-written (Headers stream end whole fragment pad priority) typed =
+pads_too_much-encoding_of (Data stream end octets pad) typed = data_pads _ octets pad (pad_read end (is_some pad))
+pads_too_much-encoding_of (Headers stream end whole fragment pad priority) typed =
     let flags = four_flags end whole (is_some pad) (is_some priority) in headers_pad _ _ fragment pad priority flags.is_padded flags.is_prioritized typed.1
-pads_too_much-written (Priority stream octets) typed = refl
-pads_too_much-written (Reset stream code) typed = refl
-pads_too_much-written (Settings ack pairs) typed = refl
-pads_too_much-written (Ping ack octets) typed = refl
-pads_too_much-written (GoAway last code debug) typed = refl
-pads_too_much-written (WindowUpdate stream increment) typed = refl
-pads_too_much-written (Continuation stream whole fragment) typed = refl
-pads_too_much-written (Unknown kind flags stream payload) typed = refl
+pads_too_much-encoding_of (Priority stream octets) typed = refl
+pads_too_much-encoding_of (Reset stream code) typed = refl
+pads_too_much-encoding_of (Settings ack pairs) typed = refl
+pads_too_much-encoding_of (Ping ack octets) typed = refl
+pads_too_much-encoding_of (GoAway last code debug) typed = refl
+pads_too_much-encoding_of (WindowUpdate stream increment) typed = refl
+pads_too_much-encoding_of (Continuation stream whole fragment) typed = refl
+pads_too_much-encoding_of (Unknown kind flags stream payload) typed = refl
 
 -- The head that is written has no fault.
 written_head_sound : (frame : Frame) (limit : ℕ) → IsTyped frame → IsAllowed frame → length (payload_of frame) ≤ limit → head_fault (written_head frame) limit ≡ None
 unfolding head_fault form_fault
 written_head_sound frame limit typed may within =
-    rw (lt_fails limit (length (payload_of frame)) within, not_refused frame, may.fits, fits_length-written frame typed may.good) refl
+    rw (lt_fails limit (length (payload_of frame)) within, not_refused frame, may.fits, fits_length-encoding_of frame typed may.good) refl
 
 -- So the head that is read back has none.
-pub sound_head : (frame : Frame) (limit : ℕ) → IsTyped frame → refusal frame ≡ None → length (payload_of frame) ≤ limit → head_fault (head_of (written frame)) limit ≡ None
+pub sound_head : (frame : Frame) (limit : ℕ) → IsTyped frame → refusal frame ≡ None → length (payload_of frame) ≤ limit → head_fault (head_of (encoding_of frame)) limit ≡ None
 sound_head frame limit typed none within =
     let may = allowed frame none in
-    subst (λ read. head_fault read limit ≡ None) (sym (head_of-written frame may)) (written_head_sound frame limit typed may within)
+    subst (λ read. head_fault read limit ≡ None) (sym (head_of-encoding_of frame may)) (written_head_sound frame limit typed may within)
 
 -- The payload that is written has no fault.
 written_payload_sound : (frame : Frame) → IsTyped frame → payload_fault (written_head frame) (payload_of frame) ≡ None
 unfolding payload_fault
-written_payload_sound frame typed = rw (pads_too_much-written frame typed) refl
+written_payload_sound frame typed = rw (pads_too_much-encoding_of frame typed) refl
 
 -- Nor has it behind the head that is read back.
-pub sound_payload : (frame : Frame) → IsTyped frame → refusal frame ≡ None → payload_fault (head_of (written frame)) (drop 9 (written frame)) ≡ None
+pub sound_payload : (frame : Frame) → IsTyped frame → refusal frame ≡ None → payload_fault (head_of (encoding_of frame)) (drop 9 (encoding_of frame)) ≡ None
 sound_payload frame typed none =
     let may = allowed frame none in
-    subst (λ read. payload_fault read (drop 9 (written frame)) ≡ None) (sym (head_of-written frame may))
-    (subst (λ xs. payload_fault (written_head frame) xs ≡ None) (sym (drop-written frame)) (written_payload_sound frame typed))
+    subst (λ read. payload_fault read (drop 9 (encoding_of frame)) ≡ None) (sym (head_of-encoding_of frame may))
+    (subst (λ xs. payload_fault (written_head frame) xs ≡ None) (sym (drop-encoding_of frame)) (written_payload_sound frame typed))

@@ -109,7 +109,7 @@ Carries head payload (Unknown kind flags stream octets) =
 
 -- The octets spell the frame, all of them: nine octets of head, and behind them a payload of the length that the head
 -- names, which carry the frame.
-pub record Spells (frame : Frame) (octets : List ℕ) : Type 0 where
+pub record Encodes (frame : Frame) (octets : List ℕ) : Type 0 where
   pub whole : length octets ≡ 9 + (head_of octets).length
   pub carried : Carries (head_of octets) (drop 9 octets) frame
 

@@ -85,8 +85,8 @@ payload_of (Unknown kind flags stream payload) = payload
 
 -- the octets that are written of a frame: 24 bits of length, 8 of kind, 8 of flags, a reserved bit and 31 bits of stream, and
 -- the payload
-unfoldable pub written : Frame → List ℕ
-written frame =
+unfoldable pub encoding_of : Frame → List ℕ
+encoding_of frame =
     big_bytes 3 (length (payload_of frame))
     ++ (number_of (kind_of_frame frame) ∷ flags_of frame ∷ (big_bytes 4 (stream_of frame) ++ payload_of frame))
 

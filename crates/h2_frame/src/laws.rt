@@ -3,12 +3,12 @@
 ghost use Rattle.std.specs.Prelude.{◌≡◌, ℕ, ◌+◌, ◌≤◌, ◌++◌, List, length, drop, None};
 ghost use Rattle.h2_frame.specs.declared.heads.Head.{Head};
 ghost use Rattle.h2_frame.specs.Heads.{head_of, form_fault, head_fault as fault_of};
-ghost use Rattle.h2_frame.specs.Frames.{Frame, Spells, payload_fault};
-ghost use Rattle.h2_frame.specs.Writing.{payload_of, written, refusal, IsTyped};
+ghost use Rattle.h2_frame.specs.Frames.{Frame, Encodes, payload_fault};
+ghost use Rattle.h2_frame.specs.Writing.{payload_of, encoding_of, refusal, IsTyped};
 
 /// Octets spell one frame at most.
 pub fn one_frame()
-    ensures { (frame other : Frame) (octets : List ℕ) → Spells frame octets → Spells other octets → frame ≡ other }
+    ensures { (frame other : Frame) (octets : List ℕ) → Encodes frame octets → Encodes other octets → frame ≡ other }
 {}
 
 /// A head is read from nine octets, whatever follows them.
@@ -26,10 +26,10 @@ pub fn within_limit()
 /// What is written of a frame that no refusal keeps from it spells that frame, so it is read back; and neither its head nor its
 /// payload has a fault, where the limit allows its length.
 pub fn written_frame()
-    ensures length { (frame : Frame) → length (written frame) ≡ 9 + length (payload_of frame) }
-    ensures spelled { (frame : Frame) → IsTyped frame → refusal frame ≡ None → Spells frame (written frame) }
+    ensures length { (frame : Frame) → length (encoding_of frame) ≡ 9 + length (payload_of frame) }
+    ensures spelled { (frame : Frame) → IsTyped frame → refusal frame ≡ None → Encodes frame (encoding_of frame) }
     ensures sound_head { (frame : Frame) (limit : ℕ) → IsTyped frame → refusal frame ≡ None → length (payload_of frame) ≤ limit
-        → fault_of (head_of (written frame)) limit ≡ None }
+        → fault_of (head_of (encoding_of frame)) limit ≡ None }
     ensures sound_payload { (frame : Frame) → IsTyped frame → refusal frame ≡ None
-        → payload_fault (head_of (written frame)) (drop 9 (written frame)) ≡ None }
+        → payload_fault (head_of (encoding_of frame)) (drop 9 (encoding_of frame)) ≡ None }
 {}

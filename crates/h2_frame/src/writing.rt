@@ -3,7 +3,7 @@
 ghost use Rattle.std.specs.Prelude.{◌≡◌, ◌+◌, ◌≤◌, ◌++◌, length, vec_len, None, Some, IfErr, OnOk, OnErr, IsOk};
 ghost use Rattle.std.specs.Vec.{vec_capacity};
 ghost use Rattle.h2_frame.specs.Frames.{Frame as AnyFrame, frame_of, owned_frame};
-ghost use Rattle.h2_frame.specs.Writing.{written, refusal, IsRefused, IsTyped};
+ghost use Rattle.h2_frame.specs.Writing.{encoding_of, refusal, IsRefused, IsTyped};
 ghost use Rattle.h2_frame.specs.Parts.{Describes};
 
 use crate::appending::HEAD;
@@ -22,9 +22,9 @@ use crate::reading::may_stand_on;
 /// [`Unwritable::BadValue`] for a last stream or an increment above 2<sup>31</sup> - 1, for settings with ACK and pairs, and for an
 /// unknown kind with a number from 0 to 9; and [`Unwritable::Memory`], which doesn't come where `out` has room for the frame.
 pub fn write(frame: &Frame, out: &mut Vec<u8>) -> Result<(), Unwritable>
-    ensures ok { OnOk result ((refusal (owned_frame frame.now) ≡ None) × (out.new.items ≡ out.old.items ++ written (owned_frame frame.now))) }
+    ensures ok { OnOk result ((refusal (owned_frame frame.now) ≡ None) × (out.new.items ≡ out.old.items ++ encoding_of (owned_frame frame.now))) }
     ensures err { IfErr result (λ error. IsRefused (owned_frame frame.now) error × (out.new.items ≡ out.old.items)) }
-    ensures room { refusal (owned_frame frame.now) ≡ None → vec_len out.old + length (written (owned_frame frame.now)) ≤ vec_capacity out.old → IsOk result }
+    ensures room { refusal (owned_frame frame.now) ≡ None → vec_len out.old + length (encoding_of (owned_frame frame.now)) ≤ vec_capacity out.old → IsOk result }
     ensures capacity { vec_capacity out.old ≤ vec_capacity out.new }
     ensures typed { IsTyped (owned_frame frame.now) }
 {
@@ -37,9 +37,9 @@ pub fn write(frame: &Frame, out: &mut Vec<u8>) -> Result<(), Unwritable>
 ///
 /// Those of [`write`].
 pub fn write_ref(frame: FrameRef<'_>, out: &mut Vec<u8>) -> Result<(), Unwritable>
-    ensures ok { OnOk result ((refusal (frame_of frame.entry) ≡ None) × (out.new.items ≡ out.old.items ++ written (frame_of frame.entry))) }
+    ensures ok { OnOk result ((refusal (frame_of frame.entry) ≡ None) × (out.new.items ≡ out.old.items ++ encoding_of (frame_of frame.entry))) }
     ensures err { IfErr result (λ error. IsRefused (frame_of frame.entry) error × (out.new.items ≡ out.old.items)) }
-    ensures room { refusal (frame_of frame.entry) ≡ None → vec_len out.old + length (written (frame_of frame.entry)) ≤ vec_capacity out.old → IsOk result }
+    ensures room { refusal (frame_of frame.entry) ≡ None → vec_len out.old + length (encoding_of (frame_of frame.entry)) ≤ vec_capacity out.old → IsOk result }
     ensures capacity { vec_capacity out.old ≤ vec_capacity out.new }
     ensures typed { IsTyped (frame_of frame.entry) }
 {
@@ -49,11 +49,11 @@ pub fn write_ref(frame: FrameRef<'_>, out: &mut Vec<u8>) -> Result<(), Unwritabl
 // Appends a frame that has these parts.
 fn write_parts(parts: &Parts<'_>, out: &mut Vec<u8>) -> Result<(), Unwritable>
     ensures ok { (frame : AnyFrame) → Describes parts.now frame
-        → OnOk result ((refusal frame ≡ None) × (out.new.items ≡ out.old.items ++ written frame)) }
+        → OnOk result ((refusal frame ≡ None) × (out.new.items ≡ out.old.items ++ encoding_of frame)) }
     ensures err { (frame : AnyFrame) → Describes parts.now frame
         → IfErr result (λ error. IsRefused frame error × (out.new.items ≡ out.old.items)) }
     ensures room { (frame : AnyFrame) → Describes parts.now frame
-        → refusal frame ≡ None → vec_len out.old + length (written frame) ≤ vec_capacity out.old → IsOk result }
+        → refusal frame ≡ None → vec_len out.old + length (encoding_of frame) ≤ vec_capacity out.old → IsOk result }
     ensures capacity { vec_capacity out.old ≤ vec_capacity out.new }
 {
     let Some(length) = parts.payload_length() else {

@@ -7,7 +7,7 @@ use Rattle.hpack.proofs.WrittenBlocks.{block_goes_on}
 use Rattle.h2_frame.specs.declared.code.Code.{Code}
 use Rattle.h2_frame.specs.declared.code.Code.TheVariants.{InternalError, EnhanceYourCalm}
 use Rattle.h2_frame.specs.Frames.{Reset, Settings, Ping, GoAway, WindowUpdate}
-use Rattle.h2_wire.specs.Streams.{opening, preface}
+use Rattle.h2_wire.specs.Streams.{expected_preface, preface}
 use Rattle.h2_block.specs.Grouping.{Item, alone, block}
 use Rattle.h2_log.specs.declared.role.Role.{Role}
 use Rattle.h2_log.specs.Items.{written_items}
@@ -228,8 +228,8 @@ call_bounded e act is fair bounded =
     made e act (none_holds (conditions_at e act) is) fair (is_up e (up_by e act is (λ count same. cc)) bounded)
 
 -- The opening takes few octets.
-opening_few : (expects : Bool) → length (opening expects) ≤ 24
-unfolding opening preface
+opening_few : (expects : Bool) → length (expected_preface expects) ≤ 24
+unfolding expected_preface preface
 opening_few true = omega arith
 opening_few false = omega arith
 
@@ -237,12 +237,12 @@ opening_few false = omega arith
 pub new_bounded : (role : Role) (values : Values) → AreInRange values → IsBounded (new_end role values)
 unfolding new_end
 new_bounded role values in_range =
-    let output : length (opening (not (is_server role)) ++ written_items (alone (Settings false (opening_pairs role values)) ∷ [])) ≤ 57 =
+    let output : length (expected_preface (not (is_server role)) ++ written_items (alone (Settings false (opening_pairs role values)) ∷ [])) ≤ 57 =
     omega (
       arith,
       opening_few (not (is_server role)),
       size-opening role values,
-      length-append (opening (not (is_server role))) (written_items (alone (Settings false (opening_pairs role values)) ∷ [])),
+      length-append (expected_preface (not (is_server role))) (written_items (alone (Settings false (opening_pairs role values)) ∷ [])),
     ) in
     is_bounded (new_end role values)
     (record {

@@ -7,7 +7,7 @@ use Rattle.h2_frame.specs.declared.code.Code.TheVariants.{ProtocolError, Enhance
 use Rattle.h2_frame.specs.Frames.{Frame, Data, Reset, Settings, Ping, GoAway, WindowUpdate}
 use Rattle.h2_block.specs.declared.fault.BlockFault.{BlockFault}
 use Rattle.h2_block.specs.Grouping.{Item, alone, block, next_fault}
-use Rattle.h2_block.specs.Gathering.{code_of}
+use Rattle.h2_block.specs.Gather.{block_fault_code}
 use Rattle.h2_log.specs.Items.{stream_of_item}
 use Rattle.h2_log.specs.Settings.{is_server}
 use Rattle.h2_log.specs.Verdicts.{Verdict, ConnectionFault, StreamFault, Silent, Told, code_number, opening_verdict, block_verdict}
@@ -165,7 +165,7 @@ behind_one_piece e seen (part begun) h = is_bounded (record e { begun = Some beg
 behind_group : (e : End) (seen : Option Seen) (frame : Frame) (x : Option BlockFault) → Up e → IsBounded (behind_grouping e seen frame x)
 unfolding behind_grouping
 behind_group e seen frame None h = behind_one_piece e seen (piece_of e.begun frame) h
-behind_group e seen frame (Some fault) h = failed_bounded e (code_of fault) e.taken h
+behind_group e seen frame (Some fault) h = failed_bounded e (block_fault_code fault) e.taken h
 
 -- A frame was read, by the test whether it may not come first.
 behind_by : (e : End) (seen : Option Seen) (frame : Frame) (b : Bool) → Up e

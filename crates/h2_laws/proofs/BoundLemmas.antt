@@ -2,7 +2,7 @@
 use Rattle.std.proofs.Common.{◌≡◌, ℕ, ◌+◌, ◌-◌, ◌<◌, ◌≤◌, ◌==◌, nat_lt, min, ◌&&◌, ◌||◌, if◌then◌else◌, Bool, true, false, List, [], ◌∷◌, ◌++◌, length, Option, Some, None, refl, arith, length-append, ltb-true}
 use Rattle.std.specs.FinMap as map
 use Rattle.hpack.specs.Lists.{EncoderState}
-use Rattle.hpack.specs.Written.{IsWriting}
+use Rattle.hpack.specs.Written.{IsValidEncoder}
 use Rattle.hpack.specs.Limits.{after_limit}
 use Rattle.hpack.proofs.LimitLemmas.{limit_keeps}
 use Rattle.h2_frame.specs.declared.code.Code.{Code}
@@ -25,7 +25,7 @@ pub record Within (waits resets living allowed max_streams : ℕ) (awaited : Opt
   pub few_allowed : allowed ≤ most_streams
   pub few_streams : max_streams ≤ most_streams
   pub in_range : (values : Values) → awaited ≡ Some values → AreInRange values
-  pub writing : IsWriting encoder
+  pub writing : IsValidEncoder encoder
 
 -- the same of an end
 abbrev pub Up : End → Type 0
@@ -107,7 +107,7 @@ with_living waits resets living behind allowed max_streams awaited encoder few h
     }
 
 -- Another encoder of which the same is true stays within the bounds.
-pub with_encoder : (waits resets living allowed max_streams : ℕ) (awaited : Option Values) (encoder behind : EncoderState) → IsWriting behind
+pub with_encoder : (waits resets living allowed max_streams : ℕ) (awaited : Option Values) (encoder behind : EncoderState) → IsValidEncoder behind
     → Within waits resets living allowed max_streams awaited encoder → Within waits resets living allowed max_streams awaited behind
 with_encoder waits resets living allowed max_streams awaited encoder behind writing h =
     record {
@@ -190,13 +190,13 @@ block_up e i end None few h =
 block_up e i end (Some stream) few h = changed_up e i (record stream { ended_in = stream.ended_in || end }) h
 
 -- The limits that SETTINGS set leave what must be true of the encoder, by whether a pair sets it.
-limited_by : (encoder : EncoderState) (value : ℕ) (b : Bool) → IsWriting encoder
-    → IsWriting (if b then after_limit encoder (min value 4096) else encoder)
+limited_by : (encoder : EncoderState) (value : ℕ) (b : Bool) → IsValidEncoder encoder
+    → IsValidEncoder (if b then after_limit encoder (min value 4096) else encoder)
 limited_by encoder value true writing = limit_keeps encoder (min value 4096) (omega arith) writing
 limited_by encoder value false writing = writing
 
 -- The limits that SETTINGS set leave what must be true of the encoder.
-pub limited : (encoder : EncoderState) (pairs : List (ℕ × ℕ)) → IsWriting encoder → IsWriting (encoder_behind encoder pairs)
+pub limited : (encoder : EncoderState) (pairs : List (ℕ × ℕ)) → IsValidEncoder encoder → IsValidEncoder (encoder_behind encoder pairs)
 unfolding encoder_behind
 limited encoder [] writing = writing
 limited encoder (pair ∷ pairs) writing =

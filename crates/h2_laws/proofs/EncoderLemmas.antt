@@ -2,7 +2,7 @@
 use Rattle.std.proofs.Common.{◌≡◌, ℕ, ◌==◌, min, Bool, true, false, if◌then◌else◌, List, [], ◌∷◌, Option, refl, ◌∙◌, arith}
 use Rattle.hpack.specs.Lists.{EncoderState}
 use Rattle.hpack.specs.Choice.{after_block}
-use Rattle.hpack.specs.Written.{IsWriting}
+use Rattle.hpack.specs.Written.{IsValidEncoder}
 use Rattle.hpack.specs.Limits.{after_limit}
 use Rattle.hpack.proofs.LimitLemmas.{limit_keeps}
 use Rattle.hpack.proofs.WrittenBlocks.{block_goes_on}
@@ -17,7 +17,7 @@ use Rattle.h2_log.specs.Calling.{encoder_behind_call}
 
 -- An encoder writes blocks, and its limit is the value that was read last, 4,096 at most.
 pub record IsLimited (encoder : EncoderState) (ins : List Item) : Type 0 where
-  pub writing : IsWriting encoder
+  pub writing : IsValidEncoder encoder
   pub limit : encoder.limit ≡ min (value_read 1 4096 ins) 4096
 
 -- the same of a log
@@ -37,15 +37,15 @@ tells_limited log [] is = is
 tells_limited log (event ∷ events) is = is
 
 -- Pairs of SETTINGS set the limit, by the test whether a pair names it.
-pair_limited : (encoder : EncoderState) (before id value : ℕ) (b : Bool) → IsWriting encoder → encoder.limit ≡ min before 4096
-    → IsWriting (if b then after_limit encoder (min value 4096) else encoder)
+pair_limited : (encoder : EncoderState) (before id value : ℕ) (b : Bool) → IsValidEncoder encoder → encoder.limit ≡ min before 4096
+    → IsValidEncoder (if b then after_limit encoder (min value 4096) else encoder)
     × ((if b then after_limit encoder (min value 4096) else encoder).limit ≡ min (if b then value else before) 4096)
 pair_limited encoder before id value true writing is = (limit_keeps encoder (min value 4096) (omega arith) writing, refl)
 pair_limited encoder before id value false writing is = (writing, is)
 
 -- Pairs of SETTINGS set the limit.
-pairs_limited : (encoder : EncoderState) (before : ℕ) (pairs : List (ℕ × ℕ)) → IsWriting encoder → encoder.limit ≡ min before 4096
-    → IsWriting (encoder_behind encoder pairs) × ((encoder_behind encoder pairs).limit ≡ min (value_behind 1 before pairs) 4096)
+pairs_limited : (encoder : EncoderState) (before : ℕ) (pairs : List (ℕ × ℕ)) → IsValidEncoder encoder → encoder.limit ≡ min before 4096
+    → IsValidEncoder (encoder_behind encoder pairs) × ((encoder_behind encoder pairs).limit ≡ min (value_behind 1 before pairs) 4096)
 unfolding encoder_behind value_behind
 pairs_limited encoder before [] writing is = (writing, is)
 pairs_limited encoder before (pair ∷ pairs) writing is =
@@ -70,8 +70,8 @@ read_limited log seen (alone (Unknown kind flags stream payload)) is = record { 
 read_limited log seen (block stream end octets) is = record { writing = is.writing; limit = is.limit }
 
 -- A block that is written leaves an encoder that writes blocks, with its limit.
-block_limited : (encoder : EncoderState) (act : Act) (answer : Answer) → IsWriting encoder
-    → IsWriting (encoder_behind_call encoder act answer) × ((encoder_behind_call encoder act answer).limit ≡ encoder.limit)
+block_limited : (encoder : EncoderState) (act : Act) (answer : Answer) → IsValidEncoder encoder
+    → IsValidEncoder (encoder_behind_call encoder act answer) × ((encoder_behind_call encoder act answer).limit ≡ encoder.limit)
 unfolding encoder_behind_call after_block
 block_limited encoder (Open fields end) (Number id) writing = (block_goes_on encoder fields writing, refl)
 block_limited encoder (Open fields end) (Count count) writing = (writing, refl)

@@ -1,6 +1,6 @@
 -- The encoder of every log that comes about.
 use Rattle.std.proofs.Common.{◌≡◌, min, refl, arith}
-use Rattle.hpack.specs.Written.{IsWriting}
+use Rattle.hpack.specs.Written.{IsValidEncoder}
 use Rattle.h2_log.specs.declared.role.Role.{Role}
 use Rattle.h2_log.specs.Acts.{Values}
 use Rattle.h2_log.specs.Settings.{value_read}
@@ -37,6 +37,6 @@ begins_limited role values =
 
 -- The encoder of every log.
 pub encoder_is_limited : (role : Role) (values : Values) (log : Log) → IsLog role values log
-    → IsWriting log.encoder × (log.encoder.limit ≡ min (value_read 1 4096 log.ins) 4096)
+    → IsValidEncoder log.encoder × (log.encoder.limit ≡ min (value_read 1 4096 log.ins) 4096)
 encoder_is_limited role values log is =
     let limited = every_log LogIsLimited encoder_is_steady begins_limited role values log is in (limited.writing, limited.limit)

@@ -4,14 +4,14 @@ use Rattle.std.proofs.lemmas.Bool.{leb-true}
 use Rattle.std.proofs.lemmas.List.Sums.{sum_by-cons}
 use Rattle.hpack_text.specs.Integers.{all_ones, continuation_of, integer}
 use Rattle.hpack_text.specs.Strings.{string}
-use Rattle.hpack_text.specs.Huffman.{coded}
+use Rattle.hpack_text.specs.Huffman.{huffman_bits}
 use Rattle.hpack.specs.declared.field.Field.{Field}
 use Rattle.hpack.specs.declared.kind.Literal.{Literal}
-use Rattle.hpack.specs.declared.kind.Literal.TheVariants.{Added, Plain, Never}
+use Rattle.hpack.specs.declared.kind.Literal.TheVariants.{WithIndexing, WithoutIndexing, NeverIndexed}
 use Rattle.hpack.specs.Tables.{Entries}
 use Rattle.hpack.specs.Lists.{EncoderState, list_size}
-use Rattle.hpack.specs.Choice.{Choice, indexed, literal, choice, literal_head, written, after_choice, written_fields, signals, after_updates, block_of}
-use Rattle.h2_block.specs.Grouping.{most_octets}
+use Rattle.hpack.specs.Choice.{Choice, indexed, literal, choice, literal_head, encoding_of_field, after_choice, encoding_of_fields, size_updates, after_updates, block_of}
+use Rattle.h2_block.specs.Grouping.{max_block_octets}
 use Rattle.h2_log.specs.Taking.{most_list}
 
 -- The continuation octets, by the test whether one is enough.
@@ -38,27 +38,27 @@ unfolding integer
 integer_is_short prefix first value = integer_short_by first (all_ones prefix) value (nat_lt value (all_ones prefix))
 
 -- The octets of a string, by the test whether it is Huffman coded.
-string_by : (text : List ℕ) (b : Bool) → nat_le (length (coded text)) (length text) ≡ b
-    → length (if b then integer 7 128 (length (coded text)) ++ coded text else integer 7 0 (length text) ++ text) ≤ 6 + length text
+string_by : (text : List ℕ) (b : Bool) → nat_le (length (huffman_bits text)) (length text) ≡ b
+    → length (if b then integer 7 128 (length (huffman_bits text)) ++ huffman_bits text else integer 7 0 (length text) ++ text) ≤ 6 + length text
 string_by text true is =
     omega (
       arith,
-      integer_is_short 7 128 (length (coded text)),
-      length-append (integer 7 128 (length (coded text))) (coded text),
-      leb-true (length (coded text)) (length text) is,
+      integer_is_short 7 128 (length (huffman_bits text)),
+      length-append (integer 7 128 (length (huffman_bits text))) (huffman_bits text),
+      leb-true (length (huffman_bits text)) (length text) is,
     )
 string_by text false is = omega (arith, integer_is_short 7 0 (length text), length-append (integer 7 0 (length text)) text)
 
 -- A string takes at most six octets more than its text: it is Huffman coded only where that isn't longer.
 string_fits : (text : List ℕ) → length (string text) ≤ 6 + length text
 unfolding string
-string_fits text = string_by text (nat_le (length (coded text)) (length text)) refl
+string_fits text = string_by text (nat_le (length (huffman_bits text)) (length text)) refl
 
 -- A literal's head takes at most six octets.
 head_fits : (kind : Literal) (index : ℕ) → length (literal_head kind index) ≤ 6
-head_fits Added index = integer_is_short 6 0x40 index
-head_fits Plain index = integer_is_short 4 0x00 index
-head_fits Never index = integer_is_short 4 0x10 index
+head_fits WithIndexing index = integer_is_short 6 0x40 index
+head_fits WithoutIndexing index = integer_is_short 4 0x00 index
+head_fits NeverIndexed index = integer_is_short 4 0x10 index
 
 -- A literal's name, or nothing in its place, takes at most six octets more than the name.
 name_fits : (name : List ℕ) (b : Bool) → length (if b then string name else []) ≤ 6 + length name
@@ -66,7 +66,7 @@ name_fits name true = string_fits name
 name_fits name false = omega arith
 
 -- A field takes no more octets than its size, however it is written.
-field_fits : (chosen : Choice) (field : Field) → length (written chosen field) ≤ length field.name + length field.value + 32
+field_fits : (chosen : Choice) (field : Field) → length (encoding_of_field chosen field) ≤ length field.name + length field.value + 32
 field_fits (indexed index) field = omega (arith, integer_is_short 7 0x80 index)
 field_fits (literal kind index) field =
     omega (
@@ -79,15 +79,15 @@ field_fits (literal kind index) field =
     )
 
 -- Fields take no more octets than the size of their list.
-fields_fit : (table : Entries) (fields : List Field) → length (written_fields table fields) ≤ list_size fields
-unfolding written_fields
+fields_fit : (table : Entries) (fields : List Field) → length (encoding_of_fields table fields) ≤ list_size fields
+unfolding encoding_of_fields
 fields_fit table [] = omega arith
 fields_fit table (field ∷ fields) =
     omega (
       arith,
       field_fits (choice table field) field,
       fields_fit (after_choice table (choice table field) field) fields,
-      length-append (written (choice table field) field) (written_fields (after_choice table (choice table field) field) fields),
+      length-append (encoding_of_field (choice table field) field) (encoding_of_fields (after_choice table (choice table field) field) fields),
       sum_by-cons (λ (one : Field). length one.name + length one.value + 32) field fields,
     )
 
@@ -107,19 +107,19 @@ updates_by least limit false alike true = omega (arith, integer_is_short 5 0x20 
 updates_by least limit false alike false = omega arith
 
 -- A block's updates take at most twelve octets.
-updates_fit : (state : EncoderState) → length (flat_map (integer 5 0x20) (signals state)) ≤ 12
-unfolding signals
+updates_fit : (state : EncoderState) → length (flat_map (integer 5 0x20) (size_updates state)) ≤ 12
+unfolding size_updates
 updates_fit state =
     updates_by state.least state.limit (nat_lt state.least state.table.maximum) (state.limit == state.least) (nat_lt state.table.maximum state.limit)
 
 -- A list that may be sent is a block that may be gathered.
-pub block_is_gathered : (encoder : EncoderState) (fields : List Field) → list_size fields ≤ most_list → length (block_of encoder fields) ≤ most_octets
+pub block_is_gathered : (encoder : EncoderState) (fields : List Field) → list_size fields ≤ most_list → length (block_of encoder fields) ≤ max_block_octets
 unfolding block_of
 block_is_gathered encoder fields few =
     omega (
       arith,
       few,
       updates_fit encoder,
-      fields_fit (after_updates encoder.table (signals encoder)) fields,
-      length-append (flat_map (integer 5 0x20) (signals encoder)) (written_fields (after_updates encoder.table (signals encoder)) fields),
+      fields_fit (after_updates encoder.table (size_updates encoder)) fields,
+      length-append (flat_map (integer 5 0x20) (size_updates encoder)) (encoding_of_fields (after_updates encoder.table (size_updates encoder)) fields),
     )

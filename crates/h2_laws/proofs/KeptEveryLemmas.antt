@@ -5,9 +5,9 @@ use Rattle.std.proofs.lemmas.Bool.{both_ways, or_left, eq-eqb, ne_eqb}
 use Rattle.h2_frame.specs.declared.code.Code.{Code}
 use Rattle.h2_frame.specs.declared.code.Code.TheVariants.{ProtocolError, InternalError, EnhanceYourCalm}
 use Rattle.h2_frame.specs.Frames.{Frame}
-use Rattle.h2_wire.specs.Faults.{code_of as wire_code}
+use Rattle.h2_wire.specs.Faults.{wire_fault_code}
 use Rattle.h2_block.specs.declared.fault.BlockFault.{BlockFault}
-use Rattle.h2_block.specs.Gathering.{code_of}
+use Rattle.h2_block.specs.Gather.{block_fault_code}
 use Rattle.h2_block.specs.Grouping.{Item, alone, block, next_fault}
 use Rattle.h2_log.specs.declared.role.Role.{Role}
 use Rattle.h2_log.specs.declared.role.Role.TheVariants.{Client, Server}
@@ -87,7 +87,7 @@ piece_fair log seen (part begun) f up = f
 grouping_fair : (log : Log) (seen : Option Seen) (frame : Frame) (fault : Option BlockFault) → IsFair log
     → (with_grouping log seen frame fault).failed ≡ None → IsFair (with_grouping log seen frame fault)
 unfolding with_grouping
-grouping_fair log seen frame (Some fault) f up = let wrong : Some (code_of fault) ≡ None = up in cc
+grouping_fair log seen frame (Some fault) f up = let wrong : Some (block_fault_code fault) ≡ None = up in cc
 grouping_fair log seen frame None f up = piece_fair log seen (piece_of log.begun frame) f up
 
 -- A frame keeps this, by the test whether it may not be the first.
@@ -187,7 +187,7 @@ fair_of role values _ (begins in_range) up = begins_fair role values
 fair_of role values _ (took_some {log = log} is takes octets rest read) up = used_fair log octets rest (fair_of role values log is takes.up)
 fair_of role values _ (took_one {log = log} is takes octets frame seen read sees) up =
     frame_fair (used log octets []) seen frame (used_fair log octets [] (fair_of role values log is takes.up)) up
-fair_of role values _ (broke {log = log} is takes octets fault at) up = let wrong : Some (wire_code fault) ≡ None = up in cc
+fair_of role values _ (broke {log = log} is takes octets fault at) up = let wrong : Some (wire_fault_code fault) ≡ None = up in cc
 fair_of role values _ (starved {log = log} is was octets may) up = let wrong : Some InternalError ≡ None = up in cc
 fair_of role values _ (told_one {log = log} is was some) up = none_fair log (fair_of role values log is was)
 fair_of role values _ (called_one {log = log} is act answer typed may) up =

@@ -3,7 +3,7 @@ use Rattle.std.proofs.Common.{◌≡◌, ◌≢◌, ℕ, zero, suc, zero-add, �
 use Rattle.std.specs.List.{list_any}
 use Rattle.std.proofs.lemmas.Bool.{both_ways}
 use Rattle.h2_frame.specs.declared.code.Code.TheVariants.{InternalError}
-use Rattle.h2_wire.specs.Faults.{code_of as wire_code}
+use Rattle.h2_wire.specs.Faults.{wire_fault_code}
 use Rattle.h2_log.specs.declared.role.Role.{Role}
 use Rattle.h2_log.specs.Items.{total, increment_on, one_answer, is_goaway}
 use Rattle.h2_log.specs.Settings.{settings_count, one_ack}
@@ -124,7 +124,7 @@ log_stands role values _ (took_some {log = log} is takes octets rest read) =
 log_stands role values _ (took_one {log = log} is takes octets frame seen read sees) =
     frame_stands role (used log octets []) seen frame (rw (used_view log octets []) (log_stands role values log is)) (used_up log octets [] takes.up)
 log_stands role values _ (broke {log = log} is takes octets fault at) =
-    fails_stands role (wire_code fault) _ (used log octets []) (rw (used_view log octets []) (log_stands role values log is))
+    fails_stands role (wire_fault_code fault) _ (used log octets []) (rw (used_view log octets []) (log_stands role values log is))
     (used_up log octets [] takes.up)
 log_stands role values _ (starved {log = log} is up octets may) =
     fails_stands role InternalError _ (used log octets []) (rw (used_view log octets []) (log_stands role values log is)) (used_up log octets [] up)

@@ -3,11 +3,11 @@ use Rattle.std.proofs.Common.{◌≡◌, ℕ, ◌+◌, ◌≤◌, Bool, List, []
 use Rattle.std.specs.List.{AllByRecursion}
 use Rattle.std.proofs.lemmas.Grind.{flat_map-append}
 use Rattle.h2_frame.specs.Frames.{Frame}
-use Rattle.h2_frame.specs.Writing.{payload_of, written, refusal, IsTyped}
-use Rattle.h2_frame.proofs.WrittenLemmas.{written_spells, sound_head, sound_payload}
-use Rattle.h2_wire.specs.Streams.{Limits, AreFrames, Frames, opening}
+use Rattle.h2_frame.specs.Writing.{payload_of, encoding_of, refusal, IsTyped}
+use Rattle.h2_frame.proofs.WrittenLemmas.{encoding_encodes, sound_head, sound_payload}
+use Rattle.h2_wire.specs.Streams.{Limits, AreFrames, Frames, expected_preface}
 use Rattle.h2_block.specs.Grouping.{Item, alone, block, IsItem, AreItems, Groups}
-use Rattle.h2_block.specs.Spreading.{written_frames, most_payload}
+use Rattle.h2_block.specs.Spread.{encoding_of_frames, max_payload}
 use Rattle.h2_block.proofs.GroupLemmas.{AreItems-push}
 use Rattle.h2_block.proofs.SpreadLemmas.{spread_grouped, spread_writable}
 use Rattle.h2_log.specs.Items.{written_item, written_items}
@@ -15,23 +15,23 @@ use Rattle.h2_laws.specs.Sending.{IsSendable, frames_of_item, frames_of_items, o
 
 -- A frame that can be written, with a payload of at most 16,384 octets.
 abbrev pub IsShort : Frame → Type 0
-IsShort frame = (refusal frame ≡ None) × IsTyped frame × (length (payload_of frame) ≤ most_payload)
+IsShort frame = (refusal frame ≡ None) × IsTyped frame × (length (payload_of frame) ≤ max_payload)
 
 -- Frames are read from what is written of them.
-frames_read : (limits : Limits) (before : ℕ) (frames : List Frame) → ((place : ℕ) → most_payload ≤ limits place) → AllByRecursion IsShort frames
-    → AreFrames limits before frames (written_frames frames)
+frames_read : (limits : Limits) (before : ℕ) (frames : List Frame) → ((place : ℕ) → max_payload ≤ limits place) → AllByRecursion IsShort frames
+    → AreFrames limits before frames (encoding_of_frames frames)
 frames_read limits before [] high short = refl
 frames_read limits before (frame ∷ frames) high short =
     let one = short.0 in (
-      written frame,
-      written_frames frames,
+      encoding_of frame,
+      encoding_of_frames frames,
       refl,
       record {
-        spelled = written_spells frame one.1 one.0;
+        spelled = encoding_encodes frame one.1 one.0;
         sound_head = sound_head frame (limits (before + 9)) one.1 one.0 (omega (arith, one.2, high (before + 9)));
         sound_payload = sound_payload frame one.1 one.0;
       },
-      frames_read limits (before + length (written frame)) frames high short.1,
+      frames_read limits (before + length (encoding_of frame)) frames high short.1,
     )
 
 -- All of two lists.
@@ -51,29 +51,29 @@ items_short (item ∷ items) sendable =
     all_of_both (frames_of_items items) (frames_of_item item) (items_short items sendable.1) (item_short item sendable.0)
 
 -- What is written of an item is what is written of its frames.
-item_written : (item : Item) → written_item item ≡ written_frames (frames_of_item item)
+item_written : (item : Item) → written_item item ≡ encoding_of_frames (frames_of_item item)
 unfolding written_item
-item_written (alone frame) = sym (append-nil (written frame))
+item_written (alone frame) = sym (append-nil (encoding_of frame))
 item_written (block stream end octets) = refl
 
 -- What is written of items is what is written of their frames.
-items_written : (items : List Item) → written_items items ≡ written_frames (frames_of_items items)
+items_written : (items : List Item) → written_items items ≡ encoding_of_frames (frames_of_items items)
 unfolding written_items
 items_written [] = refl
 items_written (item ∷ items) =
-    rw (items_written items, item_written item) (sym (flat_map-append written (frames_of_items items) (frames_of_item item)))
+    rw (items_written items, item_written item) (sym (flat_map-append encoding_of (frames_of_items items) (frames_of_item item)))
 
 -- What is written of items is read as their frames.
-pub items_read : (expects : Bool) (limits : Limits) (items : List Item) → ((place : ℕ) → most_payload ≤ limits place) → AllByRecursion IsSendable items
-    → Frames expects limits (opening expects ++ written_items items) (frames_of_items items) []
+pub items_read : (expects : Bool) (limits : Limits) (items : List Item) → ((place : ℕ) → max_payload ≤ limits place) → AllByRecursion IsSendable items
+    → Frames expects limits (expected_preface expects ++ written_items items) (frames_of_items items) []
 items_read expects limits items high sendable =
     inr (record {
-      part = opening expects ++ written_items items;
-      joined = sym (append-nil (opening expects ++ written_items items));
+      part = expected_preface expects ++ written_items items;
+      joined = sym (append-nil (expected_preface expects ++ written_items items));
       sound = record {
         body = written_items items;
         opened = refl;
-        framed = rw (items_written items) (frames_read limits (length (opening expects)) (frames_of_items items) high (items_short items sendable));
+        framed = rw (items_written items) (frames_read limits (length (expected_preface expects)) (frames_of_items items) high (items_short items sendable));
       };
       partial = λ nine. absurd (omega arith);
     })

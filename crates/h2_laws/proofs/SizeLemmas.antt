@@ -2,10 +2,10 @@
 use Rattle.std.proofs.Common.{◌≡◌, ℕ, zero, suc, ◌+◌, ◌*◌, ◌≤◌, nat_le, if◌then◌else◌, Bool, true, false, List, [], ◌∷◌, ◌++◌, length, take, drop, None, refl, ap, arith, length-append, length-take, length-drop, leb-false}
 use Rattle.std.proofs.lemmas.List.Concat.{flat_map-cons}
 use Rattle.h2_frame.specs.Frames.{Frame, Data, Headers, Reset, Settings, Ping, GoAway, WindowUpdate, Continuation}
-use Rattle.h2_frame.specs.Writing.{payload_of, written}
-use Rattle.h2_frame.proofs.WritingLemmas.{length-written}
+use Rattle.h2_frame.specs.Writing.{payload_of, encoding_of}
+use Rattle.h2_frame.proofs.WritingLemmas.{length-encoding_of}
 use Rattle.h2_block.specs.Grouping.{Item, alone, block}
-use Rattle.h2_block.specs.Spreading.{most_payload, continuations, spread_frames, written_frames}
+use Rattle.h2_block.specs.Spread.{max_payload, continuations, spread_frames, encoding_of_frames}
 use Rattle.h2_log.specs.declared.role.Role.{Role}
 use Rattle.h2_log.specs.declared.role.Role.TheVariants.{Client, Server}
 use Rattle.h2_log.specs.Items.{written_item, written_items}
@@ -19,7 +19,7 @@ size_of items = length (written_items items)
 -- A frame alone takes nine octets and its payload.
 pub size-frame : (frame : Frame) → size_of (alone frame ∷ []) ≡ 9 + length (payload_of frame)
 unfolding written_items written_item
-size-frame frame = length-written frame
+size-frame frame = length-encoding_of frame
 
 -- RST_STREAM takes 13 octets.
 pub size-reset : (stream code : ℕ) → size_of (alone (Reset stream code) ∷ []) ≡ 13
@@ -64,9 +64,9 @@ unfolding written_items written_item payload_of
 size-updates stream increment other more =
     omega (
       arith,
-      length-append (written (WindowUpdate other more)) (written (WindowUpdate stream increment)),
-      length-written (WindowUpdate stream increment),
-      length-written (WindowUpdate other more),
+      length-append (encoding_of (WindowUpdate other more)) (encoding_of (WindowUpdate stream increment)),
+      length-encoding_of (WindowUpdate stream increment),
+      length-encoding_of (WindowUpdate other more),
     )
 
 -- The octets of items, one list in front of another, take as many as both.
@@ -104,54 +104,54 @@ size-data (suc count) most id octets end big =
 
 -- The octets of a frame and others are those of both.
 frames_size : (frame : Frame) (frames : List Frame)
-    → length (written_frames (frame ∷ frames)) ≡ 9 + length (payload_of frame) + length (written_frames frames)
+    → length (encoding_of_frames (frame ∷ frames)) ≡ 9 + length (payload_of frame) + length (encoding_of_frames frames)
 frames_size frame frames =
-    let both : length (written_frames (frame ∷ frames)) ≡ length (written frame ++ written_frames frames) =
-    ap length (flat_map-cons written frame frames) in
-    omega (arith, both, length-append (written frame) (written_frames frames), length-written frame)
+    let both : length (encoding_of_frames (frame ∷ frames)) ≡ length (encoding_of frame ++ encoding_of_frames frames) =
+    ap length (flat_map-cons encoding_of frame frames) in
+    omega (arith, both, length-append (encoding_of frame) (encoding_of_frames frames), length-encoding_of frame)
 
 -- CONTINUATIONs take no more than nine octets and twice their octets, by the test whether one is enough.
-continuations_size_by : (count stream : ℕ) (octets : List ℕ) (b : Bool) → nat_le (length octets) most_payload ≡ b
-    → length (written_frames (continuations count stream (drop most_payload octets))) ≤ 9 + 2 * length (drop most_payload octets)
-    → length (written_frames (if b then Continuation stream true octets ∷ []
-    else Continuation stream false (take most_payload octets) ∷ continuations count stream (drop most_payload octets))) ≤ 9 + 2 * length octets
+continuations_size_by : (count stream : ℕ) (octets : List ℕ) (b : Bool) → nat_le (length octets) max_payload ≡ b
+    → length (encoding_of_frames (continuations count stream (drop max_payload octets))) ≤ 9 + 2 * length (drop max_payload octets)
+    → length (encoding_of_frames (if b then Continuation stream true octets ∷ []
+    else Continuation stream false (take max_payload octets) ∷ continuations count stream (drop max_payload octets))) ≤ 9 + 2 * length octets
 unfolding payload_of
 continuations_size_by count stream octets true fits few = omega (arith, frames_size (Continuation stream true octets) [])
 continuations_size_by count stream octets false fits few =
     omega (
       arith,
       few,
-      leb-false (length octets) most_payload fits,
-      length-drop most_payload octets,
-      length-take most_payload octets,
-      frames_size (Continuation stream false (take most_payload octets)) (continuations count stream (drop most_payload octets)),
+      leb-false (length octets) max_payload fits,
+      length-drop max_payload octets,
+      length-take max_payload octets,
+      frames_size (Continuation stream false (take max_payload octets)) (continuations count stream (drop max_payload octets)),
     )
 
 -- CONTINUATIONs take no more than nine octets and twice their octets.
-continuations_size : (count stream : ℕ) (octets : List ℕ) → length (written_frames (continuations count stream octets)) ≤ 9 + 2 * length octets
+continuations_size : (count stream : ℕ) (octets : List ℕ) → length (encoding_of_frames (continuations count stream octets)) ≤ 9 + 2 * length octets
 unfolding continuations
 continuations_size zero stream octets = omega arith
 continuations_size (suc count) stream octets =
-    continuations_size_by count stream octets (nat_le (length octets) most_payload) refl (continuations_size count stream (drop most_payload octets))
+    continuations_size_by count stream octets (nat_le (length octets) max_payload) refl (continuations_size count stream (drop max_payload octets))
 
 -- A block takes no more than nine octets and twice its octets, by the test whether one frame is enough.
-spread_size_by : (stream : ℕ) (end : Bool) (octets : List ℕ) (b : Bool) → nat_le (length octets) most_payload ≡ b
-    → length (written_frames (if b then Headers stream end true octets None None ∷ []
-    else Headers stream end false (take most_payload octets) None None ∷ continuations (length octets) stream (drop most_payload octets)))
+spread_size_by : (stream : ℕ) (end : Bool) (octets : List ℕ) (b : Bool) → nat_le (length octets) max_payload ≡ b
+    → length (encoding_of_frames (if b then Headers stream end true octets None None ∷ []
+    else Headers stream end false (take max_payload octets) None None ∷ continuations (length octets) stream (drop max_payload octets)))
     ≤ 9 + 2 * length octets
 unfolding payload_of
 spread_size_by stream end octets true fits = omega (arith, frames_size (Headers stream end true octets None None) [])
 spread_size_by stream end octets false fits =
     omega (
       arith,
-      leb-false (length octets) most_payload fits,
-      length-drop most_payload octets,
-      length-take most_payload octets,
-      continuations_size (length octets) stream (drop most_payload octets),
-      frames_size (Headers stream end false (take most_payload octets) None None) (continuations (length octets) stream (drop most_payload octets)),
+      leb-false (length octets) max_payload fits,
+      length-drop max_payload octets,
+      length-take max_payload octets,
+      continuations_size (length octets) stream (drop max_payload octets),
+      frames_size (Headers stream end false (take max_payload octets) None None) (continuations (length octets) stream (drop max_payload octets)),
     )
 
 -- A block takes no more than nine octets and twice its octets.
 pub size-block : (stream : ℕ) (end : Bool) (octets : List ℕ) → size_of (block stream end octets ∷ []) ≤ 9 + 2 * length octets
 unfolding written_items written_item spread_frames
-size-block stream end octets = spread_size_by stream end octets (nat_le (length octets) most_payload) refl
+size-block stream end octets = spread_size_by stream end octets (nat_le (length octets) max_payload) refl

@@ -3,9 +3,9 @@ use Rattle.std.proofs.Common.{ℕ, ◌+◌, ◌==◌, nat_lt, not, ◌&&◌, Boo
 use Rattle.h2_frame.specs.declared.code.Code.{Code}
 use Rattle.h2_frame.specs.declared.code.Code.TheVariants.{ProtocolError, InternalError}
 use Rattle.h2_frame.specs.Frames.{Frame}
-use Rattle.h2_wire.specs.Faults.{code_of as wire_code}
+use Rattle.h2_wire.specs.Faults.{wire_fault_code}
 use Rattle.h2_block.specs.declared.fault.BlockFault.{BlockFault}
-use Rattle.h2_block.specs.Gathering.{code_of}
+use Rattle.h2_block.specs.Gather.{block_fault_code}
 use Rattle.h2_block.specs.Grouping.{Item, Begun, next_fault}
 use Rattle.h2_log.specs.declared.role.Role.{Role}
 use Rattle.h2_log.specs.Events.{Event}
@@ -62,7 +62,7 @@ module _ (P : Log → Type 0) (steady : IsSteady P) where
   -- Behind a frame, by the fault of grouping.
   grouping_keeps : (log : Log) (seen : Option Seen) (frame : Frame) (fault : Option BlockFault) → P log → P (with_grouping log seen frame fault)
   unfolding with_grouping
-  grouping_keeps log seen frame (Some fault) is = fails_keeps (code_of fault) (taken log) log is
+  grouping_keeps log seen frame (Some fault) is = fails_keeps (block_fault_code fault) (taken log) log is
   grouping_keeps log seen frame None is = piece_keeps log seen (piece_of log.begun frame) is
 
   -- Behind a frame, by the test whether it may not be the first.
@@ -117,7 +117,7 @@ module _ (P : Log → Type 0) (steady : IsSteady P) where
   every_log new role values _ (took_one {log = log} is takes octets frame seen read sees) =
       frame_keeps _ seen frame (steady.used log octets [] (every_log new role values log is))
   every_log new role values _ (broke {log = log} is takes octets fault at) =
-      fails_keeps (wire_code fault) _ _ (steady.used log octets [] (every_log new role values log is))
+      fails_keeps (wire_fault_code fault) _ _ (steady.used log octets [] (every_log new role values log is))
   every_log new role values _ (starved {log = log} is up octets may) =
       fails_keeps InternalError _ _ (steady.used log octets [] (every_log new role values log is))
   every_log new role values _ (told_one {log = log} is up some) =

@@ -6,7 +6,7 @@ use Rattle.h2_frame.specs.declared.code.Code.TheVariants.{ProtocolError, FlowCon
 use Rattle.h2_frame.specs.Frames.{Frame, Data, Headers, Priority, Reset, Settings, Ping, GoAway, WindowUpdate, Continuation, Unknown}
 use Rattle.h2_frame.specs.Writing.{stream_of}
 use Rattle.h2_block.specs.declared.fault.BlockFault.{BlockFault}
-use Rattle.h2_block.specs.Gathering.{code_of}
+use Rattle.h2_block.specs.Gather.{block_fault_code}
 use Rattle.h2_block.specs.Grouping.{Item, alone, block, next_fault}
 use Rattle.h2_log.specs.declared.role.Role.{Role}
 use Rattle.h2_log.specs.Items.{stream_of_item, data_of, one_ping, one_answer}
@@ -258,7 +258,7 @@ piece_stands role log seen (part begun) stands up = stands
 grouping_stands : (role : Role) (log : Log) (seen : Option Seen) (frame : Frame) (fault : Option BlockFault) → Stands role (view log)
     → log.failed ≡ None → Stands role (view (with_grouping log seen frame fault))
 unfolding with_grouping
-grouping_stands role log seen frame (Some fault) stands up = fails_stands role (code_of fault) (taken log) log stands up
+grouping_stands role log seen frame (Some fault) stands up = fails_stands role (block_fault_code fault) (taken log) log stands up
 grouping_stands role log seen frame None stands up = piece_stands role log seen (piece_of log.begun frame) stands up
 
 -- What stands stands behind a frame, by the test whether it may not be the first.

@@ -8,7 +8,7 @@ use Rattle.h2_frame.specs.declared.code.Code.{Code}
 use Rattle.h2_frame.specs.declared.code.Code.TheVariants.{InternalError}
 use Rattle.h2_frame.specs.Frames.{GoAway, WindowUpdate}
 use Rattle.h2_wire.specs.declared.fault.WireFault.{WireFault}
-use Rattle.h2_wire.specs.Faults.{code_of as wire_code}
+use Rattle.h2_wire.specs.Faults.{wire_fault_code}
 use Rattle.h2_block.specs.Grouping.{Item, Begun, alone}
 use Rattle.h2_log.specs.declared.role.Role.{Role}
 use Rattle.h2_log.specs.Items.{written_items, data_of, ends, resets, one_reset, one_ping, is_goaway, total, greatest_block}
@@ -358,9 +358,9 @@ failing_stands values e log code last other came same shell whole =
 
 -- A machine stands for the log behind octets that make a fault.
 pub fault_stands : (values : Values) (e : End) (log : Log) (octets : List ℕ) (fault : WireFault) → Stands values e log → TakesOctets log
-    → TakesFault e.role log octets fault → Stands values (fails_at (wire_code fault) e.taken e) (took_fault log octets fault)
+    → TakesFault e.role log octets fault → Stands values (fails_at (wire_fault_code fault) e.taken e) (took_fault log octets fault)
 fault_stands values e log octets fault s takes at =
-    failing_stands values e (used log octets []) (wire_code fault) e.taken (taken log) (broke s.came takes octets fault at)
+    failing_stands values e (used log octets []) (wire_fault_code fault) e.taken (taken log) (broke s.came takes octets fault at)
     (s.running (s.failed ∙ takes.up)).taken (used_shell e.role e.failed e.waiting log octets [] (waits_of values e log s))
     (record { whole = s.whole; used = s.used })
 

@@ -1,7 +1,7 @@
 -- The turns of every log that comes about.
 use Rattle.std.proofs.Common.{◌≡◌, ℕ, not, List, [], ◌∷◌, ◌++◌, map, refl, sym, ap, ◌∙◌}
 use Rattle.std.proofs.lemmas.List.{append_assoc, append-nil}
-use Rattle.h2_wire.specs.Streams.{opening}
+use Rattle.h2_wire.specs.Streams.{expected_preface}
 use Rattle.h2_block.specs.Grouping.{Item}
 use Rattle.h2_log.specs.declared.role.Role.{Role}
 use Rattle.h2_log.specs.Items.{written_item, written_items}
@@ -57,8 +57,8 @@ wrote_told log (item ∷ items) is =
       answers = is.answers;
       items =
           ap (λ (octets : List ℕ). octets ++ written_items (item ∷ items)) is.items
-          ∙ append_assoc (opening (not (is_server log.role))) (written_items log.outs) (written_items (item ∷ items))
-          ∙ ap (λ (octets : List ℕ). opening (not (is_server log.role)) ++ octets) (sym (written_behind (item ∷ items) log.outs));
+          ∙ append_assoc (expected_preface (not (is_server log.role))) (written_items log.outs) (written_items (item ∷ items))
+          ∙ ap (λ (octets : List ℕ). expected_preface (not (is_server log.role)) ++ octets) (sym (written_behind (item ∷ items) log.outs));
     }
 
 -- Events that are told.

@@ -1,6 +1,6 @@
 -- What is bounded at one end, whatever comes and whatever is asked of it.
 use Rattle.std.specs.Prelude.{◌≡◌, ℕ, zero, suc, ◌+◌, ◌≤◌, Some, None, length}
-use Rattle.hpack.specs.Written.{IsWriting}
+use Rattle.hpack.specs.Written.{IsValidEncoder}
 use Rattle.h2_log.specs.Acts.{Values, AreInRange}
 use Rattle.h2_log.specs.Taking.{most_output, most_resets}
 use Rattle.h2_log.specs.Machine.{End}
@@ -24,7 +24,7 @@ pub record IsBounded (e : End) : Type 0 where
   pub allowed : e.allowed ≤ most_streams
   pub max_streams : e.values.max_streams ≤ most_streams
   pub awaited : (values : Values) → e.awaited ≡ Some values → AreInRange values
-  pub encoder : IsWriting e.encoder
+  pub encoder : IsValidEncoder e.encoder
 
 -- The connection's window is whole, and nothing is kept of numbers that weren't used.
 pub record IsWindowWhole (e : End) : Type 0 where

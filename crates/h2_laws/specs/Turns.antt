@@ -1,6 +1,6 @@
 -- What the turns of a log tell, the newest first.
 use Rattle.std.specs.Prelude.{◌≡◌, not, ℕ, List, [], ◌∷◌, ◌++◌}
-use Rattle.h2_wire.specs.Streams.{opening}
+use Rattle.h2_wire.specs.Streams.{expected_preface}
 use Rattle.h2_log.specs.Items.{written_items}
 use Rattle.h2_log.specs.Events.{Event}
 use Rattle.h2_log.specs.Acts.{Act, Answer, shown, Turn, In, Out, Called, Answered, Happened}
@@ -53,4 +53,4 @@ pub record IsToldByTurns (log : Log) : Type 0 where
   pub events : events_in log.turns ≡ log.told
   pub acts : acts_in log.turns ≡ acts_of log.calls
   pub answers : answers_in log.turns ≡ answers_of log.calls
-  pub items : log.written ≡ opening (not (is_server log.role)) ++ written_items log.outs
+  pub items : log.written ≡ expected_preface (not (is_server log.role)) ++ written_items log.outs

@@ -3,7 +3,7 @@
 ghost use Rattle.std.specs.Prelude.{◌≡◌, ◌≢◌, ℕ, List, None};
 ghost use Rattle.h2_frame.specs.declared.code.Code.TheVariants.{InternalError};
 ghost use Rattle.h2_wire.specs.declared.fault.WireFault.{WireFault};
-ghost use Rattle.h2_wire.specs.Faults.{code_of};
+ghost use Rattle.h2_wire.specs.Faults.{wire_fault_code};
 ghost use Rattle.h2_log.specs.declared.role.Role.{Role};
 ghost use Rattle.h2_log.specs.Acts.{Values, AreInRange, Act, Answer, IsTypedAct};
 ghost use Rattle.h2_log.specs.Log.{Log, next_unprocessed};
@@ -33,7 +33,7 @@ pub fn steps_without_frames_keep_standing()
     ensures part { (values : Values) (e : End) (log : Log) (octets rest : List ℕ) → Stands values e log → TakesOctets log
         → TakesPart e.role log octets rest → Stands values e (took_part log octets rest) }
     ensures fault { (values : Values) (e : End) (log : Log) (octets : List ℕ) (fault : WireFault) → Stands values e log → TakesOctets log
-        → TakesFault e.role log octets fault → Stands values (fails_at (code_of fault) e.taken e) (took_fault log octets fault) }
+        → TakesFault e.role log octets fault → Stands values (fails_at (wire_fault_code fault) e.taken e) (took_fault log octets fault) }
     ensures starving { (values : Values) (e : End) (log : Log) (octets : List ℕ) → Stands values e log → log.failed ≡ None
         → MayStarve e.role log octets → Stands values (fails_at InternalError e.taken e) (took_starving log octets) }
     ensures next { (values : Values) (e : End) (log : Log) → Stands values e log → log.failed ≡ None

@@ -4,8 +4,8 @@ ghost use Rattle.std.specs.Prelude.{◌≡◌, ℕ, ◌≤◌, min, List, length
 ghost use Rattle.hpack.specs.declared.field.Field.{Field};
 ghost use Rattle.hpack.specs.Lists.{EncoderState, list_size};
 ghost use Rattle.hpack.specs.Choice.{block_of};
-ghost use Rattle.hpack.specs.Written.{IsWriting};
-ghost use Rattle.h2_block.specs.Grouping.{Item, most_octets};
+ghost use Rattle.hpack.specs.Written.{IsValidEncoder};
+ghost use Rattle.h2_block.specs.Grouping.{Item, max_block_octets};
 ghost use Rattle.h2_log.specs.declared.role.Role.{Role};
 ghost use Rattle.h2_log.specs.Acts.{Values};
 ghost use Rattle.h2_log.specs.Histories.{IsLog};
@@ -18,7 +18,7 @@ ghost use Rattle.h2_laws.specs.Tables.{Sending, octets_sent, encoder_after, AreW
 /// What an encoder writes, block by block, with limits that change between blocks, its reader decodes block by block, with the same table
 /// behind each, where the reader's limit is never below the encoder's.
 pub fn tables_in_step()
-    ensures { (encoder : EncoderState) (sendings : List Sending) → IsWriting encoder → AreWithin encoder sendings
+    ensures { (encoder : EncoderState) (sendings : List Sending) → IsValidEncoder encoder → AreWithin encoder sendings
         → AreRead encoder.table (octets_sent encoder sendings) sendings (encoder_after encoder sendings).table }
 {}
 
@@ -32,11 +32,11 @@ pub fn limits_agree()
 /// A list that an end may send is a block that its peer may gather.
 pub fn block_fits()
     ensures { (encoder : EncoderState) (fields : List Field) → list_size fields ≤ most_list
-        → length (block_of encoder fields) ≤ most_octets }
+        → length (block_of encoder fields) ≤ max_block_octets }
 {}
 
 /// The encoder of a log is one whose blocks are read, and its limit is the peer's table limit that was read last, 4,096 at most.
 pub fn encoder_of_a_log()
     ensures { (role : Role) (values : Values) (log : Log) → IsLog role values log
-        → IsWriting log.encoder × (log.encoder.limit ≡ min (value_read 1 4096 log.ins) 4096) }
+        → IsValidEncoder log.encoder × (log.encoder.limit ≡ min (value_read 1 4096 log.ins) 4096) }
 {}

@@ -7,8 +7,8 @@ use Rattle.hpack_text.specs.Bits.{IsOctet}
 use Rattle.hpack.specs.declared.field.Field.{Field}
 use Rattle.hpack.specs.Blocks.{Block}
 use Rattle.hpack.specs.Lists.{EncoderState, empty_table}
-use Rattle.hpack.specs.Written.{IsWriting, AreOctets}
-use Rattle.hpack.proofs.WrittenBlocks.{block_spells}
+use Rattle.hpack.specs.Written.{IsValidEncoder, AreOctets}
+use Rattle.hpack.proofs.WrittenBlocks.{block_encodes}
 use Rattle.h2_frame.specs.Frames.{Data, Reset, Settings, Ping, WindowUpdate}
 use Rattle.h2_frame.specs.Writing.{payload_of, refusal}
 use Rattle.h2_log.specs.declared.role.Role.{Role}
@@ -93,24 +93,24 @@ unfoldable pub made : EncoderState
 made = record { table = empty_table 4096; least = 4096; limit = 4096 }
 
 -- It writes blocks.
-pub made_writes : IsWriting made
+pub made_writes : IsValidEncoder made
 unfolding made
 made_writes = record { least = omega arith; limit = omega arith; maximum = omega arith; within = omega arith }
 
 -- the block of the short request
 pub short_block : Block (empty_table 4096) 4096 (0x82 ∷ 0x86 ∷ 0x84 ∷ []) short_request (empty_table 4096)
 unfolding computing made are_octets fields_are_octets
-short_block = block_spells made 4096 short_request made_writes (fields_are short_request refl) (below _ _ refl) (within 4096 4096 refl)
+short_block = block_encodes made 4096 short_request made_writes (fields_are short_request refl) (below _ _ refl) (within 4096 4096 refl)
 
 -- that of the request with an authority
 pub long_block : Block (empty_table 4096) 4096 request_block request table_with_authority
 unfolding computing made are_octets fields_are_octets
-long_block = block_spells made 4096 request made_writes (fields_are request refl) (below _ _ refl) (within 4096 4096 refl)
+long_block = block_encodes made 4096 request made_writes (fields_are request refl) (below _ _ refl) (within 4096 4096 refl)
 
 -- that of the answer
 pub answer_block : Block (empty_table 4096) 4096 (0x88 ∷ []) short_answer (empty_table 4096)
 unfolding computing made are_octets fields_are_octets
-answer_block = block_spells made 4096 short_answer made_writes (fields_are short_answer refl) (below _ _ refl) (within 4096 4096 refl)
+answer_block = block_encodes made 4096 short_answer made_writes (fields_are short_answer refl) (below _ _ refl) (within 4096 4096 refl)
 
 -- new server
 pub new_server_comes : IsLog Server default_values new_server

@@ -4,9 +4,9 @@ use Rattle.std.proofs.lemmas.Bool.Decides.{nat_tests}
 use Rattle.hpack.specs.declared.field.Field.{Field}
 use Rattle.hpack.specs.Tables.{Entries}
 use Rattle.h2_frame.specs.Frames.{Frame, Headers}
-use Rattle.h2_frame.specs.Writing.{payload_of, written, refusal, IsTyped}
-use Rattle.h2_frame.proofs.WrittenLemmas.{written_spells, sound_head, sound_payload}
-use Rattle.h2_wire.specs.Streams.{opening, Limits, IsFrame, AreFrames, IsSound, IsPast, Frames}
+use Rattle.h2_frame.specs.Writing.{payload_of, encoding_of, refusal, IsTyped}
+use Rattle.h2_frame.proofs.WrittenLemmas.{encoding_encodes, sound_head, sound_payload}
+use Rattle.h2_wire.specs.Streams.{expected_preface, Limits, IsFrame, AreFrames, IsSound, IsAfterPreface, Frames}
 use Rattle.h2_wire.proofs.StreamLemmas.{past_before, past_frame, IsSound-push, IsPartial-empty}
 use Rattle.h2_log.specs.declared.role.Role.{Role}
 use Rattle.h2_log.specs.Acts.{Values}
@@ -34,10 +34,10 @@ AreFrames-limits limits others start (frame ∷ frames) octets same (first, left
 
 -- The spelling that is written of a frame is a frame without fault.
 whole_frame : (limit : ℕ) (frame : Frame) → IsTyped frame → refusal frame ≡ None → length (payload_of frame) ≤ limit
-    → IsFrame limit frame (written frame)
+    → IsFrame limit frame (encoding_of frame)
 whole_frame limit frame typed writable fits =
     record {
-      spelled = written_spells frame typed writable;
+      spelled = encoding_encodes frame typed writable;
       sound_head = sound_head frame limit typed writable fits;
       sound_payload = sound_payload frame typed writable;
     }
@@ -46,11 +46,11 @@ whole_frame limit frame typed writable fits =
 sound_limits : (expects : Bool) (limits others : Limits) (frames : List Frame) (part : List ℕ)
     → ((place : ℕ) → place ≤ length part → others place ≡ limits place) → IsSound expects limits frames part → IsSound expects others frames part
 sound_limits expects limits others frames part same sound =
-    let counted : length part ≡ length (opening expects) + length sound.body = rw (sound.opened, length-append) refl in
+    let counted : length part ≡ length (expected_preface expects) + length sound.body = rw (sound.opened, length-append) refl in
     record {
       body = sound.body;
       opened = sound.opened;
-      framed = AreFrames-limits limits others (length (opening expects)) frames sound.body (λ place below. same place (omega arith)) sound.framed;
+      framed = AreFrames-limits limits others (length (expected_preface expects)) frames sound.body (λ place below. same place (omega arith)) sound.framed;
     }
 
 -- behind the opening no preface stands
@@ -64,15 +64,15 @@ record IsAhead (stream : List ℕ) (limits others : Limits) (limit : ℕ) : Type
   ahead : (place : ℕ) → length stream < place → others place ≡ limit
 
 -- The first frame, behind a preface.
-first_frame : (limits others : Limits) (limit : ℕ) (frame : Frame) → IsAhead [] limits others limit → IsFrame limit frame (written frame)
-    → Frames true others ([] ++ (opening true ++ written frame)) ([] ++ frame ∷ []) []
+first_frame : (limits others : Limits) (limit : ℕ) (frame : Frame) → IsAhead [] limits others limit → IsFrame limit frame (encoding_of frame)
+    → Frames true others ([] ++ (expected_preface true ++ encoding_of frame)) ([] ++ frame ∷ []) []
 first_frame limits others limit frame ahead whole =
-    let here : IsFrame (others (length (opening true) + 9)) frame (written frame) = subst (λ bound. IsFrame bound frame (written frame)) (sym
+    let here : IsFrame (others (length (expected_preface true) + 9)) frame (encoding_of frame) = subst (λ bound. IsFrame bound frame (encoding_of frame)) (sym
     (ahead.ahead _ (omega arith))) whole in
     inr (record {
-      part = opening true ++ written frame;
+      part = expected_preface true ++ encoding_of frame;
       joined = sym (append-nil _);
-      sound = IsSound-push true others [] (opening true) frame (written frame) (record {
+      sound = IsSound-push true others [] (expected_preface true) frame (encoding_of frame) (record {
         body = [];
         opened = sym
             (append-nil _);
@@ -84,29 +84,29 @@ first_frame limits others limit frame ahead whole =
 -- A further frame.
 further_frame : (expects : Bool) (limits others : Limits) (limit : ℕ) (stream : List ℕ) (frames : List Frame) (frame : Frame)
     → IsAhead stream limits others limit
-    → IsFrame limit frame (written frame) → IsPast expects limits stream frames [] → Frames expects others (stream ++ written frame) (frames
+    → IsFrame limit frame (encoding_of frame) → IsAfterPreface expects limits stream frames [] → Frames expects others (stream ++ encoding_of frame) (frames
     ++ frame ∷ []) []
 further_frame expects limits others limit stream frames frame ahead whole past =
     let all : past.part ≡ stream = sym (past.joined ∙ append-nil past.part) in
     let sound : IsSound expects others frames stream =
     sound_limits expects limits others frames stream ahead.same (subst (λ part. IsSound expects limits frames part) all past.sound) in
-    let here : IsFrame (others (length stream + 9)) frame (written frame) = subst (λ bound. IsFrame bound frame (written frame)) (sym
+    let here : IsFrame (others (length stream + 9)) frame (encoding_of frame) = subst (λ bound. IsFrame bound frame (encoding_of frame)) (sym
     (ahead.ahead _ (omega arith))) whole in
-    let standing : IsPast expects others stream frames [] = record {
+    let standing : IsAfterPreface expects others stream frames [] = record {
       part = stream;
       joined = sym
           (append-nil stream);
       sound = sound;
       partial = IsPartial-empty _;
     } in
-    inr (past_frame expects others stream frames [] (written frame) frame standing here)
+    inr (past_frame expects others stream frames [] (encoding_of frame) frame standing here)
 
 -- Either of them.
 next_frame : (expects : Bool) (limits others : Limits) (limit : ℕ) (stream : List ℕ) (frames : List Frame) (frame : Frame)
     → IsAhead stream limits others limit
-    → IsFrame limit frame (written frame) → Frames expects limits stream frames []
-    → Frames expects others (stream ++ (opening (expects && length stream == 0) ++ written frame)) (frames ++ frame ∷ []) []
-unfolding opening
+    → IsFrame limit frame (encoding_of frame) → Frames expects limits stream frames []
+    → Frames expects others (stream ++ (expected_preface (expects && length stream == 0) ++ encoding_of frame)) (frames ++ frame ∷ []) []
+unfolding expected_preface
 next_frame true limits others limit stream frames frame ahead whole (inl short) =
     let start : [] ≡ stream = short.all in
     rw (← start, short.none) (first_frame limits others limit frame (rw (← start) at ahead) whole)
@@ -131,16 +131,16 @@ pub taken_frame : (role : Role) (values : Values) (log : Log) (frame : Frame) (s
     → log.rest ≡ []
     → IsTyped frame → refusal frame ≡ None → length (payload_of frame) ≤ payload_limit (acked log) log.outs
     → IsSeenOf log seen frame
-    → IsLog role values (took_frame log (before log ++ written frame) seen frame)
+    → IsLog role values (took_frame log (before log ++ encoding_of frame) seen frame)
 unfolding before
 taken_frame role values log frame seen is opened none typed writable fits says =
     let has = stream_of_log role values log is in
     let framed : Frames (is_server role) log.limits log.input log.frames [] = rw none at (has.framed opened.up) in
     let next = next_frame (is_server role) log.limits (limits_from log) _ log.input log.frames frame (limits_ahead log)
     (whole_frame _ frame typed writable fits) framed in
-    took_one is opened (opening (is_server log.role && length log.input == 0) ++ written frame) frame seen
-    (subst (λ (one : Role). Frames (is_server role) (limits_from log) (log.input ++ (opening (is_server one && length log.input == 0)
-    ++ written frame)) (log.frames ++ frame ∷ []) []) (sym has.role) next)
+    took_one is opened (expected_preface (is_server log.role && length log.input == 0) ++ encoding_of frame) frame seen
+    (subst (λ (one : Role). Frames (is_server role) (limits_from log) (log.input ++ (expected_preface (is_server one && length log.input == 0)
+    ++ encoding_of frame)) (log.frames ++ frame ∷ []) []) (sym has.role) next)
     says
 
 -- One that makes no block whole.

@@ -4,7 +4,7 @@ use Rattle.std.proofs.Common.{◌≡◌, ℕ, ◌+◌, ◌==◌, nat_lt, not, �
 use Rattle.h2_frame.specs.declared.code.Code.{Code}
 use Rattle.h2_frame.specs.declared.code.Code.TheVariants.{ProtocolError, InternalError}
 use Rattle.h2_frame.specs.Frames.{Frame}
-use Rattle.h2_wire.specs.Streams.{preface, opening, Frames}
+use Rattle.h2_wire.specs.Streams.{preface, expected_preface, Frames}
 use Rattle.h2_block.specs.Grouping.{Item, next_fault}
 use Rattle.h2_block.specs.declared.fault.BlockFault.{BlockFault}
 use Rattle.h2_log.specs.declared.role.Role.{Role}
@@ -176,7 +176,7 @@ HasStream-keeps role old new has keeps = record {
 
 -- a new end
 opened_stream : (role : Role) (values : Values) → HasStream role (opened role values)
-unfolding opened wrote opening preface
+unfolding opened wrote expected_preface preface
 opened_stream Client values =
     record {
       role = refl;

@@ -4,7 +4,7 @@ use Rattle.std.specs.Prelude.{◌≡◌, ◌≢◌, ◌⊎◌, ℕ, ◌+◌, ◌
 use Rattle.std.specs.List.{list_any}
 use Rattle.h2_frame.specs.Frames.{Data, Headers, Priority, Reset, Settings, Ping, GoAway, WindowUpdate, Continuation, Unknown}
 use Rattle.h2_frame.specs.Writing.{payload_of}
-use Rattle.h2_block.specs.Grouping.{Item, alone, block, most_octets}
+use Rattle.h2_block.specs.Grouping.{Item, alone, block, max_block_octets}
 use Rattle.h2_log.specs.declared.role.Role.{Role}
 use Rattle.h2_log.specs.declared.role.Role.TheVariants.{Client}
 use Rattle.h2_log.specs.Items.{data_on, data_of, increment_on, ends, resets, one_ping, one_answer, is_goaway, is_goaway_below, total, greatest_block}
@@ -69,7 +69,7 @@ pub record MayChangeSettings (role : Role) (pairs : List (ℕ × ℕ)) (ins outs
 
 -- What may be written next. All but an acknowledgment stands behind those of all SETTINGS that were read (section 6.5.3: at once).
 abbrev pub Allowed : Role → List Item → List Item → Item → Type 0
-Allowed role ins outs (block i end octets) = IsSettled ins outs × (MayOpen role i ins outs ⊎ GoesOn role i ins outs) × (length octets ≤ most_octets)
+Allowed role ins outs (block i end octets) = IsSettled ins outs × (MayOpen role i ins outs ⊎ GoesOn role i ins outs) × (length octets ≤ max_block_octets)
 Allowed role ins outs (alone (Data i end octets pad)) = IsSettled ins outs × MaySendData role i (length (payload_of (Data i end octets pad))) ins outs
 Allowed role ins outs (alone (Headers i end whole fragment pad priority)) = ⊥
 Allowed role ins outs (alone (Priority i octets)) = ⊥

@@ -5,7 +5,7 @@ use Rattle.hpack.specs.Choice.{block_of, after_block}
 use Rattle.h2_frame.specs.declared.code.Code.{Code}
 use Rattle.h2_frame.specs.declared.code.Code.TheVariants.{InternalError, EnhanceYourCalm}
 use Rattle.h2_frame.specs.Frames.{Data, Reset, Settings, Ping, GoAway, WindowUpdate}
-use Rattle.h2_wire.specs.Streams.{opening}
+use Rattle.h2_wire.specs.Streams.{expected_preface}
 use Rattle.h2_block.specs.Grouping.{Item, alone, block}
 use Rattle.h2_log.specs.Items.{written_items}
 use Rattle.h2_log.specs.declared.role.Role.{Role}
@@ -190,7 +190,7 @@ before_opening role =
       begun = None;
       ins = [];
       outs = [];
-      written = opening (not (is_server role));
+      written = expected_preface (not (is_server role));
       told = [];
       calls = [];
       table = empty_table 4096;
@@ -205,4 +205,4 @@ before_opening role =
 unfoldable pub opened : Role → Values → Log
 opened role values =
     record (wrote (before_opening role) (alone (Settings false (opening_pairs role values)) ∷ []))
-    { turns = Out (opening (not (is_server role)) ++ written_items (alone (Settings false (opening_pairs role values)) ∷ [])) ∷ [] }
+    { turns = Out (expected_preface (not (is_server role)) ++ written_items (alone (Settings false (opening_pairs role values)) ∷ [])) ∷ [] }

@@ -4,8 +4,8 @@ use Rattle.hpack.specs.declared.field.Field.{Field}
 use Rattle.hpack.specs.Tables.{Entries}
 use Rattle.h2_frame.specs.declared.code.Code.{Code}
 use Rattle.h2_frame.specs.Frames.{Frame, Headers}
-use Rattle.h2_frame.specs.Writing.{written}
-use Rattle.h2_wire.specs.Streams.{opening}
+use Rattle.h2_frame.specs.Writing.{encoding_of}
+use Rattle.h2_wire.specs.Streams.{expected_preface}
 use Rattle.h2_log.specs.Events.{Event}
 use Rattle.h2_log.specs.Acts.{Values, Act, Answer}
 use Rattle.h2_log.specs.Settings.{is_server}
@@ -19,16 +19,16 @@ default_values = record { table_limit = 4096; initial_window = 65535; max_stream
 
 -- what stands before a frame: a client's preface, where it is the first frame at a server (RFC 9113, section 3.4)
 unfoldable pub before : Log → List ℕ
-before log = opening (is_server log.role && length log.input == 0)
+before log = expected_preface (is_server log.role && length log.input == 0)
 
 -- the log of an end that takes a frame in the spelling that is written (section 4.1); the frame makes no field block whole
 unfoldable pub takes : Log → Frame → Log
-takes log frame = took_frame log (before log ++ written frame) None frame
+takes log frame = took_frame log (before log ++ encoding_of frame) None frame
 
 -- the log of an end that takes a field block in one HEADERS frame; the block says these fields and leaves this table (sections 4.3 and 6.2)
 unfoldable pub takes_block : Log → (stream : ℕ) (end : Bool) (octets : List ℕ) → List Field → Entries → Log
 takes_block log stream end octets fields after =
-    took_frame log (before log ++ written (Headers stream end true octets None None)) (Some (record { fields = fields; after = after }))
+    took_frame log (before log ++ encoding_of (Headers stream end true octets None None)) (Some (record { fields = fields; after = after }))
     (Headers stream end true octets None None)
 
 -- No condition refuses the call, and where memory is ample it has this answer.

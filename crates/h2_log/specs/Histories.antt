@@ -4,7 +4,7 @@ use Rattle.hpack.specs.Blocks.{Block}
 use Rattle.hpack.specs.Lists.{NoBlock}
 use Rattle.h2_frame.specs.Frames.{Frame}
 use Rattle.h2_wire.specs.declared.fault.WireFault.{WireFault}
-use Rattle.h2_wire.specs.Streams.{Frames, FaultAt}
+use Rattle.h2_wire.specs.Streams.{Frames, WireFaultAt}
 use Rattle.h2_block.specs.declared.fault.BlockFault.{BlockFault}
 use Rattle.h2_block.specs.Grouping.{alone, block, next_fault}
 use Rattle.h2_log.specs.declared.role.Role.{Role}
@@ -54,7 +54,7 @@ TakesFrame role log octets frame = Frames (is_server role) (limits_from log) (lo
 -- Octets came, and the last of them made a fault.
 abbrev pub TakesFault : Role → Log → List ℕ → WireFault → Type 0
 TakesFault role log octets fault =
-    FaultAt (is_server role) (limits_from log) (log.input ++ octets) log.frames (length (log.input ++ octets)) fault
+    WireFaultAt (is_server role) (limits_from log) (log.input ++ octets) log.frames (length (log.input ++ octets)) fault
 
 -- Memory may be refused before any octet was used, or with octets with which a frame ended, or none.
 pub data MayStarve (role : Role) (log : Log) (octets : List ℕ) : Type 0 where

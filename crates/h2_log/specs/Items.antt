@@ -2,9 +2,9 @@
 -- newest first.
 use Rattle.std.specs.Prelude.{ℕ, ◌+◌, ◌%◌, ◌==◌, nat_lt, nat_le, max, Bool, true, false, ◌&&◌, if◌then◌else◌, List, [], ◌∷◌, ◌++◌, length}
 use Rattle.h2_frame.specs.Frames.{Data, Reset, Ping, GoAway, WindowUpdate}
-use Rattle.h2_frame.specs.Writing.{payload_of, stream_of, written}
+use Rattle.h2_frame.specs.Writing.{payload_of, stream_of, encoding_of}
 use Rattle.h2_block.specs.Grouping.{Item, alone, block}
-use Rattle.h2_block.specs.Spreading.{spread_frames, written_frames}
+use Rattle.h2_block.specs.Spread.{spread_frames, encoding_of_frames}
 
 -- the stream of an item; 0 is the connection
 unfoldable pub stream_of_item : Item → ℕ
@@ -87,8 +87,8 @@ greatest_block (alone frame ∷ items) = greatest_block items
 
 -- the octets that are written of an item: those of its frame, or of the frames over which its block is spread
 unfoldable pub written_item : Item → List ℕ
-written_item (alone frame) = written frame
-written_item (block stream end octets) = written_frames (spread_frames stream end octets)
+written_item (alone frame) = encoding_of frame
+written_item (block stream end octets) = encoding_of_frames (spread_frames stream end octets)
 
 -- the octets that are written of items, the oldest first
 unfoldable pub written_items : List Item → List ℕ

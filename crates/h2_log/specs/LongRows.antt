@@ -5,7 +5,7 @@ use Rattle.hpack.specs.Tables.{Entries}
 use Rattle.hpack.specs.Lists.{empty_table, list_size}
 use Rattle.h2_frame.specs.declared.code.Code.TheVariants.{ProtocolError, EnhanceYourCalm}
 use Rattle.h2_frame.specs.Frames.{Data, Settings, Ping, WindowUpdate}
-use Rattle.h2_wire.specs.Streams.{FaultAt}
+use Rattle.h2_wire.specs.Streams.{WireFaultAt}
 use Rattle.h2_wire.specs.declared.fault.WireFault.TheVariants.{BadPreface}
 use Rattle.h2_log.specs.declared.role.Role.TheVariants.{Client, Server}
 use Rattle.h2_log.specs.Events.{Event, FieldsTold, DataTold, ResetTold}
@@ -261,7 +261,7 @@ server_with_wrong_preface = took_fault new_server (0x50 ∷ 0x52 ∷ 0x49 ∷ 0x
 -- A wrong octet of the preface ends the connection at once (section 3.4).
 abbrev pub RefusesAWrongPreface : Type 0
 RefusesAWrongPreface =
-    FaultAt true (λ place. 16384) (0x50 ∷ 0x52 ∷ 0x49 ∷ 0x20 ∷ 0x2b ∷ []) [] 5 BadPreface
+    WireFaultAt true (λ place. 16384) (0x50 ∷ 0x52 ∷ 0x49 ∷ 0x20 ∷ 0x2b ∷ []) [] 5 BadPreface
     × ComesTo server_with_wrong_preface (0x50 ∷ 0x52 ∷ 0x49 ∷ 0x20 ∷ 0x2b ∷ []) [] (server_settings ++ goaway_frame 0 1) (Some ProtocolError)
 
 -- A reply that would pass 262,144 octets of output that waits, and the 1,001st reset, end the connection in place of the reply (own; section

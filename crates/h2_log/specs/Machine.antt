@@ -7,10 +7,10 @@ use Rattle.h2_frame.specs.declared.code.Code.{Code}
 use Rattle.h2_frame.specs.declared.code.Code.TheVariants.{ProtocolError, InternalError, EnhanceYourCalm}
 use Rattle.h2_frame.specs.Frames.{Frame, Data, Reset, Settings, Ping, GoAway, WindowUpdate}
 use Rattle.h2_frame.specs.Writing.{payload_of}
-use Rattle.h2_wire.specs.Streams.{opening}
+use Rattle.h2_wire.specs.Streams.{expected_preface}
 use Rattle.h2_block.specs.declared.fault.BlockFault.{BlockFault}
 use Rattle.h2_block.specs.Grouping.{Item, alone, block, next_fault}
-use Rattle.h2_block.specs.Gathering.{code_of}
+use Rattle.h2_block.specs.Gather.{block_fault_code}
 use Rattle.h2_log.specs.declared.role.Role.{Role}
 use Rattle.h2_log.specs.declared.role.Role.TheVariants.{Client, Server}
 use Rattle.h2_log.specs.declared.refusal.Refusal.{Refusal}
@@ -193,7 +193,7 @@ behind_piece e seen (whole item) = behind_item (record e { begun = None }) seen 
 behind_piece e seen (part begun) = record e { begun = Some begun }
 
 unfoldable pub behind_grouping : End → Option Seen → Frame → Option BlockFault → End
-behind_grouping e seen frame (Some fault) = fails_at (code_of fault) e.taken e
+behind_grouping e seen frame (Some fault) = fails_at (block_fault_code fault) e.taken e
 behind_grouping e seen frame None = behind_piece e seen (piece_of e.begun frame)
 
 unfoldable pub behind_frame : End → Option Seen → Frame → End
@@ -354,6 +354,6 @@ new_end role values =
       awaited = Some values;
       ping = None;
       resets = 0;
-      waiting = opening (not (is_server role)) ++ written_items (alone (Settings false (opening_pairs role values)) ∷ []);
+      waiting = expected_preface (not (is_server role)) ++ written_items (alone (Settings false (opening_pairs role values)) ∷ []);
       failed = None;
     }

@@ -4,7 +4,7 @@ use Rattle.hpack.specs.declared.field.Field.{Field}
 use Rattle.hpack.specs.Lists.{empty_table}
 use Rattle.h2_frame.specs.declared.code.Code.TheVariants.{ProtocolError, FlowControlError, FrameSizeError}
 use Rattle.h2_frame.specs.Frames.{Data, Reset, Settings, Ping, GoAway, WindowUpdate}
-use Rattle.h2_wire.specs.Streams.{FaultAt}
+use Rattle.h2_wire.specs.Streams.{WireFaultAt}
 use Rattle.h2_wire.specs.declared.fault.WireFault.TheVariants.{HeadFault, PayloadFault}
 use Rattle.h2_log.specs.declared.role.Role.TheVariants.{Client, Server}
 use Rattle.h2_log.specs.Events.{FieldsTold, DataTold, ResetTold, GoAwayTold, UnprocessedTold, AckTold}
@@ -215,9 +215,9 @@ CountsPadding =
 -- DATA without a pad length is a FRAME_SIZE_ERROR, known at the ninth (sections 4.2 and 6.1).
 abbrev pub FaultsOfPadding : Type 0
 FaultsOfPadding =
-    FaultAt false (λ place. 16384) (0x00 ∷ 0x00 ∷ 0x05 ∷ 0x00 ∷ 0x08 ∷ 0x00 ∷ 0x00 ∷ 0x00 ∷ 0x01 ∷ 0x05 ∷ 0x00 ∷ 0x00 ∷ 0x00 ∷ 0x00 ∷
+    WireFaultAt false (λ place. 16384) (0x00 ∷ 0x00 ∷ 0x05 ∷ 0x00 ∷ 0x08 ∷ 0x00 ∷ 0x00 ∷ 0x00 ∷ 0x01 ∷ 0x05 ∷ 0x00 ∷ 0x00 ∷ 0x00 ∷ 0x00 ∷
     []) [] 14 (PayloadFault ProtocolError)
-    × FaultAt false (λ place. 16384) (0x00 ∷ 0x00 ∷ 0x00 ∷ 0x00 ∷ 0x08 ∷ 0x00 ∷ 0x00 ∷ 0x00 ∷ 0x01 ∷ []) [] 9 (HeadFault FrameSizeError)
+    × WireFaultAt false (λ place. 16384) (0x00 ∷ 0x00 ∷ 0x00 ∷ 0x00 ∷ 0x08 ∷ 0x00 ∷ 0x00 ∷ 0x00 ∷ 0x01 ∷ []) [] 9 (HeadFault FrameSizeError)
 
 -- WINDOW_UPDATE of nothing on a live stream resets it; on the connection it ends that. DATA on an idle stream ends the connection, and so
 -- does a connection's window above 2^31 - 1 (sections 5.1, 6.9 and 6.9.1).

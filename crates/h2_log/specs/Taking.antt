@@ -11,11 +11,11 @@ use Rattle.h2_frame.specs.declared.code.Code.TheVariants.{ProtocolError, Interna
 use Rattle.h2_frame.specs.Frames.{Frame, Data, Headers, Priority, Reset, Settings, Ping, GoAway, WindowUpdate, Continuation, Unknown}
 use Rattle.h2_frame.specs.Writing.{payload_of}
 use Rattle.h2_wire.specs.declared.fault.WireFault.{WireFault}
-use Rattle.h2_wire.specs.Faults.{code_of as wire_code}
+use Rattle.h2_wire.specs.Faults.{wire_fault_code}
 use Rattle.h2_wire.specs.Streams.{Limits}
 use Rattle.h2_block.specs.declared.fault.BlockFault.{BlockFault}
 use Rattle.h2_block.specs.Grouping.{Item, alone, block, Begun, next_fault}
-use Rattle.h2_block.specs.Gathering.{code_of}
+use Rattle.h2_block.specs.Gather.{block_fault_code}
 use Rattle.h2_log.specs.Items.{stream_of_item, data_on, data_of, increment_on, ends, total, written_items}
 use Rattle.h2_log.specs.Events.{Event, FieldsTold, DataTold, ResetTold, GoAwayTold, UnprocessedTold, AckTold, PongTold}
 use Rattle.h2_log.specs.Acts.{In, Out, Happened}
@@ -261,7 +261,7 @@ with_piece log seen (whole item) = with_item (record log { begun = None }) seen 
 with_piece log seen (part begun) = record log { begun = Some begun }
 
 unfoldable pub with_grouping : Log → Option Seen → Frame → Option BlockFault → Log
-with_grouping log seen frame (Some fault) = fails (code_of fault) (taken log) log
+with_grouping log seen frame (Some fault) = fails (block_fault_code fault) (taken log) log
 with_grouping log seen frame None = with_piece log seen (piece_of log.begun frame)
 
 -- the log behind a frame: the first must be SETTINGS; then blocks are gathered (section 6.10)
@@ -280,7 +280,7 @@ took_frame log octets seen frame = with_frame (used log octets []) seen frame
 
 -- It used octets, whose last makes a fault of the stream.
 abbrev pub took_fault : Log → List ℕ → WireFault → Log
-took_fault log octets fault = fails (wire_code fault) (taken log) (used log octets [])
+took_fault log octets fault = fails (wire_fault_code fault) (taken log) (used log octets [])
 
 -- It used octets, and memory was refused.
 abbrev pub took_starving : Log → List ℕ → Log

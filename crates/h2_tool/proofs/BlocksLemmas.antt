@@ -4,7 +4,7 @@ use Rattle.h2_frame.specs.Frames.{Frame}
 use Rattle.h2_block.specs.declared.fault.BlockFault.{BlockFault}
 use Rattle.h2_block.specs.declared.fault.BlockFault.TheVariants as grouping
 use Rattle.h2_block.specs.Grouping.{Item, alone, block}
-use Rattle.h2_block.specs.Gathering.{GatherState, Stands, Breaks, Fails, code_of}
+use Rattle.h2_block.specs.Gather.{GatherState, GatherRepresents, GatherFaults, GatherFails, block_fault_code}
 use Rattle.hpack.specs.declared.field.List.{List as FieldList}
 use Rattle.hpack.specs.Tables.{Entries}
 use Rattle.hpack.specs.Lists.{Decodes}
@@ -22,7 +22,7 @@ decode_both table mid after (block stream end octets ∷ items) others (fields, 
 
 -- a frame that is passed on is read
 pub reads_pass : (blocks : Blocks) (gather : GatherState) (frame passed : Frame) (frames : List Frame)
-    → ((so_far : List Frame) (items : List Item) → Stands blocks.gather so_far items → Stands gather (so_far ++ frame ∷ []) (items ++ alone passed ∷ []))
+    → ((so_far : List Frame) (items : List Item) → GatherRepresents blocks.gather so_far items → GatherRepresents gather (so_far ++ frame ∷ []) (items ++ alone passed ∷ []))
     → Reads blocks frames → Reads (record { gather = gather; decoder = blocks.decoder }) (frames ++ frame ∷ [])
 reads_pass blocks gather frame passed frames goes_on reads =
     let read = reads.read in
@@ -40,7 +40,7 @@ reads_pass blocks gather frame passed frames goes_on reads =
 
 -- a frame of a block that isn't whole is read
 pub reads_more : (blocks : Blocks) (gather : GatherState) (frame : Frame) (frames : List Frame)
-    → ((so_far : List Frame) (items : List Item) → Stands blocks.gather so_far items → Stands gather (so_far ++ frame ∷ []) (items ++ []))
+    → ((so_far : List Frame) (items : List Item) → GatherRepresents blocks.gather so_far items → GatherRepresents gather (so_far ++ frame ∷ []) (items ++ []))
     → Reads blocks frames → Reads (record { gather = gather; decoder = blocks.decoder }) (frames ++ frame ∷ [])
 reads_more blocks gather frame frames goes_on reads =
     let read = reads.read in
@@ -58,7 +58,7 @@ reads_more blocks gather frame frames goes_on reads =
 
 -- a frame that ends a block, which decodes, is read
 pub reads_block : (blocks new : Blocks) (gather : GatherState) (frame : Frame) (frames : List Frame) (stream : ℕ) (end : Bool) (octets : List ℕ) (list : FieldList)
-    → ((so_far : List Frame) (items : List Item) → Stands blocks.gather so_far items → Stands gather (so_far ++ frame ∷ []) (items ++ block stream end octets ∷ []))
+    → ((so_far : List Frame) (items : List Item) → GatherRepresents blocks.gather so_far items → GatherRepresents gather (so_far ++ frame ∷ []) (items ++ block stream end octets ∷ []))
     → new.gather ≡ gather → Decodes blocks.decoder octets 65536 list new.decoder
     → Reads blocks frames → Reads new (frames ++ frame ∷ [])
 reads_block blocks new gather frame frames stream end octets list goes_on same decodes reads =
@@ -79,12 +79,12 @@ reads_block blocks new gather frame frames stream end octets list goes_on same d
 
 -- where nothing was at fault, a frame that doesn't group is misread
 misgrouped : (blocks : Blocks) (gather : GatherState) (frame : Frame) (frames : List Frame) (fault : BlockFault)
-    → MatchOption blocks.gather.fault (Breaks blocks.gather frame fault gather) (λ known. gather ≡ blocks.gather)
-    → Reads blocks frames → IsMisread (frames ++ frame ∷ []) (code_of fault)
+    → MatchOption blocks.gather.fault (GatherFaults blocks.gather frame fault gather) (λ known. gather ≡ blocks.gather)
+    → Reads blocks frames → IsMisread (frames ++ frame ∷ []) (block_fault_code fault)
 misgrouped blocks gather frame frames fault fails reads =
     let read = reads.read in
-    let breaks : Breaks blocks.gather frame fault gather =
-    subst (λ (known : Option BlockFault). MatchOption known (Breaks blocks.gather frame fault gather) (λ known. gather ≡ blocks.gather)) reads.grouping fails in
+    let breaks : GatherFaults blocks.gather frame fault gather =
+    subst (λ (known : Option BlockFault). MatchOption known (GatherFaults blocks.gather frame fault gather) (λ known. gather ≡ blocks.gather)) reads.grouping fails in
     inl (record {
       items = read.items;
       table = blocks.decoder.table;
@@ -96,7 +96,7 @@ misgrouped blocks gather frame frames fault fails reads =
 
 -- a frame that the gatherer faults is misread
 pub misread_frame : (blocks : Blocks) (gather : GatherState) (frame : Frame) (frames : List Frame) (fault : BlockFault)
-    → Fails blocks.gather frame fault gather → Reads blocks frames → Misreads (frames ++ frame ∷ []) (misread_of_frame fault)
+    → GatherFails blocks.gather frame fault gather → Reads blocks frames → Misreads (frames ++ frame ∷ []) (misread_of_frame fault)
 misread_frame blocks gather frame frames grouping.Interrupted fails reads = misgrouped blocks gather frame frames grouping.Interrupted fails reads
 misread_frame blocks gather frame frames grouping.Stray fails reads = misgrouped blocks gather frame frames grouping.Stray fails reads
 misread_frame blocks gather frame frames grouping.TooLong fails reads = misgrouped blocks gather frame frames grouping.TooLong fails reads
@@ -104,7 +104,7 @@ misread_frame blocks gather frame frames grouping.Memory fails reads = tt
 
 -- a block that doesn't decode is misread
 pub misread_block : (blocks : Blocks) (gather : GatherState) (frame : Frame) (frames : List Frame) (stream : ℕ) (end : Bool) (octets : List ℕ) (misread : Misread)
-    → ((so_far : List Frame) (items : List Item) → Stands blocks.gather so_far items → Stands gather (so_far ++ frame ∷ []) (items ++ block stream end octets ∷ []))
+    → ((so_far : List Frame) (items : List Item) → GatherRepresents blocks.gather so_far items → GatherRepresents gather (so_far ++ frame ∷ []) (items ++ block stream end octets ∷ []))
     → gather.begun ≡ None → (blocks.decoder.failed ≡ false → IsUndecoded blocks.decoder octets misread)
     → Reads blocks frames → Misreads (frames ++ frame ∷ []) misread
 misread_block blocks gather frame frames stream end octets misreads.Memory goes_on ended undecoded reads = tt

@@ -10,8 +10,8 @@ use Rattle.h2_frame.specs.declared.code.Code.{Code}
 use Rattle.h2_frame.specs.Frames.{Frame}
 use Rattle.h2_wire.specs.declared.fault.WireFault.{WireFault}
 use Rattle.h2_wire.specs.declared.fault.WireFault.TheVariants as faults
-use Rattle.h2_wire.specs.Streams.{Limits, Frames, Makes}
-use Rattle.h2_wire.specs.Cutting.{CutterState, Stands}
+use Rattle.h2_wire.specs.Streams.{Limits, Frames, EndsWithFault}
+use Rattle.h2_wire.specs.Cutter.{CutterState, CutterRepresents}
 use Rattle.h2_block.specs.Grouping.{Begun}
 use Rattle.h2_tool.specs.declared.blocks.Blocks.{Blocks}
 use Rattle.h2_tool.specs.declared.blocks.Misread.TheVariants as misreads
@@ -59,7 +59,7 @@ faulty-more expects limits stream more place fault found =
       table = found.table;
       at = record {
         within = simp length-append (let within = found.at.within in omega arith);
-        made = subst (λ (octets : List ℕ). Makes expects limits found.frames octets fault) (sym same) found.at.made;
+        made = subst (λ (octets : List ℕ). EndsWithFault expects limits found.frames octets fault) (sym same) found.at.made;
       };
       read = found.read;
     }

@@ -5,8 +5,8 @@ use Rattle.h2_frame.specs.declared.code.Code.TheVariants.{CompressionError}
 use Rattle.h2_frame.specs.Frames.{Frame}
 use Rattle.h2_block.specs.declared.fault.BlockFault.{BlockFault}
 use Rattle.h2_block.specs.declared.fault.BlockFault.TheVariants as grouping
-use Rattle.h2_block.specs.Grouping.{Item, alone, block, Begun, Groups, FaultAt}
-use Rattle.h2_block.specs.Gathering.{code_of}
+use Rattle.h2_block.specs.Grouping.{Item, alone, block, Begun, Groups, GroupingFaultAt}
+use Rattle.h2_block.specs.Gather.{block_fault_code}
 use Rattle.hpack.specs.declared.fault.Fault.{Fault as DecoderFault}
 use Rattle.hpack.specs.declared.fault.Fault.TheVariants as decoding
 use Rattle.hpack.specs.declared.field.Field.{Field}
@@ -43,9 +43,9 @@ pub record IsMisgrouped (frames : List Frame) (code : Code) : Type 0 where
   pub items : List Item
   pub table : Entries
   pub fault : BlockFault
-  pub at : FaultAt frames items fault
+  pub at : GroupingFaultAt frames items fault
   pub decoded : Decode first_table items table
-  pub coded : code ≡ code_of fault
+  pub coded : code ≡ block_fault_code fault
 
 -- The last of the frames ends a block that doesn't decode, and all before that are read.
 pub record IsUndecodable (frames : List Frame) (code : Code) : Type 0 where
@@ -65,9 +65,9 @@ IsMisread frames code = IsMisgrouped frames code ⊎ IsUndecodable frames code
 
 -- a gatherer's fault, as that of reading frames
 abbrev pub misread_of_frame : BlockFault → Misread
-misread_of_frame grouping.Interrupted = Fault (code_of grouping.Interrupted)
-misread_of_frame grouping.Stray = Fault (code_of grouping.Stray)
-misread_of_frame grouping.TooLong = Fault (code_of grouping.TooLong)
+misread_of_frame grouping.Interrupted = Fault (block_fault_code grouping.Interrupted)
+misread_of_frame grouping.Stray = Fault (block_fault_code grouping.Stray)
+misread_of_frame grouping.TooLong = Fault (block_fault_code grouping.TooLong)
 misread_of_frame grouping.Memory = Memory
 
 -- a decoder's fault, as that of reading frames

@@ -5,7 +5,7 @@ use Rattle.h2_frame.specs.Frames.{Frame}
 use Rattle.h2_wire.specs.declared.fault.WireFault.{WireFault}
 use Rattle.h2_wire.specs.declared.fault.WireFault.TheVariants as faults
 use Rattle.h2_wire.specs.Streams.{Limits}
-use Rattle.h2_wire.specs.Cutting.{CutterState, Stands, told}
+use Rattle.h2_wire.specs.Cutter.{CutterState, CutterRepresents, saturated}
 use Rattle.h2_tool.specs.declared.blocks.Blocks.{Blocks}
 use Rattle.h2_tool.specs.declared.status.Status.{Status}
 use Rattle.h2_tool.specs.declared.blocks.Misread.TheVariants as misreads
@@ -17,7 +17,7 @@ use Rattle.h2_tool.specs.Telling.{IsFaulty, IsMisreadAt, Tells}
 -- The cutter and the blocks stand for the stream so far, all of whose frames are read.
 pub record IsShown (cutter : CutterState) (blocks : Blocks) (expects : Bool) (limits : Limits) (stream : List ℕ) : Type 0 where
   pub frames : List Frame
-  pub cut : Stands cutter expects limits stream frames
+  pub cut : CutterRepresents cutter expects limits stream frames
   pub read : Reads blocks frames
 
 -- The octets were used, all of them: whatever stream the cutter and the blocks stood for, they now stand for that stream with the
@@ -30,12 +30,12 @@ Shows cutter blocks octets new_cutter new_blocks =
 -- The stream has this fault of its octets, and the cutter tells where.
 abbrev pub FaultsAt : Bool → Limits → List ℕ → WireFault → CutterState → Type 0
 FaultsAt expects limits stream fault cutter =
-    (place : ℕ) × IsFaulty expects limits stream place fault × (cutter.place ≡ told place)
+    (place : ℕ) × IsFaulty expects limits stream place fault × (cutter.place ≡ saturated place)
 
 -- A frame of the stream is misread, with this code, and the cutter tells where it ends.
 abbrev pub MisreadsAt : Bool → Limits → List ℕ → Code → CutterState → Type 0
 MisreadsAt expects limits stream code cutter =
-    (place : ℕ) × IsMisreadAt expects limits stream place code × (cutter.place ≡ told place)
+    (place : ℕ) × IsMisreadAt expects limits stream place code × (cutter.place ≡ saturated place)
 
 -- Why the stream isn't shown to its end. Where memory was refused, or a line wasn't printed, nothing is said of it.
 abbrev pub StopsAt : Bool → Limits → List ℕ → Stop → CutterState → Type 0

@@ -5,7 +5,7 @@ use Rattle.hpack.specs.Tables.{Entries}
 use Rattle.h2_frame.specs.declared.code.Code.{Code}
 use Rattle.h2_frame.specs.Frames.{Frame}
 use Rattle.h2_wire.specs.declared.fault.WireFault.{WireFault}
-use Rattle.h2_wire.specs.Streams.{Limits, Frames, FaultAt}
+use Rattle.h2_wire.specs.Streams.{Limits, Frames, WireFaultAt}
 use Rattle.h2_block.specs.Grouping.{Begun}
 use Rattle.h2_tool.specs.declared.order.ShowOrder.{ShowOrder}
 use Rattle.h2_tool.specs.declared.order.Side.{Side}
@@ -50,7 +50,7 @@ pub record IsFaulty (expects : Bool) (limits : Limits) (stream : List ℕ) (plac
   pub frames : List Frame
   pub begun : Option Begun
   pub table : Entries
-  pub at : FaultAt expects limits stream frames place fault
+  pub at : WireFaultAt expects limits stream frames place fault
   pub read : IsRead frames begun table
 
 -- The octet of the stream at this place ends a frame that is misread: it doesn't group with those before it, or ends a block that

@@ -10,8 +10,8 @@ use Rattle.h2_frame.specs.declared.heads.Head.{Head}
 use Rattle.h2_frame.specs.Heads.{head_of, head_fault, form_fault}
 use Rattle.h2_frame.specs.Frames.{Frame, Carries, payload_fault}
 use Rattle.h2_frame.proofs.HeadLemmas.{head_of-append, length-head_fault}
-use Rattle.h2_wire.specs.Streams.{preface, Limits, IsPast, IsPartial}
-use Rattle.h2_wire.specs.Cutting.{CutterState, told, Stands, Breaks, Fails}
+use Rattle.h2_wire.specs.Streams.{preface, Limits, IsAfterPreface, IsPartial}
+use Rattle.h2_wire.specs.Cutter.{CutterState, saturated, CutterRepresents, CutterFaults, CutterFails}
 use Rattle.h2_wire.specs.Buffers.{state_of, rest_of}
 use Rattle.h2_wire.specs.Steps.{Continues, Completes, OpensSoundly}
 use Rattle.h2_wire.proofs.StepLemmas.{goes_held, goes_whole, head_of-take}
@@ -30,23 +30,23 @@ if_first None First Known none holds = holds
 if_first (Some known) First Known none holds = (cc)
 
 -- A first fault breaks off.
-pub fails_preface : (old : CutterState) (piece : List ℕ) (new : CutterState) → old.fault ≡ None → Breaks old piece faults.BadPreface new → Fails old piece faults.BadPreface new
-fails_preface old piece new sound broken = if_first old.fault (Breaks old piece faults.BadPreface new) (λ known. new ≡ old) sound broken
+pub fails_preface : (old : CutterState) (piece : List ℕ) (new : CutterState) → old.fault ≡ None → CutterFaults old piece faults.BadPreface new → CutterFails old piece faults.BadPreface new
+fails_preface old piece new sound broken = if_first old.fault (CutterFaults old piece faults.BadPreface new) (λ known. new ≡ old) sound broken
 
-pub fails_head : (old : CutterState) (piece : List ℕ) (code : Code) (new : CutterState) → old.fault ≡ None → Breaks old piece (faults.HeadFault code) new
-    → Fails old piece (faults.HeadFault code) new
-fails_head old piece code new sound broken = if_first old.fault (Breaks old piece (faults.HeadFault code) new) (λ known. new ≡ old) sound broken
+pub fails_head : (old : CutterState) (piece : List ℕ) (code : Code) (new : CutterState) → old.fault ≡ None → CutterFaults old piece (faults.HeadFault code) new
+    → CutterFails old piece (faults.HeadFault code) new
+fails_head old piece code new sound broken = if_first old.fault (CutterFaults old piece (faults.HeadFault code) new) (λ known. new ≡ old) sound broken
 
-pub fails_payload : (old : CutterState) (piece : List ℕ) (code : Code) (new : CutterState) → old.fault ≡ None → Breaks old piece (faults.PayloadFault code) new
-    → Fails old piece (faults.PayloadFault code) new
-fails_payload old piece code new sound broken = if_first old.fault (Breaks old piece (faults.PayloadFault code) new) (λ known. new ≡ old) sound broken
+pub fails_payload : (old : CutterState) (piece : List ℕ) (code : Code) (new : CutterState) → old.fault ≡ None → CutterFaults old piece (faults.PayloadFault code) new
+    → CutterFails old piece (faults.PayloadFault code) new
+fails_payload old piece code new sound broken = if_first old.fault (CutterFaults old piece (faults.PayloadFault code) new) (λ known. new ≡ old) sound broken
 
 -- The piece is held behind what was held, and no frame is whole.
 pub continues : (old held new : Buffer) (piece : List ℕ) (start : ℕ) → held ≡ record old { held = held.held }
-    → new ≡ record held { matched = 24; place = told (held.place + length piece) }
+    → new ≡ record held { matched = 24; place = saturated (held.place + length piece) }
     → held.held.items ≡ old.held.items ++ drop start piece → old.fault ≡ None → old.lent ≡ false
-    → ((expects : Bool) (limits : Limits) (stream : List ℕ) (so_far : List Frame) → Stands (state_of old) expects limits stream so_far
-    → (past : IsPast expects limits (stream ++ take start piece) so_far old.held.items) × IsPartial (limits (length past.part + 9)) (old.held.items ++ drop start piece))
+    → ((expects : Bool) (limits : Limits) (stream : List ℕ) (so_far : List Frame) → CutterRepresents (state_of old) expects limits stream so_far
+    → (past : IsAfterPreface expects limits (stream ++ take start piece) so_far old.held.items) × IsPartial (limits (length past.part + 9)) (old.held.items ++ drop start piece))
     → Continues (state_of old) piece (length piece) new
 continues old held new piece start same changed items sound lent opens =
     let fault : held.fault ≡ None = ap (λ (b : Buffer). b.fault) same ∙ sound in
@@ -54,7 +54,7 @@ continues old held new piece start same changed items sound lent opens =
     rw changed (record {
       all = refl;
       goes_on = goes_held (state_of old) _ piece old.held.items start fault refl (ap (λ (b : Buffer). b.limit) same)
-          (ap (λ (b : Buffer). told (b.place + length piece)) same) (rw (fault, not_lent) items) opens;
+          (ap (λ (b : Buffer). saturated (b.place + length piece)) same) (rw (fault, not_lent) items) opens;
     })
 
 -- What is held is less than its frame.
@@ -97,7 +97,7 @@ length-whole held more wanted head counted enough =
 
 -- The frame is whole with the octets that are held now, and without fault.
 pub completes : (old held new : Buffer) (piece : List ℕ) (start wanted : ℕ) (head : Head) → held ≡ record old { held = held.held }
-    → new ≡ record held { matched = 24; lent = true; place = told (held.place + (start + wanted)) }
+    → new ≡ record held { matched = 24; lent = true; place = saturated (held.place + (start + wanted)) }
     → held.held.items ≡ old.held.items ++ take wanted (drop start piece) → old.fault ≡ None
     → length old.held.items + wanted ≡ 9 + head.length → 0 < wanted → start ≤ length piece → wanted ≤ length (drop start piece)
     → head ≡ head_of (old.held.items ++ drop start piece) → form_fault head ≡ None
@@ -109,7 +109,7 @@ completes old held new piece start wanted head same changed items sound counted 
     let whole : length (old.held.items ++ take wanted (drop start piece)) ≡ 9 + head.length = length-whole old.held.items (drop start piece) wanted head counted enough in
     let front : head ≡ head_of (old.held.items ++ take wanted (drop start piece)) = is_head ∙ whole_head old.held.items (drop start piece) wanted (omega (arith, whole)) in
     let all_within : start + wanted ≤ length piece = omega (arith, length-drop start piece) in
-    let nothing : rest_of (record held { matched = 24; lent = true; place = told (held.place + (start + wanted)) }) ≡ [] = rw fault refl in
+    let nothing : rest_of (record held { matched = 24; lent = true; place = saturated (held.place + (start + wanted)) }) ≡ [] = rw fault refl in
     rw changed (record {
       within = all_within;
       some = omega arith;
@@ -119,7 +119,7 @@ completes old held new piece start wanted head same changed items sound counted 
       nothing_behind = nothing;
       goes_on = λ frame carried.
           goes_whole (state_of old) _ piece old.held.items start wanted frame fault refl (ap (λ (b : Buffer). b.limit) same)
-          (ap (λ (b : Buffer). told (b.place + (start + wanted))) same) all_within nothing (λ expects limits stream so_far stood.
+          (ap (λ (b : Buffer). saturated (b.place + (start + wanted))) same) all_within nothing (λ expects limits stream so_far stood.
           let (past, sound_head) = opens expects limits stream so_far stood in (
             past,
             record {

@@ -8,15 +8,15 @@ use Rattle.h2_wire.specs.declared.buffer.Buffer.{Buffer}
 use Rattle.h2_frame.specs.declared.code.Code.{Code}
 use Rattle.h2_wire.specs.declared.fault.WireFault.{WireFault}
 use Rattle.h2_wire.specs.declared.fault.WireFault.TheVariants as faults
-use Rattle.h2_wire.specs.Streams.{preface, opening}
-use Rattle.h2_wire.specs.Cutting.{CutterState, Stands, Advances}
+use Rattle.h2_wire.specs.Streams.{preface, expected_preface}
+use Rattle.h2_wire.specs.Cutter.{CutterState, CutterRepresents, CutterAdvances}
 use Rattle.h2_wire.proofs.StreamLemmas.{IsPartial-empty}
 use Rattle.h2_wire.specs.Buffers.{state_of}
 use Rattle.h2_wire.specs.Steps.{Continues, Completes}
 
 -- the whole piece was used
 pub advances_none : (old : CutterState) (piece : List ℕ) (used : ℕ) (new : Buffer) → Continues old piece used new
-    → Advances old piece (record { used = used; frame = None }) (state_of new)
+    → CutterAdvances old piece (record { used = used; frame = None }) (state_of new)
 advances_none old piece used new more = record {
   goes_on = rw (take_all used piece (omega (arith, more.all))) more.goes_on;
   nothing_behind_a_frame = λ some. (cc);
@@ -24,7 +24,7 @@ advances_none old piece used new more = record {
 
 -- a frame is lent
 pub advances_some : (old : CutterState) (piece : List ℕ) (used : ℕ) (head : Head) (frame : FrameRef) (new : Buffer) → Completes old piece used head new
-    → Carries head (drop 9 new.held.items) (frame_of frame) → Advances old piece (record { used = used; frame = Some frame }) (state_of new)
+    → Carries head (drop 9 new.held.items) (frame_of frame) → CutterAdvances old piece (record { used = used; frame = Some frame }) (state_of new)
 advances_some old piece used head frame new whole carried = record {
   goes_on = whole.goes_on (frame_of frame) carried;
   nothing_behind_a_frame = λ some. whole.nothing_behind;
@@ -56,8 +56,8 @@ judged_again A B Judged fault judged code faulty =
     let told = judged code faulty in let same : fault ≡ faults.HeadFault code = cc in ap Err same
 
 -- The empty stream, of a cutter that has used nothing.
-pub stands_empty : (expects : Bool) (limit : ℕ) → Stands (record { limit = limit; before = expects; rest = []; place = 0; fault = None }) expects (λ _. limit) [] []
-unfolding opening preface
+pub stands_empty : (expects : Bool) (limit : ℕ) → CutterRepresents (record { limit = limit; before = expects; rest = []; place = 0; fault = None }) expects (λ _. limit) [] []
+unfolding expected_preface preface
 stands_empty true limit = record {
   sound = refl;
   split = inl (record { missing = preface; opens = refl; short = lit< tt; none = refl; all = refl });

@@ -7,7 +7,7 @@ use Rattle.h2_frame.specs.Frames.{Frame}
 use Rattle.h2_frame.proofs.HeadLemmas.{head_of-append}
 use Rattle.h2_wire.specs.declared.fault.WireFault.{WireFault}
 use Rattle.h2_wire.specs.declared.fault.WireFault.TheVariants as faults
-use Rattle.h2_wire.specs.Streams.{Limits, IsSound, IsPartial, IsShort, IsPast, Frames, IsWrongPreface, Makes, FaultAt}
+use Rattle.h2_wire.specs.Streams.{Limits, IsSound, IsPartial, IsInsidePreface, IsAfterPreface, Frames, IsWrongPreface, EndsWithFault, WireFaultAt}
 use Rattle.h2_wire.proofs.ReadingLemmas.{none_some, same_front, same_rest, same_head, partial_stops, wrong_head_stops, wrong_payload_stops, one_past}
 
 -- no head at fault begins a partial rest
@@ -28,7 +28,7 @@ partial_no_frame limit front more partial whole =
 
 -- What is less than the preface has no sound part.
 pub short_past : (expects : Bool) (limits : Limits) (stream : List ℕ) (frames others : List Frame) (rest other : List ℕ)
-    → IsShort expects stream frames rest → IsPast expects limits stream others other → ⊥
+    → IsInsidePreface expects stream frames rest → IsAfterPreface expects limits stream others other → ⊥
 short_past expects limits stream frames others rest other short past =
     let counted = simp length-append at (ap length (past.joined ∙ ap (λ (octets : List ℕ). octets ++ other) past.sound.opened)) in
     let few = short.short in
@@ -58,7 +58,7 @@ sound_no_wrong expects limits frames before part tail octets beyond sound wrong 
     wrong.differs same
 
 -- What is less than the preface has no octet that isn't the preface's.
-pub short_no_wrong : (expects : Bool) (stream : List ℕ) (frames before : List Frame) (rest octets beyond : List ℕ) → IsShort expects stream frames rest
+pub short_no_wrong : (expects : Bool) (stream : List ℕ) (frames before : List Frame) (rest octets beyond : List ℕ) → IsInsidePreface expects stream frames rest
     → IsWrongPreface expects before octets → stream ≡ octets ++ beyond → ⊥
 short_no_wrong expects stream frames before rest octets beyond short wrong joined =
     let wrong_line : stream ++ short.missing ≡ wrong.front ++ (wrong.wrong ∷ (beyond ++ short.missing)) =
@@ -83,7 +83,7 @@ wrong_once (octet ∷ front) (another ∷ other) right correct wrong false_one m
 
 -- Two makings of a fault in one line are one: of one length, and of one fault.
 pub one_making : (expects : Bool) (limits : Limits) (frames afters : List Frame) (octets others beyond behind : List ℕ) (fault another : WireFault)
-    → Makes expects limits frames octets fault → Makes expects limits afters others another → octets ++ beyond ≡ others ++ behind
+    → EndsWithFault expects limits frames octets fault → EndsWithFault expects limits afters others another → octets ++ beyond ≡ others ++ behind
     → (frames ≡ afters) × (length octets ≡ length others) × (fault ≡ another)
 one_making expects limits frames afters octets others beyond behind faults.BadPreface faults.BadPreface made again joined =
     let line : made.front ++ made.wrong ∷ beyond ≡ again.front ++ again.wrong ∷ behind =
@@ -153,7 +153,7 @@ one_making expects limits frames afters octets others beyond behind faults.Memor
 
 -- A line in which a fault is made has no reading.
 pub no_reading : (expects : Bool) (limits : Limits) (octets beyond stream rest : List ℕ) (before frames : List Frame) (fault : WireFault)
-    → Makes expects limits before octets fault → stream ≡ octets ++ beyond → Frames expects limits stream frames rest → ⊥
+    → EndsWithFault expects limits before octets fault → stream ≡ octets ++ beyond → Frames expects limits stream frames rest → ⊥
 no_reading expects limits octets beyond stream rest before frames faults.BadPreface made joined (inl short) =
     short_no_wrong expects stream frames before rest octets beyond short made joined
 no_reading expects limits octets beyond stream rest before frames faults.BadPreface made joined (inr past) =
@@ -180,7 +180,7 @@ no_reading expects limits octets beyond stream rest before frames faults.Memory 
 
 -- A stream has one fault at most, also with octets behind it.
 pub one_fault_lem : (expects : Bool) (limits : Limits) (stream more : List ℕ) (frames others : List Frame) (place other : ℕ) (fault another : WireFault)
-    → FaultAt expects limits stream frames place fault → FaultAt expects limits (stream ++ more) others other another
+    → WireFaultAt expects limits stream frames place fault → WireFaultAt expects limits (stream ++ more) others other another
     → (frames ≡ others) × (place ≡ other) × (fault ≡ another)
 one_fault_lem expects limits stream more frames others place other fault another at by =
     let line : take place stream ++ (drop place stream ++ more) ≡ take other (stream ++ more) ++ drop other (stream ++ more) =
@@ -195,7 +195,7 @@ one_fault_lem expects limits stream more frames others place other fault another
 
 -- A stream that is at fault has no reading, whatever comes behind it.
 pub no_reading_lem : (expects : Bool) (limits : Limits) (stream more : List ℕ) (frames others : List Frame) (place : ℕ) (fault : WireFault) (rest : List ℕ)
-    → FaultAt expects limits stream frames place fault → Frames expects limits (stream ++ more) others rest → ⊥
+    → WireFaultAt expects limits stream frames place fault → Frames expects limits (stream ++ more) others rest → ⊥
 no_reading_lem expects limits stream more frames others place fault rest at read =
     no_reading expects limits (take place stream) (drop place stream ++ more) (stream ++ more) rest frames others fault at.made
     (ap (λ (w : List ℕ). w ++ more) (sym (take-append-drop place stream)) ∙ append_assoc (take place stream) (drop place stream) more) read

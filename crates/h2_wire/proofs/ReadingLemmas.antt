@@ -3,10 +3,10 @@ use Rattle.std.proofs.Common.{◌≡◌, ℕ, ◌+◌, ◌<◌, ◌≤◌, Bool,
 use Rattle.std.proofs.Math.Seq.{take-append_seam, drop-append_seam}
 use Rattle.h2_frame.specs.declared.code.Code.{Code}
 use Rattle.h2_frame.specs.Heads.{head_of, head_fault}
-use Rattle.h2_frame.specs.Frames.{Frame, Spells, payload_fault}
+use Rattle.h2_frame.specs.Frames.{Frame, Encodes, payload_fault}
 use Rattle.h2_frame.proofs.FrameLemmas.{one_frame_lem}
 use Rattle.h2_frame.proofs.HeadLemmas.{head_of-append}
-use Rattle.h2_wire.specs.Streams.{opening, Limits, IsFrame, AreFrames, IsSound, IsPartial}
+use Rattle.h2_wire.specs.Streams.{expected_preface, Limits, IsFrame, AreFrames, IsSound, IsPartial}
 
 -- none is no code
 pub none_some : {Goal : Type 0} (code : Code) → ◌≡◌ {A = Option Code} None (Some code) → Goal
@@ -92,7 +92,7 @@ one_body limits before (frame ∷ frames) (other ∷ others) body another tail e
     let by : before + length another + 9 ≡ before + length first + length beyond + 9 = rw (parted, length-append, ← long) (omega arith) in
     let rest = one_body limits (before + length first) frames others behind beyond tail end framed sequel_now
     (same_rest first second (behind ++ tail) (beyond ++ end) long line) (rw at at stops) (rw by at ends) in
-    let frame_same : frame ≡ other = one_frame_lem frame other first sound.spelled (subst (λ (octets : List ℕ). Spells other octets) (sym one) whole.spelled) in
+    let frame_same : frame ≡ other = one_frame_lem frame other first sound.spelled (subst (λ (octets : List ℕ). Encodes other octets) (sym one) whole.spelled) in
     (rw (frame_same, rest.0) refl, split ∙ rw (one, rest.1) refl ∙ sym parted)
 
 -- Two readings behind the opening are one.
@@ -100,12 +100,12 @@ pub one_past : (expects : Bool) (limits : Limits) (stream : List ℕ) (frames ot
     → stream ≡ part ++ tail → stream ≡ another ++ end → (sound : IsSound expects limits frames part) → (again : IsSound expects limits others another)
     → Stops (limits (length part + 9)) tail → Stops (limits (length another + 9)) end → (frames ≡ others) × (part ≡ another) × (tail ≡ end)
 one_past expects limits stream frames others part another tail end joined rejoined sound again stops ends =
-    let line : opening expects ++ (sound.body ++ tail) ≡ opening expects ++ (again.body ++ end) =
-    sym (append_assoc (opening expects) sound.body tail) ∙ ap (λ (octets : List ℕ). octets ++ tail) (sym sound.opened) ∙ sym joined
-    ∙ rejoined ∙ ap (λ (octets : List ℕ). octets ++ end) again.opened ∙ append_assoc (opening expects) again.body end in
-    let behind : sound.body ++ tail ≡ again.body ++ end = same_rest (opening expects) (opening expects) _ _ refl line in
-    let at : length part + 9 ≡ length (opening expects) + length sound.body + 9 = ap (λ (octets : List ℕ). length octets + 9) sound.opened ∙ rw length-append refl in
-    let by : length another + 9 ≡ length (opening expects) + length again.body + 9 = ap (λ (octets : List ℕ). length octets + 9) again.opened ∙ rw length-append refl in
-    let one = one_body limits (length (opening expects)) frames others sound.body again.body tail end sound.framed again.framed behind (rw at at stops) (rw by at ends) in
-    let same : part ≡ another = sound.opened ∙ ap (λ (octets : List ℕ). opening expects ++ octets) one.1 ∙ sym again.opened in
+    let line : expected_preface expects ++ (sound.body ++ tail) ≡ expected_preface expects ++ (again.body ++ end) =
+    sym (append_assoc (expected_preface expects) sound.body tail) ∙ ap (λ (octets : List ℕ). octets ++ tail) (sym sound.opened) ∙ sym joined
+    ∙ rejoined ∙ ap (λ (octets : List ℕ). octets ++ end) again.opened ∙ append_assoc (expected_preface expects) again.body end in
+    let behind : sound.body ++ tail ≡ again.body ++ end = same_rest (expected_preface expects) (expected_preface expects) _ _ refl line in
+    let at : length part + 9 ≡ length (expected_preface expects) + length sound.body + 9 = ap (λ (octets : List ℕ). length octets + 9) sound.opened ∙ rw length-append refl in
+    let by : length another + 9 ≡ length (expected_preface expects) + length again.body + 9 = ap (λ (octets : List ℕ). length octets + 9) again.opened ∙ rw length-append refl in
+    let one = one_body limits (length (expected_preface expects)) frames others sound.body again.body tail end sound.framed again.framed behind (rw at at stops) (rw by at ends) in
+    let same : part ≡ another = sound.opened ∙ ap (λ (octets : List ℕ). expected_preface expects ++ octets) one.1 ∙ sym again.opened in
     (one.0, same, same_rest part another tail end (ap length same) (sym joined ∙ rejoined))

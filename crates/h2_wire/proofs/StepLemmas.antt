@@ -9,11 +9,11 @@ use Rattle.h2_frame.specs.Heads.{head_of, head_fault}
 use Rattle.h2_frame.specs.Frames.{Frame, payload_fault}
 use Rattle.h2_frame.proofs.HeadLemmas.{head_of-append}
 use Rattle.h2_wire.specs.declared.fault.WireFault.TheVariants as faults
-use Rattle.h2_wire.specs.Streams.{preface, opening, Limits, IsFrame, IsPartial, IsPast, Makes}
-use Rattle.h2_wire.specs.Cutting.{CutterState, told, Stands, GoesOn}
+use Rattle.h2_wire.specs.Streams.{preface, expected_preface, Limits, IsFrame, IsPartial, IsAfterPreface, EndsWithFault}
+use Rattle.h2_wire.specs.Cutter.{CutterState, saturated, CutterRepresents, CutterContinues}
 use Rattle.h2_wire.specs.Steps.{Opens, OpensSoundly}
 use Rattle.h2_wire.proofs.StreamLemmas.{IsPartial-empty, past_more, past_frame, past_before}
-use Rattle.h2_wire.proofs.CallLemmas.{told-add, goes_past}
+use Rattle.h2_wire.proofs.CallLemmas.{saturated-add, goes_past}
 
 -- a preface that is awaited is expected
 expects_awaited : (expects : Bool) (count : ℕ) → true ≡ expects && nat_lt count 24 → expects ≡ true
@@ -21,14 +21,14 @@ expects_awaited true count e = refl
 expects_awaited false count e = sym e
 
 -- less than what stands before the first frame is less than a preface
-awaited_short : (expects : Bool) (count : ℕ) → count < length (opening expects) → expects && nat_lt count 24 ≡ true
-unfolding preface opening
+awaited_short : (expects : Bool) (count : ℕ) → count < length (expected_preface expects) → expects && nat_lt count 24 ≡ true
+unfolding preface expected_preface
 awaited_short true count few = lt-ltb count 24 few
 awaited_short false count few = absurd (omega arith)
 
 -- Where the preface is awaited, the stream is what was matched of it.
 pub matched_stream : (state : CutterState) (expects : Bool) (limits : Limits) (stream : List ℕ) (so_far : List Frame) → state.before ≡ true
-    → Stands state expects limits stream so_far → (expects ≡ true) × (so_far ≡ []) × (stream ≡ state.rest)
+    → CutterRepresents state expects limits stream so_far → (expects ≡ true) × (so_far ≡ []) × (stream ≡ state.rest)
 unfolding preface
 matched_stream state expects limits stream so_far before stood =
     elim stood.split [
@@ -48,7 +48,7 @@ opens_past state before expects limits stream so_far stood =
 -- The preface becomes whole.
 pub opens_first : (state : CutterState) (matched : ℕ) (used : List ℕ) → state.before ≡ true → state.rest ≡ take matched preface
     → used ≡ drop matched preface → Opens state used []
-unfolding opening
+unfolding expected_preface
 opens_first state matched used before rest same expects limits stream so_far stood =
     let (asked, none, all) = matched_stream state expects limits stream so_far before stood in
     let whole : stream ++ used ≡ preface = rw (all, rest, same) (take-append-drop matched preface) in
@@ -61,9 +61,9 @@ opens_first state matched used before rest same expects limits stream so_far sto
 
 -- The preface goes on, and isn't whole yet.
 pub goes_short : (old new : CutterState) (matched : ℕ) (used : List ℕ) → new.fault ≡ None → old.before ≡ true → new.before ≡ true
-    → new.limit ≡ old.limit → new.place ≡ told (old.place + length used) → old.rest ≡ take matched preface → matched + length used < 24
-    → used ≡ take (length used) (drop matched preface) → new.rest ≡ take (matched + length used) preface → GoesOn old used [] new
-unfolding preface opening
+    → new.limit ≡ old.limit → new.place ≡ saturated (old.place + length used) → old.rest ≡ take matched preface → matched + length used < 24
+    → used ≡ take (length used) (drop matched preface) → new.rest ≡ take (matched + length used) preface → CutterContinues old used [] new
+unfolding preface expected_preface
 goes_short old new matched used sound before after limit place rest few same new_rest = record {
   same_limit = limit;
   stands = λ expects limits stream so_far stood.
@@ -81,7 +81,7 @@ goes_short old new matched used sound before after limit place rest few same new
           all = new_rest ∙ sym matched_now;
         });
         before = after ∙ rw (asked, counted) (sym (lt-ltb (matched + length used) 24 few));
-        place = place ∙ ap (λ (n : ℕ). told (n + length used)) stood.place ∙ told-add (length stream) (length used) ∙ ap told (sym (length-append stream used));
+        place = place ∙ ap (λ (n : ℕ). saturated (n + length used)) stood.place ∙ saturated-add (length stream) (length used) ∙ ap saturated (sym (length-append stream used));
         ahead = λ at later. stood.ahead at (omega (arith, length-append stream used)) ∙ sym limit;
       };
 }
@@ -89,9 +89,9 @@ goes_short old new matched used sound before after limit place rest few same new
 -- An octet isn't that of the preface.
 pub wrong_preface : (old : CutterState) (matched start : ℕ) (piece : List ℕ) → old.before ≡ true → old.rest ≡ take matched preface → start < length piece
     → matched + start < 24 → take start piece ≡ take start (drop matched preface) → get_or piece start 0 ≢ get_or preface (matched + start) 0
-    → (expects : Bool) (limits : Limits) (stream : List ℕ) (so_far : List Frame) → Stands old expects limits stream so_far
-    → Makes expects limits so_far (stream ++ take (start + 1) piece) faults.BadPreface
-unfolding preface opening
+    → (expects : Bool) (limits : Limits) (stream : List ℕ) (so_far : List Frame) → CutterRepresents old expects limits stream so_far
+    → EndsWithFault expects limits so_far (stream ++ take (start + 1) piece) faults.BadPreface
+unfolding preface expected_preface
 wrong_preface old matched start piece before rest within inside same differs expects limits stream so_far stood =
     let (asked, none, all) = matched_stream old expects limits stream so_far before stood in
     let matched_now : stream ++ take start piece ≡ take (matched + start) preface =
@@ -119,10 +119,10 @@ piece_in_two stream piece start = ap (λ (octets : List ℕ). stream ++ octets) 
 
 -- A frame goes on to the piece's end, and isn't whole.
 pub goes_held : (old new : CutterState) (piece held : List ℕ) (start : ℕ) → new.fault ≡ None → new.before ≡ false → new.limit ≡ old.limit
-    → new.place ≡ told (old.place + length piece) → new.rest ≡ held ++ drop start piece
-    → ((expects : Bool) (limits : Limits) (stream : List ℕ) (so_far : List Frame) → Stands old expects limits stream so_far
-    → (past : IsPast expects limits (stream ++ take start piece) so_far held) × IsPartial (limits (length past.part + 9)) (held ++ drop start piece))
-    → GoesOn old piece [] new
+    → new.place ≡ saturated (old.place + length piece) → new.rest ≡ held ++ drop start piece
+    → ((expects : Bool) (limits : Limits) (stream : List ℕ) (so_far : List Frame) → CutterRepresents old expects limits stream so_far
+    → (past : IsAfterPreface expects limits (stream ++ take start piece) so_far held) × IsPartial (limits (length past.part + 9)) (held ++ drop start piece))
+    → CutterContinues old piece [] new
 goes_held old new piece held start sound before limit place rest opens =
     goes_past old new piece [] sound before limit place (λ expects limits stream so_far stood.
     let (past, partial) = opens expects limits stream so_far stood in
@@ -130,19 +130,19 @@ goes_held old new piece held start sound before limit place rest opens =
 
 -- A frame is whole.
 pub goes_whole : (old new : CutterState) (piece held : List ℕ) (start wanted : ℕ) (frame : Frame) → new.fault ≡ None → new.before ≡ false → new.limit ≡ old.limit
-    → new.place ≡ told (old.place + (start + wanted)) → start + wanted ≤ length piece → new.rest ≡ []
-    → ((expects : Bool) (limits : Limits) (stream : List ℕ) (so_far : List Frame) → Stands old expects limits stream so_far
-    → (past : IsPast expects limits (stream ++ take start piece) so_far held) × IsFrame (limits (length past.part + 9)) frame (held ++ take wanted (drop start piece)))
-    → GoesOn old (take (start + wanted) piece) (frame ∷ []) new
+    → new.place ≡ saturated (old.place + (start + wanted)) → start + wanted ≤ length piece → new.rest ≡ []
+    → ((expects : Bool) (limits : Limits) (stream : List ℕ) (so_far : List Frame) → CutterRepresents old expects limits stream so_far
+    → (past : IsAfterPreface expects limits (stream ++ take start piece) so_far held) × IsFrame (limits (length past.part + 9)) frame (held ++ take wanted (drop start piece)))
+    → CutterContinues old (take (start + wanted) piece) (frame ∷ []) new
 goes_whole old new piece held start wanted frame sound before limit place within rest opens =
     let counted : length (take (start + wanted) piece) ≡ start + wanted = length-take (start + wanted) piece ∙ omega arith in
-    goes_past old new (take (start + wanted) piece) (frame ∷ []) sound before limit (place ∙ ap (λ (n : ℕ). told (old.place + n)) (sym counted)) (λ expects limits stream so_far stood.
+    goes_past old new (take (start + wanted) piece) (frame ∷ []) sound before limit (place ∙ ap (λ (n : ℕ). saturated (old.place + n)) (sym counted)) (λ expects limits stream so_far stood.
     let (past, whole) = opens expects limits stream so_far stood in
     rw (used_in_two stream piece start wanted, rest) (past_frame expects limits (stream ++ take start piece) so_far held (take wanted (drop start piece)) frame past whole))
 
 -- Where less than a head is held, the head that is to come is judged by the limit that the cutter has.
 pub limit_ahead : (old : CutterState) (expects : Bool) (limits : Limits) (stream : List ℕ) (so_far : List Frame) (used held : List ℕ)
-    → Stands old expects limits stream so_far → (past : IsPast expects limits (stream ++ used) so_far held) → length held < 9
+    → CutterRepresents old expects limits stream so_far → (past : IsAfterPreface expects limits (stream ++ used) so_far held) → length held < 9
     → limits (length past.part + 9) ≡ old.limit
 limit_ahead old expects limits stream so_far used held stood past few =
     let counted = simp length-append at (ap length past.joined) in
@@ -156,8 +156,8 @@ head_of-take octets count nine enough =
 -- A head is at fault.
 pub wrong_head : (old : CutterState) (piece held : List ℕ) (start : ℕ) (code : Code) → Opens old (take start piece) held → length held < 9
     → 9 ≤ length held + length (drop start piece) → head_fault (head_of (held ++ drop start piece)) old.limit ≡ Some code
-    → (expects : Bool) (limits : Limits) (stream : List ℕ) (so_far : List Frame) → Stands old expects limits stream so_far
-    → Makes expects limits so_far (stream ++ take (start + (9 - length held)) piece) (faults.HeadFault code)
+    → (expects : Bool) (limits : Limits) (stream : List ℕ) (so_far : List Frame) → CutterRepresents old expects limits stream so_far
+    → EndsWithFault expects limits so_far (stream ++ take (start + (9 - length held)) piece) (faults.HeadFault code)
 wrong_head old piece held start code opens few enough faulty expects limits stream so_far stood =
     let past = opens expects limits stream so_far stood in
     let missing : ℕ = 9 - length held in
@@ -180,8 +180,8 @@ wrong_head old piece held start code opens few enough faulty expects limits stre
 pub wrong_payload : (old : CutterState) (piece held : List ℕ) (start wanted : ℕ) (head : Head) (code : Code) → OpensSoundly old (take start piece) held head
     → head ≡ head_of (held ++ take wanted (drop start piece)) → length (held ++ take wanted (drop start piece)) ≡ 9 + head.length
     → payload_fault head (drop 9 (held ++ take wanted (drop start piece))) ≡ Some code
-    → (expects : Bool) (limits : Limits) (stream : List ℕ) (so_far : List Frame) → Stands old expects limits stream so_far
-    → Makes expects limits so_far (stream ++ take (start + wanted) piece) (faults.PayloadFault code)
+    → (expects : Bool) (limits : Limits) (stream : List ℕ) (so_far : List Frame) → CutterRepresents old expects limits stream so_far
+    → EndsWithFault expects limits so_far (stream ++ take (start + wanted) piece) (faults.PayloadFault code)
 wrong_payload old piece held start wanted head code opens is_head whole faulty expects limits stream so_far stood =
     let (past, sound) = opens expects limits stream so_far stood in
     record {

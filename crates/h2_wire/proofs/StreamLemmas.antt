@@ -2,7 +2,7 @@
 use Rattle.std.proofs.Common.{◌≡◌, ℕ, ◌+◌, nat_lt, ◌&&◌, Bool, true, false, List, [], ◌∷◌, ◌++◌, length, refl, ap, sym, ◌∙◌, arith, append_assoc, length-append, append-nil}
 use Rattle.std.proofs.lemmas.Bool.{le-ltb}
 use Rattle.h2_frame.specs.Frames.{Frame}
-use Rattle.h2_wire.specs.Streams.{preface, opening, Limits, IsFrame, AreFrames, IsSound, IsPartial, IsPast}
+use Rattle.h2_wire.specs.Streams.{preface, expected_preface, Limits, IsFrame, AreFrames, IsSound, IsPartial, IsAfterPreface}
 
 -- one more frame behind frames
 pub AreFrames-push : (limits : Limits) (before : ℕ) (frames : List Frame) (body : List ℕ) (frame : Frame) (last : List ℕ)
@@ -24,11 +24,11 @@ AreFrames-push limits before (other ∷ frames) body frame last (first, others, 
 pub IsSound-push : (expects : Bool) (limits : Limits) (frames : List Frame) (part : List ℕ) (frame : Frame) (last : List ℕ)
     → IsSound expects limits frames part → IsFrame (limits (length part + 9)) frame last → IsSound expects limits (frames ++ frame ∷ []) (part ++ last)
 IsSound-push expects limits frames part frame last sound whole =
-    let counted : length part + 9 ≡ length (opening expects) + length sound.body + 9 = ap (λ (octets : List ℕ). length octets + 9) sound.opened ∙ rw length-append refl in
+    let counted : length part + 9 ≡ length (expected_preface expects) + length sound.body + 9 = ap (λ (octets : List ℕ). length octets + 9) sound.opened ∙ rw length-append refl in
     record {
       body = sound.body ++ last;
-      opened = ap (λ (octets : List ℕ). octets ++ last) sound.opened ∙ append_assoc (opening expects) sound.body last;
-      framed = AreFrames-push limits (length (opening expects)) frames sound.body frame last sound.framed (rw counted at whole);
+      opened = ap (λ (octets : List ℕ). octets ++ last) sound.opened ∙ append_assoc (expected_preface expects) sound.body last;
+      framed = AreFrames-push limits (length (expected_preface expects)) frames sound.body frame last sound.framed (rw counted at whole);
     }
 
 -- nothing is a partial rest
@@ -37,8 +37,8 @@ IsPartial-empty limit nine = absurd (omega arith)
 
 -- the stream goes on, and no frame is whole
 pub past_more : (expects : Bool) (limits : Limits) (stream : List ℕ) (frames : List Frame) (rest more : List ℕ)
-    → (past : IsPast expects limits stream frames rest) → IsPartial (limits (length past.part + 9)) (rest ++ more)
-    → IsPast expects limits (stream ++ more) frames (rest ++ more)
+    → (past : IsAfterPreface expects limits stream frames rest) → IsPartial (limits (length past.part + 9)) (rest ++ more)
+    → IsAfterPreface expects limits (stream ++ more) frames (rest ++ more)
 past_more expects limits stream frames rest more past partial = record {
   part = past.part;
   joined = ap (λ (octets : List ℕ). octets ++ more) past.joined ∙ append_assoc past.part rest more;
@@ -48,8 +48,8 @@ past_more expects limits stream frames rest more past partial = record {
 
 -- the stream goes on, and the rest is a whole frame
 pub past_frame : (expects : Bool) (limits : Limits) (stream : List ℕ) (frames : List Frame) (rest more : List ℕ) (frame : Frame)
-    → (past : IsPast expects limits stream frames rest) → IsFrame (limits (length past.part + 9)) frame (rest ++ more)
-    → IsPast expects limits (stream ++ more) (frames ++ frame ∷ []) []
+    → (past : IsAfterPreface expects limits stream frames rest) → IsFrame (limits (length past.part + 9)) frame (rest ++ more)
+    → IsAfterPreface expects limits (stream ++ more) (frames ++ frame ∷ []) []
 past_frame expects limits stream frames rest more frame past whole = record {
   part = past.part ++ (rest ++ more);
   joined = ap (λ (octets : List ℕ). octets ++ more) past.joined ∙ append_assoc past.part rest more ∙ sym (append-nil _);
@@ -59,8 +59,8 @@ past_frame expects limits stream frames rest more frame past whole = record {
 
 -- behind the opening no preface is awaited
 pub past_before : (expects : Bool) (limits : Limits) (stream : List ℕ) (frames : List Frame) (rest : List ℕ)
-    → IsPast expects limits stream frames rest → expects && nat_lt (length stream) 24 ≡ false
-unfolding opening preface
+    → IsAfterPreface expects limits stream frames rest → expects && nat_lt (length stream) 24 ≡ false
+unfolding expected_preface preface
 past_before false limits stream frames rest past = refl
 past_before true limits stream frames rest past =
     let counted = simp length-append at (ap length (past.joined ∙ ap (λ (octets : List ℕ). octets ++ rest) past.sound.opened)) in

@@ -2,7 +2,7 @@
 use Rattle.std.specs.Prelude.{◌≡◌, ℕ, ◌<◌, ◌≤◌, nat_lt, false, if◌then◌else◌, List, [], take, None, is_some}
 use Rattle.h2_wire.specs.declared.buffer.Buffer.{Buffer}
 use Rattle.h2_wire.specs.Streams.{preface, IsPartial}
-use Rattle.h2_wire.specs.Cutting.{CutterState}
+use Rattle.h2_wire.specs.Cutter.{CutterState}
 
 -- what the buffer holds of the stream
 abbrev pub rest_of : Buffer → List ℕ

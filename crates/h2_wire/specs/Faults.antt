@@ -5,8 +5,8 @@ use Rattle.h2_wire.specs.declared.fault.WireFault.{WireFault}
 use Rattle.h2_wire.specs.declared.fault.WireFault.TheVariants.{BadPreface, HeadFault, PayloadFault, Memory}
 
 -- the code with which the connection ends
-abbrev pub code_of : WireFault → Code
-code_of BadPreface = ProtocolError
-code_of (HeadFault code) = code
-code_of (PayloadFault code) = code
-code_of Memory = InternalError
+abbrev pub wire_fault_code : WireFault → Code
+wire_fault_code BadPreface = ProtocolError
+wire_fault_code (HeadFault code) = code
+wire_fault_code (PayloadFault code) = code
+wire_fault_code Memory = InternalError

@@ -2,7 +2,7 @@
 use Rattle.std.specs.Prelude.{◌≡◌, ◌≢◌, ◌⊎◌, ℕ, ◌+◌, ◌<◌, ◌≤◌, Bool, if◌then◌else◌, List, [], ◌∷◌, ◌++◌, length, take, drop, None, Some}
 use Rattle.h2_frame.specs.declared.code.Code.{Code}
 use Rattle.h2_frame.specs.Heads.{head_of, head_fault}
-use Rattle.h2_frame.specs.Frames.{Frame, Spells, payload_fault}
+use Rattle.h2_frame.specs.Frames.{Frame, Encodes, payload_fault}
 use Rattle.h2_wire.specs.declared.fault.WireFault.{WireFault}
 use Rattle.h2_wire.specs.declared.fault.WireFault.TheVariants as faults
 
@@ -13,8 +13,8 @@ preface =
     0x53 ∷ 0x4d ∷ 0x0d ∷ 0x0a ∷ 0x0d ∷ 0x0a ∷ []
 
 -- what stands before the first frame: the preface, where one is expected
-unfoldable pub opening : Bool → List ℕ
-opening expects = if expects then preface else []
+unfoldable pub expected_preface : Bool → List ℕ
+expected_preface expects = if expects then preface else []
 
 -- The limit of payloads that is in force as each octet of the stream is used, by the octet's place, counted from 1.
 abbrev pub Limits : Type 0
@@ -22,7 +22,7 @@ Limits = ℕ → ℕ
 
 -- The octets are the frame, without fault, where its payload may have as many octets as the limit says.
 pub record IsFrame (limit : ℕ) (frame : Frame) (octets : List ℕ) : Type 0 where
-  pub spelled : Spells frame octets
+  pub spelled : Encodes frame octets
   pub sound_head : head_fault (head_of octets) limit ≡ None
   pub sound_payload : payload_fault (head_of octets) (drop 9 octets) ≡ None
 
@@ -37,8 +37,8 @@ AreFrames limits before (frame ∷ frames) octets =
 -- The octets, from the stream's first on, are what stands before the first frame and then the frames.
 pub record IsSound (expects : Bool) (limits : Limits) (frames : List Frame) (octets : List ℕ) : Type 0 where
   pub body : List ℕ
-  pub opened : octets ≡ opening expects ++ body
-  pub framed : AreFrames limits (length (opening expects)) frames body
+  pub opened : octets ≡ expected_preface expects ++ body
+  pub framed : AreFrames limits (length (expected_preface expects)) frames body
 
 -- No front of the rest is a whole frame, or a head or a frame at fault: it has fewer than nine octets, or a head without
 -- fault and fewer octets than that head asks for.
@@ -46,15 +46,15 @@ abbrev pub IsPartial : ℕ → List ℕ → Type 0
 IsPartial limit rest = 9 ≤ length rest → (head_fault (head_of rest) limit ≡ None) × (length rest < 9 + (head_of rest).length)
 
 -- Of the stream less than the preface has come.
-pub record IsShort (expects : Bool) (stream : List ℕ) (frames : List Frame) (rest : List ℕ) : Type 0 where
+pub record IsInsidePreface (expects : Bool) (stream : List ℕ) (frames : List Frame) (rest : List ℕ) : Type 0 where
   pub missing : List ℕ
-  pub opens : opening expects ≡ stream ++ missing
-  pub short : length stream < length (opening expects)
+  pub opens : expected_preface expects ≡ stream ++ missing
+  pub short : length stream < length (expected_preface expects)
   pub none : frames ≡ []
   pub all : rest ≡ stream
 
 -- The stream is a sound part with the frames, and then the rest.
-pub record IsPast (expects : Bool) (limits : Limits) (stream : List ℕ) (frames : List Frame) (rest : List ℕ) : Type 0 where
+pub record IsAfterPreface (expects : Bool) (limits : Limits) (stream : List ℕ) (frames : List Frame) (rest : List ℕ) : Type 0 where
   pub part : List ℕ
   pub joined : stream ≡ part ++ rest
   pub sound : IsSound expects limits frames part
@@ -62,7 +62,7 @@ pub record IsPast (expects : Bool) (limits : Limits) (stream : List ℕ) (frames
 
 -- So far the stream is the frames, and then a rest.
 abbrev pub Frames : Bool → Limits → List ℕ → List Frame → List ℕ → Type 0
-Frames expects limits stream frames rest = IsShort expects stream frames rest ⊎ IsPast expects limits stream frames rest
+Frames expects limits stream frames rest = IsInsidePreface expects stream frames rest ⊎ IsAfterPreface expects limits stream frames rest
 
 -- The octets are a front of the preface, but for the last one; so there is no frame before it.
 pub record IsWrongPreface (expects : Bool) (frames : List Frame) (octets : List ℕ) : Type 0 where
@@ -71,7 +71,7 @@ pub record IsWrongPreface (expects : Bool) (frames : List Frame) (octets : List 
   pub right : ℕ
   pub missing : List ℕ
   pub wrong : ℕ
-  pub opens : opening expects ≡ front ++ right ∷ missing
+  pub opens : expected_preface expects ≡ front ++ right ∷ missing
   pub reads : octets ≡ front ++ wrong ∷ []
   pub differs : wrong ≢ right
 
@@ -95,13 +95,13 @@ pub record IsWrongPayload (expects : Bool) (limits : Limits) (frames : List Fram
   pub faulty : payload_fault (head_of last) (drop 9 last) ≡ Some code
 
 -- The octets make the fault behind the frames, with the last of them. Want of memory is no fault of the stream.
-abbrev pub Makes : Bool → Limits → List Frame → List ℕ → WireFault → Type 0
-Makes expects limits frames octets faults.BadPreface = IsWrongPreface expects frames octets
-Makes expects limits frames octets (faults.HeadFault code) = IsWrongHead expects limits frames octets code
-Makes expects limits frames octets (faults.PayloadFault code) = IsWrongPayload expects limits frames octets code
-Makes expects limits frames octets faults.Memory = ⊥
+abbrev pub EndsWithFault : Bool → Limits → List Frame → List ℕ → WireFault → Type 0
+EndsWithFault expects limits frames octets faults.BadPreface = IsWrongPreface expects frames octets
+EndsWithFault expects limits frames octets (faults.HeadFault code) = IsWrongHead expects limits frames octets code
+EndsWithFault expects limits frames octets (faults.PayloadFault code) = IsWrongPayload expects limits frames octets code
+EndsWithFault expects limits frames octets faults.Memory = ⊥
 
 -- The stream is at fault behind the frames, known at its octet of this place, counted from 1.
-pub record FaultAt (expects : Bool) (limits : Limits) (stream : List ℕ) (frames : List Frame) (place : ℕ) (fault : WireFault) : Type 0 where
+pub record WireFaultAt (expects : Bool) (limits : Limits) (stream : List ℕ) (frames : List Frame) (place : ℕ) (fault : WireFault) : Type 0 where
   pub within : place ≤ length stream
-  pub made : Makes expects limits frames (take place stream) fault
+  pub made : EndsWithFault expects limits frames (take place stream) fault

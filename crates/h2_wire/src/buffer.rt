@@ -4,7 +4,7 @@ ghost use Rattle.std.specs.Prelude.{◌≡◌, ◌≢◌, ◌+◌, ◌-◌, ◌<
 ghost use Rattle.h2_frame.specs.Heads.{head_of, form_fault, head_fault as fault_of_head};
 ghost use Rattle.h2_wire.specs.Streams.{preface as the_preface};
 ghost use Rattle.h2_frame.specs.declared.code.Code.{Code as AnyCode};
-ghost use Rattle.h2_wire.specs.Cutting.{told, IsFaultyHead, FaultsAtHead};
+ghost use Rattle.h2_wire.specs.Cutter.{saturated, IsFaultyHead, FaultsAtHead};
 ghost use Rattle.h2_wire.specs.Buffers.{state_of, rest_of, IsKept};
 ghost use Rattle.h2_wire.specs.Steps.{Opens, OpensSoundly, Takes};
 
@@ -214,7 +214,7 @@ impl Buffer {
 
     // The preface is whole, and so many octets were used.
     fn pass(&mut self, used: usize)
-        ensures { self.new ≡ record self.old { matched = 24; place = told (self.old.place + used) } }
+        ensures { self.new ≡ record self.old { matched = 24; place = saturated (self.old.place + used) } }
     {
         self.matched = PREFACE.len();
         self.count(used);
@@ -222,7 +222,7 @@ impl Buffer {
 
     // So many octets were used.
     fn count(&mut self, used: usize)
-        ensures { self.new ≡ record self.old { place = told (self.old.place + used) } }
+        ensures { self.new ≡ record self.old { place = saturated (self.old.place + used) } }
     {
         self.place = self.place.saturating_add(used as u64);
     }
@@ -230,7 +230,7 @@ impl Buffer {
     // The stream is at fault, with the last of so many octets of the piece.
     fn break_off(&mut self, fault: WireFault, used: usize) -> WireFault
         ensures fault { result ≡ fault }
-        ensures after { self.new ≡ record self.old { place = told (self.old.place + used); fault = Some fault } }
+        ensures after { self.new ≡ record self.old { place = saturated (self.old.place + used); fault = Some fault } }
     {
         self.count(used);
         self.fault = Some(fault);

@@ -6,7 +6,7 @@ ghost use Rattle.std.specs.Io.BufRead.{Rests};
 ghost use Rattle.h2_frame.specs.Heads.{form_fault};
 ghost use Rattle.h2_frame.specs.Frames.{frame_of, Carries, payload_fault};
 ghost use Rattle.h2_frame.specs.declared.code.Code.{Code};
-ghost use Rattle.h2_wire.specs.Cutting.{Stands, Cuts, FaultsAtHead};
+ghost use Rattle.h2_wire.specs.Cutter.{CutterRepresents, Cuts, FaultsAtHead};
 ghost use Rattle.h2_wire.specs.contracts.cutter.Cutter.{the_row};
 
 use crate::buffer::{Buffer, HEAD};
@@ -23,7 +23,7 @@ pub struct Cutter {
 }
 
 impl Model for Cutter {
-    ghost use Rattle.h2_wire.specs.Cutting.{CutterState};
+    ghost use Rattle.h2_wire.specs.Cutter.{CutterState};
     ghost use Rattle.h2_wire.specs.Buffers.{state_of, IsKept};
 
     ghost Value = { CutterState };
@@ -40,7 +40,7 @@ impl Cutter {
         ensures limit { result.limit ≡ limit }
 
         // It stands for the stream of which nothing has come.
-        ensures stands { Stands result expect_preface (λ _. limit) [] [] }
+        ensures stands { CutterRepresents result expect_preface (λ _. limit) [] [] }
     {
         Cutter {
             buffer: Buffer::new(alloc, limit, expect_preface),

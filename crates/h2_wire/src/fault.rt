@@ -1,7 +1,7 @@
 //! The faults of a stream of frames.
 
 ghost use Rattle.std.specs.Prelude.{◌≡◌};
-ghost use Rattle.h2_wire.specs.Faults.{code_of};
+ghost use Rattle.h2_wire.specs.Faults.{wire_fault_code};
 
 use h2_frame::Code;
 use thiserror::Error;
@@ -27,7 +27,7 @@ impl WireFault {
     /// The code with which the connection ends: that of the fault, PROTOCOL_ERROR for a wrong preface, and INTERNAL_ERROR
     /// for want of memory.
     pub fn code(self) -> Code
-        ensures { result ≡ code_of self }
+        ensures { result ≡ wire_fault_code self }
     {
         match self {
             WireFault::BadPreface => Code::ProtocolError,

@@ -5,7 +5,7 @@ ghost use Rattle.h2_frame.specs.declared.code.Code.{Code};
 ghost use Rattle.h2_frame.specs.Heads.{head_of, head_fault};
 ghost use Rattle.h2_frame.specs.Frames.{Frame, payload_fault};
 ghost use Rattle.h2_wire.specs.declared.fault.WireFault.{WireFault as Fault};
-ghost use Rattle.h2_wire.specs.Streams.{Limits, IsFrame, IsPartial, Frames, FaultAt};
+ghost use Rattle.h2_wire.specs.Streams.{Limits, IsFrame, IsPartial, Frames, WireFaultAt};
 
 /// A stream has one reading: its frames and its rest are the same, however it was cut.
 pub fn one_reading()
@@ -16,14 +16,14 @@ pub fn one_reading()
 /// A stream has one fault at most, at one place behind the same frames, also with octets behind it.
 pub fn one_fault()
     ensures { (expects : Bool) (limits : Limits) (stream more : List ℕ) (frames others : List Frame) (place other : ℕ) (fault another : Fault)
-        → FaultAt expects limits stream frames place fault → FaultAt expects limits (stream ++ more) others other another
+        → WireFaultAt expects limits stream frames place fault → WireFaultAt expects limits (stream ++ more) others other another
         → (frames ≡ others) × (place ≡ other) × (fault ≡ another) }
 {}
 
 /// A stream that is at fault has no reading, whatever comes behind it.
 pub fn no_reading_past_a_fault()
     ensures { (expects : Bool) (limits : Limits) (stream more : List ℕ) (frames others : List Frame) (place : ℕ) (fault : Fault) (rest : List ℕ)
-        → FaultAt expects limits stream frames place fault → Frames expects limits (stream ++ more) others rest → ⊥ }
+        → WireFaultAt expects limits stream frames place fault → Frames expects limits (stream ++ more) others rest → ⊥ }
 {}
 
 /// No front of a partial rest is a whole frame, a head at fault, or a whole frame with a payload at fault.

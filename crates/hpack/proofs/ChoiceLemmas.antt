@@ -3,12 +3,12 @@ use Rattle.std.proofs.Common.{◌≡◌, ℕ, ◌+◌, ◌^◌, ◌<◌, ◌≤�
 use Rattle.std.proofs.lemmas.Bool.{lt-ltb, le-ltb, ne_eqb, eq-eqb}
 use Rattle.hpack.specs.declared.entry.Entry.{Entry}
 use Rattle.hpack.specs.declared.field.Field.{Field}
-use Rattle.hpack.specs.declared.kind.Literal.TheVariants.{Added, Plain, Never}
+use Rattle.hpack.specs.declared.kind.Literal.TheVariants.{WithIndexing, WithoutIndexing, NeverIndexed}
 use Rattle.hpack.specs.declared.draft.Draft.{Draft}
 use Rattle.hpack.specs.Static.{static_entries}
 use Rattle.hpack.specs.Tables.{Entries}
 use Rattle.hpack.specs.Lists.{EncoderState}
-use Rattle.hpack.specs.Choice.{least_index, exact_index, name_index, Choice, indexed, literal, choice, signals}
+use Rattle.hpack.specs.Choice.{least_index, exact_index, name_index, Choice, indexed, literal, choice, size_updates}
 use Rattle.hpack.specs.Search.{first_index}
 use Rattle.hpack.specs.Drafts.{drafted, IsDraft}
 use Rattle.hpack.proofs.SearchLemmas.{least_index-parts}
@@ -37,10 +37,10 @@ least_small test draft table index is same =
 -- the choice, by its tests
 unfoldable choice_by : Entries → Field → Bool → Bool → Bool → Choice
 choice_by table field sensitive exact large =
-    if sensitive then literal Never (name_index table.entries field)
+    if sensitive then literal NeverIndexed (name_index table.entries field)
     else if exact then indexed (exact_index table.entries field)
-    else if large then literal Plain (name_index table.entries field)
-    else literal Added (name_index table.entries field)
+    else if large then literal WithoutIndexing (name_index table.entries field)
+    else literal WithIndexing (name_index table.entries field)
 
 -- the test for an exact entry
 has_exact : Entries → Field → Bool
@@ -56,10 +56,10 @@ unfolding choice choice_by has_exact is_large
 choice-by table field = refl
 
 -- a sensitive field
-pub chosen_never : (table : Entries) (field : Field) (index : ℕ) → field.sensitive ≡ true → index ≡ name_index table.entries field → literal Never index ≡ choice table field
+pub chosen_never : (table : Entries) (field : Field) (index : ℕ) → field.sensitive ≡ true → index ≡ name_index table.entries field → literal NeverIndexed index ≡ choice table field
 unfolding choice_by
 chosen_never table field index sensitive named =
-    ap (λ (n : ℕ). literal Never n) named
+    ap (λ (n : ℕ). literal NeverIndexed n) named
     ∙ sym (choice-by table field ∙ ap (λ (b : Bool). choice_by table field b (has_exact table field) (is_large table field)) sensitive)
 
 -- a field with an exact entry
@@ -73,7 +73,7 @@ chosen_indexed table field index usual exact some =
 
 -- a field with none, by its size
 chosen_by : (table : Entries) (field : Field) (large : Bool) → field.sensitive ≡ false → exact_index table.entries field ≤ 0 → is_large table field ≡ large
-    → choice table field ≡ (if large then literal Plain (name_index table.entries field) else literal Added (name_index table.entries field))
+    → choice table field ≡ (if large then literal WithoutIndexing (name_index table.entries field) else literal WithIndexing (name_index table.entries field))
 unfolding choice_by has_exact
 chosen_by table field large usual none is =
     let has : has_exact table field ≡ false = le-ltb 0 (exact_index table.entries field) none in
@@ -82,18 +82,18 @@ chosen_by table field large usual none is =
 
 -- a field that is larger than the maximum
 pub chosen_plain : (table : Entries) (field : Field) (exact index : ℕ) → field.sensitive ≡ false → exact ≡ exact_index table.entries field → exact ≤ 0
-    → index ≡ name_index table.entries field → table.maximum < length field.name + length field.value + 32 → literal Plain index ≡ choice table field
+    → index ≡ name_index table.entries field → table.maximum < length field.name + length field.value + 32 → literal WithoutIndexing index ≡ choice table field
 unfolding is_large
 chosen_plain table field exact index usual is none named large =
-    ap (λ (n : ℕ). literal Plain n) named
+    ap (λ (n : ℕ). literal WithoutIndexing n) named
     ∙ sym (chosen_by table field true usual (omega (arith, is)) (lt-ltb table.maximum (length field.name + length field.value + 32) large))
 
 -- a field that is added
 pub chosen_added : (table : Entries) (field : Field) (exact index : ℕ) → field.sensitive ≡ false → exact ≡ exact_index table.entries field → exact ≤ 0
-    → index ≡ name_index table.entries field → length field.name + length field.value + 32 ≤ table.maximum → literal Added index ≡ choice table field
+    → index ≡ name_index table.entries field → length field.name + length field.value + 32 ≤ table.maximum → literal WithIndexing index ≡ choice table field
 unfolding is_large
 chosen_added table field exact index usual is none named small =
-    ap (λ (n : ℕ). literal Added n) named
+    ap (λ (n : ℕ). literal WithIndexing n) named
     ∙ sym (chosen_by table field false usual (omega (arith, is)) (le-ltb table.maximum (length field.name + length field.value + 32) small))
 
 -- the updates, by their tests
@@ -101,35 +101,35 @@ unfoldable signals_by : ℕ → ℕ → Bool → Bool → Bool → List ℕ
 signals_by least limit fell alike rose = if fell then least ∷ (if alike then [] else limit ∷ []) else if rose then limit ∷ [] else []
 
 -- The updates go by these tests.
-signals-by : (state : EncoderState) → signals state
+size_updates-by : (state : EncoderState) → size_updates state
     ≡ signals_by state.least state.limit (nat_lt state.least state.table.maximum) (state.limit == state.least) (nat_lt state.table.maximum state.limit)
-unfolding signals signals_by
-signals-by state = refl
+unfolding size_updates signals_by
+size_updates-by state = refl
 
 -- The limit fell, and is that still.
-pub signals_fell : (state : EncoderState) → state.least < state.table.maximum → state.limit ≡ state.least → state.least ∷ [] ≡ signals state
+pub signals_fell : (state : EncoderState) → state.least < state.table.maximum → state.limit ≡ state.least → state.least ∷ [] ≡ size_updates state
 unfolding signals_by
 signals_fell state fell alike =
-    sym (signals-by state ∙ (ap (λ (b : Bool). signals_by state.least state.limit b (state.limit == state.least) (nat_lt state.table.maximum state.limit)) (lt-ltb state.least state.table.maximum fell)
+    sym (size_updates-by state ∙ (ap (λ (b : Bool). signals_by state.least state.limit b (state.limit == state.least) (nat_lt state.table.maximum state.limit)) (lt-ltb state.least state.table.maximum fell)
     ∙ ap (λ (b : Bool). signals_by state.least state.limit true b (nat_lt state.table.maximum state.limit)) (eq-eqb state.limit state.least alike)))
 
 -- The limit fell, and is another.
-pub signals_changed : (state : EncoderState) → state.least < state.table.maximum → (state.limit ≡ state.least → ⊥) → state.least ∷ state.limit ∷ [] ≡ signals state
+pub signals_changed : (state : EncoderState) → state.least < state.table.maximum → (state.limit ≡ state.least → ⊥) → state.least ∷ state.limit ∷ [] ≡ size_updates state
 unfolding signals_by
 signals_changed state fell other =
-    sym (signals-by state ∙ (ap (λ (b : Bool). signals_by state.least state.limit b (state.limit == state.least) (nat_lt state.table.maximum state.limit)) (lt-ltb state.least state.table.maximum fell)
+    sym (size_updates-by state ∙ (ap (λ (b : Bool). signals_by state.least state.limit b (state.limit == state.least) (nat_lt state.table.maximum state.limit)) (lt-ltb state.least state.table.maximum fell)
     ∙ ap (λ (b : Bool). signals_by state.least state.limit true b (nat_lt state.table.maximum state.limit)) (ne_eqb state.limit state.least other)))
 
 -- The limit rose.
-pub signals_rose : (state : EncoderState) → state.table.maximum ≤ state.least → state.table.maximum < state.limit → state.limit ∷ [] ≡ signals state
+pub signals_rose : (state : EncoderState) → state.table.maximum ≤ state.least → state.table.maximum < state.limit → state.limit ∷ [] ≡ size_updates state
 unfolding signals_by
 signals_rose state held rose =
-    sym (signals-by state ∙ (ap (λ (b : Bool). signals_by state.least state.limit b (state.limit == state.least) (nat_lt state.table.maximum state.limit)) (le-ltb state.least state.table.maximum held)
+    sym (size_updates-by state ∙ (ap (λ (b : Bool). signals_by state.least state.limit b (state.limit == state.least) (nat_lt state.table.maximum state.limit)) (le-ltb state.least state.table.maximum held)
     ∙ ap (λ (b : Bool). signals_by state.least state.limit false (state.limit == state.least) b) (lt-ltb state.table.maximum state.limit rose)))
 
 -- Nothing is due.
-pub signals_none : (state : EncoderState) → state.table.maximum ≤ state.least → state.limit ≤ state.table.maximum → [] ≡ signals state
+pub signals_none : (state : EncoderState) → state.table.maximum ≤ state.least → state.limit ≤ state.table.maximum → [] ≡ size_updates state
 unfolding signals_by
 signals_none state held low =
-    sym (signals-by state ∙ (ap (λ (b : Bool). signals_by state.least state.limit b (state.limit == state.least) (nat_lt state.table.maximum state.limit)) (le-ltb state.least state.table.maximum held)
+    sym (size_updates-by state ∙ (ap (λ (b : Bool). signals_by state.least state.limit b (state.limit == state.least) (nat_lt state.table.maximum state.limit)) (le-ltb state.least state.table.maximum held)
     ∙ ap (λ (b : Bool). signals_by state.least state.limit false (state.limit == state.least) b) (le-ltb state.table.maximum state.limit low)))

@@ -5,15 +5,15 @@ use Rattle.std.proofs.Math.ListN.{drop_of_length-le}
 use Rattle.hpack_text.specs.Writing.{IsExtended}
 use Rattle.hpack.specs.declared.field.Field.{Field}
 use Rattle.hpack.specs.Tables.{Entries}
-use Rattle.hpack.specs.Choice.{choice, written, after_choice, written_fields, after_fields}
+use Rattle.hpack.specs.Choice.{choice, encoding_of_field, after_choice, encoding_of_fields, after_fields}
 
 -- what is written for fields, the first of them first
-written-drop : (table : Entries) (fields : List Field) (index : ℕ) (field : Field) → index < length fields → field ≡ get_or fields index field
-    → written_fields table (drop index fields) ≡ written (choice table field) field ++ written_fields (after_choice table (choice table field) field) (drop (index + 1) fields)
-unfolding written_fields
-written-drop table fields index field lt is =
-    ap (written_fields table) (drop_more fields index field lt)
-    ∙ ap (λ (f : Field). written (choice table f) f ++ written_fields (after_choice table (choice table f) f) (drop (index + 1) fields)) (sym is)
+encoding_of_field-drop : (table : Entries) (fields : List Field) (index : ℕ) (field : Field) → index < length fields → field ≡ get_or fields index field
+    → encoding_of_fields table (drop index fields) ≡ encoding_of_field (choice table field) field ++ encoding_of_fields (after_choice table (choice table field) field) (drop (index + 1) fields)
+unfolding encoding_of_fields
+encoding_of_field-drop table fields index field lt is =
+    ap (encoding_of_fields table) (drop_more fields index field lt)
+    ∙ ap (λ (f : Field). encoding_of_field (choice table f) f ++ encoding_of_fields (after_choice table (choice table f) f) (drop (index + 1) fields)) (sym is)
 
 -- the table behind fields, the first of them first
 after-drop : (table : Entries) (fields : List Field) (index : ℕ) (field : Field) → index < length fields → field ≡ get_or fields index field
@@ -25,14 +25,14 @@ after-drop table fields index field lt is =
 
 -- One more field is written.
 pub write_step : (old out new : List ℕ) (table after : Entries) (fields : List Field) (index : ℕ) (field : Field) (all : List ℕ) → index < length fields → field ≡ get_or fields index field
-    → new ≡ out ++ written (choice table field) field → after ≡ after_choice table (choice table field) field
-    → out ++ written_fields table (drop index fields) ≡ all → new ++ written_fields after (drop (index + 1) fields) ≡ all
+    → new ≡ out ++ encoding_of_field (choice table field) field → after ≡ after_choice table (choice table field) field
+    → out ++ encoding_of_fields table (drop index fields) ≡ all → new ++ encoding_of_fields after (drop (index + 1) fields) ≡ all
 write_step old out new table after fields index field all lt is wrote changed so_far =
     let rest = drop (index + 1) fields in
-    ap (λ (o : List ℕ). o ++ written_fields after rest) wrote
-    ∙ (append_assoc out (written (choice table field) field) (written_fields after rest)
-    ∙ (ap (λ (t : Entries). out ++ (written (choice table field) field ++ written_fields t rest)) changed
-    ∙ (ap (λ (o : List ℕ). out ++ o) (sym (written-drop table fields index field lt is)) ∙ so_far)))
+    ap (λ (o : List ℕ). o ++ encoding_of_fields after rest) wrote
+    ∙ (append_assoc out (encoding_of_field (choice table field) field) (encoding_of_fields after rest)
+    ∙ (ap (λ (t : Entries). out ++ (encoding_of_field (choice table field) field ++ encoding_of_fields t rest)) changed
+    ∙ (ap (λ (o : List ℕ). out ++ o) (sym (encoding_of_field-drop table fields index field lt is)) ∙ so_far)))
 
 -- The table behind one more field.
 pub after_step : (table after end : Entries) (fields : List Field) (index : ℕ) (field : Field) → index < length fields → field ≡ get_or fields index field
@@ -41,10 +41,10 @@ after_step table after end fields index field lt is changed so_far =
     ap (λ (t : Entries). after_fields t (drop (index + 1) fields)) changed ∙ (sym (after-drop table fields index field lt is) ∙ so_far)
 
 -- All fields are written.
-pub write_end : (out all : List ℕ) (table : Entries) (fields : List Field) (index : ℕ) → length fields ≤ index → out ++ written_fields table (drop index fields) ≡ all → out ≡ all
-unfolding written_fields
+pub write_end : (out all : List ℕ) (table : Entries) (fields : List Field) (index : ℕ) → length fields ≤ index → out ++ encoding_of_fields table (drop index fields) ≡ all → out ≡ all
+unfolding encoding_of_fields
 write_end out all table fields index past so_far =
-    sym (append-nil out) ∙ (ap (λ (f : List Field). out ++ written_fields table f) (sym (drop_of_length-le fields past)) ∙ so_far)
+    sym (append-nil out) ∙ (ap (λ (f : List Field). out ++ encoding_of_fields table f) (sym (drop_of_length-le fields past)) ∙ so_far)
 
 -- The table behind all fields.
 pub after_end : (table end : Entries) (fields : List Field) (index : ℕ) → length fields ≤ index → after_fields table (drop index fields) ≡ end → table ≡ end

@@ -3,8 +3,8 @@ use Rattle.std.proofs.Common.{◌≡◌, ℕ, ◌^◌, ◌<◌, ◌≤◌, nat_l
 use Rattle.std.proofs.lemmas.Bool.Decides.{nat_tests}
 use Rattle.hpack.specs.declared.field.Field.{Field}
 use Rattle.hpack.specs.Lists.{EncoderState}
-use Rattle.hpack.specs.Choice.{signals, block_of, after_block}
-use Rattle.hpack.specs.Written.{IsWriting}
+use Rattle.hpack.specs.Choice.{size_updates, block_of, after_block}
+use Rattle.hpack.specs.Written.{IsValidEncoder}
 use Rattle.hpack.proofs.WrittenBlocks.{block_keeps}
 use Rattle.hpack.specs.Limits.{after_limit, least_of, last_of, fell_below, signals_over, chosen, IsSettled}
 
@@ -37,8 +37,8 @@ falls_from : (maximum : ℕ) (limits : List ℕ) → nat_lt (least_of maximum li
 falls_from maximum limits = let same : nat_lt maximum maximum ≡ false = grind (arith, nat_tests) in rw (least_falls maximum maximum limits, same) refl
 
 -- the updates are those that the whole list of limits says
-pub signals_of_limits : (state : EncoderState) (limits : List ℕ) → IsSettled state → signals (fold after_limit state limits) ≡ signals_over state.table.maximum limits
-unfolding signals signals_over
+pub signals_of_limits : (state : EncoderState) (limits : List ℕ) → IsSettled state → size_updates (fold after_limit state limits) ≡ signals_over state.table.maximum limits
+unfolding size_updates signals_over
 signals_of_limits state limits settled =
     let least : state.least ≡ state.table.maximum = settled.least ∙ sym settled.maximum in
     let falls = falls_from state.table.maximum limits in
@@ -53,11 +53,11 @@ block_of_limits state limits fields settled =
     rw (signals_of_limits state limits settled, table) refl
 
 -- setting a limit leaves what must be true of the encoder
-pub limit_keeps : (state : EncoderState) (limit : ℕ) → limit < 2 ^ 32 → IsWriting state → IsWriting (after_limit state limit)
+pub limit_keeps : (state : EncoderState) (limit : ℕ) → limit < 2 ^ 32 → IsValidEncoder state → IsValidEncoder (after_limit state limit)
 limit_keeps state limit small is =
     record { least = omega arith; limit = small; maximum = is.maximum; within = is.within }
 
 -- a block leaves no limit that was set since
-pub block_settles : (state : EncoderState) (fields : List Field) → IsWriting state → IsSettled (after_block state fields)
+pub block_settles : (state : EncoderState) (fields : List Field) → IsValidEncoder state → IsSettled (after_block state fields)
 unfolding after_block
 block_settles state fields is = record { least = refl; maximum = (block_keeps state fields is).same }

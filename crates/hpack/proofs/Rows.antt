@@ -1,7 +1,7 @@
 -- The encoder's definitions, computed on the examples of RFC 7541, appendix C, and on rows for limits and large fields.
 use Rattle.std.specs.Prelude.{◌≡◌, ℕ, List, [], ◌∷◌, true, false, refl, codes}
 use Rattle.hpack_text.specs.Bits.{bits_of, number_of, octets_of}
-use Rattle.hpack_text.specs.Huffman.{groups, code_in, code, coded}
+use Rattle.hpack_text.specs.Huffman.{groups, code_in, code, huffman_bits}
 use Rattle.hpack_text.specs.Integers.{continuation_of, integer}
 use Rattle.hpack_text.specs.Strings.{string}
 use Rattle.hpack.specs.declared.field.Field.{Field}
@@ -9,11 +9,11 @@ use Rattle.hpack.specs.Sizes.{fit, table_size}
 use Rattle.hpack.specs.Static.{static_entries, entry}
 use Rattle.hpack.specs.Lists.{EncoderState, empty_table}
 use Rattle.hpack.specs.Limits.{signals_over}
-use Rattle.hpack.specs.Choice.{least_index, choice, written_fields, after_fields, signals, block_of, after_block}
+use Rattle.hpack.specs.Choice.{least_index, choice, encoding_of_fields, after_fields, size_updates, block_of, after_block}
 
 -- opens all that computes
 unfoldable pub computing : Unit {0}
-unfolding bits_of number_of octets_of groups code_in code coded continuation_of integer string fit static_entries entry least_index choice written_fields after_fields signals block_of after_block
+unfolding bits_of number_of octets_of groups code_in code huffman_bits continuation_of integer string fit static_entries entry least_index choice encoding_of_fields after_fields size_updates block_of after_block
 computing = tt
 
 -- an encoder made with a maximum

@@ -11,10 +11,10 @@ use Rattle.hpack.specs.Sizes.{table_size}
 use Rattle.hpack.specs.Tables.{Entries}
 use Rattle.hpack.specs.Drafts.{newest_first, drafted, IsDraft}
 use Rattle.hpack.specs.Lists.{EncoderState}
-use Rattle.hpack.specs.Written.{IsWriting}
+use Rattle.hpack.specs.Written.{IsValidEncoder}
 
 -- A new draft shows that the encoder's table is within its maximum.
-pub writing_of : (state : EncoderState) (draft : Draft) → IsDraft draft state.table → drafted draft state.table ≡ state.table → state.least ≤ state.limit → state.limit < 2 ^ 32 → IsWriting state
+pub writing_of : (state : EncoderState) (draft : Draft) → IsDraft draft state.table → drafted draft state.table ≡ state.table → state.least ≤ state.limit → state.limit < 2 ^ 32 → IsValidEncoder state
 writing_of state draft is same least limit =
     let maximum : draft.maximum ≡ state.table.maximum = ap (λ (t : Entries). t.maximum) same in
     let entries : table_size (take draft.live (newest_first draft state.table)) ≡ table_size state.table.entries = ap (λ (t : Entries). table_size t.entries) same in

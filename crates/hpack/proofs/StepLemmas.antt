@@ -6,7 +6,7 @@ use Rattle.hpack_text.proofs.StringLemmas.{Str-unique}
 use Rattle.hpack.specs.declared.entry.Entry.{Entry}
 use Rattle.hpack.specs.declared.field.Field.{Field}
 use Rattle.hpack.specs.declared.kind.Literal.{Literal}
-use Rattle.hpack.specs.declared.kind.Literal.TheVariants.{Added, Plain, Never}
+use Rattle.hpack.specs.declared.kind.Literal.TheVariants.{WithIndexing, WithoutIndexing, NeverIndexed}
 use Rattle.hpack.specs.Static.{entry}
 use Rattle.hpack.specs.Tables.{Entries}
 use Rattle.hpack.specs.Blocks.{FirstOctet, LiteralHead, LiteralName, after_literal, is_sensitive, Step, by_index, by_literal}
@@ -47,15 +47,15 @@ pub record ReadsLiteral (table : Entries) (first : ℕ) (front : List ℕ) (fiel
 
 -- The head of a literal has the first bits of its kind.
 head_kind : (kind : Literal) (index : ℕ) (octets head others : List ℕ) → octets ≡ head ++ others → LiteralHead kind index head → IsKind kind (first_of octets) × Int (prefix_of kind) index head
-head_kind Added index octets head others e h = (front_first 0x40 0x80 octets head others e h.0, h.1)
-head_kind Plain index octets head others e h = ((front_first 0x00 0x10 octets head others e h.0).1, h.1)
-head_kind Never index octets head others e h = (front_first 0x10 0x20 octets head others e h.0, h.1)
+head_kind WithIndexing index octets head others e h = (front_first 0x40 0x80 octets head others e h.0, h.1)
+head_kind WithoutIndexing index octets head others e h = ((front_first 0x00 0x10 octets head others e h.0).1, h.1)
+head_kind NeverIndexed index octets head others e h = (front_first 0x10 0x20 octets head others e h.0, h.1)
 
 -- An integer with the first bits of a kind is such a head.
 kind_head : (kind : Literal) (index : ℕ) (octets head others : List ℕ) → octets ≡ head ++ others → IsKind kind (first_of octets) → Int (prefix_of kind) index head → LiteralHead kind index head
-kind_head Added index octets head others e h int = (int_first 0x40 0x80 6 index octets head others e int h.0 h.1, int)
-kind_head Plain index octets head others e h int = (int_first 0x00 0x10 4 index octets head others e int (omega arith) h, int)
-kind_head Never index octets head others e h int = (int_first 0x10 0x20 4 index octets head others e int h.0 h.1, int)
+kind_head WithIndexing index octets head others e h int = (int_first 0x40 0x80 6 index octets head others e int h.0 h.1, int)
+kind_head WithoutIndexing index octets head others e h int = (int_first 0x00 0x10 4 index octets head others e int (omega arith) h, int)
+kind_head NeverIndexed index octets head others e h int = (int_first 0x10 0x20 4 index octets head others e int h.0 h.1, int)
 
 -- A field is an index or a literal, as the first octet says.
 step_reads : (table after : Entries) (octets front others : List ℕ) (field : Field) → octets ≡ front ++ others → Step table front field after
@@ -103,27 +103,27 @@ literal_step table after octets front others field kind e is_kind spelled sensit
 
 -- The first octet of a literal is below that of an index.
 kind_below : (kind : Literal) (first : ℕ) → IsKind kind first → first < 0x80
-kind_below Added first h = h.1
-kind_below Plain first h = omega arith
-kind_below Never first h = omega (arith, h.1)
+kind_below WithIndexing first h = h.1
+kind_below WithoutIndexing first h = omega arith
+kind_below NeverIndexed first h = omega (arith, h.1)
 
 -- The first octet of a literal is not that of an update.
 kind_no_update : (kind : Literal) (first : ℕ) → IsKind kind first → 0x20 ≤ first → first < 0x40 → ⊥
-kind_no_update Added first h low high = omega (arith, h.0)
-kind_no_update Plain first h low high = omega arith
-kind_no_update Never first h low high = omega (arith, h.1)
+kind_no_update WithIndexing first h low high = omega (arith, h.0)
+kind_no_update WithoutIndexing first h low high = omega arith
+kind_no_update NeverIndexed first h low high = omega (arith, h.1)
 
 -- An octet has the first bits of one kind.
 kind_unique : (kind other : Literal) (first : ℕ) → IsKind kind first → IsKind other first → kind ≡ other
-kind_unique Added Added first a b = refl
-kind_unique Added Plain first a b = absurd (omega (arith, a.0))
-kind_unique Added Never first a b = absurd (omega (arith, a.0, b.1))
-kind_unique Plain Added first a b = absurd (omega (arith, b.0))
-kind_unique Plain Plain first a b = refl
-kind_unique Plain Never first a b = absurd (omega (arith, b.0))
-kind_unique Never Added first a b = absurd (omega (arith, a.1, b.0))
-kind_unique Never Plain first a b = absurd (omega (arith, a.0))
-kind_unique Never Never first a b = refl
+kind_unique WithIndexing WithIndexing first a b = refl
+kind_unique WithIndexing WithoutIndexing first a b = absurd (omega (arith, a.0))
+kind_unique WithIndexing NeverIndexed first a b = absurd (omega (arith, a.0, b.1))
+kind_unique WithoutIndexing WithIndexing first a b = absurd (omega (arith, b.0))
+kind_unique WithoutIndexing WithoutIndexing first a b = refl
+kind_unique WithoutIndexing NeverIndexed first a b = absurd (omega (arith, b.0))
+kind_unique NeverIndexed WithIndexing first a b = absurd (omega (arith, a.1, b.0))
+kind_unique NeverIndexed WithoutIndexing first a b = absurd (omega (arith, a.0))
+kind_unique NeverIndexed NeverIndexed first a b = refl
 
 -- No index, no field where the first octet is that of an index.
 pub no_index_step : (table : Entries) (octets : List ℕ) → 0x80 ≤ first_of octets → NoFront (IsIndex table.entries) octets → NoFront (IsStep table) octets

@@ -7,30 +7,30 @@ use Rattle.hpack.specs.declared.field.Field.{Field}
 use Rattle.hpack.specs.declared.draft.Draft.{Draft}
 use Rattle.hpack.specs.Tables.{Entries}
 use Rattle.hpack.specs.Lists.{EncoderState}
-use Rattle.hpack.specs.Choice.{written_fields, after_fields, signals, after_updates, block_of, after_block}
+use Rattle.hpack.specs.Choice.{encoding_of_fields, after_fields, size_updates, after_updates, block_of, after_block}
 use Rattle.hpack.specs.Drafts.{drafted, all_added, KeepsAdded}
 
 -- A draft was made of the encoder's table, and the updates were done to it.
 pub record IsBegun (state : EncoderState) (maxima : List ℕ) (begun updated : Draft) : Type 0 where
-  pub due : maxima ≡ signals state
+  pub due : maxima ≡ size_updates state
   pub same : drafted begun state.table ≡ state.table
   pub updates : drafted updated state.table ≡ after_updates (drafted begun state.table) maxima
 
 -- the draft behind the updates
 begun_table : (state : EncoderState) (maxima : List ℕ) (begun updated : Draft) → IsBegun state maxima begun updated
-    → drafted updated state.table ≡ after_updates state.table (signals state)
+    → drafted updated state.table ≡ after_updates state.table (size_updates state)
 begun_table state maxima begun updated is =
     is.updates ∙ (ap (λ (t : Entries). after_updates t maxima) is.same ∙ ap (λ (ns : List ℕ). after_updates state.table ns) is.due)
 
 -- The updates and the fields are the block.
 pub block_is_written : (state : EncoderState) (maxima : List ℕ) (begun updated : Draft) (fields : List Field) (old between new : List ℕ) → IsBegun state maxima begun updated
-    → between ≡ old ++ flat_map (integer 5 0x20) maxima → new ≡ between ++ written_fields (drafted updated state.table) fields → new ≡ old ++ block_of state fields
+    → between ≡ old ++ flat_map (integer 5 0x20) maxima → new ≡ between ++ encoding_of_fields (drafted updated state.table) fields → new ≡ old ++ block_of state fields
 unfolding block_of
 block_is_written state maxima begun updated fields old between new is first then =
-    let updates = flat_map (integer 5 0x20) (signals state) in
-    let rest = written_fields (after_updates state.table (signals state)) fields in
+    let updates = flat_map (integer 5 0x20) (size_updates state) in
+    let rest = encoding_of_fields (after_updates state.table (size_updates state)) fields in
     then
-    ∙ (ap (λ (t : Entries). between ++ written_fields t fields) (begun_table state maxima begun updated is)
+    ∙ (ap (λ (t : Entries). between ++ encoding_of_fields t fields) (begun_table state maxima begun updated is)
     ∙ (ap (λ (o : List ℕ). o ++ rest) (first ∙ ap (λ (ns : List ℕ). old ++ flat_map (integer 5 0x20) ns) is.due)
     ∙ append_assoc old updates rest))
 
@@ -46,7 +46,7 @@ pub block_is_done : (state : EncoderState) (maxima : List ℕ) (begun updated en
     → record { table = table; least = state.limit; limit = state.limit } ≡ after_block state fields
 unfolding after_block behind
 block_is_done state maxima begun updated ended fields between table is none kept keeps after updates added =
-    let start : drafted updated state.table ≡ after_updates state.table (signals state) = begun_table state maxima begun updated is in
+    let start : drafted updated state.table ≡ after_updates state.table (size_updates state) = begun_table state maxima begun updated is in
     let nothing : all_added between updated.added.items ≡ between = ap (λ v. all_added between v.items) kept ∙ ap (λ (es : List Entry). all_added between es) none in
     let same : between ≡ drafted updated state.table = updates ∙ (ap (λ (ns : List ℕ). after_updates state.table ns) is.due ∙ sym start) in
     ap (λ (t : Entries). behind state t) (added ∙ (keeps between (nothing ∙ same) ∙ (after ∙ ap (λ (t : Entries). after_fields t fields) start)))

@@ -9,8 +9,8 @@ use Rattle.hpack.specs.Sizes.{table_size, fit}
 use Rattle.hpack.specs.Tables.{Entries, resized}
 use Rattle.hpack.specs.Blocks.{Fields, Updates, Block}
 use Rattle.hpack.specs.Lists.{EncoderState, list_size}
-use Rattle.hpack.specs.Choice.{choice, written, after_choice, written_fields, after_fields, signals, after_updates, block_of, after_block}
-use Rattle.hpack.specs.Written.{IsWriting, AreOctets}
+use Rattle.hpack.specs.Choice.{choice, encoding_of_field, after_choice, encoding_of_fields, after_fields, size_updates, after_updates, block_of, after_block}
+use Rattle.hpack.specs.Written.{IsValidEncoder, AreOctets}
 use Rattle.hpack.proofs.WrittenTables.{fit_within}
 use Rattle.hpack.proofs.WrittenFields.{IsTableOf, IsWritable, update_written, choice_spells, choice_keeps}
 
@@ -20,15 +20,15 @@ field_size field = length field.name + length field.value + 32
 
 -- What is written for fields spells them.
 pub fields_spell : (maximum : ℕ) (table : Entries) (fields : List Field) → maximum < 2 ^ 32 → IsTableOf maximum table → AreOctets fields → list_size fields < 2 ^ 35
-    → Fields table (written_fields table fields) fields (after_fields table fields)
-unfolding written_fields after_fields
+    → Fields table (encoding_of_fields table fields) fields (after_fields table fields)
+unfolding encoding_of_fields after_fields
 fields_spell maximum table [] small is octets few = (refl, refl)
 fields_spell maximum table (field ∷ fields) small is (first, others) few =
     let sizes : list_size (field ∷ fields) ≡ field_size field + list_size fields = sum_by-cons field_size field fields in
     let writable : IsWritable field = record { name = first.0; value = first.1; short_name = omega (arith, sizes); short_value = omega (arith, sizes) } in
     let chosen = choice table field in (
-      written chosen field,
-      written_fields (after_choice table chosen field) fields,
+      encoding_of_field chosen field,
+      encoding_of_fields (after_choice table chosen field) fields,
       after_choice table chosen field,
       refl,
       choice_spells maximum table field small is writable,
@@ -69,7 +69,7 @@ signal_once : (state : EncoderState) → AreSignals state (state.limit ∷ [])
 signal_once state = record { below = (omega arith, tt); table = resized_keeps state.table state.limit }
 
 -- the updates that are written, by their tests
-signals_fit_by : (state : EncoderState) (fell alike rose : Bool) → IsWriting state → nat_lt state.least state.table.maximum ≡ fell → state.limit == state.least ≡ alike
+signals_fit_by : (state : EncoderState) (fell alike rose : Bool) → IsValidEncoder state → nat_lt state.least state.table.maximum ≡ fell → state.limit == state.least ≡ alike
     → nat_lt state.table.maximum state.limit ≡ rose
     → AreSignals state (if fell then state.least ∷ (if alike then [] else state.limit ∷ []) else if rose then state.limit ∷ [] else [])
 signals_fit_by state true true rose writing fell same is_rose =
@@ -87,34 +87,34 @@ signals_fit_by state false alike false writing fell same is_rose =
     record { below = tt; table = record { same = omega (arith, least, most, below); within = omega (arith, least, below, within) } }
 
 -- The updates that are written are fit for the limit.
-pub signals_fit : (state : EncoderState) → IsWriting state → AreSignals state (signals state)
-unfolding signals
+pub signals_fit : (state : EncoderState) → IsValidEncoder state → AreSignals state (size_updates state)
+unfolding size_updates
 signals_fit state writing =
     signals_fit_by state (nat_lt state.least state.table.maximum) (state.limit == state.least) (nat_lt state.table.maximum state.limit) writing refl refl refl
 
 -- Behind a block the table has the limit as its maximum, and is within it.
-pub block_keeps : (state : EncoderState) (fields : List Field) → IsWriting state → IsTableOf state.limit (after_block state fields).table
+pub block_keeps : (state : EncoderState) (fields : List Field) → IsValidEncoder state → IsTableOf state.limit (after_block state fields).table
 unfolding after_block
-block_keeps state fields writing = fields_keep state.limit (after_updates state.table (signals state)) fields (signals_fit state writing).table
+block_keeps state fields writing = fields_keep state.limit (after_updates state.table (size_updates state)) fields (signals_fit state writing).table
 
 -- What is written for a list is a block of it.
-pub block_spells : (state : EncoderState) (limit : ℕ) (fields : List Field) → IsWriting state → AreOctets fields → list_size fields < 2 ^ 35 → state.limit ≤ limit
+pub block_encodes : (state : EncoderState) (limit : ℕ) (fields : List Field) → IsValidEncoder state → AreOctets fields → list_size fields < 2 ^ 35 → state.limit ≤ limit
     → Block state.table limit (block_of state fields) fields (after_block state fields).table
 unfolding block_of after_block
-block_spells state limit fields writing octets few le =
+block_encodes state limit fields writing octets few le =
     let signalled = signals_fit state writing in
     let same = signalled.table.same in
     record {
-      maxima = signals state;
-      updated = after_updates state.table (signals state);
-      others = written_fields (after_updates state.table (signals state)) fields;
-      updates = updates_spell state.limit limit state.table (signals state) (written_fields (after_updates state.table (signals state)) fields) writing.limit le signalled.below;
+      maxima = size_updates state;
+      updated = after_updates state.table (size_updates state);
+      others = encoding_of_fields (after_updates state.table (size_updates state)) fields;
+      updates = updates_spell state.limit limit state.table (size_updates state) (encoding_of_fields (after_updates state.table (size_updates state)) fields) writing.limit le signalled.below;
       within = omega (arith, same, le);
-      spelled = fields_spell state.limit (after_updates state.table (signals state)) fields writing.limit signalled.table octets few;
+      spelled = fields_spell state.limit (after_updates state.table (size_updates state)) fields writing.limit signalled.table octets few;
     }
 
 -- Behind a block the encoder writes on.
-pub block_goes_on : (state : EncoderState) (fields : List Field) → IsWriting state → IsWriting (after_block state fields)
+pub block_goes_on : (state : EncoderState) (fields : List Field) → IsValidEncoder state → IsValidEncoder (after_block state fields)
 unfolding after_block
 block_goes_on state fields writing =
     let kept = block_keeps state fields writing in

@@ -5,17 +5,17 @@ use Rattle.std.proofs.lemmas.Bool.{cases_lt, ltb-true, ne_eqb, and_parts}
 use Rattle.hpack_text.specs.Bits.{IsOctet}
 use Rattle.hpack_text.specs.Integers.{all_ones, integer}
 use Rattle.hpack_text.specs.Strings.{string}
-use Rattle.hpack_text.proofs.IntegerWriting.{integer-short, integer-long, integer_spells}
-use Rattle.hpack_text.proofs.StringLemmas.{string_spells}
+use Rattle.hpack_text.proofs.IntegerWriting.{integer-short, integer-long, integer_encodes}
+use Rattle.hpack_text.proofs.StringLemmas.{string_encodes}
 use Rattle.hpack.specs.declared.entry.Entry.{Entry}
 use Rattle.hpack.specs.declared.field.Field.{Field}
 use Rattle.hpack.specs.declared.kind.Literal.{Literal}
-use Rattle.hpack.specs.declared.kind.Literal.TheVariants.{Added, Plain, Never}
+use Rattle.hpack.specs.declared.kind.Literal.TheVariants.{WithIndexing, WithoutIndexing, NeverIndexed}
 use Rattle.hpack.specs.Sizes.{table_size, fit}
 use Rattle.hpack.specs.Static.{entry}
 use Rattle.hpack.specs.Tables.{Entries}
 use Rattle.hpack.specs.Blocks.{FirstOctet, Indexed, Update, LiteralHead, LiteralName, after_literal, is_sensitive, Step, by_index, by_literal}
-use Rattle.hpack.specs.Choice.{same_octets, exact_index, name_index, Choice, indexed, literal, choice, literal_head, written, after_choice}
+use Rattle.hpack.specs.Choice.{same_octets, exact_index, name_index, Choice, indexed, literal, choice, literal_head, encoding_of_field, after_choice}
 use Rattle.hpack.proofs.WrittenTables.{fit_within, same_octets-true, least_index_found, least_index_small}
 
 -- An integer begins with the bits that are given above its prefix.
@@ -31,17 +31,17 @@ first_octet prefix first_bits value =
 
 -- what is written for an index
 pub indexed_written : (index : ℕ) → index < 2 ^ 35 → Indexed index (integer 7 0x80 index)
-indexed_written index small = (first_octet 7 0x80 index, integer_spells 7 0x80 index (omega arith) (omega arith) refl small)
+indexed_written index small = (first_octet 7 0x80 index, integer_encodes 7 0x80 index (omega arith) (omega arith) refl small)
 
 -- what is written for a size update
 pub update_written : (maximum : ℕ) → maximum < 2 ^ 35 → Update maximum (integer 5 0x20 maximum)
-update_written maximum small = (first_octet 5 0x20 maximum, integer_spells 5 0x20 maximum (omega arith) (omega arith) refl small)
+update_written maximum small = (first_octet 5 0x20 maximum, integer_encodes 5 0x20 maximum (omega arith) (omega arith) refl small)
 
 -- what is written for a literal's head
 pub literal_head_written : (kind : Literal) (index : ℕ) → index < 2 ^ 35 → LiteralHead kind index (literal_head kind index)
-literal_head_written Added index small = (first_octet 6 0x40 index, integer_spells 6 0x40 index (omega arith) (omega arith) refl small)
-literal_head_written Plain index small = (first_octet 4 0x00 index, integer_spells 4 0x00 index (omega arith) (omega arith) refl small)
-literal_head_written Never index small = (first_octet 4 0x10 index, integer_spells 4 0x10 index (omega arith) (omega arith) refl small)
+literal_head_written WithIndexing index small = (first_octet 6 0x40 index, integer_encodes 6 0x40 index (omega arith) (omega arith) refl small)
+literal_head_written WithoutIndexing index small = (first_octet 4 0x00 index, integer_encodes 4 0x00 index (omega arith) (omega arith) refl small)
+literal_head_written NeverIndexed index small = (first_octet 4 0x10 index, integer_encodes 4 0x10 index (omega arith) (omega arith) refl small)
 
 -- The index names an entry with this name.
 pub record HasName (entries : List Entry) (index : ℕ) (name : List ℕ) : Type 0 where
@@ -51,7 +51,7 @@ pub record HasName (entries : List Entry) (index : ℕ) (name : List ℕ) : Type
 -- what is written for a literal's name
 pub literal_name_written : (entries : List Entry) (index : ℕ) (name : List ℕ) → AllByRecursion IsOctet name → length name < 2 ^ 35
     → (0 < index → HasName entries index name) → LiteralName entries index name (if index == 0 then string name else [])
-literal_name_written entries zero name octets short has = inl (refl, string_spells name octets short)
+literal_name_written entries zero name octets short has = inl (refl, string_encodes name octets short)
 literal_name_written entries (suc place) name octets short has =
     let one = has (omega arith) in
     let other : suc place == 0 ≡ false = ne_eqb (suc place) 0 (λ same. omega (arith, same)) in
@@ -97,7 +97,7 @@ pub record IsWritable (field : Field) : Type 0 where
 
 -- What is written by the choice spells the field, and leaves the table of the choice.
 abbrev pub Spells : Entries → Field → Choice → Type 0
-Spells table field chosen = Step table (written chosen field) field (after_choice table chosen field)
+Spells table field chosen = Step table (encoding_of_field chosen field) field (after_choice table chosen field)
 
 -- a literal, of a kind that fits the field
 literal_spells : (maximum : ℕ) (table : Entries) (field : Field) (kind : Literal) → maximum < 2 ^ 32 → IsTableOf maximum table → IsWritable field
@@ -107,21 +107,21 @@ literal_spells maximum table field kind small is writable sensitive =
     by_literal kind index (literal_head kind index) (if index == 0 then string field.name else []) (string field.value) refl
     (literal_head_written kind index (least_index_small _ table.entries maximum is.within small))
     (literal_name_written table.entries index field.name writable.name writable.short_name (name_index_names table.entries field))
-    (string_spells field.value writable.value writable.short_value) sensitive refl
+    (string_encodes field.value writable.value writable.short_value) sensitive refl
 
 -- the choice, by its tests
 choice_spells_by : (maximum : ℕ) (table : Entries) (field : Field) (sensitive exact large : Bool) → maximum < 2 ^ 32 → IsTableOf maximum table → IsWritable field
     → field.sensitive ≡ sensitive → nat_lt 0 (exact_index table.entries field) ≡ exact
-    → Spells table field (if sensitive then literal Never (name_index table.entries field)
+    → Spells table field (if sensitive then literal NeverIndexed (name_index table.entries field)
     else if exact then indexed (exact_index table.entries field)
-    else if large then literal Plain (name_index table.entries field)
-    else literal Added (name_index table.entries field))
-choice_spells_by maximum table field true exact large small is writable sensitive found = literal_spells maximum table field Never small is writable sensitive
+    else if large then literal WithoutIndexing (name_index table.entries field)
+    else literal WithIndexing (name_index table.entries field))
+choice_spells_by maximum table field true exact large small is writable sensitive found = literal_spells maximum table field NeverIndexed small is writable sensitive
 choice_spells_by maximum table field false true large small is writable sensitive found =
     by_index (exact_index table.entries field) (indexed_written (exact_index table.entries field) (least_index_small _ table.entries maximum is.within small))
     (exact_index_names table.entries field (ltb-true 0 (exact_index table.entries field) found)) sensitive refl
-choice_spells_by maximum table field false false true small is writable sensitive found = literal_spells maximum table field Plain small is writable sensitive
-choice_spells_by maximum table field false false false small is writable sensitive found = literal_spells maximum table field Added small is writable sensitive
+choice_spells_by maximum table field false false true small is writable sensitive found = literal_spells maximum table field WithoutIndexing small is writable sensitive
+choice_spells_by maximum table field false false false small is writable sensitive found = literal_spells maximum table field WithIndexing small is writable sensitive
 
 -- What is written for a field spells it.
 pub choice_spells : (maximum : ℕ) (table : Entries) (field : Field) → maximum < 2 ^ 32 → IsTableOf maximum table → IsWritable field → Spells table field (choice table field)
@@ -132,12 +132,12 @@ choice_spells maximum table field small is writable =
 
 -- Behind a literal the table is within its maximum.
 literal_keeps : (maximum : ℕ) (table : Entries) (kind : Literal) (one : Entry) → IsTableOf maximum table → IsTableOf maximum (after_literal kind table one)
-literal_keeps maximum table Added one is =
+literal_keeps maximum table WithIndexing one is =
     let left : table_size (fit (one ∷ table.entries) table.maximum) ≤ table.maximum = fit_within (one ∷ table.entries) table.maximum in
     let same = is.same in
     record { same = same; within = omega (arith, left, same) }
-literal_keeps maximum table Plain one is = is
-literal_keeps maximum table Never one is = is
+literal_keeps maximum table WithoutIndexing one is = is
+literal_keeps maximum table NeverIndexed one is = is
 
 -- Behind a field the table is within its maximum.
 pub choice_keeps : (maximum : ℕ) (table : Entries) (chosen : Choice) (field : Field) → IsTableOf maximum table → IsTableOf maximum (after_choice table chosen field)

@@ -5,7 +5,7 @@ use Rattle.hpack_text.specs.Strings.{Str}
 use Rattle.hpack.specs.declared.entry.Entry.{Entry}
 use Rattle.hpack.specs.declared.field.Field.{Field}
 use Rattle.hpack.specs.declared.kind.Literal.{Literal}
-use Rattle.hpack.specs.declared.kind.Literal.TheVariants.{Added, Plain, Never}
+use Rattle.hpack.specs.declared.kind.Literal.TheVariants.{WithIndexing, WithoutIndexing, NeverIndexed}
 use Rattle.hpack.specs.Sizes.{add}
 use Rattle.hpack.specs.Static.{entry}
 use Rattle.hpack.specs.Tables.{Entries, resized}
@@ -25,9 +25,9 @@ Update maximum octets = FirstOctet 0x20 0x40 octets × Int 5 maximum octets
 
 -- First bits 01, 0000 or 0001: a literal's head, with the index of its name, or 0 (section 6.2).
 abbrev pub LiteralHead : Literal → ℕ → List ℕ → Type 0
-LiteralHead Added index octets = FirstOctet 0x40 0x80 octets × Int 6 index octets
-LiteralHead Plain index octets = FirstOctet 0x00 0x10 octets × Int 4 index octets
-LiteralHead Never index octets = FirstOctet 0x10 0x20 octets × Int 4 index octets
+LiteralHead WithIndexing index octets = FirstOctet 0x40 0x80 octets × Int 6 index octets
+LiteralHead WithoutIndexing index octets = FirstOctet 0x00 0x10 octets × Int 4 index octets
+LiteralHead NeverIndexed index octets = FirstOctet 0x10 0x20 octets × Int 4 index octets
 
 -- A literal's name: with index 0 it stands there as a string, otherwise it is that of the entry, and no octets stand for it.
 abbrev pub LiteralName : List Entry → ℕ → List ℕ → List ℕ → Type 0
@@ -37,15 +37,15 @@ LiteralName entries index name octets =
 
 -- what a literal leaves of the table
 abbrev pub after_literal : Literal → Entries → Entry → Entries
-after_literal Added table new = record { entries = add table.entries new table.maximum; maximum = table.maximum }
-after_literal Plain table new = table
-after_literal Never table new = table
+after_literal WithIndexing table new = record { entries = add table.entries new table.maximum; maximum = table.maximum }
+after_literal WithoutIndexing table new = table
+after_literal NeverIndexed table new = table
 
 -- a literal that is never indexed is sensitive
 abbrev pub is_sensitive : Literal → Bool
-is_sensitive Added = false
-is_sensitive Plain = false
-is_sensitive Never = true
+is_sensitive WithIndexing = false
+is_sensitive WithoutIndexing = false
+is_sensitive NeverIndexed = true
 
 -- The octets spell the field at the table, and leave another table. Name and value are those of the table before.
 pub data Step (table : Entries) (octets : List ℕ) (field : Field) (after : Entries) : Type 0 where

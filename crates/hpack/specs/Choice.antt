@@ -6,7 +6,7 @@ use Rattle.hpack_text.specs.Strings.{string}
 use Rattle.hpack.specs.declared.entry.Entry.{Entry}
 use Rattle.hpack.specs.declared.field.Field.{Field}
 use Rattle.hpack.specs.declared.kind.Literal.{Literal}
-use Rattle.hpack.specs.declared.kind.Literal.TheVariants.{Added, Plain, Never}
+use Rattle.hpack.specs.declared.kind.Literal.TheVariants.{WithIndexing, WithoutIndexing, NeverIndexed}
 use Rattle.hpack.specs.Static.{static_entries}
 use Rattle.hpack.specs.Tables.{Entries, resized}
 use Rattle.hpack.specs.Blocks.{after_literal}
@@ -39,21 +39,21 @@ pub data Choice : Type 0 where
 -- isn't added, and any other is.
 unfoldable pub choice : Entries → Field → Choice
 choice table field =
-    if field.sensitive then literal Never (name_index table.entries field)
+    if field.sensitive then literal NeverIndexed (name_index table.entries field)
     else if nat_lt 0 (exact_index table.entries field) then indexed (exact_index table.entries field)
-    else if nat_lt table.maximum (length field.name + length field.value + 32) then literal Plain (name_index table.entries field)
-    else literal Added (name_index table.entries field)
+    else if nat_lt table.maximum (length field.name + length field.value + 32) then literal WithoutIndexing (name_index table.entries field)
+    else literal WithIndexing (name_index table.entries field)
 
 -- the octets of a literal's head
 abbrev pub literal_head : Literal → ℕ → List ℕ
-literal_head Added index = integer 6 0x40 index
-literal_head Plain index = integer 4 0x00 index
-literal_head Never index = integer 4 0x10 index
+literal_head WithIndexing index = integer 6 0x40 index
+literal_head WithoutIndexing index = integer 4 0x00 index
+literal_head NeverIndexed index = integer 4 0x10 index
 
 -- the octets of a field, as it is written
-abbrev pub written : Choice → Field → List ℕ
-written (indexed index) field = integer 7 0x80 index
-written (literal kind index) field = literal_head kind index ++ ((if index == 0 then string field.name else []) ++ string field.value)
+abbrev pub encoding_of_field : Choice → Field → List ℕ
+encoding_of_field (indexed index) field = integer 7 0x80 index
+encoding_of_field (literal kind index) field = literal_head kind index ++ ((if index == 0 then string field.name else []) ++ string field.value)
 
 -- the table behind a field
 abbrev pub after_choice : Entries → Choice → Field → Entries
@@ -61,9 +61,9 @@ after_choice table (indexed index) field = table
 after_choice table (literal kind index) field = after_literal kind table (record { name = field.name; value = field.value })
 
 -- the octets of fields, one behind another
-unfoldable pub written_fields : Entries → List Field → List ℕ
-written_fields table [] = []
-written_fields table (field ∷ fields) = written (choice table field) field ++ written_fields (after_choice table (choice table field) field) fields
+unfoldable pub encoding_of_fields : Entries → List Field → List ℕ
+encoding_of_fields table [] = []
+encoding_of_fields table (field ∷ fields) = encoding_of_field (choice table field) field ++ encoding_of_fields (after_choice table (choice table field) field) fields
 
 -- the table behind fields
 unfoldable pub after_fields : Entries → List Field → Entries
@@ -72,8 +72,8 @@ after_fields table (field ∷ fields) = after_fields (after_choice table (choice
 
 -- The updates at a block's beginning. Where the limit fell below the maximum since the last block, one to the least limit,
 -- and one to the limit now if that is another; where it didn't and is above the maximum, one to it.
-unfoldable pub signals : EncoderState → List ℕ
-signals state =
+unfoldable pub size_updates : EncoderState → List ℕ
+size_updates state =
     if nat_lt state.least state.table.maximum then state.least ∷ (if state.limit == state.least then [] else state.limit ∷ [])
     else if nat_lt state.table.maximum state.limit then state.limit ∷ []
     else []
@@ -84,9 +84,9 @@ after_updates table maxima = fold resized table maxima
 
 -- the octets of a whole block
 unfoldable pub block_of : EncoderState → List Field → List ℕ
-block_of state fields = flat_map (integer 5 0x20) (signals state) ++ written_fields (after_updates state.table (signals state)) fields
+block_of state fields = flat_map (integer 5 0x20) (size_updates state) ++ encoding_of_fields (after_updates state.table (size_updates state)) fields
 
 -- the encoder behind a block
 unfoldable pub after_block : EncoderState → List Field → EncoderState
 after_block state fields =
-    record { table = after_fields (after_updates state.table (signals state)) fields; least = state.limit; limit = state.limit }
+    record { table = after_fields (after_updates state.table (size_updates state)) fields; least = state.limit; limit = state.limit }

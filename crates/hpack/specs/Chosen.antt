@@ -2,7 +2,7 @@
 use Rattle.std.specs.Prelude.{ℕ, ◌≤◌, List, [], ◌∷◌}
 use Rattle.hpack.specs.declared.choice.Choice.{Choice as Chosen}
 use Rattle.hpack.specs.declared.choice.Choice.TheVariants.{Indexed, Literal}
-use Rattle.hpack.specs.declared.kind.Literal.TheVariants.{Added, Plain, Never}
+use Rattle.hpack.specs.declared.kind.Literal.TheVariants.{WithIndexing, WithoutIndexing, NeverIndexed}
 use Rattle.hpack.specs.declared.signals.Signals.{Signals}
 use Rattle.hpack.specs.declared.signals.Signals.TheVariants.{Nothing, Once, Twice}
 use Rattle.hpack.specs.Choice.{Choice, indexed, literal}
@@ -20,9 +20,9 @@ index_of (Literal kind index) = index
 -- What is added isn't larger than the maximum.
 abbrev pub FitsIfAdded : Chosen → ℕ → ℕ → Type 0
 FitsIfAdded (Indexed index) size maximum = Unit {0}
-FitsIfAdded (Literal Added index) size maximum = size ≤ maximum
-FitsIfAdded (Literal Plain index) size maximum = Unit {0}
-FitsIfAdded (Literal Never index) size maximum = Unit {0}
+FitsIfAdded (Literal WithIndexing index) size maximum = size ≤ maximum
+FitsIfAdded (Literal WithoutIndexing index) size maximum = Unit {0}
+FitsIfAdded (Literal NeverIndexed index) size maximum = Unit {0}
 
 -- the maxima that are signalled
 abbrev pub maxima_of : Signals → List ℕ

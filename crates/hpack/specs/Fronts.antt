@@ -11,7 +11,7 @@ use Rattle.hpack.specs.declared.field.List.TheVariants.{Whole, TooLarge}
 use Rattle.hpack.specs.declared.fault.Fault.{Fault}
 use Rattle.hpack.specs.declared.fault.Fault.TheVariants as faults
 use Rattle.hpack.specs.declared.kind.Literal.{Literal}
-use Rattle.hpack.specs.declared.kind.Literal.TheVariants.{Added, Plain, Never}
+use Rattle.hpack.specs.declared.kind.Literal.TheVariants.{WithIndexing, WithoutIndexing, NeverIndexed}
 use Rattle.hpack.specs.Static.{entry}
 use Rattle.hpack.specs.Tables.{Entries}
 use Rattle.hpack.specs.Blocks.{FirstOctet, LiteralName, Step, Fields, Block}
@@ -78,15 +78,15 @@ IsStep table octets = (field : Field) × (after : Entries) × Step table octets 
 
 -- how many bits of the index stand in a literal's first octet
 abbrev pub prefix_of : Literal → ℕ
-prefix_of Added = 6
-prefix_of Plain = 4
-prefix_of Never = 4
+prefix_of WithIndexing = 6
+prefix_of WithoutIndexing = 4
+prefix_of NeverIndexed = 4
 
 -- The octet has the first bits of such a literal.
 abbrev pub IsKind : Literal → ℕ → Type 0
-IsKind Added first = (0x40 ≤ first) × (first < 0x80)
-IsKind Plain first = first < 0x10
-IsKind Never first = (0x10 ≤ first) × (first < 0x20)
+IsKind WithIndexing first = (0x40 ≤ first) × (first < 0x80)
+IsKind WithoutIndexing first = first < 0x10
+IsKind NeverIndexed first = (0x10 ≤ first) × (first < 0x20)
 
 -- Nothing is spelled as fields by these octets.
 abbrev pub NoFields : Entries → List ℕ → Type 0

@@ -5,7 +5,7 @@ use Rattle.hpack_text.specs.Integers.{integer}
 use Rattle.hpack.specs.declared.field.Field.{Field}
 use Rattle.hpack.specs.Tables.{Entries}
 use Rattle.hpack.specs.Lists.{EncoderState}
-use Rattle.hpack.specs.Choice.{after_updates, written_fields}
+use Rattle.hpack.specs.Choice.{after_updates, encoding_of_fields}
 
 -- an encoder whose limit is set
 abbrev pub after_limit : EncoderState → ℕ → EncoderState
@@ -36,7 +36,7 @@ signals_over maximum limits =
 -- the octets of a block, by the table, the limits set since the last block, and the fields
 abbrev pub chosen : Entries → List ℕ → List Field → List ℕ
 chosen table limits fields =
-    flat_map (integer 5 0x20) (signals_over table.maximum limits) ++ written_fields (after_updates table (signals_over table.maximum limits)) fields
+    flat_map (integer 5 0x20) (signals_over table.maximum limits) ++ encoding_of_fields (after_updates table (signals_over table.maximum limits)) fields
 
 -- No limit was set since the last block: it and the least one are the table's maximum.
 pub record IsSettled (state : EncoderState) : Type 0 where

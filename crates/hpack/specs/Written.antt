@@ -7,7 +7,7 @@ use Rattle.hpack.specs.Sizes.{table_size}
 use Rattle.hpack.specs.Lists.{EncoderState}
 
 -- Limits and maxima are numbers of 32 bits, the least limit is no greater than the one now, and the table is within its maximum.
-pub record IsWriting (state : EncoderState) : Type 0 where
+pub record IsValidEncoder (state : EncoderState) : Type 0 where
   pub least : state.least ≤ state.limit
   pub limit : state.limit < 2 ^ 32
   pub maximum : state.table.maximum < 2 ^ 32

@@ -6,7 +6,7 @@ ghost use Rattle.std.specs.List.{AllByRecursion};
 ghost use Rattle.hpack_text.specs.Bits.{IsOctet};
 ghost use Rattle.hpack.specs.Lists.{list_size};
 ghost use Rattle.hpack.specs.Written.{AreOctets};
-ghost use Rattle.hpack.specs.Choice.{choice, written, after_choice, written_fields, after_fields};
+ghost use Rattle.hpack.specs.Choice.{choice, encoding_of_field, after_choice, encoding_of_fields, after_fields};
 ghost use Rattle.hpack.specs.Drafts.{drafted, IsDraft, KeepsAdded, added_to};
 
 use crate::choice::{Choice, choose};
@@ -30,7 +30,7 @@ pub(crate) fn append_fields(
 ) -> Result<(), Fault>
     requires draft { IsDraft draft.old table.now }
     requires size { list_size fields.now < 2 ^ 35 }
-    ensures written { OnOk result (out.new.items ≡ out.old.items ++ written_fields (drafted draft.old table.now) fields.now) }
+    ensures written { OnOk result (out.new.items ≡ out.old.items ++ encoding_of_fields (drafted draft.old table.now) fields.now) }
     ensures after { OnOk result (drafted draft.new table.now ≡ after_fields (drafted draft.old table.now) fields.now) }
     ensures added { OnOk result (KeepsAdded table.now draft.old draft.new) }
     ensures octets { OnOk result (AreOctets fields.now) }
@@ -62,7 +62,7 @@ fn append_one(
     requires draft { IsDraft draft.old table.now }
     requires name { length field.now.name < 2 ^ 35 }
     requires value { length field.now.value < 2 ^ 35 }
-    ensures written { OnOk result (out.new.items ≡ out.old.items ++ written (choice (drafted draft.old table.now) field.now) field.now) }
+    ensures written { OnOk result (out.new.items ≡ out.old.items ++ encoding_of_field (choice (drafted draft.old table.now) field.now) field.now) }
     ensures after { OnOk result (drafted draft.new table.now ≡ after_choice (drafted draft.old table.now) (choice (drafted draft.old table.now) field.now) field.now) }
     ensures draft { OnOk result (IsDraft draft.new table.now) }
     ensures added { OnOk result (KeepsAdded table.now draft.old draft.new) }
@@ -71,7 +71,7 @@ fn append_one(
     let choice = choose(draft, table, field);
     append_field(choice, field, out)?;
     match choice {
-        Choice::Literal(Literal::Added, _) => add_copy(alloc, draft, table, field),
+        Choice::Literal(Literal::WithIndexing, _) => add_copy(alloc, draft, table, field),
         _ => Ok(()),
     }
 }

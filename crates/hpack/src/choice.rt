@@ -32,7 +32,7 @@ pub(crate) fn choose(draft: &Draft, table: &Table, field: &Field) -> Choice
 {
     if field.sensitive {
         return Choice::Literal(
-            Literal::Never,
+            Literal::NeverIndexed,
             least_index(draft, table, Sought::Name, field),
         );
     }
@@ -43,9 +43,9 @@ pub(crate) fn choose(draft: &Draft, table: &Table, field: &Field) -> Choice
     let named = least_index(draft, table, Sought::Name, field);
     let size = size_of_octets(field.name.as_slice(), field.value.as_slice());
     if size > draft.maximum() as usize {
-        return Choice::Literal(Literal::Plain, named);
+        return Choice::Literal(Literal::WithoutIndexing, named);
     }
-    Choice::Literal(Literal::Added, named)
+    Choice::Literal(Literal::WithIndexing, named)
 }
 
 /// The least index of the entries that are looked for, those of the static table first, or 0.

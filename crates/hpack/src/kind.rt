@@ -4,9 +4,9 @@
 #[derive(Clone, Copy, Debug, PartialEq, Eq)]
 pub enum Literal {
     /// 6.2.1: the field is added to the table.
-    Added,
+    WithIndexing,
     /// 6.2.2: it isn't.
-    Plain,
+    WithoutIndexing,
     /// 6.2.3: it isn't, and never may be.
-    Never,
+    NeverIndexed,
 }

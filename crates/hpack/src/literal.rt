@@ -70,10 +70,10 @@ pub(crate) fn literal_at(
     ensures fault { IfErr result (FrontFault (IsLiteral table.old.entries (prefix_of kind)) octets.now) }
 {
     let (name, value, count) = parts_at(alloc, table, prefix_bits(kind), octets)?;
-    if kind == Literal::Added {
+    if kind == Literal::WithIndexing {
         add_copy(alloc, table, &name, &value)?;
     }
-    let sensitive = kind == Literal::Never;
+    let sensitive = kind == Literal::NeverIndexed;
     Ok((
         Field {
             name,
@@ -109,8 +109,8 @@ fn prefix_bits(kind: Literal) -> u8
     ensures { result ≡ prefix_of kind }
 {
     match kind {
-        Literal::Added => 6,
-        Literal::Plain | Literal::Never => 4,
+        Literal::WithIndexing => 6,
+        Literal::WithoutIndexing | Literal::NeverIndexed => 4,
     }
 }
 

@@ -4,7 +4,7 @@ ghost use Rattle.std.specs.Prelude.{◌≡◌, ◌%◌, ◌^◌, ◌<◌, ◌≤
 ghost use Rattle.hpack_text.specs.Integers.{integer};
 ghost use Rattle.hpack_text.specs.Strings.{string};
 ghost use Rattle.hpack_text.specs.Writing.{IsExtended};
-ghost use Rattle.hpack.specs.Choice.{written, literal_head};
+ghost use Rattle.hpack.specs.Choice.{encoding_of_field, literal_head};
 ghost use Rattle.hpack.specs.Chosen.{choice_of, index_of};
 
 use crate::choice::Choice;
@@ -18,7 +18,7 @@ pub(crate) fn append_field(choice: Choice, field: &Field, out: &mut Vec<u8>) -> 
     requires index { index_of choice < 2 ^ 35 }
     requires name { length field.now.name < 2 ^ 35 }
     requires value { length field.now.value < 2 ^ 35 }
-    ensures ok { OnOk result (out.new.items ≡ out.old.items ++ written (choice_of choice) field.now) }
+    ensures ok { OnOk result (out.new.items ≡ out.old.items ++ encoding_of_field (choice_of choice) field.now) }
     ensures extended { IsExtended out.old.items out.new.items }
 {
     match choice {
@@ -50,9 +50,9 @@ fn append_head(kind: Literal, index: u64, out: &mut Vec<u8>) -> Result<(), Fault
     ensures extended { IsExtended out.old.items out.new.items }
 {
     match kind {
-        Literal::Added => append_int(6, 0x40, index, out),
-        Literal::Plain => append_int(4, 0x00, index, out),
-        Literal::Never => append_int(4, 0x10, index, out),
+        Literal::WithIndexing => append_int(6, 0x40, index, out),
+        Literal::WithoutIndexing => append_int(4, 0x00, index, out),
+        Literal::NeverIndexed => append_int(4, 0x10, index, out),
     }
 }
 

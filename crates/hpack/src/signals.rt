@@ -4,7 +4,7 @@ ghost use Rattle.std.specs.Prelude.{◌≡◌, ◌++◌, OnOk, OnErr, IfErr, fla
 ghost use Rattle.hpack_text.specs.Integers.{integer};
 ghost use Rattle.hpack_text.specs.Writing.{IsExtended};
 ghost use Rattle.hpack.specs.Lists.{EncoderState};
-ghost use Rattle.hpack.specs.Choice.{signals as signals_of, after_updates};
+ghost use Rattle.hpack.specs.Choice.{size_updates as signals_of, after_updates};
 ghost use Rattle.hpack.specs.Drafts.{drafted, IsDraft};
 ghost use Rattle.hpack.specs.Chosen.{maxima_of};
 

@@ -59,9 +59,9 @@ fn kind_of(first: u8) -> Option<Literal>
     ensures { MatchOption result ((0x20 ≤ first) × (first < 0x40)) (λ kind. IsKind kind first) }
 {
     match first {
-        0x40.. => Some(Literal::Added),
+        0x40.. => Some(Literal::WithIndexing),
         0x20..=0x3f => None,
-        0x10..=0x1f => Some(Literal::Never),
-        _ => Some(Literal::Plain),
+        0x10..=0x1f => Some(Literal::NeverIndexed),
+        _ => Some(Literal::WithoutIndexing),
     }
 }

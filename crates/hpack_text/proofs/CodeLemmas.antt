@@ -5,7 +5,7 @@ use Rattle.std.specs.List.{AllByRecursion}
 use Rattle.hpack_text.specs.declared.fault.TextFault.{TextFault}
 use Rattle.hpack_text.specs.declared.fault.TextFault.TheVariants as faults
 use Rattle.hpack_text.specs.Bits.{IsOctet, bits, octets_of}
-use Rattle.hpack_text.specs.Huffman.{code, codes, Huff, IsLongest, HasEndSymbol, HasBadPadding, HuffFault, filling_of, coded, coded_length}
+use Rattle.hpack_text.specs.Huffman.{code, codes, Huff, IsLongest, HasEndSymbol, HasBadPadding, HuffFault, filling_of, huffman_bits, coded_length}
 use Rattle.hpack_text.specs.Reading.{IsOpen}
 use Rattle.hpack_text.proofs.BitLemmas.{length-bits, octets_of-bits, are_octets, AreOctets}
 use Rattle.hpack_text.proofs.TreeLemmas.{computing_tree, tree, first_symbol, first_symbol-code, same_symbol}
@@ -150,8 +150,8 @@ pub coded_octets : (text : List ℕ) → AreOctets (filled text) (coded_length t
 coded_octets text = are_octets (coded_length text) (filled text) (filled_octets text)
 
 -- What is written spells the text.
-pub coded_spells : (text : List ℕ) → AllByRecursion IsOctet text → Huff text (coded text)
-unfolding coded
+pub coded_spells : (text : List ℕ) → AllByRecursion IsOctet text → Huff text (huffman_bits text)
+unfolding huffman_bits
 coded_spells text all =
     let back = coded_octets text in
     record {
@@ -163,13 +163,13 @@ coded_spells text all =
     }
 
 -- as many octets as the bits take, rounded up
-pub length-coded : (text : List ℕ) → length (coded text) ≡ coded_length text
-unfolding coded
-length-coded text = (coded_octets text).counted
+pub length-huffman_bits : (text : List ℕ) → length (huffman_bits text) ≡ coded_length text
+unfolding huffman_bits
+length-huffman_bits text = (coded_octets text).counted
 
 -- Octets whose bits are the codes and a filling of at most seven ones are those that are written.
-pub is_coded_text : (text octets : List ℕ) (filling : ℕ) → AllByRecursion IsOctet octets → filling ≤ 7 → bits octets ≡ codes text ++ replicate filling true → octets ≡ coded text
-unfolding coded
+pub is_coded_text : (text octets : List ℕ) (filling : ℕ) → AllByRecursion IsOctet octets → filling ≤ 7 → bits octets ≡ codes text ++ replicate filling true → octets ≡ huffman_bits text
+unfolding huffman_bits
 is_coded_text text octets filling all short spelled =
     let counted : 8 * length octets ≡ length (codes text) + filling =
     sym (length-bits octets) ∙ (ap (λ (xs : List Bool). length xs) spelled ∙ (length-append (codes text) (replicate filling true) ∙ ap (λ n. length (codes text) + n) (length-replicate filling true))) in
@@ -177,5 +177,5 @@ is_coded_text text octets filling all short spelled =
     sym (octets_of-bits octets all) ∙ ap octets_of (spelled ∙ ap (λ (n : ℕ). codes text ++ replicate n true) same)
 
 -- A text has one spelling.
-pub only_coded : (text octets : List ℕ) → Huff text octets → octets ≡ coded text
+pub only_coded : (text octets : List ℕ) → Huff text octets → octets ≡ huffman_bits text
 only_coded text octets h = is_coded_text text octets h.filling h.octets_octets h.short h.spelled

@@ -136,8 +136,8 @@ low_bits prefix first_bits value clear lt =
     ap (λ (n : ℕ). n % 2 ^ prefix) split ∙ mod_low (first_bits / 2 ^ prefix) prefix value lt
 
 -- What is written for an integer spells it.
-pub integer_spells : (prefix first_bits value : ℕ) → 1 ≤ prefix → prefix ≤ 8 → first_bits % 2 ^ prefix ≡ 0 → value < 2 ^ 35 → Int prefix value (integer prefix first_bits value)
-integer_spells prefix first_bits value least most clear lt =
+pub integer_encodes : (prefix first_bits value : ℕ) → 1 ≤ prefix → prefix ≤ 8 → first_bits % 2 ^ prefix ≡ 0 → value < 2 ^ 35 → Int prefix value (integer prefix first_bits value)
+integer_encodes prefix first_bits value least most clear lt =
     elim (cases_lt value (all_ones prefix)) [
       | inl short ↦
           let low : (first_bits + value) % 2 ^ prefix ≡ value = low_bits prefix first_bits value clear (omega arith) in

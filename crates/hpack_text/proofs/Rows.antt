@@ -1,13 +1,13 @@
 -- The definitions, computed: the code is canonical, and rows of RFC 7541 and own ones come out as they should.
 use Rattle.std.proofs.Common.{◌≡◌, ℕ, ◌+◌, ◌-◌, ◌*◌, ◌^◌, ◌==◌, ◌&&◌, nat_lt, Bool, true, List, [], ◌∷◌, length, refl}
 use Rattle.hpack_text.specs.Bits.{bits_of, number_of, octets_of}
-use Rattle.hpack_text.specs.Huffman.{Group, groups, code_in, code, coded}
+use Rattle.hpack_text.specs.Huffman.{Group, groups, code_in, code, huffman_bits}
 use Rattle.hpack_text.specs.Integers.{continuation_of, integer}
 use Rattle.hpack_text.specs.Strings.{string}
 
 -- opens all that computes
 unfoldable pub computing : Unit {0}
-unfolding bits_of number_of octets_of groups code_in code coded continuation_of integer string
+unfolding bits_of number_of octets_of groups code_in code huffman_bits continuation_of integer string
 computing = tt
 
 -- 10 in 5 bits
@@ -29,20 +29,20 @@ unfolding computing
 row_31 = refl
 
 -- `www.example.com`
-example : coded (119 ∷ 119 ∷ 119 ∷ 46 ∷ 101 ∷ 120 ∷ 97 ∷ 109 ∷ 112 ∷ 108 ∷ 101 ∷ 46 ∷ 99 ∷ 111 ∷ 109 ∷ [])
+example : huffman_bits (119 ∷ 119 ∷ 119 ∷ 46 ∷ 101 ∷ 120 ∷ 97 ∷ 109 ∷ 112 ∷ 108 ∷ 101 ∷ 46 ∷ 99 ∷ 111 ∷ 109 ∷ [])
     ≡ 0xf1 ∷ 0xe3 ∷ 0xc2 ∷ 0xe5 ∷ 0xf2 ∷ 0x3a ∷ 0x6b ∷ 0xa0 ∷ 0xab ∷ 0x90 ∷ 0xf4 ∷ 0xff ∷ []
 unfolding computing
 example = refl
 
-letter_a : coded (97 ∷ []) ≡ 0x1f ∷ []
+letter_a : huffman_bits (97 ∷ []) ≡ 0x1f ∷ []
 unfolding computing
 letter_a = refl
 
-octet_zero : coded (0 ∷ []) ≡ 0xff ∷ 0xc7 ∷ []
+octet_zero : huffman_bits (0 ∷ []) ≡ 0xff ∷ 0xc7 ∷ []
 unfolding computing
 octet_zero = refl
 
-line_feed : coded (10 ∷ []) ≡ 0xff ∷ 0xff ∷ 0xff ∷ 0xf3 ∷ []
+line_feed : huffman_bits (10 ∷ []) ≡ 0xff ∷ 0xff ∷ 0xff ∷ 0xf3 ∷ []
 unfolding computing
 line_feed = refl
 

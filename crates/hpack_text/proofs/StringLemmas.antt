@@ -6,13 +6,13 @@ use Rattle.std.specs.List.{AllByRecursion}
 use Rattle.hpack_text.specs.declared.fault.TextFault.{TextFault}
 use Rattle.hpack_text.specs.declared.fault.TextFault.TheVariants as faults
 use Rattle.hpack_text.specs.Bits.{IsOctet}
-use Rattle.hpack_text.specs.Huffman.{Huff, HasEndSymbol, HasBadPadding, coded}
+use Rattle.hpack_text.specs.Huffman.{Huff, HasEndSymbol, HasBadPadding, huffman_bits}
 use Rattle.hpack_text.specs.Integers.{Int, integer}
 use Rattle.hpack_text.specs.Strings.{is_coded, Holds, Str, IsShort, HasCoded, StrFault, string}
 use Rattle.hpack_text.specs.Reading.{BodyFault}
 use Rattle.hpack_text.proofs.CodeLemmas.{one_text_lem, coded_spells}
 use Rattle.hpack_text.proofs.IntegerLemmas.{IntAt, Int-unique, truncated_spells_none, too_long_spells_none}
-use Rattle.hpack_text.proofs.IntegerWriting.{integer_spells, integer-short, integer-long}
+use Rattle.hpack_text.proofs.IntegerWriting.{integer_encodes, integer-short, integer-long}
 
 -- Fronts of equal length are equal.
 same_fronts : (xs ys more rest : List ℕ) → length xs ≡ length ys → xs ++ more ≡ ys ++ rest → xs ≡ ys
@@ -132,44 +132,44 @@ raw_head value more =
     ]
 
 -- what is written for a text that isn't longer coded
-pub string-coded : (text : List ℕ) → length (coded text) ≤ length text → string text ≡ integer 7 128 (length (coded text)) ++ coded text
+pub string-huffman_bits : (text : List ℕ) → length (huffman_bits text) ≤ length text → string text ≡ integer 7 128 (length (huffman_bits text)) ++ huffman_bits text
 unfolding string
-string-coded text le =
-    ap (λ (b : Bool). if b then integer 7 128 (length (coded text)) ++ coded text else integer 7 0 (length text) ++ text) (le-leb (length (coded text)) (length text) le)
+string-huffman_bits text le =
+    ap (λ (b : Bool). if b then integer 7 128 (length (huffman_bits text)) ++ huffman_bits text else integer 7 0 (length text) ++ text) (le-leb (length (huffman_bits text)) (length text) le)
 
 -- what is written for another text
-pub string-raw : (text : List ℕ) → length text < length (coded text) → string text ≡ integer 7 0 (length text) ++ text
+pub string-raw : (text : List ℕ) → length text < length (huffman_bits text) → string text ≡ integer 7 0 (length text) ++ text
 unfolding string
 string-raw text lt =
-    ap (λ (b : Bool). if b then integer 7 128 (length (coded text)) ++ coded text else integer 7 0 (length text) ++ text) (lt-leb (length (coded text)) (length text) lt)
+    ap (λ (b : Bool). if b then integer 7 128 (length (huffman_bits text)) ++ huffman_bits text else integer 7 0 (length text) ++ text) (lt-leb (length (huffman_bits text)) (length text) lt)
 
 -- What is written for a string spells it.
-pub string_spells : (text : List ℕ) → AllByRecursion IsOctet text → length text < 2 ^ 35 → Str text (string text)
-string_spells text all lt =
-    elim (cases_lt (length text) (length (coded text))) [
+pub string_encodes : (text : List ℕ) → AllByRecursion IsOctet text → length text < 2 ^ 35 → Str text (string text)
+string_encodes text all lt =
+    elim (cases_lt (length text) (length (huffman_bits text))) [
       | inl longer ↦ record {
         head = integer 7 0 (length text);
         body = text;
         joined = string-raw text longer;
-        head_length = integer_spells 7 0 (length text) (omega arith) (omega arith) refl lt;
+        head_length = integer_encodes 7 0 (length text) (omega arith) (omega arith) refl lt;
         holds = subst (λ b. Holds b text text) (sym (ap is_coded (sym (append-nil (integer 7 0 (length text)))) ∙ raw_head (length text) [])) (refl, all);
       }
       | inr no_longer ↦ record {
-        head = integer 7 128 (length (coded text));
-        body = coded text;
-        joined = string-coded text no_longer;
-        head_length = integer_spells 7 128 (length (coded text)) (omega arith) (omega arith) refl (omega arith);
-        holds = subst (λ b. Holds b text (coded text)) (sym (ap is_coded (sym (append-nil (integer 7 128 (length (coded text))))) ∙ coded_head (length (coded text)) []))
+        head = integer 7 128 (length (huffman_bits text));
+        body = huffman_bits text;
+        joined = string-huffman_bits text no_longer;
+        head_length = integer_encodes 7 128 (length (huffman_bits text)) (omega arith) (omega arith) refl (omega arith);
+        holds = subst (λ b. Holds b text (huffman_bits text)) (sym (ap is_coded (sym (append-nil (integer 7 128 (length (huffman_bits text))))) ∙ coded_head (length (huffman_bits text)) []))
             (coded_spells text all);
       }
     ]
 
 -- A string is written coded exactly where that isn't longer.
-pub string_coded_where : (text : List ℕ) → is_coded (string text) ≡ nat_le (length (coded text)) (length text)
+pub string_coded_where : (text : List ℕ) → is_coded (string text) ≡ nat_le (length (huffman_bits text)) (length text)
 string_coded_where text =
-    elim (cases_lt (length text) (length (coded text))) [
-      | inl longer ↦ ap is_coded (string-raw text longer) ∙ (raw_head (length text) text ∙ sym (lt-leb (length (coded text)) (length text) longer))
-      | inr no_longer ↦ ap is_coded (string-coded text no_longer) ∙ (coded_head (length (coded text)) (coded text) ∙ sym (le-leb (length (coded text)) (length text) no_longer))
+    elim (cases_lt (length text) (length (huffman_bits text))) [
+      | inl longer ↦ ap is_coded (string-raw text longer) ∙ (raw_head (length text) text ∙ sym (lt-leb (length (huffman_bits text)) (length text) longer))
+      | inr no_longer ↦ ap is_coded (string-huffman_bits text no_longer) ∙ (coded_head (length (huffman_bits text)) (huffman_bits text) ∙ sym (le-leb (length (huffman_bits text)) (length text) no_longer))
     ]
 
 -- what is behind the first octets, as a slice up to the end
@@ -297,10 +297,10 @@ are_parts text head body e = record {
 }
 
 -- the parts of a text that is written coded
-pub coded_parts : (text : List ℕ) (count : ℕ) → count ≡ length (coded text) → count ≤ length text → AreParts text (integer 7 128 count) (coded text)
+pub coded_parts : (text : List ℕ) (count : ℕ) → count ≡ length (huffman_bits text) → count ≤ length text → AreParts text (integer 7 128 count) (huffman_bits text)
 coded_parts text count same le =
-    are_parts text (integer 7 128 count) (coded text) (string-coded text (omega arith) ∙ ap (λ (n : ℕ). integer 7 128 n ++ coded text) (sym same))
+    are_parts text (integer 7 128 count) (huffman_bits text) (string-huffman_bits text (omega arith) ∙ ap (λ (n : ℕ). integer 7 128 n ++ huffman_bits text) (sym same))
 
 -- the parts of a text that is written as it is
-pub raw_parts : (text : List ℕ) (count : ℕ) → count ≡ length (coded text) → length text < count → AreParts text (integer 7 0 (length text)) text
+pub raw_parts : (text : List ℕ) (count : ℕ) → count ≡ length (huffman_bits text) → length text < count → AreParts text (integer 7 0 (length text)) text
 raw_parts text count same lt = are_parts text (integer 7 0 (length text)) text (string-raw text (omega arith))

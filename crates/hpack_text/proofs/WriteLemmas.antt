@@ -5,10 +5,10 @@ use Rattle.std.proofs.lemmas.List.{take_more, take_all}
 use Rattle.std.proofs.lemmas.Nat.{pow-add, shl_whole, shr_below, one_shl, mul-add-lt, mod_below}
 use Rattle.std.specs.List.{AllByRecursion}
 use Rattle.hpack_text.specs.Bits.{IsOctet, bits_of, bits}
-use Rattle.hpack_text.specs.Huffman.{code, codes, coded}
+use Rattle.hpack_text.specs.Huffman.{code, codes, huffman_bits}
 use Rattle.hpack_text.specs.Writing.{Adds, AddsFilled}
 use Rattle.hpack_text.proofs.BitLemmas.{length-bits_of, length-bits, bits_of-joined, bits_of-split, bits_of-ones}
-use Rattle.hpack_text.proofs.CodeLemmas.{is_coded_text, length-coded}
+use Rattle.hpack_text.proofs.CodeLemmas.{is_coded_text, length-huffman_bits}
 
 -- What holds of each octet of two lists holds of each of both joined.
 pub all_octets-append : (xs ys : List ℕ) → AllByRecursion IsOctet xs → AllByRecursion IsOctet ys → AllByRecursion IsOctet (xs ++ ys)
@@ -123,14 +123,14 @@ AddsFilled-none old zero value none =
 AddsFilled-none old (suc count) value none = absurd (omega arith)
 
 -- The codes of a text, and the filling behind them, are what is written for it.
-pub written_text : (old mid new text : List ℕ) (left : List Bool) → Adds old mid (codes text) left → AddsFilled mid new left → new ≡ old ++ coded text
+pub written_text : (old mid new text : List ℕ) (left : List Bool) → Adds old mid (codes text) left → AddsFilled mid new left → new ≡ old ++ huffman_bits text
 written_text old mid new text left adds filled =
     let whole = adds.added ++ filled.added in
     let spelled : bits whole ≡ codes text ++ replicate filled.filling true =
     flat_map-append (bits_of 8) adds.added filled.added
     ∙ (ap (λ (xs : List Bool). bits adds.added ++ xs) filled.spelled
     ∙ (sym (append_assoc (bits adds.added) left (replicate filled.filling true)) ∙ ap (λ (xs : List Bool). xs ++ replicate filled.filling true) (sym adds.spelled))) in
-    let same : whole ≡ coded text =
+    let same : whole ≡ huffman_bits text =
     is_coded_text text whole filled.filling (all_octets-append adds.added filled.added adds.octets filled.octets) filled.short spelled in
     filled.joined ∙ (ap (λ (xs : List ℕ). xs ++ filled.added) adds.joined ∙ (append_assoc old adds.added filled.added ∙ ap (λ (xs : List ℕ). old ++ xs) same))
 
@@ -161,15 +161,15 @@ next_code_within text i count value lt same = omega (arith, length-codes-more te
 
 -- Where a vector is full before the next eight bits, it has no room for the whole text.
 pub no_room_between : (old mid text : List ℕ) (i pending bits_left count value capacity : ℕ) → Adds old mid (codes (take i text)) (bits_of pending bits_left)
-    → i < length text → bits_of count value ≡ code (get_or text i 0) → 8 * capacity + 8 ≤ 8 * length mid + pending + count → capacity < length old + length (coded text)
+    → i < length text → bits_of count value ≡ code (get_or text i 0) → 8 * capacity + 8 ≤ 8 * length mid + pending + count → capacity < length old + length (huffman_bits text)
 no_room_between old mid text i pending bits_left count value capacity adds lt same full =
-    omega (arith, next_code_within text i count value lt same, Adds-length old mid (codes (take i text)) (bits_of pending bits_left) adds, length-bits_of pending bits_left, length-coded text)
+    omega (arith, next_code_within text i count value lt same, Adds-length old mid (codes (take i text)) (bits_of pending bits_left) adds, length-bits_of pending bits_left, length-huffman_bits text)
 
 -- Where a vector is full before the last bits, it has no room for the whole text.
 pub no_room_behind : (old mid text : List ℕ) (pending bits_left capacity : ℕ) → Adds old mid (codes text) (bits_of pending bits_left)
-    → 8 * capacity + 1 ≤ 8 * length mid + pending → capacity < length old + length (coded text)
+    → 8 * capacity + 1 ≤ 8 * length mid + pending → capacity < length old + length (huffman_bits text)
 no_room_behind old mid text pending bits_left capacity adds full =
-    omega (arith, Adds-length old mid (codes text) (bits_of pending bits_left) adds, length-bits_of pending bits_left, length-coded text)
+    omega (arith, Adds-length old mid (codes text) (bits_of pending bits_left) adds, length-bits_of pending bits_left, length-huffman_bits text)
 
 -- At the end of a loop over the text, the codes of all of it were written.
 pub Adds-all : (old mid text : List ℕ) (i : ℕ) (left : List Bool) → length text ≤ i → Adds old mid (codes (take i text)) left → Adds old mid (codes text) left

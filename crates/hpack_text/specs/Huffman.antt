@@ -103,8 +103,8 @@ abbrev pub filling_of : ℕ → ℕ
 filling_of count = (8 - count % 8) % 8
 
 -- the octets that spell a text
-unfoldable pub coded : List ℕ → List ℕ
-coded text = octets_of (codes text ++ replicate (filling_of (length (codes text))) true)
+unfoldable pub huffman_bits : List ℕ → List ℕ
+huffman_bits text = octets_of (codes text ++ replicate (filling_of (length (codes text))) true)
 
 -- how many octets spell a text
 abbrev pub coded_length : List ℕ → ℕ

@@ -4,7 +4,7 @@ use Rattle.std.specs.List.{AllByRecursion}
 use Rattle.hpack_text.specs.declared.fault.TextFault.{TextFault}
 use Rattle.hpack_text.specs.declared.fault.TextFault.TheVariants as faults
 use Rattle.hpack_text.specs.Bits.{IsOctet}
-use Rattle.hpack_text.specs.Huffman.{Huff, HasEndSymbol, HasBadPadding, coded}
+use Rattle.hpack_text.specs.Huffman.{Huff, HasEndSymbol, HasBadPadding, huffman_bits}
 use Rattle.hpack_text.specs.Integers.{Int, IsTruncated, IsTooLong, integer}
 
 -- The bit H, the top bit of the first octet, says that the text is Huffman coded.
@@ -65,5 +65,5 @@ StrFault octets faults.Memory = IsWhole octets
 -- The spelling that is written: Huffman coded where that isn't longer than raw.
 unfoldable pub string : List ℕ → List ℕ
 string text =
-    if nat_le (length (coded text)) (length text) then integer 7 128 (length (coded text)) ++ coded text
+    if nat_le (length (huffman_bits text)) (length text) then integer 7 128 (length (huffman_bits text)) ++ huffman_bits text
     else integer 7 0 (length text) ++ text

@@ -2,7 +2,7 @@
 
 ghost use Rattle.std.specs.Prelude.{◌≡◌, ℕ, ◌+◌, ◌^◌, ◌<◌, ◌≤◌, ◌++◌, List, length, IfOk, IfErr, OnOk, IsOk, MatchResult, vec_len};
 ghost use Rattle.std.specs.Vec.{vec_capacity};
-ghost use Rattle.hpack_text.specs.Huffman.{Huff, HuffFault, coded};
+ghost use Rattle.hpack_text.specs.Huffman.{Huff, HuffFault, huffman_bits};
 
 use crate::fault::TextFault;
 use std::alloc::Global;
@@ -19,7 +19,7 @@ use writer::append_coded;
 /// How many octets [`huff_write`] appends for the text. It takes no memory.
 pub fn huff_len(text: &[u8]) -> usize
     requires { length text.now < 2 ^ 35 }
-    ensures { result ≡ length (coded text.now) }
+    ensures { result ≡ length (huffman_bits text.now) }
 {
     let mut count: usize = 0;
     for octet in text {
@@ -35,9 +35,9 @@ pub fn huff_len(text: &[u8]) -> usize
 /// [`TextFault::Memory`], and `out` is unchanged. It doesn't come where `out` has room for [`huff_len`] octets.
 pub fn huff_write(text: &[u8], out: &mut Vec<u8>) -> Result<(), TextFault>
     requires { length text.now < 2 ^ 35 }
-    ensures ok { OnOk result (out.new.items ≡ out.old.items ++ coded text.now) }
+    ensures ok { OnOk result (out.new.items ≡ out.old.items ++ huffman_bits text.now) }
     ensures err { IfErr result (λ fault. (fault ≡ TextFault.Memory) × (out.new.items ≡ out.old.items)) }
-    ensures room { vec_len out.old + length (coded text.now) ≤ vec_capacity out.old → IsOk result }
+    ensures room { vec_len out.old + length (huffman_bits text.now) ≤ vec_capacity out.old → IsOk result }
     ensures capacity { vec_capacity out.old ≤ vec_capacity out.new }
 {
     let start = out.len();

@@ -3,7 +3,7 @@
 ghost use Rattle.std.specs.Prelude.{◌≡◌, ℕ, ◌^◌, ◌<◌, ◌≤◌, ◌%◌, nat_le, Bool, List, ◌++◌, length};
 ghost use Rattle.std.specs.List.{AllByRecursion};
 ghost use Rattle.hpack_text.specs.Bits.{IsOctet};
-ghost use Rattle.hpack_text.specs.Huffman.{code, Huff, HasEndSymbol, HasBadPadding, coded, coded_length};
+ghost use Rattle.hpack_text.specs.Huffman.{code, Huff, HasEndSymbol, HasBadPadding, huffman_bits, coded_length};
 ghost use Rattle.hpack_text.specs.Integers.{Int, integer};
 ghost use Rattle.hpack_text.specs.Strings.{Str, is_coded, string};
 
@@ -24,9 +24,9 @@ pub fn one_text()
 
 /// A text has one spelling, which is the one that is written, and its length is the bits of its codes, rounded up.
 pub fn one_coding()
-    ensures spelled { (text : List ℕ) → AllByRecursion IsOctet text → Huff text (coded text) }
-    ensures only { (text octets : List ℕ) → Huff text octets → octets ≡ coded text }
-    ensures counted { (text : List ℕ) → length (coded text) ≡ coded_length text }
+    ensures spelled { (text : List ℕ) → AllByRecursion IsOctet text → Huff text (huffman_bits text) }
+    ensures only { (text octets : List ℕ) → Huff text octets → octets ≡ huffman_bits text }
+    ensures counted { (text : List ℕ) → length (huffman_bits text) ≡ coded_length text }
 {}
 
 /// No octets have both faults of coded texts.
@@ -56,5 +56,5 @@ pub fn no_string_begins_another()
 /// What is written for a string spells it, and it is Huffman coded exactly where that isn't longer than raw.
 pub fn written_string()
     ensures spelled { (text : List ℕ) → AllByRecursion IsOctet text → length text < 2 ^ 35 → Str text (string text) }
-    ensures coded_where_not_longer { (text : List ℕ) → length text < 2 ^ 35 → is_coded (string text) ≡ nat_le (length (coded text)) (length text) }
+    ensures coded_where_not_longer { (text : List ℕ) → length text < 2 ^ 35 → is_coded (string text) ≡ nat_le (length (huffman_bits text)) (length text) }
 {}

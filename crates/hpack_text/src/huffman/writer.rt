@@ -3,7 +3,7 @@
 ghost use Rattle.std.specs.Prelude.{◌≡◌, ◌+◌, ◌*◌, ◌^◌, ◌<◌, ◌≤◌, [], ◌++◌, length, IfOk, OnOk, OnErr, vec_len};
 ghost use Rattle.std.specs.Vec.{vec_capacity};
 ghost use Rattle.hpack_text.specs.Bits.{bits_of};
-ghost use Rattle.hpack_text.specs.Huffman.{coded};
+ghost use Rattle.hpack_text.specs.Huffman.{huffman_bits};
 ghost use Rattle.hpack_text.specs.Writing.{IsExtended, Adds, AddsFilled};
 
 use crate::huffman::codes::{Code, code_of};
@@ -20,9 +20,9 @@ struct Pending {
 
 /// Appends the text in the code. On `Err` a front of it stands behind what was there.
 pub fn append_coded(text: &[u8], out: &mut Vec<u8>) -> Result<(), AllocError>
-    ensures ok { OnOk result (out.new.items ≡ out.old.items ++ coded text.now) }
+    ensures ok { OnOk result (out.new.items ≡ out.old.items ++ huffman_bits text.now) }
     ensures extended { IsExtended out.old.items out.new.items }
-    ensures full { OnErr result (vec_capacity out.old < vec_len out.old + length (coded text.now)) }
+    ensures full { OnErr result (vec_capacity out.old < vec_len out.old + length (huffman_bits text.now)) }
     ensures capacity { vec_capacity out.old ≤ vec_capacity out.new }
 {
     let mut pending = nothing();

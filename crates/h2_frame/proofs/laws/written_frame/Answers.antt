@@ -1,13 +1,13 @@
 -- By the lemmas on what is written.
-use Rattle.h2_frame.proofs.WritingLemmas.{length-written}
-use Rattle.h2_frame.proofs.WrittenLemmas.{written_spells, sound_head, sound_payload}
+use Rattle.h2_frame.proofs.WritingLemmas.{length-encoding_of}
+use Rattle.h2_frame.proofs.WrittenLemmas.{encoding_encodes, sound_head, sound_payload}
 use Rattle.h2_frame.proofs.laws.written_frame.Goals as goal
 
 pub returns-clause-length : goal.returns-clause-length
-returns-clause-length c = length-written
+returns-clause-length c = length-encoding_of
 
 pub returns-clause-spelled : goal.returns-clause-spelled
-returns-clause-spelled c = written_spells
+returns-clause-spelled c = encoding_encodes
 
 pub returns-clause-sound_head : goal.returns-clause-sound_head
 returns-clause-sound_head c = sound_head

@@ -3,7 +3,7 @@ use Rattle.std.proofs.Common.{◌≡◌, ◌^◌, ℕ, List, ◌++◌, nat_lt, �
 use Rattle.std.proofs.lemmas.Bool.Decides.{nat_tests}
 use Rattle.h2_frame.specs.Heads.{fits_stream}
 use Rattle.h2_frame.specs.Parts.{payload_octets, head_octets}
-use Rattle.h2_frame.proofs.WritingLemmas.{refusal-too_long, refusal-bad_stream, refusal-bad_value, refusal-none, written-parts, length-written_parts}
+use Rattle.h2_frame.proofs.WritingLemmas.{refusal-too_long, refusal-bad_stream, refusal-bad_value, refusal-none, encoding_of-parts, length-written_parts}
 use Rattle.h2_frame.proofs.writing.write_parts.Goals as goal
 use Rattle.h2_frame.proofs.writing.write_parts.Goals.{then-parts-ge-ABOVE_31_BITS-via-then-parts-ge-ABOVE_31_BITS, then-parts-ge-ABOVE_31_BITS-via-else-parts-ge-ABOVE_31_BITS+then-not-may_stand_on}
 
@@ -56,5 +56,5 @@ returns-clause-ok c = λ frame parted.
       c.append_payload.ensures.items
           ∙ (ap (λ (xs : List ℕ). xs ++ payload_octets parts) (c.append_head.ensures.items ∙ ap (λ (xs : List ℕ). xs ++ head_octets parts.kind parts.flags parts.stream c.in-Some.length) c.reserve.ensures.items)
           ∙ (append_assoc c.args.out.now.items (head_octets parts.kind parts.flags parts.stream c.in-Some.length) (payload_octets parts)
-          ∙ ap (λ (xs : List ℕ). c.args.out.now.items ++ xs) (written-parts parts frame c.in-Some.length parted (omega (arith, c.in-Some.ensures))))),
+          ∙ ap (λ (xs : List ℕ). c.args.out.now.items ++ xs) (encoding_of-parts parts frame c.in-Some.length parted (omega (arith, c.in-Some.ensures))))),
     )

@@ -1,8 +1,8 @@
-use Rattle.hpack.proofs.WrittenBlocks.{block_spells, block_keeps, block_goes_on}
+use Rattle.hpack.proofs.WrittenBlocks.{block_encodes, block_keeps, block_goes_on}
 use Rattle.hpack.proofs.written.written_block.Goals as goal
 
 pub returns-clause-block : goal.returns-clause-block
-returns-clause-block c = block_spells
+returns-clause-block c = block_encodes
 
 pub returns-clause-goes_on : goal.returns-clause-goes_on
 returns-clause-goes_on c = block_goes_on

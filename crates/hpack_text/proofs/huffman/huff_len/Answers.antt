@@ -1,6 +1,6 @@
 use Rattle.std.proofs.Common.{◌≡◌, length, take, ap, arith, take_all}
 use Rattle.hpack_text.specs.Huffman.{codes}
-use Rattle.hpack_text.proofs.CodeLemmas.{length-coded}
+use Rattle.hpack_text.proofs.CodeLemmas.{length-huffman_bits}
 use Rattle.hpack_text.proofs.WriteLemmas.{length-codes-more}
 use Rattle.hpack_text.proofs.huffman.huff_len.Goals as goal
 
@@ -15,4 +15,4 @@ returns c =
     let text = c.args.text.now in
     let all : length (codes (take c.loop-octet.octet-index text)) ≡ length (codes text) =
     ap (λ xs. length (codes xs)) (take_all c.loop-octet.octet-index text c.loop-octet-test.false) in
-    omega (arith, c.div_ceil.ensures, length-coded text)
+    omega (arith, c.div_ceil.ensures, length-huffman_bits text)

@@ -3,7 +3,7 @@ use Rattle.std.proofs.Common.{◌∷◌, [], refl, true, false, ◌≡◌}
 use Rattle.std.proofs.lemmas.Bool.{false≢true}
 use Rattle.h2_frame.specs.Frames.{frame_of}
 use Rattle.h2_block.specs.declared.fault.BlockFault.TheVariants as faults
-use Rattle.h2_block.specs.Grouping.{alone, stands_alone}
+use Rattle.h2_block.specs.Grouping.{alone, is_standalone}
 use Rattle.h2_block.specs.Kept.{state_of}
 use Rattle.h2_block.proofs.HeldLemmas.{goes_on, broken, headers_told, continuation_stray, one_told, none_told, other_passes}
 use Rattle.h2_block.proofs.held.Held.take_outside.Goals as goal
@@ -40,10 +40,10 @@ returns-in_default c =
     }
 
 pub returns-in-Headers-clause-alone : goal.returns-in-Headers-clause-alone
-unfolding stands_alone
+unfolding is_standalone
 returns-in-Headers-clause-alone c = λ stands.
     let inside : false ≡ true = rw c.in-Headers.is at stands in absurd (false≢true inside)
 
 pub returns-in-Continuation-clause-alone : goal.returns-in-Continuation-clause-alone
-unfolding stands_alone
+unfolding is_standalone
 returns-in-Continuation-clause-alone c = λ stands. rw c.in-Continuation.is at stands

@@ -4,7 +4,7 @@ use Rattle.std.proofs.lemmas.Bool.{ltb-false, le-ltb, lt-ltb, cases_lt}
 use Rattle.std.proofs.lemmas.List.{take_all}
 use Rattle.h2_wire.specs.Streams.{preface}
 use Rattle.h2_wire.specs.Buffers.{state_of, rest_of}
-use Rattle.h2_wire.specs.Cutting.{CutterState, FaultsAtHead}
+use Rattle.h2_wire.specs.Cutter.{CutterState, FaultsAtHead}
 use Rattle.h2_wire.specs.Steps.{Opens}
 use Rattle.h2_wire.proofs.BufferLemmas.{rest_of-matched, rest_of-held}
 use Rattle.h2_wire.proofs.StepLemmas.{opens_past, opens_first}

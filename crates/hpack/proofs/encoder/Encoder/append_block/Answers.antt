@@ -1,7 +1,7 @@
 use Rattle.std.proofs.Common.{◌∙◌, ◌++◌, ◌^◌, ◌<◌, sym, ap, refl, subst, arith}
 use Rattle.hpack.specs.Blocks.{Block}
-use Rattle.hpack.proofs.WrittenBlocks.{block_spells}
-use Rattle.hpack.specs.Written.{IsWriting}
+use Rattle.hpack.proofs.WrittenBlocks.{block_encodes}
+use Rattle.hpack.specs.Written.{IsValidEncoder}
 use Rattle.hpack.proofs.StateLemmas.{writing_of}
 use Rattle.hpack.specs.Lists.{EncoderState}
 use Rattle.hpack.specs.Choice.{block_of, after_block}
@@ -35,7 +35,7 @@ pub returns-clause-block : goal.returns-clause-block
 returns-clause-block c = λ limit le.
     let state : EncoderState = record { table = c.self.inside.table; least = c.self.inside.least; limit = c.self.inside.limit } in
     let small : state.limit < 2 ^ 32 = omega (arith, c.self.ranges) in
-    let writing : IsWriting c.args.self.now = subst IsWriting c.self.view_is (writing_of state c.new-draft.result c.new-draft.ensures.draft c.new-draft.ensures.same c.self.invariant small) in
+    let writing : IsValidEncoder c.args.self.now = subst IsValidEncoder c.self.view_is (writing_of state c.new-draft.result c.new-draft.ensures.draft c.new-draft.ensures.same c.self.invariant small) in
     subst (λ (new : EncoderState). Block c.args.self.now.table limit (block_of c.args.self.now c.args.fields.now) c.args.fields.now new.table)
     (sym (returns-clause-after c))
-    (block_spells c.args.self.now limit c.args.fields.now writing c.in_ok-append_fields.ensures.octets c.requires le)
+    (block_encodes c.args.self.now limit c.args.fields.now writing c.in_ok-append_fields.ensures.octets c.requires le)

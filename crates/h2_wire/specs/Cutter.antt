@@ -7,7 +7,7 @@ use Rattle.h2_wire.specs.declared.fault.WireFault.{WireFault}
 use Rattle.h2_wire.specs.declared.fault.WireFault.TheVariants as faults
 use Rattle.h2_wire.specs.declared.cut.Cut.{Cut}
 use Rattle.h2_frame.specs.declared.frame.FrameRef.{FrameRef}
-use Rattle.h2_wire.specs.Streams.{Limits, Frames, FaultAt, preface}
+use Rattle.h2_wire.specs.Streams.{Limits, Frames, WireFaultAt, preface}
 
 -- a cutter between calls
 pub record CutterState : Type 0 where
@@ -23,33 +23,33 @@ pub record CutterState : Type 0 where
   pub fault : Option WireFault
 
 -- a count of octets, as it is told: none is above the greatest number of 64 bits
-abbrev pub told : ℕ → ℕ
-told count = min count (2 ^ 64 - 1)
+abbrev pub saturated : ℕ → ℕ
+saturated count = min count (2 ^ 64 - 1)
 
 -- The cutter stands for the stream so far, from which these frames were answered: it has used all of it, without fault,
 -- and holds the rest.
-pub record Stands (state : CutterState) (expects : Bool) (limits : Limits) (stream : List ℕ) (frames : List Frame) : Type 0 where
+pub record CutterRepresents (state : CutterState) (expects : Bool) (limits : Limits) (stream : List ℕ) (frames : List Frame) : Type 0 where
   pub sound : state.fault ≡ None
   pub split : Frames expects limits stream frames state.rest
   pub before : state.before ≡ expects && nat_lt (length stream) (length preface)
-  pub place : state.place ≡ told (length stream)
+  pub place : state.place ≡ saturated (length stream)
   pub ahead : (place : ℕ) → length stream < place → limits place ≡ state.limit
 
 -- A call used these octets and answered these frames: whatever stream the cutter stood for, with its frames, it now stands
 -- for that stream with these octets behind it, and its frames with these.
-pub record GoesOn (old : CutterState) (used : List ℕ) (frames : List Frame) (new : CutterState) : Type 0 where
+pub record CutterContinues (old : CutterState) (used : List ℕ) (frames : List Frame) (new : CutterState) : Type 0 where
   pub same_limit : new.limit ≡ old.limit
-  pub stands : (expects : Bool) (limits : Limits) (stream : List ℕ) (so_far : List Frame) → Stands old expects limits stream so_far
-      → Stands new expects limits (stream ++ used) (so_far ++ frames)
+  pub stands : (expects : Bool) (limits : Limits) (stream : List ℕ) (so_far : List Frame) → CutterRepresents old expects limits stream so_far
+      → CutterRepresents new expects limits (stream ++ used) (so_far ++ frames)
 
 -- A call met the fault in the piece: whatever stream the cutter stood for, with its frames, that stream with the piece
 -- behind it is at fault just behind those frames, at the place that the cutter now tells.
-pub record Breaks (old : CutterState) (piece : List ℕ) (fault : WireFault) (new : CutterState) : Type 0 where
+pub record CutterFaults (old : CutterState) (piece : List ℕ) (fault : WireFault) (new : CutterState) : Type 0 where
   pub kept : new.fault ≡ Some fault
   pub nothing_held : new.rest ≡ []
   pub same_limit : new.limit ≡ old.limit
-  pub at : (expects : Bool) (limits : Limits) (stream : List ℕ) (so_far : List Frame) → Stands old expects limits stream so_far
-      → (place : ℕ) × FaultAt expects limits (stream ++ piece) so_far place fault × (new.place ≡ told place)
+  pub at : (expects : Bool) (limits : Limits) (stream : List ℕ) (so_far : List Frame) → CutterRepresents old expects limits stream so_far
+      → (place : ℕ) × WireFaultAt expects limits (stream ++ piece) so_far place fault × (new.place ≡ saturated place)
 
 -- At the front of these octets stands a head with this fault.
 pub record IsFaultyHead (octets : List ℕ) (limit : ℕ) (code : Code) : Type 0 where
@@ -64,23 +64,23 @@ pub record FaultsAtHead (old : CutterState) (piece : List ℕ) (code : Code) : T
   pub head : IsFaultyHead (old.rest ++ piece) old.limit code
 
 -- the frames that a call answered: one or none
-abbrev pub answered : Option FrameRef → List Frame
-answered None = []
-answered (Some frame) = frame_of frame ∷ []
+abbrev pub cut_frames : Option FrameRef → List Frame
+cut_frames None = []
+cut_frames (Some frame) = frame_of frame ∷ []
 
 -- What a call that faults leaves. Want of memory changes nothing, and behind a fault the cutter stays as it is.
-abbrev pub Fails : CutterState → List ℕ → WireFault → CutterState → Type 0
-Fails old piece faults.Memory new = new ≡ old
-Fails old piece faults.BadPreface new = MatchOption old.fault (Breaks old piece faults.BadPreface new) (λ known. new ≡ old)
-Fails old piece (faults.HeadFault code) new = MatchOption old.fault (Breaks old piece (faults.HeadFault code) new) (λ known. new ≡ old)
-Fails old piece (faults.PayloadFault code) new = MatchOption old.fault (Breaks old piece (faults.PayloadFault code) new) (λ known. new ≡ old)
+abbrev pub CutterFails : CutterState → List ℕ → WireFault → CutterState → Type 0
+CutterFails old piece faults.Memory new = new ≡ old
+CutterFails old piece faults.BadPreface new = MatchOption old.fault (CutterFaults old piece faults.BadPreface new) (λ known. new ≡ old)
+CutterFails old piece (faults.HeadFault code) new = MatchOption old.fault (CutterFaults old piece (faults.HeadFault code) new) (λ known. new ≡ old)
+CutterFails old piece (faults.PayloadFault code) new = MatchOption old.fault (CutterFaults old piece (faults.PayloadFault code) new) (λ known. new ≡ old)
 
 -- A call that cut: it used a front of the piece, up to the end of a frame or all of it.
-pub record Advances (old : CutterState) (piece : List ℕ) (cut : Cut) (new : CutterState) : Type 0 where
-  pub goes_on : GoesOn old (take cut.used piece) (answered cut.frame) new
+pub record CutterAdvances (old : CutterState) (piece : List ℕ) (cut : Cut) (new : CutterState) : Type 0 where
+  pub goes_on : CutterContinues old (take cut.used piece) (cut_frames cut.frame) new
   pub nothing_behind_a_frame : IsSome cut.frame → new.rest ≡ []
 
 -- what a call makes of the cutter
 abbrev pub Cuts : CutterState → List ℕ → Result Cut WireFault → CutterState → Type 0
-Cuts old piece (Ok cut) new = Advances old piece cut new
-Cuts old piece (Err fault) new = Fails old piece fault new
+Cuts old piece (Ok cut) new = CutterAdvances old piece cut new
+Cuts old piece (Err fault) new = CutterFails old piece fault new
