@@ -1,6 +1,11 @@
 -- Numbers as bits: joined, split, and read back from octets.
-use Rattle.std.proofs.Common.{◌≡◌, ℕ, zero, suc, ◌+◌, ◌-◌, ◌*◌, ◌/◌, ◌%◌, ◌^◌, ◌<◌, ◌≤◌, Bool, true, false, if◌then◌else◌, List, [], ◌∷◌, ◌++◌, length, replicate, refl, sym, ap, ◌∙◌, subst, arith, append_assoc, append-nil, length-append, pow_pos, add-zero, div-one, add-suc, add-one, one-add, ap₂, take, drop}
-use Rattle.std.proofs.lemmas.List.{take-append-drop, replicate_more, nil_from_length, length-take-le}
+use Rattle.std.proofs.Common.{◌≡◌, ℕ, zero, suc, ◌+◌, ◌-◌, ◌*◌, ◌/◌, ◌%◌, ◌^◌, ◌<◌, ◌≤◌, Bool}
+use Rattle.std.proofs.Common.{true, false, if◌then◌else◌, List, [], ◌∷◌, ◌++◌, length, replicate}
+use Rattle.std.proofs.Common.{refl, sym, ap, ◌∙◌, subst, arith, append_assoc, append-nil}
+use Rattle.std.proofs.Common.{length-append, pow_pos, add-zero, div-one, add-suc, add-one, one-add}
+use Rattle.std.proofs.Common.{ap₂, take, drop}
+use Rattle.std.proofs.lemmas.List.{take-append-drop, replicate_more, nil_from_length}
+use Rattle.std.proofs.lemmas.List.{length-take-le}
 use Rattle.std.proofs.lemmas.Nat.{shr_split, shr_high}
 use Rattle.std.proofs.Math.Nat.{div-div-eq-div-mul, pow-succ'}
 use Rattle.std.proofs.lemmas.Bool.Decides.{nat_tests}
@@ -16,31 +21,38 @@ length-bits_of (suc n) value =
     simp length-append (omega (arith, shorter))
 
 -- The top n bits are those of the quotient.
-pub bits_of-append : (n k value : ℕ) → bits_of (n + k) value ≡ bits_of n (value / 2 ^ k) ++ bits_of k value
+pub bits_of-append : (n k value : ℕ)
+    → bits_of (n + k) value ≡ bits_of n (value / 2 ^ k) ++ bits_of k value
 unfolding bits_of
 bits_of-append n zero value = simp (add-zero, div-one, append-nil) refl
 bits_of-append n (suc k) value =
-    let halves : value / 2 ^ suc k ≡ value / 2 / 2 ^ k = ap (λ x. value / x) (pow-succ' 2 k) ∙ sym (div-div-eq-div-mul value 2 (2 ^ k)) in
+    let halves : value / 2 ^ suc k ≡ value / 2 / 2 ^ k = ap (λ x. value / x) (pow-succ' 2 k)
+    ∙ sym (div-div-eq-div-mul value 2 (2 ^ k)) in
     let shorter = bits_of-append n k (value / 2) in
-    rw (add-suc, halves, shorter) (append_assoc (bits_of n (value / 2 / 2 ^ k)) (bits_of k (value / 2)) (is_odd value ∷ []))
+    rw (add-suc, halves, shorter)
+    (append_assoc (bits_of n (value / 2 / 2 ^ k)) (bits_of k (value / 2)) (is_odd value ∷ []))
 
 -- Only the lowest bits of a number count.
 pub bits_of-low : (k high low : ℕ) → bits_of k (high * 2 ^ k + low) ≡ bits_of k low
 unfolding bits_of
 bits_of-low zero high low = refl
 bits_of-low (suc k) high low =
-    let twice : high * 2 ^ suc k ≡ 2 * (high * 2 ^ k) = omega (arith, ap (λ (x : ℕ). high * x) (pow-succ' 2 k)) in
+    let twice : high * 2 ^ suc k ≡ 2 * (high * 2 ^ k) =
+    omega (arith, ap (λ (x : ℕ). high * x) (pow-succ' 2 k)) in
     let half : (high * 2 ^ suc k + low) / 2 ≡ high * 2 ^ k + low / 2 = omega (arith, twice) in
     let parity : (high * 2 ^ suc k + low) % 2 ≡ low % 2 = omega (arith, twice) in
     rw (half, parity, bits_of-low k high (low / 2)) refl
 
 -- A number shifted by k bits, with a number below 2 ^ k put in, is the bits of both.
-pub bits_of-joined : (n k high low : ℕ) → low < 2 ^ k → bits_of (n + k) (high * 2 ^ k + low) ≡ bits_of n high ++ bits_of k low
+pub bits_of-joined : (n k high low : ℕ) → low < 2 ^ k
+    → bits_of (n + k) (high * 2 ^ k + low) ≡ bits_of n high ++ bits_of k low
 bits_of-joined n k high low lt =
-    bits_of-append n k (high * 2 ^ k + low) ∙ ap₂ (λ (x : ℕ) ys. bits_of n x ++ ys) (shr_high high k low lt) (bits_of-low k high low)
+    bits_of-append n k (high * 2 ^ k + low)
+    ∙ ap₂ (λ (x : ℕ) ys. bits_of n x ++ ys) (shr_high high k low lt) (bits_of-low k high low)
 
 -- The bits of a number are those of what is above the lowest k, and those of what is below.
-pub bits_of-split : (n k value : ℕ) → bits_of (n + k) value ≡ bits_of n (value / 2 ^ k) ++ bits_of k (value % 2 ^ k)
+pub bits_of-split : (n k value : ℕ)
+    → bits_of (n + k) value ≡ bits_of n (value / 2 ^ k) ++ bits_of k (value % 2 ^ k)
 bits_of-split n k value =
     let low : bits_of k value ≡ bits_of k (value % 2 ^ k) =
     ap (bits_of k) (sym (shr_split value k)) ∙ bits_of-low k (value / 2 ^ k) (value % 2 ^ k) in
@@ -54,10 +66,12 @@ bits_of-ones (suc n) =
     let twice : 2 ^ suc n ≡ 2 * 2 ^ n = pow-succ' 2 n in
     let half : (2 ^ suc n - 1) / 2 ≡ 2 ^ n - 1 = omega (arith, twice, pow_pos n) in
     let parity : (2 ^ suc n - 1) % 2 ≡ 1 = omega (arith, twice, pow_pos n) in
-    rw (half, parity, bits_of-ones n) (replicate_more n true ∙ ap (λ k. replicate k true) (add-one n))
+    rw (half, parity, bits_of-ones n)
+    (replicate_more n true ∙ ap (λ k. replicate k true) (add-one n))
 
 -- the number of some bits and one more
-number_of-push : (xs : List Bool) (bit : Bool) → number_of (xs ++ bit ∷ []) ≡ 2 * number_of xs + (if bit then 1 else 0)
+number_of-push : (xs : List Bool) (bit : Bool)
+    → number_of (xs ++ bit ∷ []) ≡ 2 * number_of xs + (if bit then 1 else 0)
 unfolding number_of
 number_of-push [] bit = omega arith
 number_of-push (true ∷ xs) bit =
@@ -74,12 +88,20 @@ pub number_of-bits_of : (n value : ℕ) → value < 2 ^ n → number_of (bits_of
 unfolding bits_of number_of
 number_of-bits_of zero value lt = omega arith
 number_of-bits_of (suc n) value lt =
-    let shorter : number_of (bits_of n (value / 2)) ≡ value / 2 = number_of-bits_of n (value / 2) (omega (arith, pow-succ' 2 n)) in
-    omega (arith, shorter, number_of-push (bits_of n (value / 2)) (is_odd value), number_of_is_odd value)
+    let shorter : number_of (bits_of n (value / 2)) ≡ value / 2 =
+    number_of-bits_of n (value / 2) (omega (arith, pow-succ' 2 n)) in
+    omega (
+      arith,
+      shorter,
+      number_of-push (bits_of n (value / 2)) (is_odd value),
+      number_of_is_odd value,
+    )
 
 -- Numbers with the same lowest n bits are equal.
-pub same_from_bits : (n value other : ℕ) → value < 2 ^ n → other < 2 ^ n → bits_of n value ≡ bits_of n other → value ≡ other
-same_from_bits n value other lt lt' e = sym (number_of-bits_of n value lt) ∙ (ap number_of e ∙ number_of-bits_of n other lt')
+pub same_from_bits : (n value other : ℕ) → value < 2 ^ n → other < 2 ^ n
+    → bits_of n value ≡ bits_of n other → value ≡ other
+same_from_bits n value other lt lt' e = sym (number_of-bits_of n value lt)
+    ∙ (ap number_of e ∙ number_of-bits_of n other lt')
 
 -- n bits are a number below 2 ^ n
 pub number_of-lt : (xs : List Bool) → number_of xs < 2 ^ length xs
@@ -93,63 +115,82 @@ pub bits_of-number_of : (xs : List Bool) → bits_of (length xs) (number_of xs) 
 unfolding bits_of number_of
 bits_of-number_of [] = refl
 bits_of-number_of (true ∷ xs) =
-    let first : bits_of (1 + length xs) (1 * 2 ^ length xs + number_of xs) ≡ true ∷ bits_of (length xs) (number_of xs) =
+    let first : bits_of (1 + length xs) (1 * 2 ^ length xs + number_of xs)
+    ≡ true ∷ bits_of (length xs) (number_of xs) =
     bits_of-joined 1 (length xs) 1 (number_of xs) (number_of-lt xs) in
-    ap₂ bits_of (sym (one-add (length xs))) (omega arith) ∙ (first ∙ ap (λ (ys : List Bool). true ∷ ys) (bits_of-number_of xs))
+    ap₂ bits_of (sym (one-add (length xs))) (omega arith)
+    ∙ (first ∙ ap (λ (ys : List Bool). true ∷ ys) (bits_of-number_of xs))
 bits_of-number_of (false ∷ xs) =
-    let first : bits_of (1 + length xs) (0 * 2 ^ length xs + number_of xs) ≡ false ∷ bits_of (length xs) (number_of xs) =
+    let first : bits_of (1 + length xs) (0 * 2 ^ length xs + number_of xs)
+    ≡ false ∷ bits_of (length xs) (number_of xs) =
     bits_of-joined 1 (length xs) 0 (number_of xs) (number_of-lt xs) in
-    ap₂ bits_of (sym (one-add (length xs))) (omega arith) ∙ (first ∙ ap (λ (ys : List Bool). false ∷ ys) (bits_of-number_of xs))
+    ap₂ bits_of (sym (one-add (length xs))) (omega arith)
+    ∙ (first ∙ ap (λ (ys : List Bool). false ∷ ys) (bits_of-number_of xs))
 
 -- eight bits for each octet
 pub length-bits : (octets : List ℕ) → length (bits octets) ≡ 8 * length octets
 length-bits [] = refl
-length-bits (octet ∷ octets) = simp length-append (omega (arith, length-bits_of 8 octet, length-bits octets))
+length-bits (octet ∷ octets) =
+    simp length-append (omega (arith, length-bits_of 8 octet, length-bits octets))
 
--- Octets are read back from their bits, whatever stands behind the first eight.
-pub octets_of-octet : (octet : ℕ) (more : List Bool) → octet < 256 → octets_of (bits_of 8 octet ++ more) ≡ octet ∷ octets_of more
+-- Octets are read back from their bits, whatever stands after the first eight.
+pub octets_of-octet : (octet : ℕ) (more : List Bool) → octet < 256
+    → octets_of (bits_of 8 octet ++ more) ≡ octet ∷ octets_of more
 unfolding bits_of octets_of
 octets_of-octet octet more lt = ap (λ (x : ℕ). x ∷ octets_of more) (number_of-bits_of 8 octet lt)
 
 -- Octets are read back from their bits.
-pub octets_of-bits : (octets : List ℕ) → AllByRecursion IsOctet octets → octets_of (bits octets) ≡ octets
+pub octets_of-bits : (octets : List ℕ) → AllByRecursion IsOctet octets
+    → octets_of (bits octets) ≡ octets
 unfolding octets_of
 octets_of-bits [] all = refl
 octets_of-bits (octet ∷ octets) all =
-    octets_of-octet octet (bits octets) all.0 ∙ ap (λ (xs : List ℕ). octet ∷ xs) (octets_of-bits octets all.1)
+    octets_of-octet octet (bits octets) all.0
+    ∙ ap (λ (xs : List ℕ). octet ∷ xs) (octets_of-bits octets all.1)
 
 -- At least eight bits are those of an octet, and others.
-first_octet : (xs : List Bool) → 8 ≤ length xs → (octet : ℕ) × (more : List Bool) × (octet < 256) × (xs ≡ bits_of 8 octet ++ more)
+first_octet : (xs : List Bool) → 8 ≤ length xs
+    → (octet : ℕ) × (more : List Bool) × (octet < 256) × (xs ≡ bits_of 8 octet ++ more)
 first_octet xs long =
-    let front = take 8 xs in
-    let eight : length front ≡ 8 = length-take-le 8 xs long in (
-      number_of front,
+    let eight_bits = take 8 xs in
+    let eight : length eight_bits ≡ 8 = length-take-le 8 xs long in (
+      number_of eight_bits,
       drop 8 xs,
-      subst (λ (n : ℕ). number_of front < 2 ^ n) eight (number_of-lt front),
-      sym (take-append-drop 8 xs) ∙ ap (λ (ys : List Bool). ys ++ drop 8 xs) (sym (bits_of-number_of front) ∙ ap (λ (n : ℕ). bits_of n (number_of front)) eight),
+      subst (λ (n : ℕ). number_of eight_bits < 2 ^ n) eight (number_of-lt eight_bits),
+      sym (take-append-drop 8 xs)
+          ∙ ap (λ (ys : List Bool). ys ++ drop 8 xs)
+          (sym (bits_of-number_of eight_bits)
+          ∙ ap (λ (n : ℕ). bits_of n (number_of eight_bits)) eight),
     )
 
--- Bits that fill octets are the bits of octets, and of no others than those that are read from them.
+-- Bits that fill octets are the bits of octets, and of no others than those that are read from
+-- them.
 pub record AreOctets (xs : List Bool) (count : ℕ) : Type 0 where
   pub octets : AllByRecursion IsOctet (octets_of xs)
   pub back : bits (octets_of xs) ≡ xs
   pub counted : length (octets_of xs) ≡ count
 
--- An octet in front is one octet more.
-are_octets-more : (octet count : ℕ) (more : List Bool) → octet < 256 → AreOctets more count → AreOctets (bits_of 8 octet ++ more) (suc count)
-are_octets-more octet count more small rest =
+-- One octet more before them.
+are_octets-more : (octet count : ℕ) (more : List Bool) → octet < 256 → AreOctets more count
+    → AreOctets (bits_of 8 octet ++ more) (suc count)
+are_octets-more octet count more small following =
     let read = octets_of-octet octet more small in
     record {
-      octets = subst (AllByRecursion IsOctet) (sym read) (small, rest.octets);
-      back = ap bits read ∙ ap (λ (ys : List Bool). bits_of 8 octet ++ ys) rest.back;
-      counted = ap (λ (ys : List ℕ). length ys) read ∙ ap suc rest.counted;
+      octets = subst (AllByRecursion IsOctet) (sym read) (small, following.octets);
+      back = ap bits read ∙ ap (λ (ys : List Bool). bits_of 8 octet ++ ys) following.back;
+      counted = ap (λ (ys : List ℕ). length ys) read ∙ ap suc following.counted;
     }
 
 -- Bits whose number is a multiple of eight are those of the octets that are read from them.
 pub are_octets : (count : ℕ) (xs : List Bool) → length xs ≡ 8 * count → AreOctets xs count
 unfolding octets_of
-are_octets zero xs e = subst (λ ys. AreOctets ys 0) (sym (nil_from_length xs e)) (record { octets = tt; back = refl; counted = refl })
+are_octets zero xs e =
+    subst (λ ys. AreOctets ys 0) (sym (nil_from_length xs e))
+    (record { octets = tt; back = refl; counted = refl })
 are_octets (suc count) xs e =
     let (octet, more, small, split) = first_octet xs (omega arith) in
-    let longer : length xs ≡ 8 + length more = ap (λ (ys : List Bool). length ys) split ∙ (length-append (bits_of 8 octet) more ∙ ap (λ (n : ℕ). n + length more) (length-bits_of 8 octet)) in
-    subst (λ ys. AreOctets ys (suc count)) (sym split) (are_octets-more octet count more small (are_octets count more (omega arith)))
+    let longer : length xs ≡ 8 + length more = ap (λ (ys : List Bool). length ys) split
+    ∙ (length-append (bits_of 8 octet) more
+    ∙ ap (λ (n : ℕ). n + length more) (length-bits_of 8 octet)) in
+    subst (λ ys. AreOctets ys (suc count)) (sym split)
+    (are_octets-more octet count more small (are_octets count more (omega arith)))

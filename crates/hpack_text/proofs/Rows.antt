@@ -1,5 +1,7 @@
--- The definitions, computed: the code is canonical, and rows of RFC 7541 and own ones come out as they should.
-use Rattle.std.proofs.Common.{◌≡◌, ℕ, ◌+◌, ◌-◌, ◌*◌, ◌^◌, ◌==◌, ◌&&◌, nat_lt, Bool, true, List, [], ◌∷◌, length, refl}
+-- The definitions, computed: the code is canonical, and examples of RFC 7541 and own ones come out
+-- as they should.
+use Rattle.std.proofs.Common.{◌≡◌, ℕ, ◌+◌, ◌-◌, ◌*◌, ◌^◌, ◌==◌, ◌&&◌, nat_lt, Bool, true, List, []}
+use Rattle.std.proofs.Common.{◌∷◌, length, refl}
 use Rattle.hpack_text.specs.Bits.{bits_of, number_of, octets_of}
 use Rattle.hpack_text.specs.Huffman.{Group, groups, code_in, code, huffman_bits}
 use Rattle.hpack_text.specs.Integers.{continuation_of, integer}
@@ -7,7 +9,8 @@ use Rattle.hpack_text.specs.Strings.{string}
 
 -- opens all that computes
 unfoldable pub computing : Unit {0}
-unfolding bits_of number_of octets_of groups code_in code huffman_bits continuation_of integer string
+unfolding bits_of number_of octets_of groups code_in code huffman_bits continuation_of integer
+    string
 computing = tt
 
 -- 10 in 5 bits
@@ -29,7 +32,8 @@ unfolding computing
 row_31 = refl
 
 -- `www.example.com`
-example : huffman_bits (119 ∷ 119 ∷ 119 ∷ 46 ∷ 101 ∷ 120 ∷ 97 ∷ 109 ∷ 112 ∷ 108 ∷ 101 ∷ 46 ∷ 99 ∷ 111 ∷ 109 ∷ [])
+example : huffman_bits
+    (119 ∷ 119 ∷ 119 ∷ 46 ∷ 101 ∷ 120 ∷ 97 ∷ 109 ∷ 112 ∷ 108 ∷ 101 ∷ 46 ∷ 99 ∷ 111 ∷ 109 ∷ [])
     ≡ 0xf1 ∷ 0xe3 ∷ 0xc2 ∷ 0xe5 ∷ 0xf2 ∷ 0x3a ∷ 0x6b ∷ 0xa0 ∷ 0xab ∷ 0x90 ∷ 0xf4 ∷ 0xff ∷ []
 unfolding computing
 example = refl
@@ -70,8 +74,8 @@ unfoldable rise : List ℕ → Bool
 rise (symbol ∷ next ∷ more) = nat_lt symbol next && rise (next ∷ more)
 rise _ = true
 
--- Each length's first code follows the last one of the length before, shifted to its own length; behind the longest no code
--- is left.
+-- Each length's first code follows the last one of the length before, shifted to its own length;
+-- after the longest no code is left.
 unfoldable is_canonical : ℕ → ℕ → List Group → Bool
 is_canonical code_length next [] = next == 2 ^ code_length
 is_canonical code_length next (group ∷ others) =

@@ -1,5 +1,8 @@
--- The code as a tree, built from the table: each code leads to its symbol, and thirty bits lead to some symbol.
-use Rattle.std.proofs.Common.{◌≡◌, ℕ, zero, suc, ◌<◌, ◌≤◌, max, Bool, true, false, ◌&&◌, nat_lt, ◌==◌, List, [], ◌∷◌, ◌++◌, length, Option, Some, None, refl, sym, ap, ◌∙◌, subst, arith, below_more, eqb-true, ltb-true, append_assoc}
+-- The code as a tree, built from the table: each code leads to its symbol, and thirty bits lead to
+-- some symbol.
+use Rattle.std.proofs.Common.{◌≡◌, ℕ, zero, suc, ◌<◌, ◌≤◌, max, Bool, true, false, ◌&&◌, nat_lt}
+use Rattle.std.proofs.Common.{◌==◌, List, [], ◌∷◌, ◌++◌, length, Option, Some, None, refl, sym, ap}
+use Rattle.std.proofs.Common.{◌∙◌, subst, arith, below_more, eqb-true, ltb-true, append_assoc}
 use Rattle.std.proofs.lemmas.Bool.{and_parts, false≢true}
 use Rattle.hpack_text.specs.Bits.{bits_of}
 use Rattle.hpack_text.specs.Huffman.{groups, code_in, code}
@@ -12,7 +15,8 @@ pub data Tree : Type 0 where
 -- the tree with a path to the symbol; 512 stands where no path leads yet
 unfoldable pub insert_path : List Bool → ℕ → Tree → Tree
 insert_path [] symbol t = leaf symbol
-insert_path (false ∷ path) symbol (leaf other) = node (insert_path path symbol (leaf 512)) (leaf 512)
+insert_path (false ∷ path) symbol (leaf other) =
+    node (insert_path path symbol (leaf 512)) (leaf 512)
 insert_path (true ∷ path) symbol (leaf other) = node (leaf 512) (insert_path path symbol (leaf 512))
 insert_path (false ∷ path) symbol (node l r) = node (insert_path path symbol l) r
 insert_path (true ∷ path) symbol (node l r) = node l (insert_path path symbol r)
@@ -56,10 +60,11 @@ same_bits [] (y ∷ ys) = false
 same_bits (x ∷ xs) [] = false
 same_bits (x ∷ xs) (y ∷ ys) = same_bit x y && same_bits xs ys
 
--- whether each leaf is a symbol whose code is the leaf's path, behind the path to the tree
+-- whether each leaf is a symbol whose code is the leaf's path, after the path to the tree
 unfoldable pub leaves_hold : Tree → List Bool → Bool
 leaves_hold (leaf symbol) path = nat_lt symbol 257 && same_bits path (code symbol)
-leaves_hold (node l r) path = leaves_hold l (path ++ false ∷ []) && leaves_hold r (path ++ true ∷ [])
+leaves_hold (node l r) path =
+    leaves_hold l (path ++ false ∷ []) && leaves_hold r (path ++ true ∷ [])
 
 unfoldable pub depth : Tree → ℕ
 depth (leaf symbol) = 0
@@ -67,7 +72,8 @@ depth (node l r) = suc (max (depth l) (depth r))
 
 -- opens the code and the tree, for facts that are computed
 unfoldable pub computing_tree : Unit {0}
-unfolding bits_of groups code_in code insert_path insert_codes tree first_symbol leads_to codes_lead same_bit same_bits leaves_hold depth
+unfolding bits_of groups code_in code insert_path insert_codes tree first_symbol leads_to codes_lead
+    same_bit same_bits leaves_hold depth
 computing_tree = tt
 
 -- computed: each code leads to its symbol
@@ -97,52 +103,72 @@ same_bits-true (false ∷ xs) (true ∷ ys) h = absurd (false≢true h)
 same_bits-true (false ∷ xs) (false ∷ ys) h = ap (λ zs. false ∷ zs) (same_bits-true xs ys h)
 
 -- a test of all symbols below n holds of each
-codes_lead-at : (n : ℕ) (t : Tree) → codes_lead n t ≡ true → (symbol : ℕ) → symbol < n → leads_to t (code symbol) symbol ≡ true
+codes_lead-at : (n : ℕ) (t : Tree) → codes_lead n t ≡ true → (symbol : ℕ) → symbol < n
+    → leads_to t (code symbol) symbol ≡ true
 unfolding codes_lead
 codes_lead-at zero t h symbol lt = absurd (omega arith)
 codes_lead-at (suc n) t h symbol lt =
     let parts = and_parts (leads_to t (code n) n) (codes_lead n t) h in
-    below_more (λ k. leads_to t (code k) k ≡ true) n (codes_lead-at n t parts.1) parts.0 symbol (omega arith)
+    below_more (λ k. leads_to t (code k) k ≡ true) n (codes_lead-at n t parts.1) parts.0 symbol
+    (omega arith)
 
 -- A path that leads to a symbol is read as that symbol.
-first_symbol-path : (t : Tree) (path more : List Bool) (symbol : ℕ) → leads_to t path symbol ≡ true → first_symbol t (path ++ more) ≡ Some (symbol, more)
+first_symbol-path : (t : Tree) (path more : List Bool) (symbol : ℕ) → leads_to t path symbol ≡ true
+    → first_symbol t (path ++ more) ≡ Some (symbol, more)
 unfolding leads_to first_symbol
-first_symbol-path (leaf other) [] more symbol h = ap (λ (s : ℕ). let o : Option (ℕ × List Bool) = Some (s, more) in o) (eqb-true other symbol h)
+first_symbol-path (leaf other) [] more symbol h =
+    ap (λ (s : ℕ). let o : Option (ℕ × List Bool) = Some (s, more) in o) (eqb-true other symbol h)
 first_symbol-path (leaf other) (bit ∷ path) more symbol h = absurd (false≢true h)
 first_symbol-path (node l r) [] more symbol h = absurd (false≢true h)
 first_symbol-path (node l r) (false ∷ path) more symbol h = first_symbol-path l path more symbol h
 first_symbol-path (node l r) (true ∷ path) more symbol h = first_symbol-path r path more symbol h
 
 -- What begins with a code is read as its symbol.
-pub first_symbol-code : (symbol : ℕ) (more : List Bool) → symbol < 257 → first_symbol tree (code symbol ++ more) ≡ Some (symbol, more)
-first_symbol-code symbol more lt = first_symbol-path tree (code symbol) more symbol (codes_lead-at 257 tree all_codes_lead symbol lt)
+pub first_symbol-code : (symbol : ℕ) (more : List Bool) → symbol < 257
+    → first_symbol tree (code symbol ++ more) ≡ Some (symbol, more)
+first_symbol-code symbol more lt =
+    first_symbol-path tree (code symbol) more symbol
+    (codes_lead-at 257 tree all_codes_lead symbol lt)
 
 -- the bits begin with the code of a symbol
 abbrev pub BeginsWithCode : List Bool → Type 0
-BeginsWithCode bit_list = (symbol : ℕ) × (more : List Bool) × (symbol < 257) × (bit_list ≡ code symbol ++ more)
+BeginsWithCode bit_list =
+    (symbol : ℕ) × (more : List Bool) × (symbol < 257) × (bit_list ≡ code symbol ++ more)
 
 -- Bits that are as many as a tree is deep lead to a leaf of it.
-reaches_leaf : (t : Tree) (path bit_list : List Bool) → leaves_hold t path ≡ true → depth t ≤ length bit_list → BeginsWithCode (path ++ bit_list)
+reaches_leaf : (t : Tree) (path bit_list : List Bool) → leaves_hold t path ≡ true
+    → depth t ≤ length bit_list → BeginsWithCode (path ++ bit_list)
 unfolding leaves_hold depth
 reaches_leaf (leaf symbol) path bit_list h deep =
-    let parts = and_parts (nat_lt symbol 257) (same_bits path (code symbol)) h in
-    (symbol, bit_list, ltb-true symbol 257 parts.0, ap (λ (xs : List Bool). xs ++ bit_list) (same_bits-true path (code symbol) parts.1))
+    let parts = and_parts (nat_lt symbol 257) (same_bits path (code symbol)) h in (
+      symbol,
+      bit_list,
+      ltb-true symbol 257 parts.0,
+      ap (λ (xs : List Bool). xs ++ bit_list) (same_bits-true path (code symbol) parts.1),
+    )
 reaches_leaf (node l r) path [] h deep = absurd (omega arith)
 reaches_leaf (node l r) path (false ∷ more) h deep =
-    let parts = and_parts (leaves_hold l (path ++ false ∷ [])) (leaves_hold r (path ++ true ∷ [])) h in
-    subst BeginsWithCode (append_assoc path (false ∷ []) more) (reaches_leaf l (path ++ false ∷ []) more parts.0 (omega arith))
+    let parts = and_parts (leaves_hold l (path ++ false ∷ [])) (leaves_hold r (path ++ true ∷ []))
+    h in
+    subst BeginsWithCode (append_assoc path (false ∷ []) more)
+    (reaches_leaf l (path ++ false ∷ []) more parts.0 (omega arith))
 reaches_leaf (node l r) path (true ∷ more) h deep =
-    let parts = and_parts (leaves_hold l (path ++ false ∷ [])) (leaves_hold r (path ++ true ∷ [])) h in
-    subst BeginsWithCode (append_assoc path (true ∷ []) more) (reaches_leaf r (path ++ true ∷ []) more parts.1 (omega arith))
+    let parts = and_parts (leaves_hold l (path ++ false ∷ [])) (leaves_hold r (path ++ true ∷ []))
+    h in
+    subst BeginsWithCode (append_assoc path (true ∷ []) more)
+    (reaches_leaf r (path ++ true ∷ []) more parts.1 (omega arith))
 
 -- The code is complete.
 pub begins_with_code : (bit_list : List Bool) → 30 ≤ length bit_list → BeginsWithCode bit_list
-begins_with_code bit_list long = reaches_leaf tree [] bit_list all_leaves_hold (omega (arith, tree_depth))
+begins_with_code bit_list long =
+    reaches_leaf tree [] bit_list all_leaves_hold (omega (arith, tree_depth))
 
 -- No code begins another: what follows is the same too.
-pub same_symbol : (symbol other : ℕ) (more rest : List Bool) → symbol < 257 → other < 257 → code symbol ++ more ≡ code other ++ rest → (symbol ≡ other) × (more ≡ rest)
-same_symbol symbol other more rest lt lt' e =
-    let p : ◌≡◌ {A = Option (ℕ × List Bool)} (Some (symbol, more)) (Some (other, rest)) =
-    sym (first_symbol-code symbol more lt) ∙ (ap (first_symbol tree) e ∙ first_symbol-code other rest lt') in
-    let q : ◌≡◌ {A = ℕ × List Bool} (symbol, more) (other, rest) = cc in
+pub same_symbol : (symbol other : ℕ) (more following : List Bool) → symbol < 257 → other < 257
+    → code symbol ++ more ≡ code other ++ following → (symbol ≡ other) × (more ≡ following)
+same_symbol symbol other more following lt lt' e =
+    let p : ◌≡◌ {A = Option (ℕ × List Bool)} (Some (symbol, more)) (Some (other, following)) =
+    sym (first_symbol-code symbol more lt)
+    ∙ (ap (first_symbol tree) e ∙ first_symbol-code other following lt') in
+    let q : ◌≡◌ {A = ℕ × List Bool} (symbol, more) (other, following) = cc in
     (ap (λ (x : ℕ × List Bool). x.0) q, ap (λ (x : ℕ × List Bool). x.1) q)

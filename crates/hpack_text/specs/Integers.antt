@@ -1,13 +1,14 @@
 -- Integers with a prefix (RFC 7541, section 5.1).
-use Rattle.std.specs.Prelude.{◌≡◌, ◌⊎◌, ℕ, zero, suc, ◌+◌, ◌-◌, ◌*◌, ◌/◌, ◌%◌, ◌^◌, ◌<◌, ◌≤◌, nat_lt, if◌then◌else◌, List, [], ◌∷◌, length, take}
+use Rattle.std.specs.Prelude.{◌≡◌, ◌⊎◌, ℕ, zero, suc, ◌+◌, ◌-◌, ◌*◌, ◌/◌, ◌%◌, ◌^◌, ◌<◌, ◌≤◌}
+use Rattle.std.specs.Prelude.{nat_lt, if◌then◌else◌, List, [], ◌∷◌, length, take}
 use Rattle.std.specs.List.{AllByRecursion}
 use Rattle.hpack_text.specs.declared.fault.TextFault.{TextFault}
 use Rattle.hpack_text.specs.declared.fault.TextFault.TheVariants as faults
 
--- The number whose groups of seven bits these octets hold, the least significant group first.
-abbrev pub number_of_groups : List ℕ → ℕ
-number_of_groups [] = 0
-number_of_groups (octet ∷ more) = octet % 128 + 128 * number_of_groups more
+-- The number that these octets encode, seven bits each, the least significant ones first.
+abbrev pub continuation_value : List ℕ → ℕ
+continuation_value [] = 0
+continuation_value (octet ∷ more) = octet % 128 + 128 * continuation_value more
 
 abbrev pub HasTopBit : ℕ → Type 0
 HasTopBit octet = 128 ≤ octet
@@ -22,24 +23,29 @@ AreContinuation (octet ∷ next ∷ more) = HasTopBit octet × AreContinuation (
 abbrev pub all_ones : ℕ → ℕ
 all_ones prefix = 2 ^ prefix - 1
 
--- The octets spell the value with a prefix of so many bits: it stands in the prefix, or the prefix is all ones and one
--- to five continuation octets hold the rest of it. The bits above the prefix are free.
+-- The octets encode the value with a prefix of so many bits: it is the prefix, or the prefix is all
+-- ones and one to five continuation octets encode what exceeds them. The bits above the prefix are
+-- free.
 abbrev pub Int : ℕ → ℕ → List ℕ → Type 0
 Int prefix value [] = ⊥
 Int prefix value (first ∷ more) =
     ((first % 2 ^ prefix < all_ones prefix) × (more ≡ []) × (value ≡ first % 2 ^ prefix))
-    ⊎ ((first % 2 ^ prefix ≡ all_ones prefix) × AreContinuation more × (length more ≤ 5) × (value ≡ all_ones prefix + number_of_groups more))
+    ⊎ ((first % 2 ^ prefix ≡ all_ones prefix) × AreContinuation more × (length more ≤ 5)
+    × (value ≡ all_ones prefix + continuation_value more))
 
--- The octets end inside a spelling: there are none, or the prefix is all ones, and what follows it, less than five
--- octets, all have the top bit set.
+-- The octets end inside an encoding: there are none, or the prefix is all ones, and what follows
+-- it, less than five octets, all have the top bit set.
 abbrev pub IsTruncated : ℕ → List ℕ → Type 0
 IsTruncated prefix [] = Unit {0}
-IsTruncated prefix (first ∷ more) = (first % 2 ^ prefix ≡ all_ones prefix) × AllByRecursion HasTopBit more × (length more < 5)
+IsTruncated prefix (first ∷ more) =
+    (first % 2 ^ prefix ≡ all_ones prefix) × AllByRecursion HasTopBit more × (length more < 5)
 
 -- The fifth continuation octet has its top bit set.
 abbrev pub IsTooLong : ℕ → List ℕ → Type 0
 IsTooLong prefix [] = ⊥
-IsTooLong prefix (first ∷ more) = (first % 2 ^ prefix ≡ all_ones prefix) × AllByRecursion HasTopBit (take 5 more) × (5 ≤ length more)
+IsTooLong prefix (first ∷ more) =
+    (first % 2 ^ prefix ≡ all_ones prefix) × AllByRecursion HasTopBit (take 5 more)
+    × (5 ≤ length more)
 
 -- what a fault of reading an integer says of the octets
 abbrev pub IntFault : ℕ → List ℕ → TextFault → Type 0
@@ -51,10 +57,13 @@ IntFault prefix octets faults.Memory = ⊥
 
 -- The continuation octets of a number below 128 ^ (suc more): no more of them than it needs.
 unfoldable pub continuation_of : ℕ → ℕ → List ℕ
-continuation_of zero rest = rest ∷ []
-continuation_of (suc more) rest = if nat_lt rest 128 then rest ∷ [] else (rest % 128 + 128) ∷ continuation_of more (rest / 128)
+continuation_of zero number = number ∷ []
+continuation_of (suc more) number = if nat_lt number 128 then number ∷ []
+    else (number % 128 + 128) ∷ continuation_of more (number / 128)
 
--- The spelling that is written, behind the bits that stand above the prefix: the shortest one. The value is below 2 ^ 35.
+-- The encoding that is written, with these bits above the prefix: the shortest one. The value is
+-- below 2 ^ 35.
 unfoldable pub integer : ℕ → ℕ → ℕ → List ℕ
 integer prefix first_bits value =
-    if nat_lt value (all_ones prefix) then (first_bits + value) ∷ [] else (first_bits + all_ones prefix) ∷ continuation_of 4 (value - all_ones prefix)
+    if nat_lt value (all_ones prefix) then (first_bits + value) ∷ []
+    else (first_bits + all_ones prefix) ∷ continuation_of 4 (value - all_ones prefix)

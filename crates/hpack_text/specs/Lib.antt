@@ -1,6 +1,7 @@
+pub mod Appended
 pub mod Bits
+pub mod Continuation
 pub mod Huffman
 pub mod Integers
-pub mod Reading
 pub mod Strings
-pub mod Writing
+pub mod Walk

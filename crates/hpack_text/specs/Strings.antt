@@ -1,5 +1,6 @@
 -- String literals (RFC 7541, section 5.2).
-use Rattle.std.specs.Prelude.{◌≡◌, ◌⊎◌, ℕ, ◌<◌, nat_le, if◌then◌else◌, Bool, true, false, List, [], ◌∷◌, ◌++◌, length}
+use Rattle.std.specs.Prelude.{◌≡◌, ◌⊎◌, ℕ, ◌<◌, nat_le, if◌then◌else◌, Bool, true, false, List, []}
+use Rattle.std.specs.Prelude.{◌∷◌, ◌++◌, length}
 use Rattle.std.specs.List.{AllByRecursion}
 use Rattle.hpack_text.specs.declared.fault.TextFault.{TextFault}
 use Rattle.hpack_text.specs.declared.fault.TextFault.TheVariants as faults
@@ -7,63 +8,72 @@ use Rattle.hpack_text.specs.Bits.{IsOctet}
 use Rattle.hpack_text.specs.Huffman.{Huff, HasEndSymbol, HasBadPadding, huffman_bits}
 use Rattle.hpack_text.specs.Integers.{Int, IsTruncated, IsTooLong, integer}
 
--- The bit H, the top bit of the first octet, says that the text is Huffman coded.
-abbrev pub is_coded : List ℕ → Bool
-is_coded [] = false
-is_coded (first ∷ more) = nat_le 128 first
+-- The bit H, the top bit of the first octet, says that the string is Huffman-encoded.
+abbrev pub has_bit_h : List ℕ → Bool
+has_bit_h [] = false
+has_bit_h (first ∷ more) = nat_le 128 first
 
--- These octets hold a string's text, coded or as it is.
+-- These octets are a string's text, Huffman-encoded or as it is.
 abbrev pub Holds : Bool → List ℕ → List ℕ → Type 0
 Holds true text octets = Huff text octets
 Holds false text octets = (text ≡ octets) × AllByRecursion IsOctet text
 
--- The octets spell the text: the bit H and the length of what follows, with a prefix of seven bits, then so many octets
--- that hold the text.
+-- what a fault of reading a string's text says of the octets that hold it
+abbrev pub BodyFault : Bool → List ℕ → TextFault → Type 0
+BodyFault is_huffman body faults.BadPadding = (is_huffman ≡ true) × HasBadPadding body
+BodyFault is_huffman body faults.EndSymbol = (is_huffman ≡ true) × HasEndSymbol body
+BodyFault is_huffman body faults.Memory = Unit {0}
+BodyFault is_huffman body faults.Truncated = ⊥
+BodyFault is_huffman body faults.TooLong = ⊥
+
+-- The octets encode the text: the bit H and the length of what follows, with a prefix of seven
+-- bits, then so many octets of the text.
 pub record Str (text octets : List ℕ) : Type 0 where
   pub head : List ℕ
   pub body : List ℕ
   pub joined : octets ≡ head ++ body
   pub head_length : Int 7 (length body) head
-  pub holds : Holds (is_coded head) text body
+  pub holds : Holds (has_bit_h head) text body
 
 -- The head names more octets than there are.
 pub record IsShort (octets : List ℕ) : Type 0 where
   pub head : List ℕ
-  pub rest : List ℕ
+  pub following : List ℕ
   pub named : ℕ
-  pub joined : octets ≡ head ++ rest
+  pub joined : octets ≡ head ++ following
   pub head_length : Int 7 named head
-  pub short : length rest < named
+  pub short : length following < named
 
--- At the front stands a string whose coded text has this fault.
-pub record HasCoded (Fault : List ℕ → Type 0) (octets : List ℕ) : Type 0 where
+-- The octets begin with a Huffman-encoded string that has this fault.
+pub record HasHuffmanFault (Fault : List ℕ → Type 0) (octets : List ℕ) : Type 0 where
   pub head : List ℕ
   pub body : List ℕ
   pub more : List ℕ
   pub joined : octets ≡ head ++ (body ++ more)
   pub head_length : Int 7 (length body) head
-  pub is_coded : is_coded head ≡ true
+  pub has_bit_h : has_bit_h head ≡ true
   pub fault : Fault body
 
--- At the front stand a head and as many octets as it names.
-pub record IsWhole (octets : List ℕ) : Type 0 where
+-- The octets begin with a head and as many octets as it names.
+pub record IsCompleteString (octets : List ℕ) : Type 0 where
   pub head : List ℕ
   pub body : List ℕ
   pub more : List ℕ
   pub joined : octets ≡ head ++ (body ++ more)
   pub head_length : Int 7 (length body) head
 
--- What a fault of reading a string says of the octets. Memory is wanted only for a string that is whole. Where they end inside the string it is Truncated, whatever its
--- text is.
+-- What a fault of reading a string says of the octets. Memory is allocated only for a complete
+-- string. Where the octets end inside the string it is Truncated, whatever its text is.
 abbrev pub StrFault : List ℕ → TextFault → Type 0
 StrFault octets faults.Truncated = IsTruncated 7 octets ⊎ IsShort octets
 StrFault octets faults.TooLong = IsTooLong 7 octets
-StrFault octets faults.BadPadding = HasCoded HasBadPadding octets
-StrFault octets faults.EndSymbol = HasCoded HasEndSymbol octets
-StrFault octets faults.Memory = IsWhole octets
+StrFault octets faults.BadPadding = HasHuffmanFault HasBadPadding octets
+StrFault octets faults.EndSymbol = HasHuffmanFault HasEndSymbol octets
+StrFault octets faults.Memory = IsCompleteString octets
 
--- The spelling that is written: Huffman coded where that isn't longer than raw.
+-- The encoding that is written: Huffman-encoded where that isn't longer than raw.
 unfoldable pub string : List ℕ → List ℕ
 string text =
-    if nat_le (length (huffman_bits text)) (length text) then integer 7 128 (length (huffman_bits text)) ++ huffman_bits text
+    if nat_le (length (huffman_bits text)) (length text)
+    then integer 7 128 (length (huffman_bits text)) ++ huffman_bits text
     else integer 7 0 (length text) ++ text

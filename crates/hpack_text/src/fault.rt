@@ -11,11 +11,12 @@ pub enum TextFault {
     /// The fifth continuation octet of an integer has its top bit set.
     #[error("X2 TooLong: an integer has more than five continuation octets")]
     TooLong,
-    /// A Huffman coded text ends in more than seven bits that are no symbol, or in other bits than ones.
-    #[error("X3 BadPadding: a coded text isn't filled with at most seven ones")]
+    /// A Huffman-encoded string ends in more than seven bits that are no symbol, or in other bits
+    /// than ones.
+    #[error("X3 BadPadding: a Huffman-encoded string isn't padded with at most seven ones")]
     BadPadding,
-    /// A Huffman coded text holds EOS, the end symbol.
-    #[error("X4 EndSymbol: a coded text holds the end symbol")]
+    /// A Huffman-encoded string has the code of EOS, the end symbol, in it.
+    #[error("X4 EndSymbol: a Huffman-encoded string holds the end symbol")]
     EndSymbol,
     /// Memory was refused.
     #[error("X5 Memory: out of memory")]

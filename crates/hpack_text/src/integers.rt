@@ -1,51 +1,58 @@
 //! Integers with a prefix (RFC 7541, section 5.1).
 
-ghost use Rattle.std.specs.Prelude.{◌≡◌, ℕ, ◌+◌, ◌%◌, ◌^◌, ◌<◌, ◌≤◌, ◌++◌, length, take, IfOk, IfErr, OnOk, OnErr, IsOk, MatchResult, vec_len};
+ghost use Rattle.std.specs.Prelude.{◌≡◌, ℕ, ◌+◌, ◌%◌, ◌^◌, ◌<◌, ◌≤◌, ◌++◌, length, take, IfOk};
+ghost use Rattle.std.specs.Prelude.{IfErr, OnOk, OnErr, IsOk, MatchResult, vec_len};
 ghost use Rattle.std.specs.Vec.{vec_capacity};
 ghost use Rattle.hpack_text.specs.Integers.{Int, IntFault, integer, continuation_of};
-ghost use Rattle.hpack_text.specs.Reading.{HasGroups, GroupsFault};
-ghost use Rattle.hpack_text.specs.Writing.{IsExtended};
+ghost use Rattle.hpack_text.specs.Continuation.{HasContinuation, ContinuationFault};
+ghost use Rattle.hpack_text.specs.Appended.{IsExtended};
 
 use crate::fault::TextFault;
 use std::alloc::AllocError;
 
 /// The most continuation octets of an integer that are read.
-const MOST_GROUPS: usize = 5;
+const MAX_CONTINUATION_OCTETS: usize = 5;
 
-/// Reads the integer at the front of `octets`, whose first octet has `prefix` bits of it, and answers its value and how
-/// many octets spell it. The bits above the prefix are ignored, and octets may follow. At most five continuation octets
-/// are read, groups of zeros among them (RFC 7541, section 5.1).
+/// Reads the integer at the start of `octets`, whose first octet has `prefix` bits of it, and
+/// answers its value and how many octets encode it. The bits above the prefix are ignored, and
+/// octets may follow. At most five continuation octets are read; superfluous ones of zeros count
+/// too (RFC 7541, section 5.1).
 ///
 /// # Errors
 ///
-/// [`TextFault::Truncated`] where the octets end inside the integer, and [`TextFault::TooLong`] where the fifth
-/// continuation octet says that a sixth follows. It takes no memory.
+/// [`TextFault::Truncated`] where the octets end inside the integer, and [`TextFault::TooLong`]
+/// where the fifth continuation octet says that a sixth follows. It takes no memory.
 pub fn read_int(prefix: u8, octets: &[u8]) -> Result<(u64, usize), TextFault>
     requires at_least { 1 ≤ prefix }
     requires at_most { prefix ≤ 8 }
-    ensures ok { IfOk result (λ read. (read.1 ≤ length octets.now) × Int prefix read.0 (take read.1 octets.now)) }
+    ensures ok { IfOk result (λ read. (read.1 ≤ length octets.now)
+        × Int prefix read.0 (take read.1 octets.now)) }
 
-    // What is spelled at the front is read.
-    ensures only { (value count : ℕ) → count ≤ length octets.now → Int prefix value (take count octets.now) → result ≡ Ok (value, count) }
+    // What is encoded at the start is read.
+    ensures only { (value count : ℕ) → count ≤ length octets.now
+        → Int prefix value (take count octets.now) → result ≡ Ok (value, count) }
     ensures fault { IfErr result (IntFault prefix octets.now) }
 {
-    int_at_front(prefix, octets)
+    leading_int(prefix, octets)
 }
 
-/// Appends the shortest spelling of `value` with a prefix of `prefix` bits, behind `first_bits`, which are the bits above
-/// the prefix in the first octet (RFC 7541, section 5.1).
+/// Appends the shortest encoding of `value` with a prefix of `prefix` bits. `first_bits` are the
+/// bits above the prefix in the first octet (RFC 7541, section 5.1).
 ///
 /// # Errors
 ///
-/// [`TextFault::Memory`], and `out` is unchanged. It doesn't come where `out` has room for the spelling.
+/// [`TextFault::Memory`], and `out` is unchanged. It doesn't come where `out` has room for the
+/// encoding.
 pub fn write_int(prefix: u8, first_bits: u8, value: u64, out: &mut Vec<u8>) -> Result<(), TextFault>
     requires at_least { 1 ≤ prefix }
     requires at_most { prefix ≤ 8 }
     requires value { value < 2 ^ 35 }
     requires first_bits { first_bits % 2 ^ prefix ≡ 0 }
     ensures ok { OnOk result (out.new.items ≡ out.old.items ++ integer prefix first_bits value) }
-    ensures err { IfErr result (λ fault. (fault ≡ TextFault.Memory) × (out.new.items ≡ out.old.items)) }
-    ensures room { vec_len out.old + length (integer prefix first_bits value) ≤ vec_capacity out.old → IsOk result }
+    ensures err { IfErr result
+        (λ fault. (fault ≡ TextFault.Memory) × (out.new.items ≡ out.old.items)) }
+    ensures room { vec_len out.old + length (integer prefix first_bits value) ≤ vec_capacity out.old
+        → IsOk result }
     ensures capacity { vec_capacity out.old ≤ vec_capacity out.new }
 {
     let start = out.len();
@@ -56,12 +63,13 @@ pub fn write_int(prefix: u8, first_bits: u8, value: u64, out: &mut Vec<u8>) -> R
     Ok(())
 }
 
-/// Reads the integer at the front of `octets`.
-fn int_at_front(prefix: u8, octets: &[u8]) -> Result<(u64, usize), TextFault>
+/// Reads the integer at the start of `octets`.
+fn leading_int(prefix: u8, octets: &[u8]) -> Result<(u64, usize), TextFault>
     requires at_least { 1 ≤ prefix }
     requires at_most { prefix ≤ 8 }
     ensures answer { MatchResult result
-        (λ read. (read.1 ≤ length octets.now) × Int prefix read.0 (take read.1 octets.now)) (IntFault prefix octets.now) }
+        (λ read. (read.1 ≤ length octets.now) × Int prefix read.0 (take read.1 octets.now))
+        (IntFault prefix octets.now) }
 {
     let [first, more @ ..] = octets else {
         return Err(TextFault::Truncated);
@@ -71,16 +79,17 @@ fn int_at_front(prefix: u8, octets: &[u8]) -> Result<(u64, usize), TextFault>
     if low < all_ones {
         return Ok((low, 1));
     }
-    let (rest, count) = read_groups(more)?;
-    Ok((all_ones + rest, count + 1))
+    let (above, count) = read_continuation(more)?;
+    Ok((all_ones + above, count + 1))
 }
 
-/// Reads continuation octets: the number whose groups of seven bits they hold, and how many they are.
-fn read_groups(octets: &[u8]) -> Result<(u64, usize), TextFault>
-    ensures answer { MatchResult result (λ read. HasGroups octets.now read.0 read.1) (GroupsFault octets.now) }
+/// Reads continuation octets: the number that they encode, seven bits each, and how many they are.
+fn read_continuation(octets: &[u8]) -> Result<(u64, usize), TextFault>
+    ensures answer { MatchResult result (λ read. HasContinuation octets.now read.0 read.1)
+        (ContinuationFault octets.now) }
 {
     let mut value: u64 = 0;
-    for count in 0..MOST_GROUPS {
+    for count in 0..MAX_CONTINUATION_OCTETS {
         if count >= octets.len() {
             return Err(TextFault::Truncated);
         }
@@ -93,7 +102,7 @@ fn read_groups(octets: &[u8]) -> Result<(u64, usize), TextFault>
     Err(TextFault::TooLong)
 }
 
-/// Appends the spelling of an integer. On `Err` a front of it stands behind what was there.
+/// Appends the encoding of an integer. On `Err` its first octets, or none, were appended.
 fn append_integer(
     prefix: u8,
     first_bits: u8,
@@ -106,7 +115,8 @@ fn append_integer(
     requires first_bits { first_bits % 2 ^ prefix ≡ 0 }
     ensures ok { OnOk result (out.new.items ≡ out.old.items ++ integer prefix first_bits value) }
     ensures extended { IsExtended out.old.items out.new.items }
-    ensures full { OnErr result (vec_capacity out.old < vec_len out.old + length (integer prefix first_bits value)) }
+    ensures full { OnErr result
+        (vec_capacity out.old < vec_len out.old + length (integer prefix first_bits value)) }
     ensures capacity { vec_capacity out.old ≤ vec_capacity out.new }
 {
     let all_ones = (1 << prefix) - 1;
@@ -115,22 +125,23 @@ fn append_integer(
         return Ok(());
     }
     out.push(first_bits + all_ones as u8)?;
-    append_groups(value - all_ones, out)
+    append_continuation(value - all_ones, out)
 }
 
-/// Appends the continuation octets of a number. On `Err` a front of them stands behind what was there.
-fn append_groups(number: u64, out: &mut Vec<u8>) -> Result<(), AllocError>
+/// Appends the continuation octets of a number. On `Err` the first of them, or none, were appended.
+fn append_continuation(number: u64, out: &mut Vec<u8>) -> Result<(), AllocError>
     requires { number < 2 ^ 35 }
     ensures ok { OnOk result (out.new.items ≡ out.old.items ++ continuation_of 4 number) }
     ensures extended { IsExtended out.old.items out.new.items }
-    ensures full { OnErr result (vec_capacity out.old < vec_len out.old + length (continuation_of 4 number)) }
+    ensures full { OnErr result
+        (vec_capacity out.old < vec_len out.old + length (continuation_of 4 number)) }
     ensures capacity { vec_capacity out.old ≤ vec_capacity out.new }
 {
-    let mut rest = number;
-    while rest >= 128 {
-        out.push((rest % 128 + 128) as u8)?;
-        rest /= 128;
+    let mut remaining = number;
+    while remaining >= 128 {
+        out.push((remaining % 128 + 128) as u8)?;
+        remaining /= 128;
     }
-    out.push(rest as u8)?;
+    out.push(remaining as u8)?;
     Ok(())
 }

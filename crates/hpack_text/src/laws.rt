@@ -3,58 +3,72 @@
 ghost use Rattle.std.specs.Prelude.{◌≡◌, ℕ, ◌^◌, ◌<◌, ◌≤◌, ◌%◌, nat_le, Bool, List, ◌++◌, length};
 ghost use Rattle.std.specs.List.{AllByRecursion};
 ghost use Rattle.hpack_text.specs.Bits.{IsOctet};
-ghost use Rattle.hpack_text.specs.Huffman.{code, Huff, HasEndSymbol, HasBadPadding, huffman_bits, coded_length};
+ghost use Rattle.hpack_text.specs.Huffman.{code, Huff, HasEndSymbol, HasBadPadding, huffman_bits};
+ghost use Rattle.hpack_text.specs.Huffman.{huffman_length};
 ghost use Rattle.hpack_text.specs.Integers.{Int, integer};
-ghost use Rattle.hpack_text.specs.Strings.{Str, is_coded, string};
+ghost use Rattle.hpack_text.specs.Strings.{Str, has_bit_h, string};
 
 /// No code of a symbol begins the code of another one, EOS included.
 pub fn no_code_begins_another()
-    ensures { (symbol other : ℕ) (more rest : List Bool) → symbol < 257 → other < 257 → code symbol ++ more ≡ code other ++ rest → symbol ≡ other }
+    ensures { (symbol other : ℕ) (more following : List Bool) → symbol < 257 → other < 257
+        → code symbol ++ more ≡ code other ++ following → symbol ≡ other }
 {}
 
 /// The code is complete: whatever thirty bits come, or more, they begin with the code of a symbol.
 pub fn some_code_begins()
-    ensures { (bit_list : List Bool) → 30 ≤ length bit_list → (symbol : ℕ) × (more : List Bool) × (symbol < 257) × (bit_list ≡ code symbol ++ more) }
+    ensures { (bit_list : List Bool) → 30 ≤ length bit_list
+        → (symbol : ℕ) × (more : List Bool) × (symbol < 257) × (bit_list ≡ code symbol ++ more) }
 {}
 
-/// Octets spell one text at most.
+/// Octets encode one text at most.
 pub fn one_text()
     ensures { (text other octets : List ℕ) → Huff text octets → Huff other octets → text ≡ other }
 {}
 
-/// A text has one spelling, which is the one that is written, and its length is the bits of its codes, rounded up.
+/// A text has one encoding, which is the one that is written, and its length is the bits of its
+/// codes, rounded up.
 pub fn one_coding()
-    ensures spelled { (text : List ℕ) → AllByRecursion IsOctet text → Huff text (huffman_bits text) }
+    ensures encoded { (text : List ℕ) → AllByRecursion IsOctet text
+        → Huff text (huffman_bits text) }
     ensures only { (text octets : List ℕ) → Huff text octets → octets ≡ huffman_bits text }
-    ensures counted { (text : List ℕ) → length (huffman_bits text) ≡ coded_length text }
+    ensures counted { (text : List ℕ) → length (huffman_bits text) ≡ huffman_length text }
 {}
 
-/// No octets have both faults of coded texts.
+/// No octets have both faults of Huffman-encoded strings.
 pub fn one_coding_fault()
     ensures { (octets : List ℕ) → HasEndSymbol octets → HasBadPadding octets → ⊥ }
 {}
 
-/// No spelling of an integer begins another one, so what was written is read again, whatever follows it.
+/// No encoding of an integer begins another one, so what was written is read again, whatever
+/// follows it.
 pub fn no_integer_begins_another()
-    ensures { (prefix value other : ℕ) (octets others more rest : List ℕ) → Int prefix value octets → Int prefix other others
-        → octets ++ more ≡ others ++ rest → (octets ≡ others) × (value ≡ other) }
+    ensures { (prefix value other : ℕ) (octets others more following : List ℕ)
+        → Int prefix value octets → Int prefix other others
+        → octets ++ more ≡ others ++ following → (octets ≡ others) × (value ≡ other) }
 {}
 
-/// What is written for an integer spells it, and no spelling of it is shorter.
+/// What is written for an integer encodes it, and no encoding of it is shorter.
 pub fn shortest_integer()
-    ensures spelled { (prefix first_bits value : ℕ) → 1 ≤ prefix → prefix ≤ 8 → first_bits % 2 ^ prefix ≡ 0 → value < 2 ^ 35
+    ensures encoded { (prefix first_bits value : ℕ) → 1 ≤ prefix → prefix ≤ 8
+        → first_bits % 2 ^ prefix ≡ 0 → value < 2 ^ 35
         → Int prefix value (integer prefix first_bits value) }
-    ensures shortest { (prefix first_bits value : ℕ) (octets : List ℕ) → 1 ≤ prefix → Int prefix value octets → length (integer prefix first_bits value) ≤ length octets }
+    ensures shortest { (prefix first_bits value : ℕ) (octets : List ℕ) → 1 ≤ prefix
+        → Int prefix value octets → length (integer prefix first_bits value) ≤ length octets }
 {}
 
-/// No spelling of a string begins a different one, so what was written is read again, whatever follows it.
+/// No encoding of a string begins a different one, so what was written is read again, whatever
+/// follows it.
 pub fn no_string_begins_another()
-    ensures { (text other octets others more rest : List ℕ) → Str text octets → Str other others
-        → octets ++ more ≡ others ++ rest → (octets ≡ others) × (text ≡ other) }
+    ensures { (text other octets others more following : List ℕ) → Str text octets
+        → Str other others
+        → octets ++ more ≡ others ++ following → (octets ≡ others) × (text ≡ other) }
 {}
 
-/// What is written for a string spells it, and it is Huffman coded exactly where that isn't longer than raw.
+/// What is written for a string encodes it, and it is Huffman-encoded exactly where that isn't
+/// longer than raw.
 pub fn written_string()
-    ensures spelled { (text : List ℕ) → AllByRecursion IsOctet text → length text < 2 ^ 35 → Str text (string text) }
-    ensures coded_where_not_longer { (text : List ℕ) → length text < 2 ^ 35 → is_coded (string text) ≡ nat_le (length (huffman_bits text)) (length text) }
+    ensures encoded { (text : List ℕ) → AllByRecursion IsOctet text → length text < 2 ^ 35
+        → Str text (string text) }
+    ensures huffman_where_not_longer { (text : List ℕ) → length text < 2 ^ 35
+        → has_bit_h (string text) ≡ nat_le (length (huffman_bits text)) (length text) }
 {}

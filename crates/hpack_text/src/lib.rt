@@ -1,6 +1,8 @@
-//! The texts of HPACK (RFC 7541, section 5 and appendix B): integers with a prefix, the Huffman code, and strings.
+//! The texts of HPACK (RFC 7541, section 5 and appendix B): integers with a prefix, the Huffman
+//! code, and strings.
 //!
-//! A text is read exactly where the octets spell it, and written in one stated spelling. Each fault has a number.
+//! A text is read exactly where the octets encode it, and written in one stated encoding. Each
+//! fault has a number.
 #![tactic(auto)]
 
 mod fault;

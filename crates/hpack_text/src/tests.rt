@@ -1,4 +1,4 @@
-//! Rows of RFC 7541 and own ones, and loops over all octets, lengths and borders.
+//! Examples of RFC 7541 and own ones, and loops over all octets, lengths and borders.
 
 ghost use Rattle.std.specs.Prelude.{◌+◌, ◌^◌, ◌<◌, ◌≤◌, length};
 
@@ -7,7 +7,7 @@ use std::alloc::Global;
 use std::process::Abort;
 use std::test::Fail;
 
-/// Writes an integer, and reads it again with an octet behind it.
+/// Writes an integer, and reads it again with an octet after it.
 fn check_int(rt: &impl Abort, alloc: Global, prefix: u8, value: u64) -> Result<Vec<u8>, Fail>
     requires at_least { 1 ≤ prefix }
     requires at_most { prefix ≤ 8 }
@@ -39,7 +39,8 @@ fn check_around(rt: &impl Abort, alloc: Global, prefix: u8, value: u64) -> Resul
     Ok(())
 }
 
-/// Writes and reads the numbers where one more continuation octet begins, and reads the largest ones.
+/// Writes and reads the numbers where one more continuation octet begins, and reads the largest
+/// ones.
 fn check_borders(rt: &impl Abort, alloc: Global, prefix: u8, all_ones: u64) -> Result<(), Fail>
     requires at_least { 1 ≤ prefix }
     requires at_most { prefix ≤ 8 }
@@ -67,14 +68,15 @@ fn check_borders(rt: &impl Abort, alloc: Global, prefix: u8, all_ones: u64) -> R
     Ok(())
 }
 
-/// Writes a text in the code and as a string, and reads both again, the string with an octet behind it.
+/// Writes a text in the code and as a string, and reads both again, the string with an octet after
+/// it.
 fn check_text(rt: &impl Abort, alloc: Global, text: &[u8]) -> Result<(), Fail>
     requires { length text.now < 2 ^ 35 }
 {
-    let mut coded = Vec::new(alloc);
-    huff_write(text, &mut coded)?;
-    assert_eq!(rt; huff_len(text), coded.len());
-    assert_eq!(rt; huff_read(alloc, &coded)?.as_slice(), text);
+    let mut huffman = Vec::new(alloc);
+    huff_write(text, &mut huffman)?;
+    assert_eq!(rt; huff_len(text), huffman.len());
+    assert_eq!(rt; huff_read(alloc, &huffman)?.as_slice(), text);
     let mut string = Vec::new(alloc);
     write_string(text, &mut string)?;
     let count = string.len();
@@ -85,19 +87,19 @@ fn check_text(rt: &impl Abort, alloc: Global, text: &[u8]) -> Result<(), Fail>
     Ok(())
 }
 
-/// Compares what is written for a text with what is wanted.
+/// Compares what is written for a text with what is expected.
 fn check_rows(
     rt: &impl Abort,
     alloc: Global,
     text: &[u8],
-    coded: &[u8],
+    huffman: &[u8],
     string: &[u8],
 ) -> Result<(), Fail>
     requires { length text.now < 2 ^ 35 }
 {
     let mut out = Vec::new(alloc);
     huff_write(text, &mut out)?;
-    assert_eq!(rt; out.as_slice(), coded);
+    assert_eq!(rt; out.as_slice(), huffman);
     out.clear();
     write_string(text, &mut out)?;
     assert_eq!(rt; out.as_slice(), string);
@@ -177,16 +179,16 @@ fn text_rows(rt: HostRuntime) -> Result<(), Fail> {
 }
 
 #[test]
-fn coded_faults(rt: HostRuntime) {
+fn huffman_faults(rt: HostRuntime) {
     let rows = [
-        // Filling with a zero, all ones but eight of them, and one wrong bit.
+        // Padding with a zero, all ones but eight of them, and one wrong bit.
         (b"\x18".as_slice(), TextFault::BadPadding),
         (b"\xff".as_slice(), TextFault::BadPadding),
         (b"\x1f\xff".as_slice(), TextFault::BadPadding),
         (b"\xf8\xff".as_slice(), TextFault::BadPadding),
         (b"\x1e".as_slice(), TextFault::BadPadding),
         (b"\x1b".as_slice(), TextFault::BadPadding),
-        // The end symbol is thirty ones: one less behind a symbol, all of them, and text behind them.
+        // The end symbol is thirty ones: one less after a symbol, all of them, and text after them.
         (b"\xff\x5f\xff\xff\xff".as_slice(), TextFault::BadPadding),
         (b"\x00\x3f\xff\xff\xff".as_slice(), TextFault::EndSymbol),
         (b"\xff\xff\xff\xff".as_slice(), TextFault::EndSymbol),
@@ -209,7 +211,7 @@ fn string_faults(rt: HostRuntime) {
         // Lengths that no input has.
         (b"\x7f\xff\xff\xff\xff\x7f".as_slice(), TextFault::Truncated),
         (b"\xff\xff\xff\xff\xff\x7f".as_slice(), TextFault::Truncated),
-        // The octets end before the text's own fault counts.
+        // Octets that end inside the string come before the fault of its text.
         (b"\x85\xff\xff\xff\xff".as_slice(), TextFault::Truncated),
         (b"\x84\xff\xff\xff\xff".as_slice(), TextFault::EndSymbol),
         (b"\x81\x18".as_slice(), TextFault::BadPadding),
@@ -237,11 +239,11 @@ fn faults_have_their_texts(rt: HostRuntime) -> Result<(), Fail> {
         ),
         (
             TextFault::BadPadding,
-            "X3 BadPadding: a coded text isn't filled with at most seven ones",
+            "X3 BadPadding: a Huffman-encoded string isn't padded with at most seven ones",
         ),
         (
             TextFault::EndSymbol,
-            "X4 EndSymbol: a coded text holds the end symbol",
+            "X4 EndSymbol: a Huffman-encoded string holds the end symbol",
         ),
         (TextFault::Memory, "X5 Memory: out of memory"),
     ];
@@ -266,7 +268,7 @@ fn writers_append(rt: HostRuntime) -> Result<(), Fail> {
     assert_eq!(rt;
         (text.len(), used),
         (127, 130),
-        "a length with a superfluous group"
+        "a length with a superfluous continuation octet"
     );
     Ok(())
 }
@@ -305,7 +307,8 @@ fn laws_hold() {
     written_string();
 }
 
-/// The 256 octets in order, in the code, as another implementation (`hpack` 4.0 for Python) writes them.
+/// The 256 octets in order, in the code, as another implementation (`hpack` 4.0 for Python) writes
+/// them.
 static ALL_OCTETS: [u8; 583] = [
     0xff, 0xc7, 0xff, 0xfd, 0x8f, 0xff, 0xff, 0xe2, 0xff, 0xff, 0xfe, 0x3f, 0xff, 0xff, 0xe4, 0xff,
     0xff, 0xfe, 0x5f, 0xff, 0xff, 0xe6, 0xff, 0xff, 0xfe, 0x7f, 0xff, 0xff, 0xe8, 0xff, 0xff, 0xea,

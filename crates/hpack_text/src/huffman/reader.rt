@@ -1,10 +1,11 @@
-//! Reading a coded text, bit by bit.
+//! Reading a Huffman-encoded string, bit by bit.
 
-ghost use Rattle.std.specs.Prelude.{◌≡◌, ℕ, ◌+◌, ◌^◌, ◌<◌, ◌≤◌, [], ◌∷◌, ◌++◌, replicate, true, IfOk, IfErr, MatchBool, MatchResult};
+ghost use Rattle.std.specs.Prelude.{◌≡◌, ℕ, ◌+◌, ◌^◌, ◌<◌, ◌≤◌, [], ◌∷◌, ◌++◌, replicate, true};
+ghost use Rattle.std.specs.Prelude.{IfOk, IfErr, MatchBool, MatchResult};
 ghost use Rattle.std.specs.List.{AllByRecursion};
 ghost use Rattle.hpack_text.specs.Bits.{IsOctet, is_odd, bits_of, bits};
 ghost use Rattle.hpack_text.specs.Huffman.{Huff, HuffFault};
-ghost use Rattle.hpack_text.specs.Reading.{IsOpen, EndsWalk, bits_read};
+ghost use Rattle.hpack_text.specs.Walk.{IsOpen, EndsWalk, bits_read};
 
 use crate::fault::TextFault;
 use crate::huffman::symbols::symbol_at;
@@ -13,12 +14,13 @@ use std::alloc::Global;
 /// The symbol that ends a text.
 const END_SYMBOL: u16 = 256;
 
-/// The most ones that may fill the last octet.
-const MOST_FILLING: u32 = 7;
+/// The most ones that may pad the last octet.
+const MAX_PADDING: u32 = 7;
 
-/// The bits behind the last symbol that was read: how many, and the number that they are. No code begins them.
+/// The bits after the last symbol that was read: how many, and the number that they are. No code
+/// begins them.
 #[derive(Clone, Copy)]
-struct Front {
+struct Prefix {
     count: u32,
     value: u32,
     ghost short: { count < 30 },
@@ -28,18 +30,19 @@ struct Front {
 
 /// Reads all of `octets` as a text.
 pub fn read_text(alloc: Global, octets: &[u8]) -> Result<Vec<u8>, TextFault>
-    ensures answer { MatchResult result (λ text. Huff text.items octets.now) (HuffFault octets.now) }
+    ensures answer { MatchResult result (λ text. Huff text.items octets.now)
+        (HuffFault octets.now) }
 {
     // A code has five bits at least.
     let most = octets.len() / 5 * 8 + octets.len() % 5 * 8 / 5;
     let Ok(mut text) = Vec::with_capacity(alloc, most) else {
         return Err(TextFault::Memory);
     };
-    let mut front = no_bits();
+    let mut prefix = no_bits();
     for octet in octets {
-        front = read_octet(front, *octet, &mut text)?;
+        prefix = read_octet(prefix, *octet, &mut text)?;
     }
-    if is_filling(front) {
+    if is_padding(prefix) {
         Ok(text)
     } else {
         Err(TextFault::BadPadding)
@@ -47,33 +50,33 @@ pub fn read_text(alloc: Global, octets: &[u8]) -> Result<Vec<u8>, TextFault>
 }
 
 /// Walks over the bits of an octet, and appends the octets whose codes they end.
-fn read_octet(front: Front, octet: u8, text: &mut Vec<u8>) -> Result<Front, TextFault>
+fn read_octet(prefix: Prefix, octet: u8, text: &mut Vec<u8>) -> Result<Prefix, TextFault>
     ensures ok { IfOk result (λ next. bits_read text.new.items next.count next.value
-        ≡ bits_read text.old.items front.count front.value ++ bits_of 8 octet) }
+        ≡ bits_read text.old.items prefix.count prefix.value ++ bits_of 8 octet) }
     ensures fault { IfErr result (EndsWalk text.new.items
-        (bits_read text.old.items front.count front.value ++ bits_of 8 octet)) }
+        (bits_read text.old.items prefix.count prefix.value ++ bits_of 8 octet)) }
     ensures octets { AllByRecursion IsOctet text.old.items → AllByRecursion IsOctet text.new.items }
 {
-    let mut front = front;
+    let mut prefix = prefix;
     for place in 0..u8::BITS {
-        front = read_bit(front, octet >> (7 - place), text)?;
+        prefix = read_bit(prefix, octet >> (7 - place), text)?;
     }
-    Ok(front)
+    Ok(prefix)
 }
 
 /// Walks over the lowest bit of `bits`, and appends the octet whose code it ends.
 #[inline]
-fn read_bit(front: Front, bits: u8, text: &mut Vec<u8>) -> Result<Front, TextFault>
+fn read_bit(prefix: Prefix, bits: u8, text: &mut Vec<u8>) -> Result<Prefix, TextFault>
     ensures ok { IfOk result (λ next. bits_read text.new.items next.count next.value
-        ≡ bits_read text.old.items front.count front.value ++ is_odd bits ∷ []) }
+        ≡ bits_read text.old.items prefix.count prefix.value ++ is_odd bits ∷ []) }
     ensures fault { IfErr result (EndsWalk text.new.items
-        (bits_read text.old.items front.count front.value ++ is_odd bits ∷ [])) }
+        (bits_read text.old.items prefix.count prefix.value ++ is_odd bits ∷ [])) }
     ensures octets { AllByRecursion IsOctet text.old.items → AllByRecursion IsOctet text.new.items }
 {
-    let count = front.count + 1;
-    let value = 2 * front.value + u32::from(bits % 2);
+    let count = prefix.count + 1;
+    let value = 2 * prefix.value + u32::from(bits % 2);
     let Some(symbol) = symbol_at(count, value) else {
-        return Ok(Front { count, value });
+        return Ok(Prefix { count, value });
     };
     if symbol == END_SYMBOL {
         return Err(TextFault::EndSymbol);
@@ -86,16 +89,19 @@ fn read_bit(front: Front, bits: u8, text: &mut Vec<u8>) -> Result<Front, TextFau
 
 /// No bits.
 #[inline]
-fn no_bits() -> Front
+fn no_bits() -> Prefix
     ensures { bits_of result.count result.value ≡ [] }
 {
-    Front { count: 0, value: 0 }
+    Prefix { count: 0, value: 0 }
 }
 
-/// Whether the bits are ones alone, few enough to fill an octet.
-fn is_filling(front: Front) -> bool
-    ensures { MatchBool result ((filling : ℕ) × (filling ≤ 7) × (bits_of front.count front.value ≡ replicate filling true))
-        ((filling : ℕ) → filling ≤ 7 → bits_of front.count front.value ≡ replicate filling true → ⊥) }
+/// Whether the bits are ones alone, few enough to pad an octet.
+fn is_padding(prefix: Prefix) -> bool
+    ensures { MatchBool result
+        ((padding : ℕ) × (padding ≤ 7)
+        × (bits_of prefix.count prefix.value ≡ replicate padding true))
+        ((padding : ℕ) → padding ≤ 7 → bits_of prefix.count prefix.value ≡ replicate padding true
+        → ⊥) }
 {
-    front.count <= MOST_FILLING && front.value + 1 == 1 << front.count
+    prefix.count <= MAX_PADDING && prefix.value + 1 == 1 << prefix.count
 }

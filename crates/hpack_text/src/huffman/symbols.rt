@@ -3,7 +3,7 @@
 ghost use Rattle.std.specs.Prelude.{◌≡◌, ◌^◌, ◌<◌, ◌≤◌, MatchOption};
 ghost use Rattle.hpack_text.specs.Bits.{bits_of};
 ghost use Rattle.hpack_text.specs.Huffman.{code};
-ghost use Rattle.hpack_text.specs.Reading.{IsNoCode};
+ghost use Rattle.hpack_text.specs.Walk.{IsNoCode};
 
 /// The symbol whose code is `count` bits, and `value` as a number.
 #[inline]

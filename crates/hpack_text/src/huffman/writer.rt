@@ -1,10 +1,11 @@
 //! Writing a text in the code, an octet whenever eight bits are there.
 
-ghost use Rattle.std.specs.Prelude.{◌≡◌, ◌+◌, ◌*◌, ◌^◌, ◌<◌, ◌≤◌, [], ◌++◌, length, IfOk, OnOk, OnErr, vec_len};
+ghost use Rattle.std.specs.Prelude.{◌≡◌, ◌+◌, ◌*◌, ◌^◌, ◌<◌, ◌≤◌, [], ◌++◌, length, IfOk, OnOk};
+ghost use Rattle.std.specs.Prelude.{OnErr, vec_len};
 ghost use Rattle.std.specs.Vec.{vec_capacity};
 ghost use Rattle.hpack_text.specs.Bits.{bits_of};
 ghost use Rattle.hpack_text.specs.Huffman.{huffman_bits};
-ghost use Rattle.hpack_text.specs.Writing.{IsExtended, Adds, AddsFilled};
+ghost use Rattle.hpack_text.specs.Appended.{IsExtended, Appends, AppendsPadded};
 
 use crate::huffman::codes::{Code, code_of};
 use std::alloc::AllocError;
@@ -18,29 +19,32 @@ struct Pending {
     ghost within: { value < 2 ^ count },
 }
 
-/// Appends the text in the code. On `Err` a front of it stands behind what was there.
-pub fn append_coded(text: &[u8], out: &mut Vec<u8>) -> Result<(), AllocError>
+/// Appends the text in the code. On `Err` the first octets of it, or none, were appended.
+pub fn append_huffman(text: &[u8], out: &mut Vec<u8>) -> Result<(), AllocError>
     ensures ok { OnOk result (out.new.items ≡ out.old.items ++ huffman_bits text.now) }
     ensures extended { IsExtended out.old.items out.new.items }
-    ensures full { OnErr result (vec_capacity out.old < vec_len out.old + length (huffman_bits text.now)) }
+    ensures full { OnErr result
+        (vec_capacity out.old < vec_len out.old + length (huffman_bits text.now)) }
     ensures capacity { vec_capacity out.old ≤ vec_capacity out.new }
 {
-    let mut pending = nothing();
+    let mut pending = no_pending();
     for octet in text {
         pending = append_code(pending, code_of(*octet), out)?;
     }
-    append_filled(pending, out)
+    append_padded(pending, out)
 }
 
-/// Appends the octets that the code fills, and answers the bits that are left.
+/// Appends the octets that the code completes, and answers the bits that are left.
 #[inline]
 fn append_code(pending: Pending, code: Code, out: &mut Vec<u8>) -> Result<Pending, AllocError>
     requires count { code.count ≤ 30 }
     requires within { code.value < 2 ^ code.count }
-    ensures ok { IfOk result (λ next. Adds out.old.items out.new.items
-        (bits_of pending.count pending.value ++ bits_of code.count code.value) (bits_of next.count next.value)) }
+    ensures ok { IfOk result (λ next. Appends out.old.items out.new.items
+        (bits_of pending.count pending.value ++ bits_of code.count code.value)
+        (bits_of next.count next.value)) }
     ensures extended { IsExtended out.old.items out.new.items }
-    ensures full { OnErr result (8 * vec_capacity out.old + 8 ≤ 8 * vec_len out.old + pending.count + code.count) }
+    ensures full { OnErr result
+        (8 * vec_capacity out.old + 8 ≤ 8 * vec_len out.old + pending.count + code.count) }
     ensures capacity { vec_capacity out.old ≤ vec_capacity out.new }
 {
     let mut count = pending.count + code.count;
@@ -53,11 +57,13 @@ fn append_code(pending: Pending, code: Code, out: &mut Vec<u8>) -> Result<Pendin
     Ok(Pending { count, value })
 }
 
-/// Appends the bits that are left, if any, and ones that fill their octet.
-fn append_filled(pending: Pending, out: &mut Vec<u8>) -> Result<(), AllocError>
-    ensures ok { OnOk result (AddsFilled out.old.items out.new.items (bits_of pending.count pending.value)) }
+/// Appends the bits that are left, if any, and ones that pad their octet.
+fn append_padded(pending: Pending, out: &mut Vec<u8>) -> Result<(), AllocError>
+    ensures ok { OnOk result
+        (AppendsPadded out.old.items out.new.items (bits_of pending.count pending.value)) }
     ensures extended { IsExtended out.old.items out.new.items }
-    ensures full { OnErr result (8 * vec_capacity out.old + 1 ≤ 8 * vec_len out.old + pending.count) }
+    ensures full { OnErr result
+        (8 * vec_capacity out.old + 1 ≤ 8 * vec_len out.old + pending.count) }
     ensures capacity { vec_capacity out.old ≤ vec_capacity out.new }
 {
     if pending.count > 0 {
@@ -68,7 +74,7 @@ fn append_filled(pending: Pending, out: &mut Vec<u8>) -> Result<(), AllocError>
 }
 
 /// No bits.
-fn nothing() -> Pending
+fn no_pending() -> Pending
     ensures empty { bits_of result.count result.value ≡ [] }
     ensures none { result.count ≡ 0 }
 {

@@ -6,7 +6,11 @@ use Rattle.hpack_text.proofs.huffman.huff_len.Goals as goal
 
 pub loop-octet-preserved : goal.loop-octet-preserved
 loop-octet-preserved c = record {
-  counted = omega (arith, length-codes-more c.args.text.now c.loop-octet.octet-index c.code_of.result.count c.code_of.result.value c.loop-octet-test.true c.code_of.ensures.bits);
+  counted = omega (
+    arith,
+    length-codes-more c.args.text.now c.loop-octet.octet-index c.code_of.result.count
+        c.code_of.result.value c.loop-octet-test.true c.code_of.ensures.bits,
+  );
   most = omega arith;
 }
 

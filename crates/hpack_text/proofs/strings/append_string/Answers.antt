@@ -1,41 +1,81 @@
 use Rattle.std.proofs.Common.{List, ℕ, length, length-append, ap, ◌∙◌, arith}
 use Rattle.std.proofs.lemmas.Result.{on_ok_weaker, on_err_weaker}
 use Rattle.hpack_text.specs.Integers.{integer}
-use Rattle.hpack_text.proofs.StringLemmas.{coded_parts, raw_parts, no_room, full_on_err, on_err_other, on_ok_other}
+use Rattle.hpack_text.proofs.StringLemmas.{huffman_parts, raw_parts, no_room, full_on_err}
+use Rattle.hpack_text.proofs.StringLemmas.{on_err_other, on_ok_other}
 use Rattle.hpack_text.proofs.WriteLemmas.{OnErr-from}
 use Rattle.hpack_text.proofs.strings.append_string.Goals as goal
 
 pub returns-in_err-write_int-clause-full : goal.returns-in_err-write_int-clause-full
 returns-in_err-write_int-clause-full c =
     let full = no_room _ _ c.in_err-write_int.ensures.room in
-    OnErr-from c.from_residual.result (omega (arith, full, (coded_parts c.args.text.now c.huff_len-coded_len.result c.huff_len-coded_len.ensures c.if-coded_len-text.true).counted))
+    OnErr-from c.from_residual.result
+    (omega (
+      arith,
+      full,
+      (huffman_parts c.args.text.now c.huff_len-huffman_len.result c.huff_len-huffman_len.ensures
+          c.if-huffman_len-text.true).counted,
+    ))
 
-pub returns-then-coded_len-text-clause-ok : goal.returns-then-coded_len-text-clause-ok
-returns-then-coded_len-text-clause-ok c =
-    let parts = coded_parts c.args.text.now c.huff_len-coded_len.result c.huff_len-coded_len.ensures c.if-coded_len-text.true in
-    on_ok_weaker c.huff_write.result (λ e. parts.appended _ _ _ c.in_ok-write_int.ensures.ok e) c.huff_write.ensures.ok
+pub returns-then-huffman_len-text-clause-ok : goal.returns-then-huffman_len-text-clause-ok
+returns-then-huffman_len-text-clause-ok c =
+    let parts = huffman_parts c.args.text.now c.huff_len-huffman_len.result
+    c.huff_len-huffman_len.ensures c.if-huffman_len-text.true in
+    on_ok_weaker c.huff_write.result (λ e. parts.appended _ _ _ c.in_ok-write_int.ensures.ok e)
+    c.huff_write.ensures.ok
 
-pub returns-then-coded_len-text-clause-full : goal.returns-then-coded_len-text-clause-full
-returns-then-coded_len-text-clause-full c =
-    let parts = coded_parts c.args.text.now c.huff_len-coded_len.result c.huff_len-coded_len.ensures c.if-coded_len-text.true in
-    let written = ap (λ (xs : List ℕ). length xs) c.in_ok-write_int.ensures.ok ∙ length-append c.args.out.now.items (integer 7 128 c.huff_len-coded_len.result) in
-    on_err_weaker c.huff_write.result (λ full. omega (arith, full, written, parts.counted, c.write_int.ensures.capacity, c.args.out.now.ok.0, c.write_int.new.out.ok.0))
+pub returns-then-huffman_len-text-clause-full : goal.returns-then-huffman_len-text-clause-full
+returns-then-huffman_len-text-clause-full c =
+    let parts = huffman_parts c.args.text.now c.huff_len-huffman_len.result
+    c.huff_len-huffman_len.ensures c.if-huffman_len-text.true in
+    let written = ap (λ (xs : List ℕ). length xs) c.in_ok-write_int.ensures.ok
+    ∙ length-append c.args.out.now.items (integer 7 128 c.huff_len-huffman_len.result) in
+    on_err_weaker c.huff_write.result
+    (λ full. omega (
+      arith,
+      full,
+      written,
+      parts.counted,
+      c.write_int.ensures.capacity,
+      c.args.out.now.ok.0,
+      c.write_int.new.out.ok.0,
+    ))
     (full_on_err c.huff_write.result _ _ c.huff_write.ensures.room)
 
 pub returns-in_err-write_int-2-clause-full : goal.returns-in_err-write_int-2-clause-full
 returns-in_err-write_int-2-clause-full c =
     let full = no_room _ _ c.in_err-write_int-2.ensures.room in
-    OnErr-from c.from_residual-in_err-write_int-2.result (omega (arith, full, (raw_parts c.args.text.now c.huff_len-coded_len.result c.huff_len-coded_len.ensures c.if-coded_len-text.false).counted))
+    OnErr-from c.from_residual-in_err-write_int-2.result
+    (omega (
+      arith,
+      full,
+      (raw_parts c.args.text.now c.huff_len-huffman_len.result c.huff_len-huffman_len.ensures
+          c.if-huffman_len-text.false).counted,
+    ))
 
 pub returns-clause-ok : goal.returns-clause-ok
 returns-clause-ok c =
-    let parts = raw_parts c.args.text.now c.huff_len-coded_len.result c.huff_len-coded_len.ensures c.if-coded_len-text.false in
+    let parts = raw_parts c.args.text.now c.huff_len-huffman_len.result
+    c.huff_len-huffman_len.ensures c.if-huffman_len-text.false in
     on_ok_weaker c.map_err.result (λ e. parts.appended _ _ _ c.in_ok-write_int-2.ensures.ok e)
-    (on_ok_other c.extend_from_slice.result c.map_err.result _ _ _ c.map_err.ensures.variant c.extend_from_slice.ensures.items)
+    (on_ok_other c.extend_from_slice.result c.map_err.result _ _ _ c.map_err.ensures.variant
+    c.extend_from_slice.ensures.items)
 
 pub returns-clause-full : goal.returns-clause-full
 returns-clause-full c =
-    let parts = raw_parts c.args.text.now c.huff_len-coded_len.result c.huff_len-coded_len.ensures c.if-coded_len-text.false in
-    let written = ap (λ (xs : List ℕ). length xs) c.in_ok-write_int-2.ensures.ok ∙ length-append c.args.out.now.items (integer 7 0 (length c.args.text.now)) in
-    on_err_weaker c.map_err.result (λ full. omega (arith, full, written, parts.counted, c.write_int-2.ensures.capacity, c.args.out.now.ok.0, c.write_int-2.new.out.ok.0))
-    (on_err_other _ c.extend_from_slice.result c.map_err.result c.map_err.ensures.variant c.extend_from_slice.ensures.full)
+    let parts = raw_parts c.args.text.now c.huff_len-huffman_len.result
+    c.huff_len-huffman_len.ensures c.if-huffman_len-text.false in
+    let written = ap (λ (xs : List ℕ). length xs) c.in_ok-write_int-2.ensures.ok
+    ∙ length-append c.args.out.now.items (integer 7 0 (length c.args.text.now)) in
+    on_err_weaker c.map_err.result
+    (λ full. omega (
+      arith,
+      full,
+      written,
+      parts.counted,
+      c.write_int-2.ensures.capacity,
+      c.args.out.now.ok.0,
+      c.write_int-2.new.out.ok.0,
+    ))
+    (on_err_other _ c.extend_from_slice.result c.map_err.result c.map_err.ensures.variant
+    c.extend_from_slice.ensures.full)

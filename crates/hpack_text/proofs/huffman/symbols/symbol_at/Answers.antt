@@ -1,7 +1,10 @@
 use Rattle.std.proofs.Common.{arith}
 use Rattle.hpack_text.proofs.TableLemmas.{group_within, symbol_found, no_symbol}
 use Rattle.hpack_text.proofs.huffman.symbols.symbol_at.Goals as goal
-use Rattle.hpack_text.proofs.huffman.symbols.symbol_at.Goals.{then-value-first-via-then-value-first, then-value-first-via-else-value-first+then-value-first-2}
+use Rattle.hpack_text.proofs.huffman.symbols.symbol_at.Goals.{then-value-first-via-then-value-first}
+use Rattle.hpack_text.proofs.huffman.symbols.symbol_at.Goals.{
+  then-value-first-via-else-value-first+then-value-first-2,
+}
 
 pub returns-then-value-first : goal.returns-then-value-first
 returns-then-value-first c =
@@ -18,4 +21,5 @@ pub bounds-group-3 : goal.bounds-group-3
 bounds-group-3 c = omega (arith, group_within c.args.count (omega arith))
 
 pub returns : goal.returns
-returns c = symbol_found c.args.count c.args.value (omega arith) c.if-value-first.false c.if-value-first-2.false
+returns c = symbol_found c.args.count c.args.value (omega arith) c.if-value-first.false
+    c.if-value-first-2.false

@@ -1,13 +1,14 @@
 use Rattle.std.proofs.Common.{◌≡◌, ◌+◌, ◌*◌, ◌^◌, ◌<◌, ◌≤◌, vec_len, vec_capacity}
 use Rattle.hpack_text.specs.Bits.{bits_of}
-use Rattle.hpack_text.specs.Writing.{Adds}
+use Rattle.hpack_text.specs.Appended.{Appends}
 use Rattle.hpack_text.proofs.huffman.writer.append_code.Given as goal
 
 abbrev pub invariant-loop-count : goal.invariant-loop-count
 invariant-loop-count l = record {
   most : l.count ≤ 37;
   within : l.value < 2 ^ l.count;
-  adds : Adds l.initial.out.items l.out.items (bits_of l.initial.count l.initial.value) (bits_of l.count l.value);
+  adds : Appends l.initial.out.items l.out.items (bits_of l.initial.count l.initial.value)
+      (bits_of l.count l.value);
   counted : 8 * vec_len l.out + l.count ≡ 8 * vec_len l.initial.out + l.initial.count;
   capacity : vec_capacity l.initial.out ≤ vec_capacity l.out;
 }

@@ -1,6 +1,6 @@
 use Rattle.std.proofs.Common.{refl}
 use Rattle.hpack_text.specs.Bits.{bits_of}
-use Rattle.hpack_text.proofs.huffman.writer.nothing.Goals as goal
+use Rattle.hpack_text.proofs.huffman.writer.no_pending.Goals as goal
 
 pub returns-clause-empty : goal.returns-clause-empty
 unfolding bits_of

@@ -1,11 +1,11 @@
 use Rattle.std.proofs.Common.{◌≡◌, ◌≤◌, length, take}
 use Rattle.std.specs.List.{AllByRecursion}
-use Rattle.hpack_text.specs.Integers.{HasTopBit, number_of_groups}
-use Rattle.hpack_text.proofs.integers.read_groups.Given as goal
+use Rattle.hpack_text.specs.Integers.{HasTopBit, continuation_value}
+use Rattle.hpack_text.proofs.integers.read_continuation.Given as goal
 
 abbrev pub invariant-loop-count : goal.invariant-loop-count
 invariant-loop-count l = record {
   within : l.count ≤ length l.octets;
   top : AllByRecursion HasTopBit (take l.count l.octets);
-  number : l.value ≡ number_of_groups (take l.count l.octets);
+  number : l.value ≡ continuation_value (take l.count l.octets);
 }

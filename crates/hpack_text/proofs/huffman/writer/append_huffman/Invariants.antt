@@ -1,11 +1,12 @@
 use Rattle.std.proofs.Common.{◌≤◌, take, vec_capacity}
 use Rattle.hpack_text.specs.Bits.{bits_of}
 use Rattle.hpack_text.specs.Huffman.{codes}
-use Rattle.hpack_text.specs.Writing.{Adds}
-use Rattle.hpack_text.proofs.huffman.writer.append_coded.Given as goal
+use Rattle.hpack_text.specs.Appended.{Appends}
+use Rattle.hpack_text.proofs.huffman.writer.append_huffman.Given as goal
 
 abbrev pub invariant-loop-octet : goal.invariant-loop-octet
 invariant-loop-octet l = record {
-  adds : Adds l.initial.out.items l.out.items (codes (take l.octet-index l.text)) (bits_of l.pending.count l.pending.value);
+  adds : Appends l.initial.out.items l.out.items (codes (take l.octet-index l.text))
+      (bits_of l.pending.count l.pending.value);
   capacity : vec_capacity l.initial.out ≤ vec_capacity l.out;
 }
