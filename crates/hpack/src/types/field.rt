@@ -1,0 +1,24 @@
+//! Fields, as they are decoded and encoded.
+
+use crate::types::octets::Octets;
+
+/// A field: a name, a value, and whether it may never be put into a table (RFC 7541, section
+/// 7.1.3).
+#[derive(Debug, Drop)]
+pub struct Field {
+    /// The name.
+    pub name: Octets,
+    /// The value.
+    pub value: Octets,
+    /// Whether it is to be written, or was read, as a literal that is never indexed.
+    pub sensitive: bool,
+}
+
+/// The fields of a block.
+#[derive(Debug, Drop)]
+pub enum List {
+    /// All of them, in order.
+    Whole(Vec<Field>),
+    /// Their size is above the limit; the table is as after the complete block.
+    TooLarge,
+}
