@@ -435,3 +435,64 @@ fault_of_block table after limit octets fields block faults.Compression none =
     absurd (none fields after block)
 fault_of_block table after limit octets fields block faults.Memory none = refl
 fault_of_block table after limit octets fields block faults.Failed none = absurd none
+
+-- Fields and then an update aren't fields.
+no_fields_then_update : (table after other : Entries) (octets update others joined : List ℕ)
+    (maximum : ℕ) (fields more : List Field) → joined ≡ octets ++ (update ++ others)
+    → Fields table octets fields after → Update maximum update → Fields table joined more other → ⊥
+no_fields_then_update table after other octets update others joined maximum [] more e a is_update b =
+    fields_no_update table other joined update others maximum more
+    (e ∙ ap (λ (xs : List ℕ). xs ++ (update ++ others)) a.0) is_update b
+no_fields_then_update table after other octets update others joined maximum (field ∷ fields) more e
+    (first, rest, between, split, step, encoded) is_update b =
+    let tail = update ++ others in
+    let at : joined ≡ first ++ (rest ++ tail) =
+    e ∙ (ap (λ (xs : List ℕ). xs ++ tail) split ∙ append_assoc first rest tail)
+    in
+    let (left, same, following) =
+    fields_following table between other joined first (rest ++ tail) field more at step b
+    in
+    no_fields_then_update between after other rest update others (rest ++ tail) maximum fields left
+    refl encoded is_update following
+
+-- the same of a block, by the maxima of its updates
+no_update_by : (maxima : List ℕ) (table updated after : Entries) (limit maximum : ℕ)
+    (octets left update others joined : List ℕ) (field : Field) (fields : List Field)
+    → joined ≡ octets ++ (update ++ others) → Updates limit table octets maxima updated left
+    → Fields updated left (field ∷ fields) after → Update maximum update
+    → NoBlock table limit joined
+no_update_by [] table updated after limit maximum octets left update others joined field fields e
+    updates encoded is_update = λ more other block.
+    let here : Fields table octets (field ∷ fields) after =
+    subst (λ t. Fields t octets (field ∷ fields) after) updates.0
+    (subst (λ xs. Fields updated xs (field ∷ fields) after) updates.1 encoded)
+    in
+    let (first, rest, between, split, step, _) = here in
+    let tail = update ++ others in
+    let at : joined ≡ first ++ (rest ++ tail) =
+    e ∙ (ap (λ (xs : List ℕ). xs ++ tail) split ∙ append_assoc first rest tail)
+    in
+    let none : BeginsUpdate joined → ⊥ = λ begins.
+    let range = prefix_first_octet 0x20 0x40 joined joined [] (sym (append-nil joined)) begins in
+    no_update_step table joined range.0 range.1 first (rest ++ tail) at (field, between, step)
+    in
+    no_fields_then_update table after other octets update others joined maximum (field ∷ fields) more
+    e here is_update (block_fields table limit joined more other none block).encoded
+no_update_by (one ∷ maxima) table updated after limit maximum octets left update others joined field
+    fields e (first, more, split, one_update, allowed, updates) encoded is_update = λ ms other block.
+    let tail = update ++ others in
+    let at : joined ≡ first ++ (more ++ tail) =
+    e ∙ (ap (λ (xs : List ℕ). xs ++ tail) split ∙ append_assoc first more tail)
+    in
+    no_update_by maxima (resized table one) updated after limit maximum more left update others
+    (more ++ tail) field fields refl updates encoded is_update ms other
+    (after_update table limit one joined first (more ++ tail) ms other at one_update block).block
+
+-- A block with a field, and then an update: no block.
+pub no_update_after_fields : (table after : Entries) (limit maximum : ℕ)
+    (octets update others : List ℕ) (field : Field) (fields : List Field)
+    → Block table limit octets (field ∷ fields) after → Update maximum update
+    → NoBlock table limit (octets ++ (update ++ others))
+no_update_after_fields table after limit maximum octets update others field fields block is_update =
+    no_update_by block.maxima table block.updated after limit maximum octets block.others update
+    others (octets ++ (update ++ others)) field fields refl block.updates block.encoded is_update

@@ -15,7 +15,7 @@ mod types;
 
 pub use decode::decoder::Decoder;
 pub use encode::encoder::Encoder;
-pub use laws::blocks::{longest_prefix, one_block};
+pub use laws::blocks::{longest_prefix, no_update_after_a_field, one_block};
 pub use laws::encoder::{least_and_last, written_block};
 pub use table::dynamic_table::Table;
 pub use types::fault::Fault;

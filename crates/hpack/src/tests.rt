@@ -2,6 +2,7 @@
 
 mod decoder;
 mod encoder;
+mod fields;
 mod in_step;
 mod lists;
 mod static_table;

@@ -135,7 +135,8 @@ fn parts_at(
     requires at_most { prefix_bits ≤ 8 }
     ensures ok { IfOk result (λ read. (read.2 ≤ length octets.now)
         × EncodesLiteral table.now.entries prefix_bits (take read.2 octets.now) read.0 read.1) }
-    ensures fault { IfErr result (PrefixFault (IsLiteral table.now.entries prefix_bits) octets.now) }
+    ensures fault { IfErr result
+        (PrefixFault (IsLiteral table.now.entries prefix_bits) octets.now) }
 {
     let (index, head_len) = int_at(prefix_bits, octets)?;
     let following = &octets[head_len..];

@@ -118,7 +118,8 @@ impl Encoder {
         requires { list_size fields.now < 2 ^ 35 }
         ensures block { OnOk result ((limit : ℕ) → self.old.limit ≤ limit
             → Block self.old.table limit (block_of self.old fields.now) fields.now self.new.table) }
-        ensures written { OnOk result (out.new.items ≡ out.old.items ++ block_of self.old fields.now) }
+        ensures written { OnOk result
+            (out.new.items ≡ out.old.items ++ block_of self.old fields.now) }
         ensures after { OnOk result (self.new ≡ after_block self.old fields.now) }
         ensures err { OnErr result (self.new ≡ self.old) }
         ensures extended { IsExtended out.old.items out.new.items }

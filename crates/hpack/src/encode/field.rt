@@ -69,7 +69,8 @@ pub(crate) fn append_int(
     requires at_most { prefix_bits ≤ 8 }
     requires value { value < 2 ^ 35 }
     requires first_bits { first_bits % 2 ^ prefix_bits ≡ 0 }
-    ensures ok { OnOk result (out.new.items ≡ out.old.items ++ integer prefix_bits first_bits value) }
+    ensures ok { OnOk result
+        (out.new.items ≡ out.old.items ++ integer prefix_bits first_bits value) }
     ensures extended { IsExtended out.old.items out.new.items }
 {
     write_int(prefix_bits, first_bits, value, out).map_err(|_| Fault::Memory)

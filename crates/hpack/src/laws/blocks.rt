@@ -1,11 +1,12 @@
 //! Laws of field blocks, each the contract of a function that does nothing.
 
-ghost use Rattle.std.specs.Prelude.{◌≡◌, ℕ, ◌≤◌, List, ◌++◌, length};
+ghost use Rattle.std.specs.Prelude.{◌≡◌, ℕ, ◌≤◌, List, ◌∷◌, ◌++◌, length};
 ghost use Rattle.hpack.specs.declared.types.field.Field.{Field};
 ghost use Rattle.hpack.specs.declared.types.entry.Entry.{Entry};
 ghost use Rattle.hpack.specs.Sizes.{table_size, fit};
 ghost use Rattle.hpack.specs.Tables.{Entries};
-ghost use Rattle.hpack.specs.Blocks.{Block};
+ghost use Rattle.hpack.specs.Blocks.{Block, Update};
+ghost use Rattle.hpack.specs.Lists.{NoBlock};
 
 /// Octets are one block at most: one list of fields, and one table after it.
 pub fn one_block()
@@ -23,4 +24,13 @@ pub fn longest_prefix()
     ensures within { (entries : List Entry) (bound : ℕ) → table_size (fit entries bound) ≤ bound }
     ensures longest { (prefix left : List Entry) (bound : ℕ) → table_size prefix ≤ bound
         → length prefix ≤ length (fit (prefix ++ left) bound) }
+{}
+
+/// Size updates are at the beginning of a block alone (RFC 7541, section 4.2): octets in which an
+/// update follows a field are no block.
+pub fn no_update_after_a_field()
+    ensures { (table after : Entries) (limit maximum : ℕ) (octets update others : List ℕ)
+        (field : Field) (fields : List Field)
+        → Block table limit octets (field ∷ fields) after → Update maximum update
+        → NoBlock table limit (octets ++ (update ++ others)) }
 {}

@@ -116,7 +116,8 @@ fn requests(rt: HostRuntime) -> Result<(), Fail> {
             size: 110,
         },
         Example {
-            octets: b"\x82\x87\x85\xbf\x40\x88\x25\xa8\x49\xe9\x5b\xa9\x7d\x7f\x89\x25\xa8\x49\xe9\x5b\xb8\xe8\xb4\xbf",
+            octets: b"\x82\x87\x85\xbf\x40\x88\x25\xa8\x49\xe9\x5b\xa9\x7d\x7f\x89\x25\xa8\x49\xe9\
+                \x5b\xb8\xe8\xb4\xbf",
             fields: &[
                 (":method", "GET"),
                 (":scheme", "https"),
@@ -140,7 +141,9 @@ fn requests(rt: HostRuntime) -> Result<(), Fail> {
 fn responses(rt: HostRuntime) -> Result<(), Fail> {
     let examples = [
         Example {
-            octets: b"\x48\x82\x64\x02\x58\x85\xae\xc3\x77\x1a\x4b\x61\x96\xd0\x7a\xbe\x94\x10\x54\xd4\x44\xa8\x20\x05\x95\x04\x0b\x81\x66\xe0\x82\xa6\x2d\x1b\xff\x6e\x91\x9d\x29\xad\x17\x18\x63\xc7\x8f\x0b\x97\xc8\xe9\xae\x82\xae\x43\xd3",
+            octets: b"\x48\x82\x64\x02\x58\x85\xae\xc3\x77\x1a\x4b\x61\x96\xd0\x7a\xbe\x94\x10\x54\
+                \xd4\x44\xa8\x20\x05\x95\x04\x0b\x81\x66\xe0\x82\xa6\x2d\x1b\xff\x6e\x91\x9d\x29\
+                \xad\x17\x18\x63\xc7\x8f\x0b\x97\xc8\xe9\xae\x82\xae\x43\xd3",
             fields: &[
                 (":status", "302"),
                 ("cache-control", "private"),
@@ -179,7 +182,8 @@ fn responses(rt: HostRuntime) -> Result<(), Fail> {
 #[test]
 fn literal(rt: HostRuntime) -> Result<(), Fail> {
     let examples = [Example {
-        octets: b"\x40\x0a\x63\x75\x73\x74\x6f\x6d\x2d\x6b\x65\x79\x0d\x63\x75\x73\x74\x6f\x6d\x2d\x68\x65\x61\x64\x65\x72",
+        octets: b"\x40\x0a\x63\x75\x73\x74\x6f\x6d\x2d\x6b\x65\x79\x0d\x63\x75\x73\x74\x6f\x6d\x2d\
+            \x68\x65\x61\x64\x65\x72",
         fields: &[("custom-key", "custom-header")],
         entries: &[("custom-key", "custom-header")],
         size: 55,
@@ -198,7 +202,8 @@ fn large_entry(rt: HostRuntime) -> Result<(), Fail> {
             size: 34,
         },
         Example {
-            octets: b"\x40\x01\x63\x14\x64\x64\x64\x64\x64\x64\x64\x64\x64\x64\x64\x64\x64\x64\x64\x64\x64\x64\x64\x64",
+            octets: b"\x40\x01\x63\x14\x64\x64\x64\x64\x64\x64\x64\x64\x64\x64\x64\x64\x64\x64\x64\
+                \x64\x64\x64\x64\x64",
             fields: &[("c", "dddddddddddddddddddd")],
             entries: &[],
             size: 0,
@@ -255,7 +260,18 @@ fn updates(rt: HostRuntime) -> Result<(), Fail> {
     let mut decoder = Decoder::new(rt.alloc(), 4096)?;
     check_list(&rt, decoder.decode(b"\x20\x3f\xe1\x1f", NO_LIMIT)?, &[]);
     assert_eq!(rt; decoder.table().maximum(), 4096);
-    for octets in [b"\x3f\xe2\x1f".as_slice(), b"\x82\x20".as_slice()] {
+    check_fault(&rt, &mut decoder, b"\x3f\xe2\x1f", Fault::Compression);
+    Ok(())
+}
+
+/// An update after a field is a fault, whatever its maximum.
+#[test]
+fn update_after_a_field(rt: HostRuntime) -> Result<(), Fail> {
+    for octets in [
+        b"\x82\x20".as_slice(),
+        b"\x82\x3f\xe1\x1f".as_slice(),
+        b"\x20\x3f\xe1\x1f\x82\x3f\xe1\x1f\x82".as_slice(),
+    ] {
         let mut decoder = Decoder::new(rt.alloc(), 4096)?;
         check_fault(&rt, &mut decoder, octets, Fault::Compression);
     }
