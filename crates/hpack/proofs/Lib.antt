@@ -1,11 +1,11 @@
 pub mod BlockLemmas
 pub mod ChoiceLemmas
-pub mod DraftLemmas
+pub mod PendingTableLemmas
 pub mod FieldLemmas
-pub mod FrontLemmas
+pub mod PrefixLemmas
 pub mod LimitLemmas
 pub mod LookupLemmas
-mod Rows
+mod Examples
 pub mod SearchLemmas
 pub mod SizeLemmas
 pub mod StateLemmas

@@ -1,118 +1,153 @@
 -- The size of entries, and what of a table fits.
-use Rattle.std.proofs.Common.{◌≡◌, ℕ, ◌+◌, ◌-◌, ◌*◌, ◌/◌, ◌^◌, ◌<◌, ◌≤◌, if◌then◌else◌, min, inl, inr, Bool, true, List, [], ◌∷◌, ◌++◌, length, refl, sym, ap, ◌∙◌, arith, le-leb}
+use Rattle.std.proofs.Common.{◌≡◌, ℕ, ◌+◌, ◌-◌, ◌*◌, ◌/◌, ◌^◌, ◌<◌, ◌≤◌, if◌then◌else◌, min, inl}
+use Rattle.std.proofs.Common.{inr, Bool, true, List, [], ◌∷◌, ◌++◌, length, refl, sym, ap, ◌∙◌}
+use Rattle.std.proofs.Common.{arith, le-leb}
 use Rattle.std.proofs.lemmas.Bool.{cases_lt, lt-leb}
 use Rattle.std.proofs.lemmas.List.Sums.{sum_by-cons, sum_by_push}
-use Rattle.hpack.specs.declared.entry.Entry.{Entry}
+use Rattle.hpack.specs.declared.types.entry.Entry.{Entry}
 use Rattle.std.specs.List.{insert}
 use Rattle.hpack.specs.Tables.{Entries}
 use Rattle.hpack.specs.Sizes.{entry_size, table_size, fit, add}
 
--- the size of a table with one more entry in front
-pub table_size-cons : (entry : Entry) (entries : List Entry) → table_size (entry ∷ entries) ≡ entry_size entry + table_size entries
+-- the size of a table with one more entry at the beginning
+pub table_size-cons : (entry : Entry) (entries : List Entry)
+    → table_size (entry ∷ entries) ≡ entry_size entry + table_size entries
 table_size-cons entry entries = sum_by-cons entry_size entry entries
 
--- the size of a table with one more entry behind
-pub table_size-push : (entries : List Entry) (entry : Entry) → table_size (entries ++ entry ∷ []) ≡ table_size entries + entry_size entry
+-- the size of a table with one more entry at the end
+pub table_size-push : (entries : List Entry) (entry : Entry)
+    → table_size (entries ++ entry ∷ []) ≡ table_size entries + entry_size entry
 table_size-push entries entry = sum_by_push entry_size entries entry
 
 -- An entry takes 32 at least.
 pub entries_are_large : (entries : List Entry) → 32 * length entries ≤ table_size entries
 entries_are_large [] = omega arith
-entries_are_large (entry ∷ entries) = omega (arith, table_size-cons entry entries, entries_are_large entries)
+entries_are_large (entry ∷ entries) =
+    omega (arith, table_size-cons entry entries, entries_are_large entries)
 
 -- A table with this maximum has no more entries than a 32nd part of it.
-pub entries_are_few : (entries : List Entry) (maximum : ℕ) → table_size entries ≤ maximum → length entries ≤ maximum / 32
+pub entries_are_few : (entries : List Entry) (maximum : ℕ) → table_size entries ≤ maximum
+    → length entries ≤ maximum / 32
 entries_are_few entries maximum within = omega (arith, entries_are_large entries)
 
 -- The first entry fits.
-pub fit-first : (entry : Entry) (entries : List Entry) (bound : ℕ) → entry_size entry ≤ bound → fit (entry ∷ entries) bound ≡ entry ∷ fit entries (bound - entry_size entry)
+pub fit-first : (entry : Entry) (entries : List Entry) (bound : ℕ) → entry_size entry ≤ bound
+    → fit (entry ∷ entries) bound ≡ entry ∷ fit entries (bound - entry_size entry)
 unfolding fit
 fit-first entry entries bound le =
-    ap (λ (b : Bool). if b then entry ∷ fit entries (bound - entry_size entry) else []) (le-leb (entry_size entry) bound le)
+    ap (λ (b : Bool). if b then entry ∷ fit entries (bound - entry_size entry) else [])
+    (le-leb (entry_size entry) bound le)
 
 -- The first entry doesn't fit.
-pub fit-none : (entry : Entry) (entries : List Entry) (bound : ℕ) → bound < entry_size entry → fit (entry ∷ entries) bound ≡ []
+pub fit-none : (entry : Entry) (entries : List Entry) (bound : ℕ) → bound < entry_size entry
+    → fit (entry ∷ entries) bound ≡ []
 unfolding fit
 fit-none entry entries bound lt =
-    ap (λ (b : Bool). if b then entry ∷ fit entries (bound - entry_size entry) else []) (lt-leb (entry_size entry) bound lt)
+    ap (λ (b : Bool). if b then entry ∷ fit entries (bound - entry_size entry) else [])
+    (lt-leb (entry_size entry) bound lt)
 
 -- All entries fit whose size is within the bound.
-pub fit-all : (entries : List Entry) (bound : ℕ) → table_size entries ≤ bound → fit entries bound ≡ entries
+pub fit-all : (entries : List Entry) (bound : ℕ) → table_size entries ≤ bound
+    → fit entries bound ≡ entries
 unfolding fit
 fit-all [] bound within = refl
 fit-all (entry ∷ entries) bound within =
-    let whole = table_size-cons entry entries in
+    let sizes = table_size-cons entry entries in
     let first : entry_size entry ≤ bound = omega arith in
-    fit-first entry entries bound first ∙ ap (λ (others : List Entry). entry ∷ others) (fit-all entries (bound - entry_size entry) (omega arith))
+    fit-first entry entries bound first
+    ∙ ap (λ (others : List Entry). entry ∷ others)
+    (fit-all entries (bound - entry_size entry) (omega arith))
 
 -- The last entry leaves where all of them don't fit.
-pub fit-push : (entries : List Entry) (last : Entry) (bound : ℕ) → bound < table_size entries + entry_size last → fit (entries ++ last ∷ []) bound ≡ fit entries bound
+pub fit-push : (entries : List Entry) (last : Entry) (bound : ℕ)
+    → bound < table_size entries + entry_size last
+    → fit (entries ++ last ∷ []) bound ≡ fit entries bound
 unfolding fit
 fit-push [] last bound above = fit-none last [] bound (omega arith)
 fit-push (entry ∷ entries) last bound above =
-    let whole = table_size-cons entry entries in
+    let sizes = table_size-cons entry entries in
     elim (cases_lt bound (entry_size entry)) [
-      | inl large ↦ fit-none entry (entries ++ last ∷ []) bound large ∙ sym (fit-none entry entries bound large)
+      | inl large ↦ fit-none entry (entries ++ last ∷ []) bound large
+          ∙ sym (fit-none entry entries bound large)
       | inr small ↦ fit-first entry (entries ++ last ∷ []) bound small
-          ∙ (ap (λ (others : List Entry). entry ∷ others) (fit-push entries last (bound - entry_size entry) (omega arith)) ∙ sym (fit-first entry entries bound small))
+          ∙ (ap (λ (others : List Entry). entry ∷ others)
+          (fit-push entries last (bound - entry_size entry) (omega arith))
+          ∙ sym (fit-first entry entries bound small))
     ]
 
 -- what is left where the last entry was taken
 pub record IsPopped (left bound : ℕ) (old new : List Entry) (last : Entry) : Type 0 where
   pub counted : left - min (entry_size last) (2 ^ 64 - 1) ≡ table_size new
-  pub kept : fit new bound ≡ fit old bound
+  pub fitting : fit new bound ≡ fit old bound
 
 -- The last entry is taken of entries that don't fit.
-pub popped : (left bound : ℕ) (old new : List Entry) (last : Entry) → left ≡ table_size old → bound < left → left < 2 ^ 64 → old ≡ new ++ last ∷ []
+pub popped : (left bound : ℕ) (old new : List Entry) (last : Entry) → left ≡ table_size old
+    → bound < left → left < 2 ^ 64 → old ≡ new ++ last ∷ []
     → IsPopped left bound old new last
 popped left bound old new last counted above small e =
-    let whole : table_size old ≡ table_size new + entry_size last = ap table_size e ∙ table_size-push new last in
+    let sizes : table_size old ≡ table_size new + entry_size last = ap table_size e
+    ∙ table_size-push new last in
     record {
       counted = omega arith;
-      kept = sym (ap (λ (xs : List Entry). fit xs bound) e ∙ fit-push new last bound (omega arith));
+      fitting = sym (ap (λ (xs : List Entry). fit xs bound) e
+          ∙ fit-push new last bound (omega arith));
     }
 
 -- There is room for one more entry of this size.
-pub one_more : (entries : List Entry) (maximum size capacity : ℕ) → table_size entries ≤ maximum - size → 32 ≤ size → size ≤ maximum → maximum / 32 ≤ capacity
+pub one_more : (entries : List Entry) (maximum size capacity : ℕ)
+    → table_size entries ≤ maximum - size → 32 ≤ size → size ≤ maximum → maximum / 32 ≤ capacity
     → length entries < capacity
-one_more entries maximum size capacity within large small room = omega (arith, entries_are_large entries)
+one_more entries maximum size capacity within large small room =
+    omega (arith, entries_are_large entries)
 
--- what an insertion at the front made, where it succeeded
-pub inserted_first : (b : Bool) (old new : List Entry) (entry : Entry) → new ≡ (if b then insert old 0 entry else old) → b ≡ true → new ≡ entry ∷ old
-inserted_first b old new entry e done = e ∙ ap (λ (t : Bool). if t then insert old 0 entry else old) done
+-- the entries after an insertion at the beginning, where it succeeded
+pub inserted_first : (b : Bool) (old new : List Entry) (entry : Entry)
+    → new ≡ (if b then insert old 0 entry else old) → b ≡ true → new ≡ entry ∷ old
+inserted_first b old new entry e done = e
+    ∙ ap (λ (t : Bool). if t then insert old 0 entry else old) done
 
 -- a table of these entries
 abbrev pub table_of : List Entry → ℕ → Entries
 table_of entries maximum = record { entries = entries; maximum = maximum }
 
 -- An entry that fits is added.
-pub added : (entries new kept : List Entry) (entry : Entry) (maximum : ℕ) → entry_size entry ≤ maximum → kept ≡ fit entries (maximum - entry_size entry)
-    → new ≡ entry ∷ kept → table_of new maximum ≡ table_of (add entries entry maximum) maximum
-added entries new kept entry maximum small rest e =
-    ap (λ (xs : List Entry). table_of xs maximum) (e ∙ (ap (λ (xs : List Entry). entry ∷ xs) rest ∙ sym (fit-first entry entries maximum small)))
+pub added : (entries new fitting : List Entry) (entry : Entry) (maximum : ℕ)
+    → entry_size entry ≤ maximum → fitting ≡ fit entries (maximum - entry_size entry)
+    → new ≡ entry ∷ fitting → table_of new maximum ≡ table_of (add entries entry maximum) maximum
+added entries new fitting entry maximum small rest e =
+    ap (λ (xs : List Entry). table_of xs maximum)
+    (e ∙ (ap (λ (xs : List Entry). entry ∷ xs) rest
+    ∙ sym (fit-first entry entries maximum small)))
 
 -- An entry that doesn't fit leaves nothing.
-pub added_none : (entries new : List Entry) (entry : Entry) (maximum : ℕ) → maximum < entry_size entry → new ≡ []
+pub added_none : (entries new : List Entry) (entry : Entry) (maximum : ℕ)
+    → maximum < entry_size entry → new ≡ []
     → table_of new maximum ≡ table_of (add entries entry maximum) maximum
-added_none entries new entry maximum large e = ap (λ (xs : List Entry). table_of xs maximum) (e ∙ sym (fit-none entry entries maximum large))
+added_none entries new entry maximum large e =
+    ap (λ (xs : List Entry). table_of xs maximum) (e ∙ sym (fit-none entry entries maximum large))
 
--- What fits is a front.
-pub fit-front : (entries : List Entry) (bound : ℕ) → (left : List Entry) × (entries ≡ fit entries bound ++ left)
+-- What fits is a prefix.
+pub fit-prefix : (entries : List Entry) (bound : ℕ)
+    → (left : List Entry) × (entries ≡ fit entries bound ++ left)
 unfolding fit
-fit-front [] bound = ([], refl)
-fit-front (entry ∷ entries) bound =
+fit-prefix [] bound = ([], refl)
+fit-prefix (entry ∷ entries) bound =
     elim (cases_lt bound (entry_size entry)) [
       | inl large ↦ (entry ∷ entries, rw (fit-none entry entries bound large) refl)
       | inr small ↦
-          let (left, joined) = fit-front entries (bound - entry_size entry) in
-          (left, rw (fit-first entry entries bound small) (ap (λ (others : List Entry). entry ∷ others) joined))
+          let (left, joined) = fit-prefix entries (bound - entry_size entry) in (
+            left,
+            rw (fit-first entry entries bound small)
+                (ap (λ (others : List Entry). entry ∷ others) joined),
+          )
     ]
 
--- No longer front fits.
-pub fit-longest : (front left : List Entry) (bound : ℕ) → table_size front ≤ bound → length front ≤ length (fit (front ++ left) bound)
+-- No longer prefix fits.
+pub fit-longest : (prefix left : List Entry) (bound : ℕ) → table_size prefix ≤ bound
+    → length prefix ≤ length (fit (prefix ++ left) bound)
 fit-longest [] left bound within = omega arith
-fit-longest (entry ∷ front) left bound within =
-    let whole = table_size-cons entry front in
-    let small : entry_size entry ≤ bound = omega (arith, whole) in
-    let rest = fit-longest front left (bound - entry_size entry) (omega (arith, whole)) in
-    rw (fit-first entry (front ++ left) bound small) (omega (arith, rest))
+fit-longest (entry ∷ prefix) left bound within =
+    let sizes = table_size-cons entry prefix in
+    let small : entry_size entry ≤ bound = omega (arith, sizes) in
+    let rest = fit-longest prefix left (bound - entry_size entry) (omega (arith, sizes)) in
+    rw (fit-first entry (prefix ++ left) bound small) (omega (arith, rest))

@@ -1,37 +1,54 @@
 -- An encoder, between blocks.
-use Rattle.std.proofs.Common.{◌≡◌, ℕ, ◌+◌, ◌^◌, ◌<◌, ◌≤◌, List, ◌∷◌, length, take, drop, get_or, ap, sym, subst, ◌∙◌, arith}
+use Rattle.std.proofs.Common.{◌≡◌, ℕ, ◌+◌, ◌^◌, ◌<◌, ◌≤◌, List, ◌∷◌, length, take, drop, get_or, ap}
+use Rattle.std.proofs.Common.{sym, subst, ◌∙◌, arith}
 use Rattle.std.proofs.lemmas.List.{drop_more}
 use Rattle.std.proofs.Math.ListN.{drop_of_length-le}
 use Rattle.std.specs.List.{AllByRecursion}
 use Rattle.hpack_text.specs.Bits.{IsOctet}
-use Rattle.hpack.specs.declared.field.Field.{Field}
+use Rattle.hpack.specs.declared.types.field.Field.{Field}
 use Rattle.hpack.specs.Written.{AreOctets}
-use Rattle.hpack.specs.declared.draft.Draft.{Draft}
+use Rattle.hpack.specs.declared.encode.pending_table.PendingTable.{PendingTable}
 use Rattle.hpack.specs.Sizes.{table_size}
 use Rattle.hpack.specs.Tables.{Entries}
-use Rattle.hpack.specs.Drafts.{newest_first, drafted, IsDraft}
+use Rattle.hpack.specs.PendingTable.{newest_first, represented, IsPendingTable}
 use Rattle.hpack.specs.Lists.{EncoderState}
 use Rattle.hpack.specs.Written.{IsValidEncoder}
 
--- A new draft shows that the encoder's table is within its maximum.
-pub writing_of : (state : EncoderState) (draft : Draft) → IsDraft draft state.table → drafted draft state.table ≡ state.table → state.least ≤ state.limit → state.limit < 2 ^ 32 → IsValidEncoder state
-writing_of state draft is same least limit =
-    let maximum : draft.maximum ≡ state.table.maximum = ap (λ (t : Entries). t.maximum) same in
-    let entries : table_size (take draft.live (newest_first draft state.table)) ≡ table_size state.table.entries = ap (λ (t : Entries). table_size t.entries) same in
+-- A new pending table shows that the encoder's table is within its maximum.
+pub writing_of : (state : EncoderState) (pending : PendingTable)
+    → IsPendingTable pending state.table → represented pending state.table ≡ state.table
+    → state.least ≤ state.limit → state.limit < 2 ^ 32 → IsValidEncoder state
+writing_of state pending is same least limit =
+    let maximum : pending.maximum ≡ state.table.maximum = ap (λ (t : Entries). t.maximum) same in
+    let entries : table_size (take pending.live (newest_first pending state.table))
+    ≡ table_size state.table.entries = ap (λ (t : Entries). table_size t.entries) same in
     let counted = is.counted in
     let within = is.within in
     let small = is.small in
-    record { least = least; limit = limit; maximum = omega (arith, maximum, small); within = omega (arith, counted, entries, within, maximum) }
+    record {
+      least = least;
+      limit = limit;
+      maximum = omega (arith, maximum, small);
+      within =
+          omega (arith, counted, entries, within, maximum);
+    }
 
 -- a field of octets
 abbrev pub IsOctetField : Field → Type 0
 IsOctetField field = AllByRecursion IsOctet field.name × AllByRecursion IsOctet field.value
 
 -- One more field is of octets.
-pub octets_step : (fields : List Field) (index : ℕ) (field : Field) → index < length fields → field ≡ get_or fields index field
-    → IsOctetField field → (AreOctets (drop index fields) → AreOctets fields) → AreOctets (drop (index + 1) fields) → AreOctets fields
-octets_step fields index field lt is one so_far rest = so_far (subst AreOctets (sym (drop_more fields index field lt ∙ ap (λ (f : Field). f ∷ drop (index + 1) fields) (sym is))) (one, rest))
+pub octets_step : (fields : List Field) (index : ℕ) (field : Field) → index < length fields
+    → field ≡ get_or fields index field
+    → IsOctetField field → (AreOctets (drop index fields) → AreOctets fields)
+    → AreOctets (drop (index + 1) fields) → AreOctets fields
+octets_step fields index field lt is one so_far rest =
+    so_far
+    (subst AreOctets (sym (drop_more fields index field lt
+    ∙ ap (λ (f : Field). f ∷ drop (index + 1) fields) (sym is))) (one, rest))
 
 -- All fields are.
-pub octets_end : (fields : List Field) (index : ℕ) → length fields ≤ index → (AreOctets (drop index fields) → AreOctets fields) → AreOctets fields
-octets_end fields index past so_far = so_far (subst AreOctets (sym (drop_of_length-le fields past)) tt)
+pub octets_end : (fields : List Field) (index : ℕ) → length fields ≤ index
+    → (AreOctets (drop index fields) → AreOctets fields) → AreOctets fields
+octets_end fields index past so_far =
+    so_far (subst AreOctets (sym (drop_of_length-le fields past)) tt)

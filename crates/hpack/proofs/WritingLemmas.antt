@@ -1,52 +1,72 @@
--- A whole block that is written by a draft.
+-- A complete block that is written by a pending table.
 use Rattle.std.proofs.Common.{◌≡◌, ℕ, List, [], ◌++◌, sym, ap, ◌∙◌, append_assoc}
 use Rattle.std.specs.List.{flat_map}
 use Rattle.hpack_text.specs.Integers.{integer}
-use Rattle.hpack.specs.declared.entry.Entry.{Entry}
-use Rattle.hpack.specs.declared.field.Field.{Field}
-use Rattle.hpack.specs.declared.draft.Draft.{Draft}
+use Rattle.hpack.specs.declared.types.entry.Entry.{Entry}
+use Rattle.hpack.specs.declared.types.field.Field.{Field}
+use Rattle.hpack.specs.declared.encode.pending_table.PendingTable.{PendingTable}
 use Rattle.hpack.specs.Tables.{Entries}
 use Rattle.hpack.specs.Lists.{EncoderState}
-use Rattle.hpack.specs.Choice.{encoding_of_fields, after_fields, size_updates, after_updates, block_of, after_block}
-use Rattle.hpack.specs.Drafts.{drafted, all_added, KeepsAdded}
+use Rattle.hpack.specs.Choice.{encoding_of_fields, after_fields, size_updates, after_updates}
+use Rattle.hpack.specs.Choice.{block_of, after_block}
+use Rattle.hpack.specs.PendingTable.{represented, all_added, PreservesAdded}
 
--- A draft was made of the encoder's table, and the updates were done to it.
-pub record IsBegun (state : EncoderState) (maxima : List ℕ) (begun updated : Draft) : Type 0 where
-  pub due : maxima ≡ size_updates state
-  pub same : drafted begun state.table ≡ state.table
-  pub updates : drafted updated state.table ≡ after_updates (drafted begun state.table) maxima
+-- A pending table was made of the encoder's, and the updates were applied to it.
+pub record IsBegun (state : EncoderState) (maxima : List ℕ) (begun updated : PendingTable) : Type 0
+  where
+    pub due : maxima ≡ size_updates state
+    pub same : represented begun state.table ≡ state.table
+    pub updates : represented updated state.table
+        ≡ after_updates (represented begun state.table) maxima
 
--- the draft behind the updates
-begun_table : (state : EncoderState) (maxima : List ℕ) (begun updated : Draft) → IsBegun state maxima begun updated
-    → drafted updated state.table ≡ after_updates state.table (size_updates state)
+-- the pending table after the updates
+begun_table : (state : EncoderState) (maxima : List ℕ) (begun updated : PendingTable)
+    → IsBegun state maxima begun updated
+    → represented updated state.table ≡ after_updates state.table (size_updates state)
 begun_table state maxima begun updated is =
-    is.updates ∙ (ap (λ (t : Entries). after_updates t maxima) is.same ∙ ap (λ (ns : List ℕ). after_updates state.table ns) is.due)
+    is.updates ∙ (ap (λ (t : Entries). after_updates t maxima) is.same
+    ∙ ap (λ (ns : List ℕ). after_updates state.table ns) is.due)
 
 -- The updates and the fields are the block.
-pub block_is_written : (state : EncoderState) (maxima : List ℕ) (begun updated : Draft) (fields : List Field) (old between new : List ℕ) → IsBegun state maxima begun updated
-    → between ≡ old ++ flat_map (integer 5 0x20) maxima → new ≡ between ++ encoding_of_fields (drafted updated state.table) fields → new ≡ old ++ block_of state fields
+pub block_is_written : (state : EncoderState) (maxima : List ℕ) (begun updated : PendingTable)
+    (fields : List Field) (old between new : List ℕ) → IsBegun state maxima begun updated
+    → between ≡ old ++ flat_map (integer 5 0x20) maxima
+    → new ≡ between ++ encoding_of_fields (represented updated state.table) fields
+    → new ≡ old ++ block_of state fields
 unfolding block_of
 block_is_written state maxima begun updated fields old between new is first then =
     let updates = flat_map (integer 5 0x20) (size_updates state) in
     let rest = encoding_of_fields (after_updates state.table (size_updates state)) fields in
     then
-    ∙ (ap (λ (t : Entries). between ++ encoding_of_fields t fields) (begun_table state maxima begun updated is)
-    ∙ (ap (λ (o : List ℕ). o ++ rest) (first ∙ ap (λ (ns : List ℕ). old ++ flat_map (integer 5 0x20) ns) is.due)
+    ∙ (ap (λ (t : Entries). between ++ encoding_of_fields t fields)
+    (begun_table state maxima begun updated is)
+    ∙ (ap (λ (o : List ℕ). o ++ rest) (first ∙ ap
+    (λ (ns : List ℕ). old ++ flat_map (integer 5 0x20) ns) is.due)
     ∙ append_assoc old updates rest))
 
--- an encoder behind a block
-behind : EncoderState → Entries → EncoderState
-behind state table = record { table = table; least = state.limit; limit = state.limit }
+-- an encoder after a block
+encoder_after : EncoderState → Entries → EncoderState
+encoder_after state table = record { table = table; least = state.limit; limit = state.limit }
 
--- Where the updates and what the draft added are done to the table, it is the one behind the block.
-pub block_is_done : (state : EncoderState) (maxima : List ℕ) (begun updated ended : Draft) (fields : List Field) (between table : Entries) → IsBegun state maxima begun updated
-    → begun.added.items ≡ [] → updated.added ≡ begun.added → KeepsAdded state.table updated ended
-    → drafted ended state.table ≡ after_fields (drafted updated state.table) fields
+-- Where the updates and the additions are applied to the table, it is the one after the block.
+pub block_is_done : (state : EncoderState) (maxima : List ℕ) (begun updated ended : PendingTable)
+    (fields : List Field) (between table : Entries) → IsBegun state maxima begun updated
+    → begun.added.items ≡ [] → updated.added ≡ begun.added
+    → PreservesAdded state.table updated ended
+    → represented ended state.table ≡ after_fields (represented updated state.table) fields
     → between ≡ after_updates state.table maxima → table ≡ all_added between ended.added.items
     → record { table = table; least = state.limit; limit = state.limit } ≡ after_block state fields
-unfolding after_block behind
-block_is_done state maxima begun updated ended fields between table is none kept keeps after updates added =
-    let start : drafted updated state.table ≡ after_updates state.table (size_updates state) = begun_table state maxima begun updated is in
-    let nothing : all_added between updated.added.items ≡ between = ap (λ v. all_added between v.items) kept ∙ ap (λ (es : List Entry). all_added between es) none in
-    let same : between ≡ drafted updated state.table = updates ∙ (ap (λ (ns : List ℕ). after_updates state.table ns) is.due ∙ sym start) in
-    ap (λ (t : Entries). behind state t) (added ∙ (keeps between (nothing ∙ same) ∙ (after ∙ ap (λ (t : Entries). after_fields t fields) start)))
+unfolding after_block encoder_after
+block_is_done state maxima begun updated ended fields between table is none same_added preserves
+    after updates added =
+    let start : represented updated state.table ≡ after_updates state.table (size_updates state) =
+    begun_table state maxima begun updated is in
+    let nothing : all_added between updated.added.items ≡ between =
+    ap (λ v. all_added between v.items) same_added
+    ∙ ap (λ (es : List Entry). all_added between es) none in
+    let same : between ≡ represented updated state.table = updates
+    ∙ (ap (λ (ns : List ℕ). after_updates state.table ns) is.due ∙ sym start) in
+    ap (λ (t : Entries). encoder_after state t)
+    (added
+    ∙ (preserves between (nothing ∙ same) ∙ (after
+    ∙ ap (λ (t : Entries). after_fields t fields) start)))

@@ -1,24 +1,33 @@
 -- Tables as they are written for: their sizes, and the entries that indices name.
-use Rattle.std.proofs.Common.{◌≡◌, inl, inr, ℕ, suc, ◌+◌, ◌-◌, ◌*◌, ◌^◌, ◌<◌, ◌≤◌, ◌==◌, if◌then◌else◌, Bool, true, List, [], ◌∷◌, ◌++◌, length, get_or, Option, Some, None, position, refl, sym, ap, subst, arith, length-append}
+use Rattle.std.proofs.Common.{◌≡◌, inl, inr, ℕ, suc, ◌+◌, ◌-◌, ◌*◌, ◌^◌, ◌<◌, ◌≤◌, ◌==◌}
+use Rattle.std.proofs.Common.{if◌then◌else◌, Bool, true, List, [], ◌∷◌, ◌++◌, length, get_or}
+use Rattle.std.proofs.Common.{Option, Some, None, position, refl, sym, ap, subst, arith}
+use Rattle.std.proofs.Common.{length-append}
 use Rattle.std.specs.Option.{option_map_or}
 use Rattle.std.proofs.lemmas.Bool.{cases_lt, le-leb, lt-leb, eqb-true, and_parts}
 use Rattle.std.proofs.lemmas.List.Sums.{sum_by-cons}
 use Rattle.std.proofs.lemmas.List.Quantifiers.{position-Some}
 use Rattle.std.proofs.lemmas.Option.{slice_get-get_or}
-use Rattle.hpack.specs.declared.entry.Entry.{Entry}
+use Rattle.hpack.specs.declared.types.entry.Entry.{Entry}
 use Rattle.hpack.specs.Sizes.{entry_size, table_size, fit}
 use Rattle.hpack.specs.Static.{static_entries, entry}
 use Rattle.hpack.specs.Choice.{same_octets, least_index}
 
 -- what fits of entries whose first one does
-fit-fits : (one : Entry) (entries : List Entry) (bound : ℕ) → entry_size one ≤ bound → fit (one ∷ entries) bound ≡ one ∷ fit entries (bound - entry_size one)
+fit-fits : (one : Entry) (entries : List Entry) (bound : ℕ) → entry_size one ≤ bound
+    → fit (one ∷ entries) bound ≡ one ∷ fit entries (bound - entry_size one)
 unfolding fit
-fit-fits one entries bound le = ap (λ (b : Bool). if b then one ∷ fit entries (bound - entry_size one) else []) (le-leb (entry_size one) bound le)
+fit-fits one entries bound le =
+    ap (λ (b : Bool). if b then one ∷ fit entries (bound - entry_size one) else [])
+    (le-leb (entry_size one) bound le)
 
 -- Where the first entry doesn't fit, nothing does.
-fit-nothing : (one : Entry) (entries : List Entry) (bound : ℕ) → bound < entry_size one → fit (one ∷ entries) bound ≡ []
+fit-nothing : (one : Entry) (entries : List Entry) (bound : ℕ) → bound < entry_size one
+    → fit (one ∷ entries) bound ≡ []
 unfolding fit
-fit-nothing one entries bound lt = ap (λ (b : Bool). if b then one ∷ fit entries (bound - entry_size one) else []) (lt-leb (entry_size one) bound lt)
+fit-nothing one entries bound lt =
+    ap (λ (b : Bool). if b then one ∷ fit entries (bound - entry_size one) else [])
+    (lt-leb (entry_size one) bound lt)
 
 -- What fits is within the bound.
 pub fit_within : (entries : List Entry) (bound : ℕ) → table_size (fit entries bound) ≤ bound
@@ -26,10 +35,13 @@ unfolding fit
 fit_within [] bound = omega arith
 fit_within (one ∷ entries) bound =
     elim (cases_lt bound (entry_size one)) [
-      | inl larger ↦ subst (λ (left : List Entry). table_size left ≤ bound) (sym (fit-nothing one entries bound larger)) (omega arith)
+      | inl larger ↦ subst (λ (left : List Entry). table_size left ≤ bound)
+          (sym (fit-nothing one entries bound larger)) (omega arith)
       | inr fits ↦
-          let rest : table_size (fit entries (bound - entry_size one)) ≤ bound - entry_size one = fit_within entries (bound - entry_size one) in
-          subst (λ (left : List Entry). table_size left ≤ bound) (sym (fit-fits one entries bound fits))
+          let rest : table_size (fit entries (bound - entry_size one)) ≤ bound - entry_size one =
+          fit_within entries (bound - entry_size one) in
+          subst (λ (left : List Entry). table_size left ≤ bound)
+          (sym (fit-fits one entries bound fits))
           (omega (arith, rest, sum_by-cons entry_size one (fit entries (bound - entry_size one))))
     ]
 
@@ -60,12 +72,13 @@ length-static : length static_entries ≡ 61
 unfolding static_entries
 length-static = refl
 
--- an entry, for places behind the last one
+-- an entry, for places past the last one
 no_entry : Entry
 no_entry = record { name = []; value = [] }
 
 -- what is found at a place
-found_at : (test : Entry → Bool) (entries : List Entry) (place : Option ℕ) → position test (static_entries ++ entries) ≡ place
+found_at : (test : Entry → Bool) (entries : List Entry) (place : Option ℕ)
+    → position test (static_entries ++ entries) ≡ place
     → 0 < option_map_or suc place 0 → IsFound test entries (option_map_or suc place 0)
 unfolding entry
 found_at test entries None is some = absurd (omega arith)
@@ -78,12 +91,15 @@ found_at test entries (Some place) is some =
     }
 
 -- The least index, where it isn't 0, names an entry that passes the test.
-pub least_index_found : (test : Entry → Bool) (entries : List Entry) → 0 < least_index test entries → IsFound test entries (least_index test entries)
+pub least_index_found : (test : Entry → Bool) (entries : List Entry) → 0 < least_index test entries
+    → IsFound test entries (least_index test entries)
 unfolding least_index
-least_index_found test entries some = found_at test entries (position test (static_entries ++ entries)) refl some
+least_index_found test entries some =
+    found_at test entries (position test (static_entries ++ entries)) refl some
 
 -- A place is among the entries.
-place_within : (test : Entry → Bool) (entries : List Entry) (place : Option ℕ) → position test (static_entries ++ entries) ≡ place
+place_within : (test : Entry → Bool) (entries : List Entry) (place : Option ℕ)
+    → position test (static_entries ++ entries) ≡ place
     → option_map_or suc place 0 ≤ 61 + length entries
 place_within test entries None is = omega arith
 place_within test entries (Some place) is =
@@ -91,10 +107,15 @@ place_within test entries (Some place) is =
     omega (arith, at.0, length-append static_entries entries, length-static)
 
 -- The least index is among the entries.
-pub least_index_within : (test : Entry → Bool) (entries : List Entry) → least_index test entries ≤ 61 + length entries
+pub least_index_within : (test : Entry → Bool) (entries : List Entry)
+    → least_index test entries ≤ 61 + length entries
 unfolding least_index
-least_index_within test entries = place_within test entries (position test (static_entries ++ entries)) refl
+least_index_within test entries =
+    place_within test entries (position test (static_entries ++ entries)) refl
 
--- The least index is small enough to be written, where the size of the entries is a number of 32 bits.
-pub least_index_small : (test : Entry → Bool) (entries : List Entry) (maximum : ℕ) → table_size entries ≤ maximum → maximum < 2 ^ 32 → least_index test entries < 2 ^ 35
-least_index_small test entries maximum within small = omega (arith, least_index_within test entries, few_entries entries)
+-- The least index is small enough to be written, where the size of the entries is a number of 32
+-- bits.
+pub least_index_small : (test : Entry → Bool) (entries : List Entry) (maximum : ℕ)
+    → table_size entries ≤ maximum → maximum < 2 ^ 32 → least_index test entries < 2 ^ 35
+least_index_small test entries maximum within small =
+    omega (arith, least_index_within test entries, few_entries entries)

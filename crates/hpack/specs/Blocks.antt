@@ -1,11 +1,13 @@
--- Field blocks: what the octets of a block say at a table (RFC 7541, sections 3, 4.2 and 6; RFC 9113, section 4.3).
+-- Field blocks: what the octets of a block say at a table (RFC 7541, sections 3, 4.2 and 6; RFC
+-- 9113, section 4.3).
 use Rattle.std.specs.Prelude.{◌≡◌, ◌⊎◌, ℕ, ◌≤◌, ◌<◌, Bool, true, false, List, [], ◌∷◌, ◌++◌, Some}
 use Rattle.hpack_text.specs.Integers.{Int}
 use Rattle.hpack_text.specs.Strings.{Str}
-use Rattle.hpack.specs.declared.entry.Entry.{Entry}
-use Rattle.hpack.specs.declared.field.Field.{Field}
-use Rattle.hpack.specs.declared.kind.Literal.{Literal}
-use Rattle.hpack.specs.declared.kind.Literal.TheVariants.{WithIndexing, WithoutIndexing, NeverIndexed}
+use Rattle.hpack.specs.declared.types.entry.Entry.{Entry}
+use Rattle.hpack.specs.declared.types.field.Field.{Field}
+use Rattle.hpack.specs.declared.types.literal.Literal.{Literal}
+use Rattle.hpack.specs.declared.types.literal.Literal.TheVariants.{WithIndexing, WithoutIndexing}
+use Rattle.hpack.specs.declared.types.literal.Literal.TheVariants.{NeverIndexed}
 use Rattle.hpack.specs.Sizes.{add}
 use Rattle.hpack.specs.Static.{entry}
 use Rattle.hpack.specs.Tables.{Entries, resized}
@@ -29,15 +31,18 @@ LiteralHead WithIndexing index octets = FirstOctet 0x40 0x80 octets × Int 6 ind
 LiteralHead WithoutIndexing index octets = FirstOctet 0x00 0x10 octets × Int 4 index octets
 LiteralHead NeverIndexed index octets = FirstOctet 0x10 0x20 octets × Int 4 index octets
 
--- A literal's name: with index 0 it stands there as a string, otherwise it is that of the entry, and no octets stand for it.
+-- A literal's name: with index 0 it follows as a string, otherwise it is that of the entry, and has
+-- no octets.
 abbrev pub LiteralName : List Entry → ℕ → List ℕ → List ℕ → Type 0
 LiteralName entries index name octets =
     ((index ≡ 0) × Str name octets)
-    ⊎ ((octets ≡ []) × ((value : List ℕ) × (entry entries index ≡ Some (record { name = name; value = value }))))
+    ⊎ ((octets ≡ [])
+    × ((value : List ℕ) × (entry entries index ≡ Some (record { name = name; value = value }))))
 
 -- what a literal leaves of the table
 abbrev pub after_literal : Literal → Entries → Entry → Entries
-after_literal WithIndexing table new = record { entries = add table.entries new table.maximum; maximum = table.maximum }
+after_literal WithIndexing table new =
+    record { entries = add table.entries new table.maximum; maximum = table.maximum }
 after_literal WithoutIndexing table new = table
 after_literal NeverIndexed table new = table
 
@@ -47,19 +52,25 @@ is_sensitive WithIndexing = false
 is_sensitive WithoutIndexing = false
 is_sensitive NeverIndexed = true
 
--- The octets spell the field at the table, and leave another table. Name and value are those of the table before.
+-- The octets encode the field at the table, and lead to another table. Names and values are looked
+-- up in the former.
 pub data Step (table : Entries) (octets : List ℕ) (field : Field) (after : Entries) : Type 0 where
-  by_index : (index : ℕ) → Indexed index octets → entry table.entries index ≡ Some (record { name = field.name; value = field.value })
+  by_index : (index : ℕ) → Indexed index octets
+      → entry table.entries index ≡ Some (record { name = field.name; value = field.value })
       → field.sensitive ≡ false → after ≡ table → Step table octets field after
-  by_literal : (kind : Literal) (index : ℕ) (head name value : List ℕ) → octets ≡ head ++ (name ++ value) → LiteralHead kind index head
-      → LiteralName table.entries index field.name name → Str field.value value → field.sensitive ≡ is_sensitive kind
-      → after ≡ after_literal kind table (record { name = field.name; value = field.value }) → Step table octets field after
+  by_literal : (kind : Literal) (index : ℕ) (head name value : List ℕ)
+      → octets ≡ head ++ (name ++ value) → LiteralHead kind index head
+      → LiteralName table.entries index field.name name → Str field.value value
+      → field.sensitive ≡ is_sensitive kind
+      → after ≡ after_literal kind table (record { name = field.name; value = field.value })
+      → Step table octets field after
 
--- The octets spell the fields, one behind another.
+-- The octets encode the fields, one after another.
 abbrev pub Fields : Entries → List ℕ → List Field → Entries → Type 0
 Fields table octets [] after = (octets ≡ []) × (after ≡ table)
 Fields table octets (field ∷ fields) after =
-    (first others : List ℕ) × (between : Entries) × (octets ≡ first ++ others) × Step table first field between × Fields between others fields after
+    (first others : List ℕ) × (between : Entries) × (octets ≡ first ++ others)
+    × Step table first field between × Fields between others fields after
 
 -- The octets begin with updates to these maxima, none of them above the limit, and leave others.
 abbrev pub Updates : ℕ → Entries → List ℕ → List ℕ → Entries → List ℕ → Type 0
@@ -68,12 +79,13 @@ Updates limit table octets (maximum ∷ maxima) after others =
     (first more : List ℕ) × (octets ≡ first ++ more) × Update maximum first × (maximum ≤ limit)
     × Updates limit (resized table maximum) more maxima after others
 
--- The octets are a block of the fields, for a decoder with the table and the limit, and leave another table: updates,
--- behind which the maximum is within the limit, and then the fields.
-pub record Block (table : Entries) (limit : ℕ) (octets : List ℕ) (fields : List Field) (after : Entries) : Type 0 where
+-- The octets are a block of the fields, for a decoder with the table and the limit, and leave
+-- another table: updates, after which the maximum is within the limit, and then the fields.
+pub record Block (table : Entries) (limit : ℕ) (octets : List ℕ) (fields : List Field)
+    (after : Entries) : Type 0 where
   pub maxima : List ℕ
   pub updated : Entries
   pub others : List ℕ
   pub updates : Updates limit table octets maxima updated others
   pub within : updated.maximum ≤ limit
-  pub spelled : Fields updated others fields after
+  pub encoded : Fields updated others fields after

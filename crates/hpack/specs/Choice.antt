@@ -1,12 +1,14 @@
 -- What the encoder writes: its choices, as functions (RFC 7541 leaves them open).
-use Rattle.std.specs.Prelude.{ℕ, suc, ◌+◌, ◌==◌, nat_lt, if◌then◌else◌, ◌&&◌, Bool, true, false, List, [], ◌∷◌, ◌++◌, length, position, fold, flat_map}
+use Rattle.std.specs.Prelude.{ℕ, suc, ◌+◌, ◌==◌, nat_lt, if◌then◌else◌, ◌&&◌, Bool, true, false}
+use Rattle.std.specs.Prelude.{List, [], ◌∷◌, ◌++◌, length, position, fold, flat_map}
 use Rattle.std.specs.Option.{option_map_or}
 use Rattle.hpack_text.specs.Integers.{integer}
 use Rattle.hpack_text.specs.Strings.{string}
-use Rattle.hpack.specs.declared.entry.Entry.{Entry}
-use Rattle.hpack.specs.declared.field.Field.{Field}
-use Rattle.hpack.specs.declared.kind.Literal.{Literal}
-use Rattle.hpack.specs.declared.kind.Literal.TheVariants.{WithIndexing, WithoutIndexing, NeverIndexed}
+use Rattle.hpack.specs.declared.types.entry.Entry.{Entry}
+use Rattle.hpack.specs.declared.types.field.Field.{Field}
+use Rattle.hpack.specs.declared.types.literal.Literal.{Literal}
+use Rattle.hpack.specs.declared.types.literal.Literal.TheVariants.{WithIndexing, WithoutIndexing}
+use Rattle.hpack.specs.declared.types.literal.Literal.TheVariants.{NeverIndexed}
 use Rattle.hpack.specs.Static.{static_entries}
 use Rattle.hpack.specs.Tables.{Entries, resized}
 use Rattle.hpack.specs.Blocks.{after_literal}
@@ -24,7 +26,8 @@ least_index test entries = option_map_or suc (position test (static_entries ++ e
 
 -- the least index of an entry with the field's name and value, or 0
 abbrev pub exact_index : List Entry → Field → ℕ
-exact_index entries field = least_index (λ one. same_octets one.name field.name && same_octets one.value field.value) entries
+exact_index entries field = least_index
+    (λ one. same_octets one.name field.name && same_octets one.value field.value) entries
 
 -- the least index of an entry with the field's name, or 0
 abbrev pub name_index : List Entry → Field → ℕ
@@ -35,13 +38,15 @@ pub data Choice : Type 0 where
   indexed : (index : ℕ) → Choice
   literal : (kind : Literal) (index : ℕ) → Choice
 
--- A sensitive field is never indexed. Otherwise an exact entry gives its index; a field that is larger than the maximum
--- isn't added, and any other is.
+-- A sensitive field is never indexed. Otherwise an exact entry gives its index; a field that is
+-- larger than the maximum isn't added, and any other is.
 unfoldable pub choice : Entries → Field → Choice
 choice table field =
     if field.sensitive then literal NeverIndexed (name_index table.entries field)
-    else if nat_lt 0 (exact_index table.entries field) then indexed (exact_index table.entries field)
-    else if nat_lt table.maximum (length field.name + length field.value + 32) then literal WithoutIndexing (name_index table.entries field)
+    else if nat_lt 0 (exact_index table.entries field)
+    then indexed (exact_index table.entries field)
+    else if nat_lt table.maximum (length field.name + length field.value + 32)
+    then literal WithoutIndexing (name_index table.entries field)
     else literal WithIndexing (name_index table.entries field)
 
 -- the octets of a literal's head
@@ -53,40 +58,54 @@ literal_head NeverIndexed index = integer 4 0x10 index
 -- the octets of a field, as it is written
 abbrev pub encoding_of_field : Choice → Field → List ℕ
 encoding_of_field (indexed index) field = integer 7 0x80 index
-encoding_of_field (literal kind index) field = literal_head kind index ++ ((if index == 0 then string field.name else []) ++ string field.value)
+encoding_of_field (literal kind index) field =
+    literal_head kind index ++ ((if index == 0 then string field.name else [])
+    ++ string field.value)
 
--- the table behind a field
+-- the table after a field
 abbrev pub after_choice : Entries → Choice → Field → Entries
 after_choice table (indexed index) field = table
-after_choice table (literal kind index) field = after_literal kind table (record { name = field.name; value = field.value })
+after_choice table (literal kind index) field =
+    after_literal kind table (record { name = field.name; value = field.value })
 
--- the octets of fields, one behind another
+-- the octets of fields, one after another
 unfoldable pub encoding_of_fields : Entries → List Field → List ℕ
 encoding_of_fields table [] = []
-encoding_of_fields table (field ∷ fields) = encoding_of_field (choice table field) field ++ encoding_of_fields (after_choice table (choice table field) field) fields
+encoding_of_fields table (field ∷ fields) =
+    encoding_of_field (choice table field) field
+    ++ encoding_of_fields (after_choice table (choice table field) field) fields
 
--- the table behind fields
+-- the table after fields
 unfoldable pub after_fields : Entries → List Field → Entries
 after_fields table [] = table
-after_fields table (field ∷ fields) = after_fields (after_choice table (choice table field) field) fields
+after_fields table (field ∷ fields) =
+    after_fields (after_choice table (choice table field) field) fields
 
--- The updates at a block's beginning. Where the limit fell below the maximum since the last block, one to the least limit,
--- and one to the limit now if that is another; where it didn't and is above the maximum, one to it.
+-- The updates at a block's beginning. Where the limit fell below the maximum since the last block,
+-- one to the least limit, and one to the limit now if that is another; where it didn't and is above
+-- the maximum, one to it.
 unfoldable pub size_updates : EncoderState → List ℕ
 size_updates state =
-    if nat_lt state.least state.table.maximum then state.least ∷ (if state.limit == state.least then [] else state.limit ∷ [])
+    if nat_lt state.least state.table.maximum
+    then state.least ∷ (if state.limit == state.least then [] else state.limit ∷ [])
     else if nat_lt state.table.maximum state.limit then state.limit ∷ []
     else []
 
--- the table behind updates
+-- the table after updates
 abbrev pub after_updates : Entries → List ℕ → Entries
 after_updates table maxima = fold resized table maxima
 
--- the octets of a whole block
+-- the octets of a complete block
 unfoldable pub block_of : EncoderState → List Field → List ℕ
-block_of state fields = flat_map (integer 5 0x20) (size_updates state) ++ encoding_of_fields (after_updates state.table (size_updates state)) fields
+block_of state fields = flat_map (integer 5 0x20) (size_updates state)
+    ++ encoding_of_fields (after_updates state.table (size_updates state)) fields
 
--- the encoder behind a block
+-- the encoder after a block
 unfoldable pub after_block : EncoderState → List Field → EncoderState
 after_block state fields =
-    record { table = after_fields (after_updates state.table (size_updates state)) fields; least = state.limit; limit = state.limit }
+    record {
+      table = after_fields (after_updates state.table (size_updates state)) fields;
+      least =
+          state.limit;
+      limit = state.limit;
+    }

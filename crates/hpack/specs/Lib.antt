@@ -3,11 +3,11 @@ pub mod Static
 pub mod Tables
 pub mod Blocks
 pub mod Lists
-pub mod Kept
+pub mod TableInvariant
 pub mod Choice
-pub mod Fronts
-pub mod Search
-pub mod Drafts
-pub mod Chosen
+pub mod Prefixes
+pub mod Sought
+pub mod PendingTable
+pub mod ChoiceModel
 pub mod Written
 pub mod Limits

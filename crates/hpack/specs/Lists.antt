@@ -1,10 +1,10 @@
 -- Lists of fields, and what a decoder or an encoder is between blocks.
 use Rattle.std.specs.Prelude.{◌≡◌, ◌<◌, ◌≤◌, ℕ, ◌+◌, Bool, false, List, [], length, sum_by}
-use Rattle.hpack.specs.declared.field.Field.{Field}
-use Rattle.hpack.specs.declared.field.List.{List as FieldList}
-use Rattle.hpack.specs.declared.field.List.TheVariants.{Whole, TooLarge}
-use Rattle.hpack.specs.declared.fault.Fault.{Fault}
-use Rattle.hpack.specs.declared.fault.Fault.TheVariants as faults
+use Rattle.hpack.specs.declared.types.field.Field.{Field}
+use Rattle.hpack.specs.declared.types.field.List.{List as FieldList}
+use Rattle.hpack.specs.declared.types.field.List.TheVariants.{Whole, TooLarge}
+use Rattle.hpack.specs.declared.types.fault.Fault.{Fault}
+use Rattle.hpack.specs.declared.types.fault.Fault.TheVariants as faults
 use Rattle.hpack.specs.Tables.{Entries}
 use Rattle.hpack.specs.Blocks.{Block}
 
@@ -12,10 +12,10 @@ use Rattle.hpack.specs.Blocks.{Block}
 abbrev pub list_size : List Field → ℕ
 list_size fields = sum_by (λ field. length field.name + length field.value + 32) fields
 
--- The list that is handed out: the fields, or that they are above the bar.
+-- The list that is answered: the fields, or that their size is above the limit.
 abbrev pub IsList : ℕ → List Field → FieldList → Type 0
-IsList bar fields (Whole items) = (items.items ≡ fields) × (list_size fields ≤ bar)
-IsList bar fields TooLarge = bar < list_size fields
+IsList list_limit fields (Whole items) = (items.items ≡ fields) × (list_size fields ≤ list_limit)
+IsList list_limit fields TooLarge = list_limit < list_size fields
 
 -- a decoder between blocks
 pub record DecoderState : Type 0 where
@@ -34,7 +34,8 @@ pub record EncoderState : Type 0 where
 
 -- Nothing is a block of these octets.
 abbrev pub NoBlock : Entries → ℕ → List ℕ → Type 0
-NoBlock table limit octets = (fields : List Field) (after : Entries) → Block table limit octets fields after → ⊥
+NoBlock table limit octets = (fields : List Field) (after : Entries)
+    → Block table limit octets fields after → ⊥
 
 -- what a fault of decoding says, of a decoder that hadn't failed
 abbrev pub DecodeFault : Entries → ℕ → List ℕ → Fault → Type 0
@@ -42,12 +43,13 @@ DecodeFault table limit octets faults.Compression = NoBlock table limit octets
 DecodeFault table limit octets faults.Memory = Unit {0}
 DecodeFault table limit octets faults.Failed = ⊥
 
--- A block was decoded: its fields are handed out, and its table stands.
-pub record Decodes (old : DecoderState) (octets : List ℕ) (bar : ℕ) (list : FieldList) (new : DecoderState) : Type 0 where
+-- A block was decoded: its fields are answered, and its table is the decoder's.
+pub record Decodes (old : DecoderState) (octets : List ℕ) (list_limit : ℕ) (list : FieldList)
+    (new : DecoderState) : Type 0 where
   pub fields : List Field
   pub after : Entries
   pub block : Block old.table old.limit octets fields after
-  pub handed : IsList bar fields list
+  pub handed : IsList list_limit fields list
   pub state : new ≡ record { table = after; limit = old.limit; failed = false }
 
 -- a decoder or an encoder that was made with a maximum

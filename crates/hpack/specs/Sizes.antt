@@ -1,6 +1,6 @@
 -- The size of entries and tables, and what of a table fits (RFC 7541, sections 4.1, 4.3 and 4.4).
 use Rattle.std.specs.Prelude.{ℕ, ◌+◌, ◌-◌, nat_le, if◌then◌else◌, List, [], ◌∷◌, length, sum_by}
-use Rattle.hpack.specs.declared.entry.Entry.{Entry}
+use Rattle.hpack.specs.declared.types.entry.Entry.{Entry}
 
 -- an entry's size: the octets of its name and of its value, and 32
 abbrev pub entry_size : Entry → ℕ
@@ -10,11 +10,12 @@ entry_size entry = length entry.name + length entry.value + 32
 abbrev pub table_size : List Entry → ℕ
 table_size entries = sum_by entry_size entries
 
--- the longest front of the entries whose size is at most the bound
+-- the longest prefix of the entries whose size is at most the bound
 unfoldable pub fit : List Entry → ℕ → List Entry
 fit [] bound = []
-fit (entry ∷ entries) bound = if nat_le (entry_size entry) bound then entry ∷ fit entries (bound - entry_size entry) else []
+fit (entry ∷ entries) bound = if nat_le (entry_size entry) bound
+    then entry ∷ fit entries (bound - entry_size entry) else []
 
--- An entry goes to the front, and the oldest leave until the size is at most the bound.
+-- An entry becomes the newest, and the oldest leave until the size is at most the bound.
 abbrev pub add : List Entry → Entry → ℕ → List Entry
 add entries entry bound = fit (entry ∷ entries) bound

@@ -1,6 +1,6 @@
 -- The static table (RFC 7541, appendix A), and the entry that an index names (section 2.3.3).
 use Rattle.std.specs.Prelude.{ℕ, zero, suc, List, [], ◌∷◌, ◌++◌, Option, None, slice_get, codes}
-use Rattle.hpack.specs.declared.entry.Entry.{Entry}
+use Rattle.hpack.specs.declared.types.entry.Entry.{Entry}
 
 -- the static table, from its first entry on
 unfoldable pub static_entries : List Entry
@@ -68,7 +68,8 @@ static_entries =
     record { name = codes "www-authenticate"; value = [] } ∷
     []
 
--- The entry that an index names: the static table from 1 on, then the dynamic one, its newest entry first.
+-- The entry that an index names: the static table from 1 on, then the dynamic one, its newest entry
+-- first.
 unfoldable pub entry : List Entry → ℕ → Option Entry
 entry entries zero = None
 entry entries (suc place) = slice_get (static_entries ++ entries) place

@@ -1,12 +1,14 @@
--- When what an encoder writes is a block: what is true of it between blocks, and of the fields that it is given.
+-- When what an encoder writes is a block: what is true of it between blocks, and of the fields that
+-- it is given.
 use Rattle.std.specs.Prelude.{◌^◌, ◌<◌, ◌≤◌, List}
 use Rattle.std.specs.List.{AllByRecursion}
 use Rattle.hpack_text.specs.Bits.{IsOctet}
-use Rattle.hpack.specs.declared.field.Field.{Field}
+use Rattle.hpack.specs.declared.types.field.Field.{Field}
 use Rattle.hpack.specs.Sizes.{table_size}
 use Rattle.hpack.specs.Lists.{EncoderState}
 
--- Limits and maxima are numbers of 32 bits, the least limit is no greater than the one now, and the table is within its maximum.
+-- Limits and maxima are numbers of 32 bits, the least limit is no greater than the one now, and the
+-- table is within its maximum.
 pub record IsValidEncoder (state : EncoderState) : Type 0 where
   pub least : state.least ≤ state.limit
   pub limit : state.limit < 2 ^ 32
@@ -15,4 +17,5 @@ pub record IsValidEncoder (state : EncoderState) : Type 0 where
 
 -- Names and values are octets.
 abbrev pub AreOctets : List Field → Type 0
-AreOctets fields = AllByRecursion (λ field. AllByRecursion IsOctet field.name × AllByRecursion IsOctet field.value) fields
+AreOctets fields = AllByRecursion
+    (λ field. AllByRecursion IsOctet field.name × AllByRecursion IsOctet field.value) fields

@@ -1,21 +1,4 @@
 //! Laws of field blocks, each the contract of a function that does nothing.
 
-ghost use Rattle.std.specs.Prelude.{◌≡◌, ℕ, ◌≤◌, List, ◌++◌, length};
-ghost use Rattle.hpack.specs.declared.field.Field.{Field};
-ghost use Rattle.hpack.specs.declared.entry.Entry.{Entry};
-ghost use Rattle.hpack.specs.Sizes.{table_size, fit};
-ghost use Rattle.hpack.specs.Tables.{Entries};
-ghost use Rattle.hpack.specs.Blocks.{Block};
-
-/// Octets are one block at most: one list of fields, and one table behind it.
-pub fn one_block()
-    ensures { (table after other : Entries) (limit : ℕ) (octets : List ℕ) (fields others : List Field)
-        → Block table limit octets fields after → Block table limit octets others other → (fields ≡ others) × (after ≡ other) }
-{}
-
-/// What of a table fits a bound (RFC 7541, sections 4.3 and 4.4) is a front of it, whose size is at most the bound, and the longest one.
-pub fn longest_front()
-    ensures front { (entries : List Entry) (bound : ℕ) → (left : List Entry) × (entries ≡ fit entries bound ++ left) }
-    ensures within { (entries : List Entry) (bound : ℕ) → table_size (fit entries bound) ≤ bound }
-    ensures longest { (front left : List Entry) (bound : ℕ) → table_size front ≤ bound → length front ≤ length (fit (front ++ left) bound) }
-{}
+pub(crate) mod blocks;
+pub(crate) mod encoder;

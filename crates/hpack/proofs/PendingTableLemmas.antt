@@ -1,0 +1,96 @@
+-- Pending tables.
+use Rattle.std.proofs.Common.{if◌then◌else◌, ◌≡◌, ℕ, zero, suc, ◌+◌, ◌-◌, ◌*◌, ◌^◌, ◌<◌, ◌≤◌, min}
+use Rattle.std.proofs.Common.{Bool, List, [], ◌∷◌, ◌++◌, length, get_or, take, drop, sym, ap, ◌∙◌}
+use Rattle.std.proofs.Common.{arith}
+use Rattle.std.proofs.lemmas.List.{take_more, length-take-le, get_or-take}
+use Rattle.hpack.specs.declared.types.entry.Entry.{Entry}
+use Rattle.hpack.specs.declared.encode.pending_table.PendingTable.{PendingTable}
+use Rattle.hpack.specs.Sizes.{entry_size, table_size, fit}
+use Rattle.hpack.specs.Tables.{Entries}
+use Rattle.hpack.specs.PendingTable.{newest_first, IsPendingTable}
+use Rattle.hpack.proofs.SizeLemmas.{entries_are_large, popped, table_size-push}
+use Rattle.hpack.specs.Sought.{first_index}
+use Rattle.hpack.proofs.SearchLemmas.{first_index-drop, first_index-none}
+
+-- an entry, for places past the last one
+pub no_entry : Entry
+no_entry = record { name = []; value = [] }
+
+-- A pending table has few entries.
+pub live_is_small : (pending : PendingTable) (table : Entries) → IsPendingTable pending table
+    → 32 * pending.live < 2 ^ 32
+live_is_small pending table is =
+    omega (
+      arith,
+      is.small,
+      is.counted,
+      is.within,
+      entries_are_large (take pending.live (newest_first pending table)),
+      length-take-le pending.live (newest_first pending table) is.live,
+    )
+
+-- what is left where the oldest entry leaves
+pub record IsShorter (newest : List Entry) (live place size bound removed : ℕ) : Type 0 where
+  pub within : removed ≤ size
+  pub counted : size - removed ≡ table_size (take place newest)
+  pub fitting : fit (take place newest) bound ≡ fit (take live newest) bound
+
+-- There is an entry where they don't fit.
+some_left : (newest : List Entry) (live size bound : ℕ) → size ≡ table_size (take live newest)
+    → bound < size → 0 < live
+some_left newest zero size bound counted above = absurd (omega arith)
+some_left newest (suc place) size bound counted above = omega arith
+
+-- the oldest entry leaves
+shorter_by : (newest : List Entry) (live place size bound removed : ℕ) → live ≡ place + 1
+    → live ≤ length newest → size ≡ table_size (take live newest) → bound < size → size < 2 ^ 64
+    → removed ≡ min (entry_size (get_or newest place no_entry)) (2 ^ 64 - 1)
+    → IsShorter newest live place size bound removed
+shorter_by newest live place size bound removed next within counted above small is =
+    let last = get_or newest place no_entry in
+    let split : take live newest ≡ take place newest ++ last ∷ [] =
+    ap (λ (n : ℕ). take n newest) next ∙ take_more newest place no_entry (omega arith) in
+    let step = popped size bound (take live newest) (take place newest) last counted above small
+    split in
+    let within : table_size (take live newest) ≡ table_size (take place newest) + entry_size last =
+    ap table_size split ∙ table_size-push (take place newest) last in
+    record {
+      within = omega arith;
+      counted = ap (λ (n : ℕ). size - n) is ∙ step.counted;
+      fitting = step.fitting;
+    }
+
+-- The oldest entry leaves where they don't fit.
+pub shorter : (newest : List Entry) (live size bound removed : ℕ) → live ≤ length newest
+    → size ≡ table_size (take live newest) → bound < size → size < 2 ^ 64
+    → ((other : Entry) → live - 1 < length newest
+    → removed ≡ min (entry_size (get_or newest (live - 1) other)) (2 ^ 64 - 1))
+    → IsShorter newest live (live - 1) size bound removed
+shorter newest live size bound removed within counted above small is =
+    let some = some_left newest live size bound counted above in
+    shorter_by newest live (live - 1) size bound removed (omega arith) within counted above small
+    (is no_entry (omega arith))
+
+-- One more entry of a pending table is checked.
+pub pending_step : (test : Entry → Bool) (pending : PendingTable) (table : Entries) (place : ℕ)
+    (b : Bool) → IsPendingTable pending table → place < pending.live
+    → ((other : Entry) → place < length (newest_first pending table)
+    → b ≡ test (get_or (newest_first pending table) place other))
+    → first_index test (62 + place) (drop place (take pending.live (newest_first pending table)))
+    ≡ (if b then 62 + place else first_index test (62 + (place + 1))
+    (drop (place + 1) (take pending.live (newest_first pending table))))
+pending_step test pending table place b is lt at =
+    let within : place < length (newest_first pending table) = omega (arith, is.live) in
+    let short : place < length (take pending.live (newest_first pending table)) =
+    omega (arith, length-take-le pending.live (newest_first pending table) is.live) in
+    first_index-drop test 62 place (take pending.live (newest_first pending table)) no_entry b short
+    (at no_entry within
+    ∙ sym (ap test (get_or-take pending.live (newest_first pending table) place no_entry lt)))
+
+-- None is left.
+pub pending_end : (test : Entry → Bool) (pending : PendingTable) (table : Entries) (start place : ℕ)
+    → IsPendingTable pending table → pending.live ≤ place
+    → first_index test start (drop place (take pending.live (newest_first pending table))) ≡ 0
+pending_end test pending table start place is past =
+    first_index-none test start place (take pending.live (newest_first pending table))
+    (omega (arith, length-take-le pending.live (newest_first pending table) is.live))

@@ -1,5 +1,0 @@
-use Rattle.hpack_text.proofs.ReadLemmas.{all_octets}
-use Rattle.hpack.proofs.append.are_octets.Goals as goal
-
-pub returns : goal.returns
-returns c = all_octets c.args.octets.now c.type_inv.octets

@@ -1,0 +1,67 @@
+use Rattle.std.proofs.Common.{◌∙◌, ◌++◌, ◌^◌, ◌<◌, sym, ap, refl, subst, arith}
+use Rattle.hpack.specs.Blocks.{Block}
+use Rattle.hpack.proofs.WrittenBlocks.{block_encodes}
+use Rattle.hpack.specs.Written.{IsValidEncoder}
+use Rattle.hpack.proofs.StateLemmas.{writing_of}
+use Rattle.hpack.specs.Lists.{EncoderState}
+use Rattle.hpack.specs.Choice.{block_of, after_block}
+use Rattle.hpack.specs.ChoiceModel.{maxima_of}
+use Rattle.hpack.proofs.WritingLemmas.{IsBegun, block_is_written, block_is_done}
+use Rattle.hpack.proofs.encode.encoder.Encoder.append_block.Goals as goal
+
+pub returns-clause-written : goal.returns-clause-written
+returns-clause-written c =
+    let state : EncoderState = record {
+      table = c.self.inside.table;
+      least = c.self.inside.least;
+      limit = c.self.inside.limit;
+    } in
+    let begun : IsBegun state (maxima_of c.due-updates.result) c.new-pending.result
+    c.apply_to_pending.new.pending = record {
+      due = c.due-updates.ensures state (sym c.maximum.ensures) refl refl;
+      same = c.new-pending.ensures.same;
+      updates = c.apply_to_pending.ensures.resized;
+    } in
+    block_is_written state (maxima_of c.due-updates.result) c.new-pending.result
+    c.apply_to_pending.new.pending c.args.fields.now c.args.out.now.items c.append.new.out.items
+    c.append_fields.new.out.items begun c.in_ok-append.ensures.ok
+    c.in_ok-append_fields.ensures.written
+    ∙ ap (λ (s : EncoderState). c.args.out.now.items ++ block_of s c.args.fields.now) c.self.view_is
+
+pub returns-clause-after : goal.returns-clause-after
+returns-clause-after c =
+    let state : EncoderState = record {
+      table = c.self.inside.table;
+      least = c.self.inside.least;
+      limit = c.self.inside.limit;
+    } in
+    let begun : IsBegun state (maxima_of c.due-updates.result) c.new-pending.result
+    c.apply_to_pending.new.pending = record {
+      due = c.due-updates.ensures state (sym c.maximum.ensures) refl refl;
+      same = c.new-pending.ensures.same;
+      updates = c.apply_to_pending.ensures.resized;
+    } in
+    block_is_done state (maxima_of c.due-updates.result) c.new-pending.result
+    c.apply_to_pending.new.pending c.append_fields.new.pending c.args.fields.now
+    c.apply.new.table c.commit.new.table begun c.new-pending.ensures.none_added
+    c.apply_to_pending.ensures.added c.in_ok-append_fields.ensures.added
+    c.in_ok-append_fields.ensures.after c.in_ok-apply.ensures.ok c.commit.ensures
+    ∙ ap (λ (s : EncoderState). after_block s c.args.fields.now) c.self.view_is
+
+pub returns-clause-block : goal.returns-clause-block
+returns-clause-block c = λ limit le.
+    let state : EncoderState = record {
+      table = c.self.inside.table;
+      least = c.self.inside.least;
+      limit = c.self.inside.limit;
+    } in
+    let small : state.limit < 2 ^ 32 = omega (arith, c.self.ranges) in
+    let writing : IsValidEncoder c.args.self.now =
+    subst IsValidEncoder c.self.view_is
+    (writing_of state c.new-pending.result c.new-pending.ensures.pending
+    c.new-pending.ensures.same c.self.invariant small) in
+    subst (λ (new : EncoderState). Block c.args.self.now.table limit
+    (block_of c.args.self.now c.args.fields.now) c.args.fields.now new.table)
+    (sym (returns-clause-after c))
+    (block_encodes c.args.self.now limit c.args.fields.now writing
+    c.in_ok-append_fields.ensures.octets c.requires le)

@@ -1,0 +1,19 @@
+use Rattle.std.proofs.Common.{◌≡◌, ◌++◌, drop}
+use Rattle.hpack_text.specs.Writing.{IsExtended}
+use Rattle.hpack.specs.Choice.{encoding_of_fields, after_fields}
+use Rattle.hpack.specs.Written.{AreOctets}
+use Rattle.hpack.specs.PendingTable.{represented, IsPendingTable, PreservesAdded}
+use Rattle.hpack.proofs.encode.fields.append_fields.Given as goal
+
+abbrev pub invariant-loop-field : goal.invariant-loop-field
+invariant-loop-field l = record {
+  pending : IsPendingTable l.pending l.table;
+  written : l.out.items ++ encoding_of_fields (represented l.pending l.table)
+      (drop l.field-index l.fields)
+      ≡ l.initial.out.items ++ encoding_of_fields (represented l.initial.pending l.table) l.fields;
+  after : after_fields (represented l.pending l.table) (drop l.field-index l.fields)
+      ≡ after_fields (represented l.initial.pending l.table) l.fields;
+  added : PreservesAdded l.table l.initial.pending l.pending;
+  octets : AreOctets (drop l.field-index l.fields) → AreOctets l.fields;
+  extended : IsExtended l.initial.out.items l.out.items;
+}

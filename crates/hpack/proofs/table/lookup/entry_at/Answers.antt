@@ -1,0 +1,21 @@
+use Rattle.std.proofs.Common.{◌∙◌, arith}
+use Rattle.hpack.proofs.LookupLemmas.{entry-static, entry-dynamic, entry-zero, entry-no_static}
+use Rattle.hpack.proofs.LookupLemmas.{entry-no_dynamic, option_weaker}
+use Rattle.hpack.proofs.table.lookup.entry_at.Goals as goal
+
+pub returns-then-index-eq0 : goal.returns-then-index-eq0
+returns-then-index-eq0 c = rw c.if-index-eq0.true (entry-zero c.args.table.now.entries)
+
+pub returns-then-index-le-STATIC_COUNT : goal.returns-then-index-le-STATIC_COUNT
+returns-then-index-le-STATIC_COUNT c =
+    option_weaker c.static_entry.result
+    (entry-no_static c.args.table.now.entries c.args.index c.if-index-le-STATIC_COUNT.true)
+    (λ found e. entry-static c.args.table.now.entries c.args.index (omega arith)
+    c.if-index-le-STATIC_COUNT.true ∙ e) c.static_entry.ensures
+
+pub returns : goal.returns
+returns c =
+    option_weaker c.get.result (entry-no_dynamic c.args.table.now.entries c.args.index
+    c.if-index-le-STATIC_COUNT.false)
+    (λ found e. entry-dynamic c.args.table.now.entries c.args.index c.if-index-le-STATIC_COUNT.false
+    ∙ e.1) c.get.ensures

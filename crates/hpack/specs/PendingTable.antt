@@ -1,0 +1,43 @@
+-- Pending tables: what becomes of a table, while the table itself stays as it is.
+use Rattle.std.specs.Prelude.{◌≡◌, ◌^◌, ◌<◌, ◌≤◌, List, ◌++◌, length, take, reverse, fold}
+use Rattle.hpack.specs.declared.types.entry.Entry.{Entry}
+use Rattle.hpack.specs.declared.encode.pending_table.PendingTable.{PendingTable}
+use Rattle.hpack.specs.Sizes.{table_size, add}
+use Rattle.hpack.specs.Tables.{Entries}
+
+-- all entries of a pending table, the newest first: those that were added, then the table's own
+abbrev pub newest_first : PendingTable → Entries → List Entry
+newest_first pending table = reverse pending.added.items ++ table.entries
+
+-- the table that a pending table represents
+abbrev pub represented : PendingTable → Entries → Entries
+represented pending table = record {
+  entries = take pending.live (newest_first pending table);
+  maximum = pending.maximum;
+}
+
+-- The pending table counts its live entries, and is within its maximum.
+pub record IsPendingTable (pending : PendingTable) (table : Entries) : Type 0 where
+  pub live : pending.live ≤ length (newest_first pending table)
+  pub counted : pending.size ≡ table_size (take pending.live (newest_first pending table))
+  pub within : pending.size ≤ pending.maximum
+  pub small : pending.maximum < 2 ^ 32
+
+-- a table to which an entry is added
+abbrev pub added_to : Entries → Entry → Entries
+added_to table one = record {
+  entries = add table.entries one table.maximum;
+  maximum =
+      table.maximum;
+}
+
+-- a table to which entries are added, one after another
+abbrev pub all_added : Entries → List Entry → Entries
+all_added table entries = fold added_to table entries
+
+-- Where the entries added so far lead from a table to the one represented, they do so with those
+-- added next.
+abbrev pub PreservesAdded : Entries → PendingTable → PendingTable → Type 0
+PreservesAdded table old new = (base : Entries)
+    → all_added base old.added.items ≡ represented old table
+    → all_added base new.added.items ≡ represented new table

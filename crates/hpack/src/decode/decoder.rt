@@ -1,0 +1,107 @@
+//! The decoder of field blocks (RFC 7541, sections 3.2 and 6).
+
+ghost use Rattle.std.specs.Prelude.{◌≡◌, true, false, IfOk, IfErr, OnErr, List as Items};
+ghost use Rattle.hpack.specs.declared.types.field.Field.{Field as OneField};
+ghost use Rattle.hpack.specs.Tables.{Entries};
+ghost use Rattle.hpack.specs.Blocks.{Block};
+ghost use Rattle.hpack.specs.Lists.{Decodes, DecodeFault, empty_table};
+
+use crate::decode::block::decode_block;
+use crate::table::dynamic_table::Table;
+use crate::types::fault::Fault;
+use crate::types::field::List;
+use std::alloc::Global;
+use std::marker::Model;
+
+/// Decodes the blocks of one direction of a connection, in order.
+#[derive(Debug, Drop)]
+pub struct Decoder {
+    alloc: Global,
+    table: Table,
+    limit: u32,
+    failed: bool,
+}
+
+impl Model for Decoder {
+    ghost use Rattle.hpack.specs.Lists.{DecoderState};
+
+    ghost Value = { DecoderState };
+
+    ghost view = { λ decoder. record {
+      table = decoder.table;
+      limit = decoder.limit;
+      failed =
+          decoder.failed;
+    } };
+}
+
+impl Decoder {
+    /// A decoder with an empty table, whose maximum and limit are `maximum`.
+    ///
+    /// # Errors
+    ///
+    /// [`Fault::Memory`] where the allocation of the table was refused.
+    pub fn new(alloc: Global, maximum: u32) -> Result<Decoder, Fault>
+        ensures ok { IfOk result (λ decoder. decoder ≡ record {
+          table = empty_table maximum;
+          limit =
+              maximum;
+          failed = false;
+        }) }
+        ensures err { IfErr result (λ fault. fault ≡ Fault.Memory) }
+    {
+        Ok(Decoder {
+            alloc,
+            table: Table::new(alloc, maximum)?,
+            limit: maximum,
+            failed: false,
+        })
+    }
+
+    /// Sets the limit for the updates of later blocks. The maximum stays until an update. It takes
+    /// no memory.
+    pub fn set_limit(&mut self, limit: u32)
+        ensures { self.new ≡ record self.old { limit = limit } }
+    {
+        self.limit = limit;
+    }
+
+    /// The dynamic table, to look at. It takes no memory.
+    pub fn table(&self) -> &Table
+        ensures { result.now ≡ self.now.table }
+    {
+        &self.table
+    }
+
+    /// Decodes a complete block: its fields in order, or [`List::TooLarge`] where their size is
+    /// above `list_limit` octets, by [`list_size`](crate::list_size) (RFC 9113, section 6.5.2); the
+    /// table is as after the complete block in either case. Past the limit no further field is
+    /// stored.
+    ///
+    /// # Errors
+    ///
+    /// [`Fault::Compression`] only where the octets are no block at this table and limit.
+    /// [`Fault::Memory`] where an allocation was refused. After either the decoder has failed, and
+    /// every call answers [`Fault::Failed`].
+    pub fn decode(&mut self, octets: &[u8], list_limit: u32) -> Result<List, Fault>
+        ensures failed { self.old.failed ≡ true → (result ≡ Err Fault.Failed)
+            × (self.new ≡ self.old) }
+        ensures ok { IfOk result (λ list. (self.old.failed ≡ false)
+            × Decodes self.old octets.now list_limit list self.new) }
+
+        // What is a block is decoded, unless memory runs out.
+        ensures only { (fields : Items OneField) (after : Entries) → self.old.failed ≡ false
+            → Block self.old.table self.old.limit octets.now fields after
+            → IfErr result (λ fault. fault ≡ Fault.Memory) }
+        ensures fault { self.old.failed ≡ false → IfErr result
+            (DecodeFault self.old.table self.old.limit octets.now) }
+        ensures broken { OnErr result (self.new.failed ≡ true) }
+    {
+        if self.failed {
+            return Err(Fault::Failed);
+        }
+        let decoded = decode_block(self.alloc, &mut self.table, self.limit, octets, list_limit);
+        self.failed = decoded.is_err();
+        decoded
+    }
+}

@@ -1,0 +1,137 @@
+//! The encoder of field blocks (RFC 7541, sections 3.2, 4.2 and 6).
+
+ghost use Rattle.std.specs.Prelude.{◌≡◌, ℕ, ◌^◌, ◌<◌, ◌≤◌, ◌++◌, IfOk, IfErr, OnOk, OnErr};
+ghost use Rattle.hpack_text.specs.Writing.{IsExtended};
+ghost use Rattle.hpack.specs.Choice.{block_of, after_block};
+ghost use Rattle.hpack.specs.Lists.{list_size, empty_table};
+ghost use Rattle.hpack.specs.Blocks.{Block};
+ghost use Rattle.hpack.specs.Limits.{after_limit};
+
+use crate::encode::fields::append_fields;
+use crate::encode::pending_table::PendingTable;
+use crate::encode::size_updates::SizeUpdates;
+use crate::table::dynamic_table::Table;
+use crate::types::fault::Fault;
+use crate::types::field::Field;
+use std::alloc::Global;
+use std::marker::Model;
+
+/// Encodes the blocks of one direction of a connection, in order.
+#[derive(Debug, Drop)]
+pub struct Encoder {
+    alloc: Global,
+    table: Table,
+    /// The least limit since the last block, that block's own included.
+    least: u32,
+    /// The limit now.
+    limit: u32,
+}
+
+impl Model for Encoder {
+    ghost use Rattle.std.specs.Prelude.{◌≤◌};
+    ghost use Rattle.hpack.specs.Lists.{EncoderState};
+
+    ghost Value = { EncoderState };
+
+    ghost view = { λ encoder. record {
+      table = encoder.table;
+      least = encoder.least;
+      limit =
+          encoder.limit;
+    } };
+
+    ghost invariant = { λ encoder. encoder.least ≤ encoder.limit };
+}
+
+impl Encoder {
+    /// An encoder with an empty table, whose maximum and limit are `maximum`.
+    ///
+    /// # Errors
+    ///
+    /// [`Fault::Memory`] where the allocation of the table was refused.
+    pub fn new(alloc: Global, maximum: u32) -> Result<Encoder, Fault>
+        ensures ok { IfOk result (λ encoder. encoder ≡ record {
+          table = empty_table maximum;
+          least =
+              maximum;
+          limit = maximum;
+        }) }
+        ensures err { IfErr result (λ fault. fault ≡ Fault.Memory) }
+    {
+        Ok(Encoder {
+            alloc,
+            table: Table::new(alloc, maximum)?,
+            least: maximum,
+            limit: maximum,
+        })
+    }
+
+    /// Sets the limit, in octets, of the peer's table (RFC 7541, section 4.2). The next block
+    /// announces what changed. It takes no memory; the next block takes room for `limit / 32`
+    /// entries, and [`Encoder::encode`] answers [`Fault::Memory`] as long as that is refused. So a
+    /// caller that has the limit from a peer caps it first, which the standard allows.
+    pub fn set_limit(&mut self, limit: u32)
+        ensures { self.new ≡ after_limit self.old limit }
+    {
+        self.least = self.least.min(limit);
+        self.limit = limit;
+    }
+
+    /// The dynamic table, to look at. It takes no memory.
+    pub fn table(&self) -> &Table
+        ensures { result.now ≡ self.now.table }
+    {
+        &self.table
+    }
+
+    /// Appends the block of the fields (RFC 7541, section 6): the updates that are due, then each
+    /// field as the least index that names it, or as a literal with the least index of its name,
+    /// added to the table unless it is sensitive or larger than the maximum. Strings are
+    /// Huffman-encoded where that isn't longer. The list's size ([`list_size`](crate::list_size))
+    /// must be below 2<sup>35</sup>.
+    ///
+    /// # Errors
+    ///
+    /// [`Fault::Memory`], and neither the encoder nor `out` has changed.
+    pub fn encode(&mut self, fields: &[Field], out: &mut Vec<u8>) -> Result<(), Fault>
+        requires { list_size fields.now < 2 ^ 35 }
+        ensures ok { OnOk result ((out.new.items ≡ out.old.items ++ block_of self.old fields.now)
+            × (self.new ≡ after_block self.old fields.now)) }
+
+        // It is a block of the list, for every decoder with the same table whose limit isn't below.
+        ensures block { OnOk result ((limit : ℕ) → self.old.limit ≤ limit
+            → Block self.old.table limit (block_of self.old fields.now) fields.now self.new.table) }
+        ensures err { IfErr result (λ fault. (fault ≡ Fault.Memory)
+            × (out.new.items ≡ out.old.items) × (self.new ≡ self.old)) }
+    {
+        let start = out.len();
+        if self.append_block(fields, out).is_err() {
+            out.truncate(start);
+            return Err(Fault::Memory);
+        }
+        Ok(())
+    }
+
+    /// Appends the block of the fields. What can fail comes first: the table is changed once all is
+    /// written and copied. On `Err` a prefix of the block has been appended.
+    fn append_block(&mut self, fields: &[Field], out: &mut Vec<u8>) -> Result<(), Fault>
+        requires { list_size fields.now < 2 ^ 35 }
+        ensures block { OnOk result ((limit : ℕ) → self.old.limit ≤ limit
+            → Block self.old.table limit (block_of self.old fields.now) fields.now self.new.table) }
+        ensures written { OnOk result
+            (out.new.items ≡ out.old.items ++ block_of self.old fields.now) }
+        ensures after { OnOk result (self.new ≡ after_block self.old fields.now) }
+        ensures err { OnErr result (self.new ≡ self.old) }
+        ensures extended { IsExtended out.old.items out.new.items }
+    {
+        let updates = SizeUpdates::due(self.table.maximum(), self.least, self.limit);
+        updates.append(out)?;
+        let mut pending = PendingTable::new(self.alloc, &self.table);
+        updates.apply_to_pending(&mut pending, &self.table);
+        append_fields(self.alloc, &mut pending, &self.table, fields, out)?;
+        updates.apply(&mut self.table)?;
+        pending.commit(&mut self.table);
+        self.least = self.limit;
+        Ok(())
+    }
+}

@@ -1,0 +1,175 @@
+//! What becomes of a table while a block is encoded.
+
+ghost use Rattle.std.specs.Prelude.{◌≡◌, ℕ, ◌+◌, ◌-◌, ◌^◌, ◌<◌, ◌≤◌, [], ◌∷◌, ◌++◌, min, length};
+ghost use Rattle.std.specs.Prelude.{take, reverse, slice_get, slice_index_or, Some, IfOk, OnOk};
+ghost use Rattle.std.specs.Prelude.{MatchOption};
+ghost use Rattle.hpack.specs.declared.types.entry.Entry.{Entry};
+ghost use Rattle.hpack.specs.Sizes.{entry_size, table_size, fit};
+ghost use Rattle.hpack.specs.Tables.{resized};
+ghost use Rattle.hpack.specs.Sought.{is_sought, first_index};
+ghost use Rattle.hpack.specs.PendingTable.{newest_first, represented, IsPendingTable, added_to};
+ghost use Rattle.hpack.specs.PendingTable.{all_added};
+
+use crate::encode::search::{Sought, is_match};
+use crate::table::dynamic_table::Table;
+use crate::table::eviction::{size_of, size_of_octets};
+use crate::types::entry::Entry;
+use crate::types::field::Field;
+use std::alloc::{AllocError, Global};
+
+/// The index of the newest entry of a dynamic table.
+const FIRST_INDEX: u64 = 62;
+
+/// A table after changes that it hasn't undergone yet: of the entries that were added, from the
+/// newest on, and then of the table's own, the first `live` are still there.
+#[derive(Drop)]
+pub(crate) struct PendingTable {
+    /// Copies of what was added, the newest last.
+    added: Vec<Entry>,
+    /// How many entries are still there.
+    live: usize,
+    /// Their size.
+    size: usize,
+    /// The greatest size.
+    maximum: u32,
+}
+
+impl PendingTable {
+    /// The table itself, before any change.
+    pub(crate) fn new(alloc: Global, table: &Table) -> PendingTable
+        ensures same { represented result table.now ≡ table.now }
+        ensures pending { IsPendingTable result table.now }
+        ensures none_added { result.added.items ≡ [] }
+    {
+        PendingTable {
+            added: Vec::new(alloc),
+            live: table.len(),
+            size: table.size(),
+            maximum: table.maximum(),
+        }
+    }
+
+    /// Sets the maximum, and lets the oldest entries leave.
+    pub(crate) fn resize(&mut self, table: &Table, maximum: u32)
+        requires { IsPendingTable self.old table.now }
+        ensures resized { represented self.new table.now
+            ≡ resized (represented self.old table.now) maximum }
+        ensures pending { IsPendingTable self.new table.now }
+        ensures added { self.new.added ≡ self.old.added }
+    {
+        (self.live, self.size) = self.fitting(table, maximum as usize);
+        self.maximum = maximum;
+    }
+
+    /// Adds an entry, and lets the oldest entries leave.
+    pub(crate) fn add(&mut self, table: &Table, entry: Entry) -> Result<(), AllocError>
+        requires pending { IsPendingTable self.old table.now }
+        requires fits { entry_size entry ≤ self.old.maximum }
+        ensures added { OnOk result (self.new.added.items ≡ self.old.added.items ++ entry ∷ []) }
+        ensures represented { OnOk result (represented self.new table.now
+            ≡ added_to (represented self.old table.now) entry) }
+        ensures pending { OnOk result (IsPendingTable self.new table.now) }
+    {
+        let size = size_of(&entry);
+        self.added.push(entry)?;
+        self.live += 1;
+        self.size += size;
+        (self.live, self.size) = self.fitting(table, self.maximum as usize);
+        Ok(())
+    }
+
+    /// The least index of the dynamic entries that are looked for, or 0.
+    pub(crate) fn dynamic_index(&self, table: &Table, sought: Sought, field: &Field) -> u64
+        requires { IsPendingTable self.now table.now }
+        ensures { result ≡ first_index (is_sought sought field.now) 62
+            (represented self.now table.now).entries }
+    {
+        for place in 0..self.live {
+            if self.is_match_at(table, place, sought, field) {
+                return FIRST_INDEX + place as u64;
+            }
+        }
+        0
+    }
+
+    /// The maximum.
+    pub(crate) fn maximum(&self) -> u32
+        ensures { result ≡ self.now.maximum }
+    {
+        self.maximum
+    }
+
+    /// Adds to the table the entries that were added here. It takes no memory.
+    pub(crate) fn commit(self, table: &mut Table)
+        ensures { table.new ≡ all_added table.old self.added.items }
+    {
+        for entry in self.added {
+            table.add(entry);
+        }
+    }
+
+    /// How many of the entries, from the newest on, have a size that is at most the bound, and that
+    /// size.
+    fn fitting(&self, table: &Table, bound: usize) -> (usize, usize)
+        requires live { self.now.live ≤ length (newest_first self.now table.now) }
+        requires counted { self.now.size ≡ table_size
+            (take self.now.live (newest_first self.now table.now)) }
+        ensures fitting { take result.0 (newest_first self.now table.now)
+            ≡ fit (take self.now.live (newest_first self.now table.now)) bound }
+        ensures live { result.0 ≤ self.now.live }
+        ensures counted { result.1 ≡ table_size (take result.0 (newest_first self.now table.now)) }
+        ensures within { result.1 ≤ bound }
+    {
+        let mut live = self.live;
+        let mut size = self.size;
+        while size > bound {
+            live -= 1;
+            size -= self.size_at(table, live);
+        }
+        (live, size)
+    }
+
+    /// Whether the entry at a place, from the newest on, is what is looked for.
+    fn is_match_at(&self, table: &Table, place: usize, sought: Sought, field: &Field) -> bool
+        ensures { (other : Entry) → place < length (newest_first self.now table.now)
+            → result ≡ is_sought sought field.now
+            (slice_index_or (newest_first self.now table.now) place other) }
+    {
+        match self.get(table, place) {
+            Some((name, value)) => is_match(sought, field, name, value),
+            None => false,
+        }
+    }
+
+    /// The size of an entry, by its place from the newest on.
+    fn size_at(&self, table: &Table, place: usize) -> usize
+        ensures { (other : Entry) → place < length (newest_first self.now table.now)
+            → result
+            ≡ min (entry_size (slice_index_or (newest_first self.now table.now) place other))
+            (2 ^ 64 - 1) }
+    {
+        match self.get(table, place) {
+            Some((name, value)) => size_of_octets(name, value),
+            None => 0,
+        }
+    }
+
+    /// The name and the value of an entry, by its place from the newest on.
+    fn get<'a>(&'a self, table: &'a Table, place: usize) -> Option<(&'a [u8], &'a [u8])>
+        ensures { MatchOption result (length (newest_first self.now table.now) ≤ place)
+            (λ found. slice_get (newest_first self.now table.now) place
+            ≡ Some (record { name = found.0.now; value = found.1.now })) }
+    {
+        let count = self.added.len();
+        if place >= count {
+            let own = place - count;
+            return if own < table.len() {
+                table.get(own + 1)
+            } else {
+                None
+            };
+        }
+        let entry = &self.added[count - 1 - place];
+        Some((entry.name.as_slice(), entry.value.as_slice()))
+    }
+}

@@ -1,0 +1,49 @@
+//! What the encoder writes, as laws: each is the contract of a function that does nothing.
+
+ghost use Rattle.std.specs.Prelude.{◌≡◌, ℕ, ◌^◌, ◌<◌, ◌≤◌, List, fold};
+ghost use Rattle.hpack.specs.declared.types.field.Field.{Field};
+ghost use Rattle.hpack.specs.Blocks.{Block};
+ghost use Rattle.hpack.specs.Lists.{EncoderState, list_size, empty_table};
+ghost use Rattle.hpack.specs.Choice.{block_of, after_block};
+ghost use Rattle.hpack.specs.Written.{IsValidEncoder, AreOctets};
+ghost use Rattle.hpack.specs.Limits.{after_limit, chosen, IsSettled};
+
+/// What an encoder writes for a list is a block of that list, for every decoder with the encoder's
+/// table whose limit isn't below the encoder's, and it leaves the encoder's table.
+pub fn written_block()
+    ensures block { (state : EncoderState) (limit : ℕ) (fields : List Field) → IsValidEncoder state
+        → AreOctets fields → list_size fields < 2 ^ 35
+        → state.limit ≤ limit → Block state.table limit (block_of state fields) fields
+        (after_block state fields).table }
+
+    // It holds of a new encoder, and after a block: the table is within its maximum, the limit.
+    ensures begins { (maximum : ℕ) → maximum < 2 ^ 32
+        → IsValidEncoder (record {
+          table = empty_table maximum;
+          least = maximum;
+          limit =
+              maximum;
+        }) }
+    ensures goes_on { (state : EncoderState) (fields : List Field) → IsValidEncoder state
+        → IsValidEncoder (after_block state fields) }
+    ensures maximum { (state : EncoderState) (fields : List Field) → IsValidEncoder state
+        → (after_block state fields).table.maximum ≡ state.limit }
+{}
+
+/// Of the limits that are set between two blocks, in order, the least and the last decide all that
+/// is written: what an encoder writes, which records no more of them, is what the list of them all
+/// says.
+pub fn least_and_last()
+    ensures block { (state : EncoderState) (limits : List ℕ) (fields : List Field) → IsSettled state
+        → block_of (fold after_limit state limits) fields ≡ chosen state.table limits fields }
+
+    // An encoder begins without limits that were set, and every block leaves it so.
+    ensures begins { (maximum : ℕ)
+        → IsSettled (record { table = empty_table maximum; least = maximum; limit = maximum }) }
+    ensures settled { (state : EncoderState) (fields : List Field) → IsValidEncoder state
+        → IsSettled (after_block state fields) }
+
+    // Setting a limit leaves an encoder as it must be for what it writes to be a block.
+    ensures limited { (state : EncoderState) (limit : ℕ) → limit < 2 ^ 32 → IsValidEncoder state
+        → IsValidEncoder (after_limit state limit) }
+{}

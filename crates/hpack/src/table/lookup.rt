@@ -1,0 +1,27 @@
+//! The entry that an index names (RFC 7541, section 2.3.3).
+
+ghost use Rattle.std.specs.Prelude.{◌≡◌, ◌-◌, Some, None, MatchOption};
+ghost use Rattle.hpack.specs.Static.{entry};
+
+use crate::table::dynamic_table::Table;
+use crate::table::static_table::static_entry;
+
+/// How many entries the static table has.
+const STATIC_COUNT: u64 = 61;
+
+/// The name and the value of the entry that an index names: of the static table from 1 on, and then
+/// of the dynamic one.
+#[inline(always)]
+pub(crate) fn entry_at(table: &Table, index: u64) -> Option<(&[u8], &[u8])>
+    ensures { MatchOption result (entry table.now.entries index ≡ None)
+        (λ found. entry table.now.entries index ≡ Some
+        (record { name = found.0.now; value = found.1.now })) }
+{
+    if index == 0 {
+        return None;
+    }
+    if index <= STATIC_COUNT {
+        return static_entry(index);
+    }
+    table.get((index - STATIC_COUNT) as usize)
+}

@@ -1,0 +1,8 @@
+//! Fields, entries, octets and faults.
+
+pub(crate) mod entry;
+pub(crate) mod fault;
+pub(crate) mod field;
+pub(crate) mod list_size;
+pub(crate) mod literal;
+pub(crate) mod octets;

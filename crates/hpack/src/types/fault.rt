@@ -1,0 +1,17 @@
+//! The faults of field blocks.
+
+use thiserror::Error;
+
+/// Why a block isn't decoded, or a list isn't encoded.
+#[derive(Clone, Copy, Debug, PartialEq, Eq, Error)]
+pub enum Fault {
+    /// The octets are no field block at this table: COMPRESSION_ERROR.
+    #[error("P1 Compression: the octets are no field block")]
+    Compression,
+    /// An allocation was refused.
+    #[error("P2 Memory: out of memory")]
+    Memory,
+    /// An earlier block failed, and the decoder's table with it.
+    #[error("P3 Failed: an earlier block failed")]
+    Failed,
+}

@@ -1,0 +1,37 @@
+//! Fields, as they are decoded and encoded.
+
+use crate::types::octets::Octets;
+use std::fmt;
+
+/// A field: a name, a value, and whether it may never be put into a table (RFC 7541, section
+/// 7.1.3). `{:?}` shows `[sensitive]` in place of a sensitive field's value.
+#[derive(Drop)]
+pub struct Field {
+    /// The name.
+    pub name: Octets,
+    /// The value.
+    pub value: Octets,
+    /// Whether it is to be written, or was read, as a literal that is never indexed.
+    pub sensitive: bool,
+}
+
+impl fmt::Debug for Field {
+    fn fmt<W: fmt::Write>(&self, f: &mut fmt::Formatter<W>) -> fmt::Result {
+        if self.sensitive {
+            return write!(f, "Field {{ name: {:?}, value: [sensitive] }}", self.name);
+        }
+        f.debug_struct("Field")
+            .field("name", &self.name)
+            .field("value", &self.value)
+            .finish()
+    }
+}
+
+/// The fields of a block.
+#[derive(Debug, Drop)]
+pub enum List {
+    /// All of them, in order.
+    Whole(Vec<Field>),
+    /// Their size is above the limit; the table is as after the complete block.
+    TooLarge,
+}

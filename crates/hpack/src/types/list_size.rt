@@ -1,0 +1,20 @@
+//! The size of a list of fields (RFC 9113, section 6.5.2).
+
+ghost use Rattle.std.specs.Prelude.{◌≡◌, ◌-◌, ◌^◌, min};
+ghost use Rattle.hpack.specs.Lists.{list_size as size_of_list};
+
+use crate::table::eviction::size_of_octets;
+use crate::types::field::Field;
+
+/// The size of a list: the sum of name, value and 32 octets for each field (RFC 9113, section
+/// 6.5.2), or the greatest number where that is less. It takes no memory.
+pub fn list_size(fields: &[Field]) -> usize
+    ensures { result ≡ min (size_of_list fields.now) (2 ^ 64 - 1) }
+{
+    let mut size: usize = 0;
+    for field in fields {
+        let one = size_of_octets(field.name.as_slice(), field.value.as_slice());
+        size = size.saturating_add(one);
+    }
+    size
+}
