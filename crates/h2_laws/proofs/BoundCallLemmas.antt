@@ -1,6 +1,6 @@
 -- What is bounded at one end stays so behind each call that isn't refused; and it is so at first.
 use Rattle.std.proofs.Common.{subst, ◌≡◌, ℕ, suc, ◌+◌, ◌-◌, ◌*◌, ◌<◌, ◌≤◌, ◌==◌, nat_lt, nat_le, not, ◌&&◌, ◌||◌, if◌then◌else◌, Bool, true, false, List, [], ◌∷◌, ◌++◌, length, take, drop, pos, ◌-ℤ◌, Option, Some, None, is_some, refl, arith, length-append, length-take, length-drop, ltb-true, ltb-false, leb-false}
-use Rattle.hpack.specs.declared.field.Field.{Field}
+use Rattle.hpack.specs.declared.types.field.Field.{Field}
 use Rattle.hpack.specs.Lists.{list_size}
 use Rattle.hpack.specs.Choice.{block_of, after_block}
 use Rattle.hpack.proofs.WrittenBlocks.{block_goes_on}

@@ -4,7 +4,7 @@ use Rattle.std.specs.FinMap as map
 use Rattle.hpack.specs.Lists.{EncoderState}
 use Rattle.hpack.specs.Written.{IsValidEncoder}
 use Rattle.hpack.specs.Limits.{after_limit}
-use Rattle.hpack.proofs.LimitLemmas.{limit_keeps}
+use Rattle.hpack.proofs.LimitLemmas.{limit_preserves}
 use Rattle.h2_frame.specs.declared.code.Code.{Code}
 use Rattle.h2_frame.specs.Frames.{GoAway, WindowUpdate}
 use Rattle.h2_block.specs.Grouping.{Item, alone}
@@ -192,7 +192,7 @@ block_up e i end (Some stream) few h = changed_up e i (record stream { ended_in 
 -- The limits that SETTINGS set leave what must be true of the encoder, by whether a pair sets it.
 limited_by : (encoder : EncoderState) (value : ℕ) (b : Bool) → IsValidEncoder encoder
     → IsValidEncoder (if b then after_limit encoder (min value 4096) else encoder)
-limited_by encoder value true writing = limit_keeps encoder (min value 4096) (omega arith) writing
+limited_by encoder value true writing = limit_preserves encoder (min value 4096) (omega arith) writing
 limited_by encoder value false writing = writing
 
 -- The limits that SETTINGS set leave what must be true of the encoder.

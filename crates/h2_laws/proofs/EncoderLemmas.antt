@@ -4,7 +4,7 @@ use Rattle.hpack.specs.Lists.{EncoderState}
 use Rattle.hpack.specs.Choice.{after_block}
 use Rattle.hpack.specs.Written.{IsValidEncoder}
 use Rattle.hpack.specs.Limits.{after_limit}
-use Rattle.hpack.proofs.LimitLemmas.{limit_keeps}
+use Rattle.hpack.proofs.LimitLemmas.{limit_preserves}
 use Rattle.hpack.proofs.WrittenBlocks.{block_goes_on}
 use Rattle.h2_frame.specs.Frames.{Data, Headers, Priority, Reset, Settings, Ping, GoAway, WindowUpdate, Continuation, Unknown}
 use Rattle.h2_block.specs.Grouping.{Item, alone, block}
@@ -40,7 +40,7 @@ tells_limited log (event ∷ events) is = is
 pair_limited : (encoder : EncoderState) (before id value : ℕ) (b : Bool) → IsValidEncoder encoder → encoder.limit ≡ min before 4096
     → IsValidEncoder (if b then after_limit encoder (min value 4096) else encoder)
     × ((if b then after_limit encoder (min value 4096) else encoder).limit ≡ min (if b then value else before) 4096)
-pair_limited encoder before id value true writing is = (limit_keeps encoder (min value 4096) (omega arith) writing, refl)
+pair_limited encoder before id value true writing is = (limit_preserves encoder (min value 4096) (omega arith) writing, refl)
 pair_limited encoder before id value false writing is = (writing, is)
 
 -- Pairs of SETTINGS set the limit.

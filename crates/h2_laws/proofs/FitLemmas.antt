@@ -5,9 +5,9 @@ use Rattle.std.proofs.lemmas.List.Sums.{sum_by-cons}
 use Rattle.hpack_text.specs.Integers.{all_ones, continuation_of, integer}
 use Rattle.hpack_text.specs.Strings.{string}
 use Rattle.hpack_text.specs.Huffman.{huffman_bits}
-use Rattle.hpack.specs.declared.field.Field.{Field}
-use Rattle.hpack.specs.declared.kind.Literal.{Literal}
-use Rattle.hpack.specs.declared.kind.Literal.TheVariants.{WithIndexing, WithoutIndexing, NeverIndexed}
+use Rattle.hpack.specs.declared.types.field.Field.{Field}
+use Rattle.hpack.specs.declared.types.literal.Literal.{Literal}
+use Rattle.hpack.specs.declared.types.literal.Literal.TheVariants.{WithIndexing, WithoutIndexing, NeverIndexed}
 use Rattle.hpack.specs.Tables.{Entries}
 use Rattle.hpack.specs.Lists.{EncoderState, list_size}
 use Rattle.hpack.specs.Choice.{Choice, indexed, literal, choice, literal_head, encoding_of_field, after_choice, encoding_of_fields, size_updates, after_updates, block_of}

@@ -4,7 +4,7 @@ use Rattle.std.specs.List.{list_any}
 use Rattle.std.specs.FinMap as map
 use Rattle.std.proofs.lemmas.Int.{ints}
 use Rattle.std.proofs.lemmas.List.{length-take-le}
-use Rattle.hpack.specs.declared.field.Field.{Field}
+use Rattle.hpack.specs.declared.types.field.Field.{Field}
 use Rattle.hpack.specs.Lists.{EncoderState}
 use Rattle.hpack.specs.Choice.{block_of, after_block}
 use Rattle.h2_block.specs.Grouping.{Item, block}

@@ -6,7 +6,7 @@ use Rattle.hpack.specs.Blocks.{Block}
 use Rattle.hpack.specs.Choice.{block_of, after_block}
 use Rattle.hpack.specs.Written.{IsValidEncoder}
 use Rattle.hpack.specs.Limits.{after_limit}
-use Rattle.hpack.proofs.LimitLemmas.{fold_limits, limit_keeps}
+use Rattle.hpack.proofs.LimitLemmas.{fold_limits, limit_preserves}
 use Rattle.hpack.proofs.WrittenBlocks.{block_encodes, block_goes_on}
 use Rattle.h2_laws.specs.Tables.{Sending, encoder_before, octets_sent, encoder_after, AreWithin, AreRead}
 
@@ -14,7 +14,7 @@ use Rattle.h2_laws.specs.Tables.{Sending, encoder_before, octets_sent, encoder_a
 limits_keep : (encoder : EncoderState) (limits : List ℕ) → AllByRecursion (λ limit. limit < 2 ^ 32) limits → IsValidEncoder encoder
     → IsValidEncoder (fold after_limit encoder limits)
 limits_keep encoder [] small writing = writing
-limits_keep encoder (limit ∷ limits) small writing = limits_keep (after_limit encoder limit) limits small.1 (limit_keeps encoder limit small.0 writing)
+limits_keep encoder (limit ∷ limits) small writing = limits_keep (after_limit encoder limit) limits small.1 (limit_preserves encoder limit small.0 writing)
 
 -- Setting limits leaves the table.
 same_table : (encoder : EncoderState) (limits : List ℕ) → (fold after_limit encoder limits).table ≡ encoder.table

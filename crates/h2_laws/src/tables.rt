@@ -1,7 +1,7 @@
 //! Header tables of two ends.
 
 ghost use Rattle.std.specs.Prelude.{◌≡◌, ℕ, ◌≤◌, min, List, length};
-ghost use Rattle.hpack.specs.declared.field.Field.{Field};
+ghost use Rattle.hpack.specs.declared.types.field.Field.{Field};
 ghost use Rattle.hpack.specs.Lists.{EncoderState, list_size};
 ghost use Rattle.hpack.specs.Choice.{block_of};
 ghost use Rattle.hpack.specs.Written.{IsValidEncoder};

@@ -2,7 +2,7 @@
 use Rattle.std.proofs.Common.{◌≡◌, ℕ, zero, suc, ◌+◌, ◌*◌, ◌==◌, nat_le, ◌&&◌, Bool, true, false, List, [], ◌∷◌, length, replicate, Option, Some, None, is_none, refl, ap, ◌∙◌, subst, inl, arith, not}
 use Rattle.std.proofs.lemmas.Bool.{eqb-true, not-true}
 use Rattle.std.proofs.lemmas.List.{nil_from_length}
-use Rattle.hpack.specs.declared.entry.Entry.{Entry}
+use Rattle.hpack.specs.declared.types.entry.Entry.{Entry}
 use Rattle.hpack.specs.Tables.{Entries}
 use Rattle.hpack.specs.Lists.{empty_table}
 use Rattle.h2_frame.specs.Frames.{Data, Headers, Settings, Ping, GoAway, WindowUpdate}

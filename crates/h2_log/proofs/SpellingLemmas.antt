@@ -1,7 +1,7 @@
 -- A frame that comes in the spelling that is written is cut whole, where nothing stands between it and the frames before it.
 use Rattle.std.proofs.Common.{◌≡◌, ℕ, ◌+◌, ◌≤◌, ◌<◌, ◌==◌, nat_lt, nat_le, ◌&&◌, Bool, true, false, List, [], ◌∷◌, ◌++◌, length, Option, Some, None, refl, sym, ◌∙◌, subst, arith, inl, inr, append-nil, length-append}
 use Rattle.std.proofs.lemmas.Bool.Decides.{nat_tests}
-use Rattle.hpack.specs.declared.field.Field.{Field}
+use Rattle.hpack.specs.declared.types.field.Field.{Field}
 use Rattle.hpack.specs.Tables.{Entries}
 use Rattle.h2_frame.specs.Frames.{Frame, Headers}
 use Rattle.h2_frame.specs.Writing.{payload_of, encoding_of, refusal, IsTyped}

@@ -1,6 +1,6 @@
 -- What an end is asked to do, and what it answers.
 use Rattle.std.specs.Prelude.{◌≡◌, ◌≤◌, ◌<◌, ◌^◌, ℕ, Bool, List, length, Option}
-use Rattle.hpack.specs.declared.field.Field.{Field}
+use Rattle.hpack.specs.declared.types.field.Field.{Field}
 use Rattle.hpack.specs.Written.{AreOctets}
 use Rattle.h2_frame.specs.declared.code.Code.{Code}
 use Rattle.h2_log.specs.declared.refusal.Refusal.{Refusal}

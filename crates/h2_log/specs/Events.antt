@@ -1,6 +1,6 @@
 -- What an end tells whoever uses it.
 use Rattle.std.specs.Prelude.{ℕ, ◌+◌, ◌==◌, ◌&&◌, max, Bool, false, if◌then◌else◌, List, [], ◌∷◌}
-use Rattle.hpack.specs.declared.field.Field.{Field}
+use Rattle.hpack.specs.declared.types.field.Field.{Field}
 
 pub data Event : Type 0 where
   -- a field block of a stream, and whether it has END_STREAM

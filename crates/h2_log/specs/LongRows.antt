@@ -1,6 +1,6 @@
 -- Small histories of one end, further ones: long bodies, many streams, settings that change, bars.
 use Rattle.std.specs.Prelude.{◌≡◌, ℕ, zero, suc, ◌+◌, ◌*◌, true, false, List, [], ◌∷◌, ◌++◌, length, take, replicate, codes, Some, None}
-use Rattle.hpack.specs.declared.field.Field.{Field}
+use Rattle.hpack.specs.declared.types.field.Field.{Field}
 use Rattle.hpack.specs.Tables.{Entries}
 use Rattle.hpack.specs.Lists.{empty_table, list_size}
 use Rattle.h2_frame.specs.declared.code.Code.TheVariants.{ProtocolError, EnhanceYourCalm}

@@ -1,7 +1,7 @@
 //! Laws of a log's octets and frames, each the contract of a function that does nothing.
 
 ghost use Rattle.std.specs.Prelude.{◌≡◌, ℕ, ◌≤◌, Bool, true, List, [], length, Some, None};
-ghost use Rattle.hpack.specs.declared.field.Field.{Field};
+ghost use Rattle.hpack.specs.declared.types.field.Field.{Field};
 ghost use Rattle.hpack.specs.Tables.{Entries};
 ghost use Rattle.h2_frame.specs.Frames.{Frame, Headers};
 ghost use Rattle.h2_frame.specs.Writing.{payload_of, refusal as writing_refusal, IsTyped};

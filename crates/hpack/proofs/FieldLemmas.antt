@@ -3,7 +3,7 @@ use Rattle.std.proofs.Common.{◌≡◌, ℕ, ◌+◌, ◌<◌, ◌≤◌, List,
 use Rattle.std.proofs.Common.{append_assoc, append-nil}
 use Rattle.std.proofs.lemmas.List.{drop_more}
 use Rattle.std.proofs.Math.ListN.{drop_of_length-le}
-use Rattle.hpack_text.specs.Writing.{IsExtended}
+use Rattle.hpack_text.specs.Appended.{IsExtended}
 use Rattle.hpack.specs.declared.types.field.Field.{Field}
 use Rattle.hpack.specs.Tables.{Entries}
 use Rattle.hpack.specs.Choice.{choice, encoding_of_field, after_choice, encoding_of_fields}

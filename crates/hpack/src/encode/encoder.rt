@@ -1,7 +1,7 @@
 //! The encoder of field blocks (RFC 7541, sections 3.2, 4.2 and 6).
 
 ghost use Rattle.std.specs.Prelude.{◌≡◌, ℕ, ◌^◌, ◌<◌, ◌≤◌, ◌++◌, IfOk, IfErr, OnOk, OnErr};
-ghost use Rattle.hpack_text.specs.Writing.{IsExtended};
+ghost use Rattle.hpack_text.specs.Appended.{IsExtended};
 ghost use Rattle.hpack.specs.Choice.{block_of, after_block};
 ghost use Rattle.hpack.specs.Lists.{list_size, empty_table};
 ghost use Rattle.hpack.specs.Blocks.{Block};

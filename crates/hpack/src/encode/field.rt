@@ -4,7 +4,7 @@ ghost use Rattle.std.specs.Prelude.{◌≡◌, ◌%◌, ◌^◌, ◌<◌, ◌≤
 ghost use Rattle.std.specs.Prelude.{length};
 ghost use Rattle.hpack_text.specs.Integers.{integer};
 ghost use Rattle.hpack_text.specs.Strings.{string};
-ghost use Rattle.hpack_text.specs.Writing.{IsExtended};
+ghost use Rattle.hpack_text.specs.Appended.{IsExtended};
 ghost use Rattle.hpack.specs.Choice.{encoding_of_field, literal_head};
 ghost use Rattle.hpack.specs.ChoiceModel.{choice_of, index_of};
 

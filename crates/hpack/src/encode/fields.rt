@@ -1,7 +1,7 @@
 //! Writing the fields of a block.
 
 ghost use Rattle.std.specs.Prelude.{◌≡◌, ◌+◌, ◌^◌, ◌<◌, ◌≤◌, ◌++◌, length, OnOk, IfOk};
-ghost use Rattle.hpack_text.specs.Writing.{IsExtended};
+ghost use Rattle.hpack_text.specs.Appended.{IsExtended};
 ghost use Rattle.std.specs.List.{AllByRecursion};
 ghost use Rattle.hpack_text.specs.Bits.{IsOctet};
 ghost use Rattle.hpack.specs.Lists.{list_size};

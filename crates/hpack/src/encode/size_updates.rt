@@ -2,7 +2,7 @@
 
 ghost use Rattle.std.specs.Prelude.{◌≡◌, ◌++◌, OnOk, OnErr, IfErr, flat_map};
 ghost use Rattle.hpack_text.specs.Integers.{integer};
-ghost use Rattle.hpack_text.specs.Writing.{IsExtended};
+ghost use Rattle.hpack_text.specs.Appended.{IsExtended};
 ghost use Rattle.hpack.specs.Lists.{EncoderState};
 ghost use Rattle.hpack.specs.Choice.{size_updates as size_updates_of, after_updates};
 ghost use Rattle.hpack.specs.PendingTable.{represented, IsPendingTable};

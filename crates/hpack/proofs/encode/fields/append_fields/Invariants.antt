@@ -1,5 +1,5 @@
 use Rattle.std.proofs.Common.{◌≡◌, ◌++◌, drop}
-use Rattle.hpack_text.specs.Writing.{IsExtended}
+use Rattle.hpack_text.specs.Appended.{IsExtended}
 use Rattle.hpack.specs.Choice.{encoding_of_fields, after_fields}
 use Rattle.hpack.specs.Written.{AreOctets}
 use Rattle.hpack.specs.PendingTable.{represented, IsPendingTable, PreservesAdded}
