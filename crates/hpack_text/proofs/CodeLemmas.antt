@@ -11,10 +11,15 @@ use Rattle.hpack_text.specs.declared.fault.TextFault.TheVariants as faults
 use Rattle.hpack_text.specs.Bits.{IsOctet, bits, octets_of}
 use Rattle.hpack_text.specs.Huffman.{code, codes, Huff, IsLongest, HasEndSymbol, HasBadPadding}
 use Rattle.hpack_text.specs.Huffman.{HuffFault, padding_of, huffman_bits, huffman_length}
-use Rattle.hpack_text.specs.Walk.{IsOpen}
+use Rattle.hpack_text.specs.Tree.{tree}
 use Rattle.hpack_text.proofs.BitLemmas.{length-bits, octets_of-bits, are_octets, AreOctets}
-use Rattle.hpack_text.proofs.TreeLemmas.{computing_tree, tree, first_symbol, first_symbol-code}
+use Rattle.hpack_text.proofs.TreeLemmas.{computing_tree, first_symbol, first_symbol-code}
 use Rattle.hpack_text.proofs.TreeLemmas.{same_symbol}
+
+-- No code of a symbol begins the bits, EOS included.
+abbrev pub IsOpen : List Bool → Type 0
+IsOpen bit_list = (symbol : ℕ) (more : List Bool) → symbol < 257
+    → bit_list ≡ code symbol ++ more → ⊥
 
 -- No code of an octet begins the bits.
 abbrev pub IsStuck : List Bool → Type 0

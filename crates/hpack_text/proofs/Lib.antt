@@ -4,6 +4,7 @@ pub mod IntegerLemmas
 pub mod IntegerWriting
 pub mod ReadLemmas
 mod Rows
+pub mod StateLemmas
 pub mod StringLemmas
 pub mod TableLemmas
 pub mod TreeLemmas

@@ -3,5 +3,6 @@ pub mod Bits
 pub mod Continuation
 pub mod Huffman
 pub mod Integers
+pub mod States
 pub mod Strings
-pub mod Walk
+pub mod Tree

@@ -1,20 +1,22 @@
 //! The Huffman code (RFC 7541, section 5.2 and appendix B).
 
 ghost use Rattle.std.specs.Prelude.{◌≡◌, ℕ, ◌+◌, ◌^◌, ◌<◌, ◌≤◌, ◌++◌, List, length, IfOk, IfErr};
-ghost use Rattle.std.specs.Prelude.{OnOk, IsOk, MatchResult, vec_len};
+ghost use Rattle.std.specs.Prelude.{OnOk, IsOk, MatchOption, MatchResult, vec_len};
 ghost use Rattle.std.specs.Vec.{vec_capacity};
 ghost use Rattle.hpack_text.specs.Huffman.{Huff, HuffFault, huffman_bits};
+ghost use Rattle.hpack_text.specs.States.{BeginsWithEnd, code_if_some, prefix_of, stepped};
 
 use crate::fault::TextFault;
 use std::alloc::Global;
 
 mod codes;
 mod reader;
-mod symbols;
+mod steps;
 mod writer;
 
 use codes::code_of;
 use reader::read_text;
+use steps::{END, HAS_SYMBOL, next_state, step_at, symbol_of};
 use writer::append_huffman;
 
 /// How many octets [`huff_write`] appends for the text. It takes no memory.
@@ -69,4 +71,26 @@ pub fn huff_read(alloc: Global, octets: &[u8]) -> Result<Vec<u8>, TextFault>
     ensures fault { IfErr result (HuffFault octets.now) }
 {
     read_text(alloc, octets)
+}
+
+/// Reads four bits more, the most significant one first, from a state, and answers the next state
+/// and the octet whose code the bits end, if any. A state is a proper prefix of a code, numbered;
+/// 0 is the empty one. No four bits end two codes, as each code has five bits at least. None comes
+/// where the bits of the state and these four begin with the code of EOS. It takes no memory.
+#[inline]
+pub fn huff_step(state: u8, half: u8) -> Option<(u8, Option<u8>)>
+    requires { half < 16 }
+    ensures { MatchOption result (BeginsWithEnd (stepped state half))
+        (λ step. (stepped state half ≡ code_if_some step.1 ++ prefix_of step.0)
+        × (BeginsWithEnd (stepped state half) → ⊥)) }
+{
+    let step = step_at(state, half);
+    if step >= END {
+        return None;
+    }
+    let next = next_state(step);
+    if step < HAS_SYMBOL {
+        return Some((next, None));
+    }
+    Some((next, Some(symbol_of(step))))
 }
