@@ -1,4 +1,4 @@
--- Octets spell one frame at most.
+-- Octets encode one frame at most.
 use Rattle.std.proofs.Common.{◌≡◌, ℕ, suc, ◌+◌, ◌-◌, ◌%◌, ◌^◌, Bool, true, false, List, [], length, take, drop, slice_index, Option, None, Some, refl, sym, ap, ◌∙◌, arith, length-append}
 use Rattle.std.proofs.Math.Seq.{take-append_seam, drop-append_seam}
 use Rattle.byteorder.specs.Endian.{big_number}
@@ -9,7 +9,7 @@ use Rattle.h2_frame.specs.Heads.{head_of, has_ack, has_end_stream, has_end_heade
 use Rattle.h2_frame.specs.Pairs.{pairs_of}
 use Rattle.h2_frame.specs.Frames.{Frame, Data, Headers, Priority, Reset, Settings, Ping, GoAway, WindowUpdate, Continuation, Unknown, IsPadded, IsPrioritized, Carries, Encodes}
 
--- what stands between the pad length and the padding of a payload, or the whole payload
+-- what lies between the pad length and the padding of a payload, or all of the payload
 body_in : Bool → List ℕ → List ℕ
 body_in false payload = payload
 body_in true payload = take (length payload - 1 - slice_index payload 0) (drop 1 payload)
@@ -19,7 +19,7 @@ pad_in : Bool → List ℕ → Option ℕ
 pad_in false payload = None
 pad_in true payload = Some (slice_index payload 0)
 
--- what stands behind the priority of a body, or the whole body
+-- what follows the priority of a body, or all of the body
 fragment_in : Bool → List ℕ → List ℕ
 fragment_in false body = body
 fragment_in true body = drop 5 body
@@ -59,7 +59,7 @@ prioritized_priority prioritized body fragment None (plain, same) = rw plain ref
 prioritized_priority prioritized body fragment (Some priority) (set, five, joined) =
     rw (set, joined, sym five) (ap Some (sym (take-append_seam priority fragment)))
 
--- the frame that a payload behind a head of this kind is
+-- the frame that a payload following a head of this kind is
 carried : Kind → Head → List ℕ → Frame
 carried kinds.Data head payload =
     Data head.stream (has_end_stream head.flags) (body_in (has_padding head.flags) payload) (pad_in (has_padding head.flags) payload)
@@ -78,7 +78,7 @@ carried kinds.WindowUpdate head payload = WindowUpdate head.stream (big_number 4
 carried kinds.Continuation head payload = Continuation head.stream (has_end_headers head.flags) payload
 carried (kinds.Unknown number) head payload = Unknown number head.flags head.stream payload
 
--- what stands with a payload is the frame that it is
+-- the frame that a payload carries is the one that is computed from it
 Carries-carried : (frame : Frame) (head : Head) (payload : List ℕ) → Carries head payload frame → frame ≡ carried head.kind head payload
 unfolding carried
 Carries-carried (Data stream end octets pad) head payload (kind, on, some, ends, padded) =
@@ -94,16 +94,16 @@ Carries-carried (Headers stream end whole fragment pad priority) head payload (k
       prioritized_fragment (has_priority head.flags) body fragment priority prioritized,
       prioritized_priority (has_priority head.flags) body fragment priority prioritized,
     ) refl
-Carries-carried (Priority stream octets) head payload (kind, on, some, whole, read) = rw (kind, on, read) refl
-Carries-carried (Reset stream code) head payload (kind, on, some, whole, read) = rw (kind, on, read) refl
-Carries-carried (Settings ack pairs) head payload (kind, stream, acked, whole, none, read) = rw (kind, acked, read) refl
-Carries-carried (Ping ack octets) head payload (kind, stream, acked, whole, read) = rw (kind, acked, read) refl
-Carries-carried (GoAway last code debug) head payload (kind, stream, whole, lasting, coded, read) = rw (kind, lasting, coded, read) refl
-Carries-carried (WindowUpdate stream increment) head payload (kind, on, whole, read) = rw (kind, on, read) refl
+Carries-carried (Priority stream octets) head payload (kind, on, some, complete, read) = rw (kind, on, read) refl
+Carries-carried (Reset stream code) head payload (kind, on, some, complete, read) = rw (kind, on, read) refl
+Carries-carried (Settings ack pairs) head payload (kind, stream, acked, complete, none, read) = rw (kind, acked, read) refl
+Carries-carried (Ping ack octets) head payload (kind, stream, acked, complete, read) = rw (kind, acked, read) refl
+Carries-carried (GoAway last code debug) head payload (kind, stream, complete, lasting, coded, read) = rw (kind, lasting, coded, read) refl
+Carries-carried (WindowUpdate stream increment) head payload (kind, on, complete, read) = rw (kind, on, read) refl
 Carries-carried (Continuation stream whole fragment) head payload (kind, on, some, ended, read) = rw (kind, on, ended, read) refl
 Carries-carried (Unknown kind flags stream octets) head payload (known, flagged, on, read) = rw (known, flagged, on, read) refl
 
--- octets spell one frame at most
+-- octets encode one frame at most
 pub one_frame_lem : (frame other : Frame) (octets : List ℕ) → Encodes frame octets → Encodes other octets → frame ≡ other
-one_frame_lem frame other octets spelled again =
-    Carries-carried frame (head_of octets) (drop 9 octets) spelled.carried ∙ sym (Carries-carried other (head_of octets) (drop 9 octets) again.carried)
+one_frame_lem frame other octets encodes again =
+    Carries-carried frame (head_of octets) (drop 9 octets) encodes.carried ∙ sym (Carries-carried other (head_of octets) (drop 9 octets) again.carried)

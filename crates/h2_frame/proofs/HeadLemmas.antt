@@ -25,12 +25,12 @@ pub length-head_fault : (head : Head) (limit : ℕ) → head_fault head limit �
 unfolding head_fault
 length-head_fault head limit sound = grind (arith, nat_tests)
 
--- a head without fault has none of its form, the limit put aside
+-- a head without fault has none of its form, but for the limit
 pub form_fault-head_fault : (head : Head) (limit : ℕ) → head_fault head limit ≡ None → form_fault head ≡ None
 unfolding head_fault
 form_fault-head_fault head limit sound = grind (arith, nat_tests)
 
--- a head of HEADERS that has no fault of its form stands on a stream
+-- a head of HEADERS that has no fault of its form is on a stream
 pub stream-Headers : (head : Head) → head.kind ≡ Headers → form_fault head ≡ None → 0 < head.stream
 unfolding form_fault fits_stream
 stream-Headers head kind sound = grind (arith, nat_tests)

@@ -2,5 +2,5 @@ pub mod FrameLemmas
 pub mod HeadLemmas
 pub mod PaddingLemmas
 pub mod PairLemmas
-pub mod WritingLemmas
-pub mod WrittenLemmas
+pub mod FramePartsLemmas
+pub mod EncodingLemmas

@@ -8,7 +8,7 @@ unfolding pairs_in
 length-pairs_in zero octets = refl
 length-pairs_in (suc count) octets = ap suc (length-pairs_in count (drop 6 octets))
 
--- fewer than six octets hold no pair
+-- fewer than six octets are no pair
 pub pairs_of-none : (octets : List ℕ) → length octets < 6 → pairs_of octets ≡ []
 unfolding pairs_in
 pairs_of-none octets few = let e : length octets / 6 ≡ 0 = omega arith in rw e refl

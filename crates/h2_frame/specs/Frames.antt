@@ -1,4 +1,4 @@
--- Frames without where they lie in memory, and the octets that spell them (RFC 9113, section 6).
+-- Frames without where they lie in memory, and the octets that encode them (RFC 9113, section 6).
 use Rattle.std.specs.Prelude.{◌≡◌, ℕ, ◌+◌, ◌-◌, ◌%◌, ◌^◌, ◌<◌, ◌≤◌, nat_lt, nat_le, ◌&&◌, Bool, true, false, if◌then◌else◌, List, [], ◌∷◌, ◌++◌, length, drop, slice_index, Option, Some, None}
 use Rattle.byteorder.specs.Endian.{big_number}
 use Rattle.h2_frame.specs.declared.code.Code.{Code}
@@ -63,13 +63,13 @@ IsPadded padded payload body None = (padded ≡ false) × (payload ≡ body)
 IsPadded padded payload body (Some count) =
     (padded ≡ true) × (padding : List ℕ) × (length padding ≡ count) × (payload ≡ count ∷ (body ++ padding))
 
--- What HEADERS holds between pad length and padding is the fragment, behind the five octets of a priority where there is one
+-- Between pad length and padding HEADERS has the fragment, after the five octets of a priority where there is one
 -- (section 6.2).
 abbrev pub IsPrioritized : Bool → List ℕ → List ℕ → Option (List ℕ) → Type 0
 IsPrioritized prioritized body fragment None = (prioritized ≡ false) × (body ≡ fragment)
 IsPrioritized prioritized body fragment (Some priority) = (prioritized ≡ true) × (length priority ≡ 5) × (body ≡ priority ++ fragment)
 
--- With this payload behind this head stands the frame. Flags that the kind doesn't define, reserved bits, and octets of
+-- This head and this payload carry the frame. Flags that the kind doesn't define, reserved bits, and octets of
 -- padding are free.
 abbrev pub Carries : Head → List ℕ → Frame → Type 0
 -- section 6.1
@@ -93,7 +93,7 @@ Carries head payload (Settings ack pairs) =
 -- section 6.7: eight octets
 Carries head payload (Ping ack octets) =
     (head.kind ≡ kinds.Ping) × (head.stream ≡ 0) × (ack ≡ has_ack head.flags) × (length payload ≡ 8) × (octets ≡ payload)
--- section 6.8: a reserved bit, a stream of 31 bits, a code, and octets for whoever looks for the cause
+-- section 6.8: a reserved bit, a stream of 31 bits, a code, and debug data
 Carries head payload (GoAway last code debug) =
     (head.kind ≡ kinds.GoAway) × (head.stream ≡ 0) × (8 ≤ length payload) × (last ≡ big_number 4 payload % 2 ^ 31)
     × (code ≡ big_number 4 (drop 4 payload)) × (debug ≡ drop 8 payload)
@@ -107,13 +107,13 @@ Carries head payload (Continuation stream whole fragment) =
 Carries head payload (Unknown kind flags stream octets) =
     (head.kind ≡ kinds.Unknown kind) × (flags ≡ head.flags) × (stream ≡ head.stream) × (octets ≡ payload)
 
--- The octets spell the frame, all of them: nine octets of head, and behind them a payload of the length that the head
+-- The octets encode the frame, all of them: nine octets of head, and then a payload of the length that the head
 -- names, which carry the frame.
 pub record Encodes (frame : Frame) (octets : List ℕ) : Type 0 where
-  pub whole : length octets ≡ 9 + (head_of octets).length
+  pub complete : length octets ≡ 9 + (head_of octets).length
   pub carried : Carries (head_of octets) (drop 9 octets) frame
 
--- the pad length at the front of a padded payload
+-- the pad length, which is the first octet of a padded payload
 abbrev pub pad_length : List ℕ → ℕ
 pad_length payload = slice_index payload 0
 
@@ -133,7 +133,7 @@ pads_too_much kinds.WindowUpdate flags payload = false
 pads_too_much kinds.Continuation flags payload = false
 pads_too_much (kinds.Unknown number) flags payload = false
 
--- the fault of a payload behind a head without fault, known at its last octet
+-- the fault of a payload after a head without fault, known at its last octet
 unfoldable pub payload_fault : Head → List ℕ → Option Code
 payload_fault head payload = if pads_too_much head.kind head.flags payload then Some ProtocolError else None
 

@@ -1,4 +1,4 @@
--- The nine octets at a frame's front, and their faults (RFC 9113, sections 4.1, 4.2 and 6).
+-- The nine octets with which a frame begins, and their faults (RFC 9113, sections 4.1, 4.2 and 6).
 use Rattle.std.specs.Prelude.{ℕ, ◌+◌, ◌%◌, ◌^◌, ◌==◌, nat_lt, nat_le, not, Bool, true, false, if◌then◌else◌, List, drop, slice_index, bit_and, Option, Some, None}
 use Rattle.byteorder.specs.Endian.{big_number}
 use Rattle.h2_frame.specs.declared.code.Code.{Code}
@@ -8,8 +8,8 @@ use Rattle.h2_frame.specs.declared.kind.Kind.TheVariants.{Data, Headers, Priorit
 use Rattle.h2_frame.specs.declared.heads.Head.{Head}
 use Rattle.h2_frame.specs.Codes.{kind_of}
 
--- The head that nine octets spell: 24 bits of length, 8 of kind, 8 of flags, a reserved bit that is ignored, and 31 of
--- stream number (section 4.1). Octets behind the ninth aren't looked at.
+-- The head that nine octets encode: 24 bits of length, 8 of kind, 8 of flags, a reserved bit that is ignored, and 31 of
+-- stream number (section 4.1). Octets after the ninth aren't read.
 unfoldable pub head_of : List ℕ → Head
 head_of octets =
     record {
@@ -38,7 +38,7 @@ has_padding flags = has_flag flags 0x08
 abbrev pub has_priority : ℕ → Bool
 has_priority flags = has_flag flags 0x20
 
--- Whether a frame of this kind may stand on the stream: some kinds belong to a stream, some to the connection, which is
+-- Whether a frame of this kind may be on the stream: some kinds belong to a stream, some to the connection, which is
 -- stream 0, and some to either (sections 6.1 to 6.10). Of an unknown kind nothing is demanded (section 5.5).
 unfoldable pub fits_stream : Kind → ℕ → Bool
 fits_stream Data stream = nat_lt 0 stream
@@ -72,15 +72,15 @@ fits_length Continuation flags count = true
 fits_length (Unknown number) flags count = true
 
 -- PUSH_PROMISE is refused: no end of this profile allows push.
-abbrev pub is_refused : Kind → Bool
-is_refused PushPromise = true
-is_refused _ = false
+abbrev pub is_push_promise : Kind → Bool
+is_push_promise PushPromise = true
+is_push_promise _ = false
 
--- The fault of a head's form, the limit put aside: a refused kind, then a stream that the kind can't have, then a length that
+-- The fault of a head's form, but for the limit: a refused kind, then a stream that the kind can't have, then a length that
 -- it can't have.
 unfoldable pub form_fault : Head → Option Code
 form_fault head =
-    if is_refused head.kind then Some ProtocolError
+    if is_push_promise head.kind then Some ProtocolError
     else if not (fits_stream head.kind head.stream) then Some ProtocolError
     else if not (fits_length head.kind head.flags head.length) then Some FrameSizeError
     else None

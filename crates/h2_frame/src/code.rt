@@ -12,7 +12,7 @@ pub enum Code {
     NoError,
     /// 1: the peer broke a rule that no other code names.
     ProtocolError,
-    /// 2: an end met a fault of its own, as want of memory.
+    /// 2: an end met a fault of its own, as an allocation that was refused.
     InternalError,
     /// 3: the peer passed a window.
     FlowControlError,

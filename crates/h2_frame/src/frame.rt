@@ -1,4 +1,4 @@
-//! Frames that lend what they hold, as they are read.
+//! Frames whose payload is lent, as they are read.
 
 use crate::code::Code;
 use crate::pairs::Pairs;
@@ -11,7 +11,7 @@ pub enum FrameRef<'a> {
     Data {
         /// The stream, not 0.
         stream: u32,
-        /// Whether the stream's sender sends nothing behind it (END_STREAM).
+        /// Whether it is the last frame that its sender sends on the stream (END_STREAM).
         end: bool,
         /// The octets, without padding.
         octets: &'a [u8],
@@ -22,7 +22,7 @@ pub enum FrameRef<'a> {
     Headers {
         /// The stream, not 0.
         stream: u32,
-        /// Whether the stream's sender sends nothing behind the block (END_STREAM).
+        /// Whether nothing follows the block on the stream (END_STREAM).
         end: bool,
         /// Whether the block ends with this frame (END_HEADERS).
         whole: bool,
@@ -67,17 +67,17 @@ pub enum FrameRef<'a> {
         last: u32,
         /// Why, by its number; any is allowed.
         code: u32,
-        /// Octets for whoever looks for the cause.
+        /// Additional debug data.
         debug: &'a [u8],
     },
     /// More octets may be sent (section 6.9).
     WindowUpdate {
         /// The stream, or 0 for the connection.
         stream: u32,
-        /// How many octets more, less than 2<sup>31</sup>; 0 is a fault that the connection judges.
+        /// How many octets more, less than 2<sup>31</sup>; 0 is a fault, which isn't checked here.
         increment: u32,
     },
-    /// A field block goes on (section 6.10).
+    /// More of a field block (section 6.10).
     Continuation {
         /// The stream, not 0.
         stream: u32,

@@ -1,7 +1,7 @@
--- There is room for the octets of the pairs that are left.
+-- There is capacity for the octets of the remaining pairs.
 use Rattle.std.proofs.Common.{◌≡◌, ◌+◌, ◌≤◌, ℕ, List, length, take, flat_map, ap, ◌∙◌, arith, length-append}
 use Rattle.std.proofs.lemmas.List.Folds.{length-flat_map-take}
-use Rattle.h2_frame.specs.Writing.{pair_octets}
+use Rattle.h2_frame.specs.Encoding.{pair_octets}
 use Rattle.h2_frame.proofs.appending.append_pairs.Goals as goal
 
 pub unwrap-requires : goal.unwrap-requires

@@ -1,4 +1,4 @@
--- The body is what stands without padding.
+-- The body is the payload without padding.
 use Rattle.std.proofs.Common.{refl}
 use Rattle.h2_frame.proofs.HeadLemmas.{stream-Headers}
 use Rattle.h2_frame.proofs.payload.headers.Goals as goal

@@ -1,4 +1,4 @@
--- The next pair is the first of those that are left.
+-- The next pair is the first of those that remain.
 use Rattle.std.proofs.Common.{◌≡◌, length, ◌-◌, ◌∷◌, take, drop, arith, ◌∙◌, ap}
 use Rattle.std.proofs.lemmas.List.{take_rest}
 use Rattle.h2_frame.specs.Pairs.{pairs_of, first_pair}

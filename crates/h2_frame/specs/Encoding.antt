@@ -1,4 +1,4 @@
--- The one spelling of each frame that is written: reserved bits, flags that the kind doesn't define, and octets of padding are
+-- The one encoding of each frame that is written: reserved bits, flags that the kind doesn't define, and octets of padding are
 -- zero (RFC 9113, sections 4.1 and 6). And the frames that aren't written.
 use Rattle.std.specs.Prelude.{◌≡◌, ℕ, ◌+◌, ◌^◌, ◌<◌, ◌==◌, nat_lt, nat_le, not, ◌&&◌, ◌||◌, Bool, true, if◌then◌else◌, List, ◌∷◌, ◌++◌, length, replicate, flat_map, Option, Some, None}
 use Rattle.std.specs.List.{AllByRecursion}
@@ -61,7 +61,7 @@ abbrev pub padded : List ℕ → Option ℕ → List ℕ
 padded body None = body
 padded body (Some count) = count ∷ (body ++ replicate count 0)
 
--- a fragment, behind a priority where there is one
+-- a fragment, after a priority where there is one
 abbrev pub prioritized : List ℕ → Option (List ℕ) → List ℕ
 prioritized fragment None = fragment
 prioritized fragment (Some priority) = priority ++ fragment
@@ -104,7 +104,7 @@ has_good_values (WindowUpdate stream increment) = nat_lt increment (2 ^ 31)
 has_good_values (Continuation stream whole fragment) = true
 has_good_values (Unknown kind flags stream payload) = nat_le 10 kind
 
--- The first refusal of a frame, want of memory put aside: a payload that is too long, then a stream that isn't one for the kind
+-- The first refusal of a frame, but for lack of memory: a payload that is too long, then a stream that isn't one for the kind
 -- or is above 2^31 - 1, then a value.
 unfoldable pub refusal : Frame → Option Unwritable
 refusal frame =
@@ -113,7 +113,7 @@ refusal frame =
     else if not (has_good_values frame) then Some BadValue
     else None
 
--- What an error of writing says of the frame: that it is its first refusal, or, of want of memory, that it has none.
+-- What an error of writing says of the frame: that it is its first refusal, or, where an allocation was refused, that it has none.
 abbrev pub IsRefused : Frame → Unwritable → Type 0
 IsRefused frame TooLong = refusal frame ≡ Some TooLong
 IsRefused frame BadStream = refusal frame ≡ Some BadStream
@@ -130,7 +130,7 @@ abbrev pub IsPriority : Option (List ℕ) → Type 0
 IsPriority None = Unit {0}
 IsPriority (Some octets) = length octets ≡ 5
 
--- The numbers of a frame are those that its Rust types hold: a pad length of 8 bits, five octets of priority, a code of 32 bits,
+-- The numbers of a frame fit its Rust types: a pad length of 8 bits, five octets of priority, a code of 32 bits,
 -- and so on.
 abbrev pub IsTyped : Frame → Type 0
 IsTyped (Data stream end octets pad) = IsPadLength pad

@@ -2,9 +2,9 @@
 
 ghost use Rattle.std.specs.Prelude.{◌≡◌, flat_map};
 ghost use Rattle.h2_frame.specs.Frames.{Data, Headers, Priority, Reset, Settings, Ping, GoAway, WindowUpdate, Continuation, Unknown};
-ghost use Rattle.h2_frame.specs.Writing.{flag as flag_bits, pair_octets};
+ghost use Rattle.h2_frame.specs.Encoding.{flag as flag_bits, pair_octets};
 ghost use Rattle.h2_frame.specs.Pairs.{lent_pairs, pairs_of};
-ghost use Rattle.h2_frame.specs.Parts.{ArePairs, Describes, IsPlain};
+ghost use Rattle.h2_frame.specs.FrameParts.{ArePairs, Describes, IsPlain};
 
 use crate::kind::Kind;
 use crate::pairs::{PAIR, Pairs};
@@ -13,14 +13,14 @@ use crate::reading::{ACK, END_HEADERS, END_STREAM, PADDED, PRIORITY};
 /// The least number that has more than 31 bits.
 pub(crate) const ABOVE_31_BITS: u32 = 0x8000_0000;
 
-/// What stands between a pad length and a body.
+/// The fields of fixed length between a pad length and a body.
 #[derive(Clone, Copy)]
-pub(crate) enum Front {
+pub(crate) enum FixedFields {
     /// No octet.
     Nothing,
     /// A priority.
     Priority([u8; 5]),
-    /// What PING holds.
+    /// The octets of PING.
     Ping([u8; 8]),
     /// 32 bits.
     Word(u32),
@@ -39,7 +39,7 @@ pub(crate) enum Body<'a> {
 
 /// What is written of a frame, whatever its kind.
 #[derive(Clone, Copy)]
-pub(crate) struct Parts<'a> {
+pub(crate) struct FrameParts<'a> {
     /// The kind.
     pub(crate) kind: Kind,
     /// The flags.
@@ -50,22 +50,22 @@ pub(crate) struct Parts<'a> {
     pub(crate) has_good_values: bool,
     /// How many octets of padding there are, where there is a pad length.
     pub(crate) pad: Option<u8>,
-    /// What stands between the pad length and the body.
-    pub(crate) front: Front,
-    /// What stands in front of the padding.
+    /// The fields of fixed length before the body.
+    pub(crate) fixed_fields: FixedFields,
+    /// What precedes the padding.
     pub(crate) body: Body<'a>,
 }
 
-#[tactic(auto, unfolding(crate::specs::Writing::kind_of_frame, crate::specs::Writing::flags_of, crate::specs::Writing::stream_of, crate::specs::Writing::payload_of, crate::specs::Writing::has_good_values))]
-impl<'a> Parts<'a> {
+#[tactic(auto, unfolding(crate::specs::Encoding::kind_of_frame, crate::specs::Encoding::flags_of, crate::specs::Encoding::stream_of, crate::specs::Encoding::payload_of, crate::specs::Encoding::has_good_values))]
+impl<'a> FrameParts<'a> {
     /// The parts of DATA.
-    pub(crate) fn data(stream: u32, end: bool, octets: &'a [u8], pad: Option<u8>) -> Parts<'a>
+    pub(crate) fn data(stream: u32, end: bool, octets: &'a [u8], pad: Option<u8>) -> FrameParts<'a>
         ensures { Describes result (Data stream end octets.now pad) }
     {
-        Parts {
+        FrameParts {
             flags: flag(end, END_STREAM) + flag(pad.is_some(), PADDED),
             pad,
-            ..Parts::plain(Kind::Data, stream, octets)
+            ..FrameParts::plain(Kind::Data, stream, octets)
         }
     }
 
@@ -77,135 +77,135 @@ impl<'a> Parts<'a> {
         fragment: &'a [u8],
         pad: Option<u8>,
         priority: Option<[u8; 5]>,
-    ) -> Parts<'a>
+    ) -> FrameParts<'a>
         ensures { Describes result (Headers stream end whole fragment.now pad priority) }
     {
         let ends = flag(end, END_STREAM) + flag(whole, END_HEADERS);
-        let holds = flag(pad.is_some(), PADDED) + flag(priority.is_some(), PRIORITY);
-        Parts {
-            flags: ends + holds,
+        let fields = flag(pad.is_some(), PADDED) + flag(priority.is_some(), PRIORITY);
+        FrameParts {
+            flags: ends + fields,
             pad,
-            front: priority.map_or(Front::Nothing, Front::Priority),
-            ..Parts::plain(Kind::Headers, stream, fragment)
+            fixed_fields: priority.map_or(FixedFields::Nothing, FixedFields::Priority),
+            ..FrameParts::plain(Kind::Headers, stream, fragment)
         }
     }
 
     /// The parts of PRIORITY.
-    pub(crate) fn priority(stream: u32, octets: [u8; 5]) -> Parts<'a>
+    pub(crate) fn priority(stream: u32, octets: [u8; 5]) -> FrameParts<'a>
         ensures { Describes result (Priority stream octets) }
     {
-        Parts {
-            front: Front::Priority(octets),
-            ..Parts::plain(Kind::Priority, stream, &[])
+        FrameParts {
+            fixed_fields: FixedFields::Priority(octets),
+            ..FrameParts::plain(Kind::Priority, stream, &[])
         }
     }
 
     /// The parts of RST_STREAM.
-    pub(crate) fn reset(stream: u32, code: u32) -> Parts<'a>
+    pub(crate) fn reset(stream: u32, code: u32) -> FrameParts<'a>
         ensures { Describes result (Reset stream code) }
     {
-        Parts {
-            front: Front::Word(code),
-            ..Parts::plain(Kind::RstStream, stream, &[])
+        FrameParts {
+            fixed_fields: FixedFields::Word(code),
+            ..FrameParts::plain(Kind::RstStream, stream, &[])
         }
     }
 
     /// The parts of SETTINGS.
-    pub(crate) fn settings(ack: bool, pairs: &'a [(u16, u32)]) -> Parts<'a>
+    pub(crate) fn settings(ack: bool, pairs: &'a [(u16, u32)]) -> FrameParts<'a>
         ensures { Describes result (Settings ack pairs.now) }
     {
-        look_at(pairs);
-        Parts {
+        read_each(pairs);
+        FrameParts {
             flags: flag(ack, ACK),
             has_good_values: !ack || pairs.is_empty(),
             body: Body::Pairs(pairs),
-            ..Parts::plain(Kind::Settings, 0, &[])
+            ..FrameParts::plain(Kind::Settings, 0, &[])
         }
     }
 
     /// The parts of SETTINGS whose pairs are lent.
-    pub(crate) fn lent_settings(ack: bool, lent: Pairs<'a>) -> Parts<'a>
+    pub(crate) fn lent_settings(ack: bool, lent: Pairs<'a>) -> FrameParts<'a>
         ensures { Describes result (Settings ack (lent_pairs lent.entry)) }
     {
-        Parts {
+        FrameParts {
             flags: flag(ack, ACK),
             has_good_values: !ack || lent.is_empty(),
-            ..Parts::plain(Kind::Settings, 0, whole_pairs(lent.octets))
+            ..FrameParts::plain(Kind::Settings, 0, complete_pairs(lent.octets))
         }
     }
 
     /// The parts of PING.
-    pub(crate) fn ping(ack: bool, octets: [u8; 8]) -> Parts<'a>
+    pub(crate) fn ping(ack: bool, octets: [u8; 8]) -> FrameParts<'a>
         ensures { Describes result (Ping ack octets) }
     {
-        Parts {
+        FrameParts {
             flags: flag(ack, ACK),
-            front: Front::Ping(octets),
-            ..Parts::plain(Kind::Ping, 0, &[])
+            fixed_fields: FixedFields::Ping(octets),
+            ..FrameParts::plain(Kind::Ping, 0, &[])
         }
     }
 
     /// The parts of GOAWAY.
-    pub(crate) fn go_away(last: u32, code: u32, debug: &'a [u8]) -> Parts<'a>
+    pub(crate) fn go_away(last: u32, code: u32, debug: &'a [u8]) -> FrameParts<'a>
         ensures { Describes result (GoAway last code debug.now) }
     {
-        Parts {
+        FrameParts {
             has_good_values: last < ABOVE_31_BITS,
-            front: Front::TwoWords(last, code),
-            ..Parts::plain(Kind::GoAway, 0, debug)
+            fixed_fields: FixedFields::TwoWords(last, code),
+            ..FrameParts::plain(Kind::GoAway, 0, debug)
         }
     }
 
     /// The parts of WINDOW_UPDATE.
-    pub(crate) fn window_update(stream: u32, increment: u32) -> Parts<'a>
+    pub(crate) fn window_update(stream: u32, increment: u32) -> FrameParts<'a>
         ensures { Describes result (WindowUpdate stream increment) }
     {
-        Parts {
+        FrameParts {
             has_good_values: increment < ABOVE_31_BITS,
-            front: Front::Word(increment),
-            ..Parts::plain(Kind::WindowUpdate, stream, &[])
+            fixed_fields: FixedFields::Word(increment),
+            ..FrameParts::plain(Kind::WindowUpdate, stream, &[])
         }
     }
 
     /// The parts of CONTINUATION.
-    pub(crate) fn continuation(stream: u32, whole: bool, fragment: &'a [u8]) -> Parts<'a>
+    pub(crate) fn continuation(stream: u32, whole: bool, fragment: &'a [u8]) -> FrameParts<'a>
         ensures { Describes result (Continuation stream whole fragment.now) }
     {
-        Parts {
+        FrameParts {
             flags: flag(whole, END_HEADERS),
-            ..Parts::plain(Kind::Continuation, stream, fragment)
+            ..FrameParts::plain(Kind::Continuation, stream, fragment)
         }
     }
 
     /// The parts of a frame of an unknown kind.
-    pub(crate) fn unknown(kind: u8, flags: u8, stream: u32, payload: &'a [u8]) -> Parts<'a>
+    pub(crate) fn unknown(kind: u8, flags: u8, stream: u32, payload: &'a [u8]) -> FrameParts<'a>
         ensures { Describes result (Unknown kind flags stream payload.now) }
     {
-        Parts {
+        FrameParts {
             flags,
             has_good_values: kind >= 10,
-            ..Parts::plain(Kind::Unknown(kind), stream, payload)
+            ..FrameParts::plain(Kind::Unknown(kind), stream, payload)
         }
     }
 
     // The parts of a payload that is this body, with no flags.
-    fn plain(kind: Kind, stream: u32, body: &'a [u8]) -> Parts<'a>
+    fn plain(kind: Kind, stream: u32, body: &'a [u8]) -> FrameParts<'a>
         ensures { IsPlain result kind stream body.now }
     {
-        Parts {
+        FrameParts {
             kind,
             flags: 0,
             stream,
             has_good_values: true,
             pad: None,
-            front: Front::Nothing,
+            fixed_fields: FixedFields::Nothing,
             body: Body::Octets(body),
         }
     }
 }
 
-// The octets of the whole pairs at the front.
-fn whole_pairs(octets: &[u8]) -> &[u8]
+// The octets of the pairs that are complete.
+fn complete_pairs(octets: &[u8]) -> &[u8]
     ensures same { result.now ≡ flat_map pair_octets (pairs_of octets.now) }
     ensures typed { ArePairs (pairs_of octets.now) }
 {
@@ -214,7 +214,7 @@ fn whole_pairs(octets: &[u8]) -> &[u8]
 }
 
 // Reads each pair, from which a proof knows that its numbers have 16 and 32 bits. An optimizing compiler drops it.
-fn look_at(pairs: &[(u16, u32)])
+fn read_each(pairs: &[(u16, u32)])
     ensures { ArePairs pairs.now }
 {
     for (id, value) in pairs {

@@ -5,14 +5,14 @@ use Rattle.std.proofs.lemmas.Bool.Decides.{nat_tests}
 use Rattle.std.proofs.lemmas.List.{get_or-drop, take_more}
 use Rattle.byteorder.specs.Numbers.{big_from-lt}
 use Rattle.h2_frame.specs.declared.owned.Unwritable.TheVariants.{TooLong, BadStream, BadValue}
-use Rattle.h2_frame.specs.declared.parts.Body.{Body}
-use Rattle.h2_frame.specs.declared.parts.Body.TheVariants.{Pairs}
-use Rattle.h2_frame.specs.declared.parts.Parts.{Parts}
+use Rattle.h2_frame.specs.declared.frame_parts.Body.{Body}
+use Rattle.h2_frame.specs.declared.frame_parts.Body.TheVariants.{Pairs}
+use Rattle.h2_frame.specs.declared.frame_parts.FrameParts.{FrameParts}
 use Rattle.h2_frame.specs.Heads.{fits_stream}
 use Rattle.h2_frame.specs.Frames.{Frame}
 use Rattle.h2_frame.specs.Pairs.{first_pair, pairs_in, pairs_of}
-use Rattle.h2_frame.specs.Writing.{pair_octets, payload_of, stream_of, kind_of_frame, has_good_values, refusal, encoding_of}
-use Rattle.h2_frame.specs.Parts.{ArePairs, body_octets, payload_octets, head_octets, Describes}
+use Rattle.h2_frame.specs.Encoding.{pair_octets, payload_of, stream_of, kind_of_frame, has_good_values, refusal, encoding_of}
+use Rattle.h2_frame.specs.FrameParts.{ArePairs, body_octets, payload_octets, head_octets, Describes}
 
 -- each pair has six octets
 pub length-pair_octets : (pairs : List (ℕ × ℕ)) → length (flat_map pair_octets pairs) ≡ 6 * length pairs
@@ -23,7 +23,7 @@ length-pair_octets (pair ∷ pairs) = let rest = length-pair_octets pairs in ome
 pub length-body_pairs : (body : Body) (pairs : Bor (List (ℕ × ℕ))) → body ≡ Pairs pairs → length (body_octets body) ≡ 6 * length pairs.now
 length-body_pairs body pairs is = rw is (length-pair_octets pairs.now)
 
--- The octets of the pair that six octets spell are these six.
+-- The octets of the pair that six octets encode are these six.
 pair_octets-first : (octets : List ℕ) → 6 ≤ length octets → ((k : ℕ) → get_or octets k 0 < 256) → pair_octets (first_pair octets) ≡ take 6 octets
 pair_octets-first [] enough small = absurd (omega arith)
 pair_octets-first (a ∷ []) enough small = absurd (omega arith)
@@ -46,7 +46,7 @@ pair_octets-first (a ∷ b ∷ c ∷ d ∷ e ∷ f ∷ rest) enough small =
     let e5 : (c * 16777216 + (d * 65536 + (e * 256 + (f * 1 + 0)))) % 256 ≡ f = omega arith in
     rw (e0, e1, e2, e3, e4, e5) refl
 
--- The octets of the pairs that octets spell are these octets.
+-- The octets of the pairs that octets encode are these octets.
 pair_octets-pairs_in : (count : ℕ) (octets : List ℕ) → 6 * count ≤ length octets → ((k : ℕ) → get_or octets k 0 < 256)
     → flat_map pair_octets (pairs_in count octets) ≡ take (6 * count) octets
 unfolding pairs_in
@@ -55,9 +55,9 @@ pair_octets-pairs_in (suc count) octets enough small =
     let first = pair_octets-first octets (omega arith) small in
     let left : 6 * count ≤ length (drop 6 octets) = simp length-drop (omega arith) in
     let rest = pair_octets-pairs_in count (drop 6 octets) left (λ k. rw get_or-drop (small (6 + k))) in
-    let front : 6 * suc count ≡ 6 + 6 * count = omega arith in
+    let split : 6 * suc count ≡ 6 + 6 * count = omega arith in
     ap (λ (xs : List ℕ). xs ++ flat_map pair_octets (pairs_in count (drop 6 octets))) first
-    ∙ (ap (λ (xs : List ℕ). take 6 octets ++ xs) rest ∙ sym (take-add 6 (6 * count) octets) ∙ ap (λ (n : ℕ). take n octets) (sym front))
+    ∙ (ap (λ (xs : List ℕ). take 6 octets ++ xs) rest ∙ sym (take-add 6 (6 * count) octets) ∙ ap (λ (n : ℕ). take n octets) (sym split))
 
 -- the same of all pairs
 pub pair_octets-pairs_of : (octets : List ℕ) → ((k : ℕ) → get_or octets k 0 < 256) → take (length octets / 6 * 6) octets ≡ flat_map pair_octets (pairs_of octets)
@@ -65,7 +65,7 @@ pair_octets-pairs_of octets small =
     let swap : length octets / 6 * 6 ≡ 6 * (length octets / 6) = omega arith in
     rw swap (sym (pair_octets-pairs_in (length octets / 6) octets (omega arith) small))
 
--- The pairs that octets spell have 16 and 32 bits.
+-- The pairs that octets encode have 16 and 32 bits.
 pub pairs_in-typed : (count : ℕ) (octets : List ℕ) → ((k : ℕ) → get_or octets k 0 < 256) → ArePairs (pairs_in count octets)
 unfolding pairs_in
 pairs_in-typed zero octets small = tt
@@ -85,51 +85,51 @@ ArePairs-more pairs i within are id value =
     subst ArePairs (sym (take_more pairs i (0, 0) within)) (ArePairs-push (take i pairs) (get_or pairs i (0, 0)) are id value)
 
 -- The first refusal of a frame, by its parts: a payload that is too long.
-pub refusal-too_long : (parts : Parts) (frame : Frame) → Describes parts frame → 16777215 < length (payload_octets parts) → refusal frame ≡ Some TooLong
+pub refusal-too_long : (parts : FrameParts) (frame : Frame) → Describes parts frame → 16777215 < length (payload_octets parts) → refusal frame ≡ Some TooLong
 unfolding refusal
-refusal-too_long parts frame parted long =
-    let counted : length (payload_octets parts) ≡ length (payload_of frame) = ap (λ (xs : List ℕ). length xs) parted.payload in
+refusal-too_long parts frame described long =
+    let counted : length (payload_octets parts) ≡ length (payload_of frame) = ap (λ (xs : List ℕ). length xs) described.payload in
     let test : nat_lt 16777215 (length (payload_of frame)) ≡ true = grind (arith, nat_tests) in
     rw test refl
 
 -- Then a stream that isn't one for the kind, or is above 31 bits.
-pub refusal-bad_stream : (parts : Parts) (frame : Frame) → Describes parts frame → length (payload_octets parts) ≤ 16777215
+pub refusal-bad_stream : (parts : FrameParts) (frame : Frame) → Describes parts frame → length (payload_octets parts) ≤ 16777215
     → (nat_lt parts.stream (2 ^ 31) && fits_stream parts.kind parts.stream) ≡ false → refusal frame ≡ Some BadStream
 unfolding refusal
-refusal-bad_stream parts frame parted short bad =
-    let counted : length (payload_octets parts) ≡ length (payload_of frame) = ap (λ (xs : List ℕ). length xs) parted.payload in
+refusal-bad_stream parts frame described short bad =
+    let counted : length (payload_octets parts) ≡ length (payload_of frame) = ap (λ (xs : List ℕ). length xs) described.payload in
     let test : nat_lt 16777215 (length (payload_of frame)) ≡ false = grind (arith, nat_tests) in
-    let moved : (nat_lt (stream_of frame) (2 ^ 31) && fits_stream (kind_of_frame frame) (stream_of frame)) ≡ false = rw (parted.stream, parted.kind) at bad in
+    let moved : (nat_lt (stream_of frame) (2 ^ 31) && fits_stream (kind_of_frame frame) (stream_of frame)) ≡ false = rw (described.stream, described.kind) at bad in
     rw (test, moved) refl
 
 -- Then a value.
-pub refusal-bad_value : (parts : Parts) (frame : Frame) → Describes parts frame → length (payload_octets parts) ≤ 16777215
+pub refusal-bad_value : (parts : FrameParts) (frame : Frame) → Describes parts frame → length (payload_octets parts) ≤ 16777215
     → (nat_lt parts.stream (2 ^ 31) && fits_stream parts.kind parts.stream) ≡ true → parts.has_good_values ≡ false → refusal frame ≡ Some BadValue
 unfolding refusal
-refusal-bad_value parts frame parted short good bad =
-    let counted : length (payload_octets parts) ≡ length (payload_of frame) = ap (λ (xs : List ℕ). length xs) parted.payload in
+refusal-bad_value parts frame described short good bad =
+    let counted : length (payload_octets parts) ≡ length (payload_of frame) = ap (λ (xs : List ℕ). length xs) described.payload in
     let test : nat_lt 16777215 (length (payload_of frame)) ≡ false = grind (arith, nat_tests) in
-    let moved : (nat_lt (stream_of frame) (2 ^ 31) && fits_stream (kind_of_frame frame) (stream_of frame)) ≡ true = rw (parted.stream, parted.kind) at good in
-    let value : has_good_values frame ≡ false = sym parted.values ∙ bad in
+    let moved : (nat_lt (stream_of frame) (2 ^ 31) && fits_stream (kind_of_frame frame) (stream_of frame)) ≡ true = rw (described.stream, described.kind) at good in
+    let value : has_good_values frame ≡ false = sym described.values ∙ bad in
     rw (test, moved, value) refl
 
 -- And else there is none.
-pub refusal-none : (parts : Parts) (frame : Frame) → Describes parts frame → length (payload_octets parts) ≤ 16777215
+pub refusal-none : (parts : FrameParts) (frame : Frame) → Describes parts frame → length (payload_octets parts) ≤ 16777215
     → (nat_lt parts.stream (2 ^ 31) && fits_stream parts.kind parts.stream) ≡ true → parts.has_good_values ≡ true → refusal frame ≡ None
 unfolding refusal
-refusal-none parts frame parted short good values =
-    let counted : length (payload_octets parts) ≡ length (payload_of frame) = ap (λ (xs : List ℕ). length xs) parted.payload in
+refusal-none parts frame described short good values =
+    let counted : length (payload_octets parts) ≡ length (payload_of frame) = ap (λ (xs : List ℕ). length xs) described.payload in
     let test : nat_lt 16777215 (length (payload_of frame)) ≡ false = grind (arith, nat_tests) in
-    let moved : (nat_lt (stream_of frame) (2 ^ 31) && fits_stream (kind_of_frame frame) (stream_of frame)) ≡ true = rw (parted.stream, parted.kind) at good in
-    let value : has_good_values frame ≡ true = sym parted.values ∙ values in
+    let moved : (nat_lt (stream_of frame) (2 ^ 31) && fits_stream (kind_of_frame frame) (stream_of frame)) ≡ true = rw (described.stream, described.kind) at good in
+    let value : has_good_values frame ≡ true = sym described.values ∙ values in
     rw (test, moved, value) refl
 
 -- the octets of a head and of a payload, by the parts, are those that are written
-pub encoding_of-parts : (parts : Parts) (frame : Frame) (count : ℕ) → Describes parts frame → count ≡ length (payload_octets parts)
+pub encoding_of-parts : (parts : FrameParts) (frame : Frame) (count : ℕ) → Describes parts frame → count ≡ length (payload_octets parts)
     → head_octets parts.kind parts.flags parts.stream count ++ payload_octets parts ≡ encoding_of frame
 unfolding encoding_of
-encoding_of-parts parts frame count parted counted =
-    rw (counted, parted.payload, parted.kind, parted.flags, parted.stream) refl
+encoding_of-parts parts frame count described counted =
+    rw (counted, described.payload, described.kind, described.flags, described.stream) refl
 
 -- a head has nine octets
 pub length-encoding_of : (frame : Frame) → length (encoding_of frame) ≡ 9 + length (payload_of frame)
@@ -137,7 +137,7 @@ unfolding encoding_of
 length-encoding_of frame = omega arith
 
 -- how many octets are written of parts
-pub length-written_parts : (parts : Parts) (frame : Frame) (count : ℕ) → Describes parts frame → count ≡ length (payload_octets parts) → length (encoding_of frame) ≡ 9 + count
-length-written_parts parts frame count parted counted =
-    let same : length (payload_octets parts) ≡ length (payload_of frame) = ap (λ (xs : List ℕ). length xs) parted.payload in
+pub length-encoding_of_parts : (parts : FrameParts) (frame : Frame) (count : ℕ) → Describes parts frame → count ≡ length (payload_octets parts) → length (encoding_of frame) ≡ 9 + count
+length-encoding_of_parts parts frame count described counted =
+    let same : length (payload_octets parts) ≡ length (payload_of frame) = ap (λ (xs : List ℕ). length xs) described.payload in
     omega (arith, length-encoding_of frame)

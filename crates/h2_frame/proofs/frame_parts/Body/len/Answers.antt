@@ -1,7 +1,7 @@
 -- Six octets for each pair.
 use Rattle.std.proofs.Common.{arith}
-use Rattle.h2_frame.proofs.WritingLemmas.{length-body_pairs}
-use Rattle.h2_frame.proofs.parts.Body.len.Goals as goal
+use Rattle.h2_frame.proofs.FramePartsLemmas.{length-body_pairs}
+use Rattle.h2_frame.proofs.frame_parts.Body.len.Goals as goal
 
 pub returns-in-Pairs-clause-small : goal.returns-in-Pairs-clause-small
 returns-in-Pairs-clause-small c =

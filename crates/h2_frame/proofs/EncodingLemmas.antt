@@ -1,4 +1,4 @@
--- What is written of a frame spells it.
+-- What is written of a frame encodes it.
 use Rattle.std.proofs.Common.{◌≡◌, ℕ, ◌+◌, ◌-◌, ◌%◌, ◌^◌, ◌<◌, ◌≤◌, ◌==◌, Bool, true, false, nat_lt, nat_le, not, ◌&&◌, ◌||◌, if◌then◌else◌, List, [], ◌∷◌, ◌++◌, length, drop, replicate, flat_map, Option, Some, None, is_some, refl, sym, ap, ◌∙◌, subst, arith, length-append}
 use Rattle.std.proofs.Math.Nat.{mod-eq_of_lt}
 use Rattle.std.proofs.lemmas.List.{length-replicate, nil_from_length}
@@ -9,13 +9,13 @@ use Rattle.h2_frame.specs.declared.heads.Head.{Head}
 use Rattle.h2_frame.specs.declared.kind.Kind.TheVariants as kinds
 use Rattle.h2_frame.specs.declared.owned.Unwritable.TheVariants.{TooLong, BadStream, BadValue}
 use Rattle.h2_frame.specs.Codes.{kind_of, number_of}
-use Rattle.h2_frame.specs.Heads.{head_of, has_flag, fits_stream, octets_of_flags, is_refused, fits_length, form_fault, head_fault}
+use Rattle.h2_frame.specs.Heads.{head_of, has_flag, fits_stream, octets_of_flags, is_push_promise, fits_length, form_fault, head_fault}
 use Rattle.h2_frame.specs.Pairs.{pairs_in, pairs_of}
 use Rattle.h2_frame.specs.Frames.{Frame, Data, Headers, Priority, Reset, Settings, Ping, GoAway, WindowUpdate, Continuation, Unknown, IsPadded, IsPrioritized, Carries, Encodes, pad_length, pads_too_much, payload_fault}
-use Rattle.h2_frame.specs.Writing.{kind_of_frame, stream_of, flag, flags_of, padded, prioritized, pair_octets, payload_of, encoding_of, has_good_values, refusal, IsPriority, IsTyped}
-use Rattle.h2_frame.specs.Parts.{ArePairs}
+use Rattle.h2_frame.specs.Encoding.{kind_of_frame, stream_of, flag, flags_of, padded, prioritized, pair_octets, payload_of, encoding_of, has_good_values, refusal, IsPriority, IsTyped}
+use Rattle.h2_frame.specs.FrameParts.{ArePairs}
 use Rattle.h2_frame.proofs.PairLemmas.{pairs_of-first}
-use Rattle.h2_frame.proofs.WritingLemmas.{length-encoding_of, length-pair_octets}
+use Rattle.h2_frame.proofs.FramePartsLemmas.{length-encoding_of, length-pair_octets}
 
 -- A chain of three tests that ends in none passed all of them.
 chain_passed : (long on good : Bool)
@@ -26,7 +26,7 @@ chain_passed false false good none = (cc)
 chain_passed false true false none = (cc)
 chain_passed false true true none = (refl, refl, refl)
 
--- what is known of a frame that no refusal keeps from being written
+-- what is known of a frame that can be written
 record IsAllowed (frame : Frame) : Type 0 where
   short : length (payload_of frame) ≤ 16777215
   below : stream_of frame < 2 ^ 31
@@ -68,7 +68,7 @@ kind_of-number_of (Unknown kind flags stream payload) good = kind_of-unknown kin
 abbrev written_head : Frame → Head
 written_head frame = record { length = length (payload_of frame); kind = kind_of_frame frame; flags = flags_of frame; stream = stream_of frame }
 
--- the payload stands behind nine octets
+-- the payload follows nine octets
 drop-encoding_of : (frame : Frame) → drop 9 (encoding_of frame) ≡ payload_of frame
 unfolding encoding_of
 drop-encoding_of frame = refl
@@ -77,8 +77,8 @@ drop-encoding_of frame = refl
 head_of-encoding_of : (frame : Frame) → IsAllowed frame → head_of (encoding_of frame) ≡ written_head frame
 unfolding head_of encoding_of
 head_of-encoding_of frame may =
-    let behind = number_of (kind_of_frame frame) ∷ flags_of frame ∷ (big_bytes 4 (stream_of frame) ++ payload_of frame) in
-    let counted : big_number 3 (encoding_of frame) ≡ length (payload_of frame) = big_number-reads_back 3 (length (payload_of frame)) behind (omega (arith, may.short)) in
+    let after_length = number_of (kind_of_frame frame) ∷ flags_of frame ∷ (big_bytes 4 (stream_of frame) ++ payload_of frame) in
+    let counted : big_number 3 (encoding_of frame) ≡ length (payload_of frame) = big_number-reads_back 3 (length (payload_of frame)) after_length (omega (arith, may.short)) in
     let on : big_number 4 (big_bytes 4 (stream_of frame) ++ payload_of frame) ≡ stream_of frame = big_number-reads_back 4 (stream_of frame) (payload_of frame) (omega (arith, may.below)) in
     let stream : big_number 4 (big_bytes 4 (stream_of frame) ++ payload_of frame) % 2 ^ 31 ≡ stream_of frame = ap (λ (n : ℕ). n % 2 ^ 31) on ∙ mod-eq_of_lt may.below in
     let kind = kind_of-number_of frame may.good in
@@ -87,28 +87,28 @@ head_of-encoding_of frame may =
 -- each of four flags is read back
 record AreFlags (flags : ℕ) (end whole pad priority : Bool) : Type 0 where
   ends : has_flag flags 0x01 ≡ end
-  is_whole : has_flag flags 0x04 ≡ whole
+  ends_headers : has_flag flags 0x04 ≡ whole
   is_padded : has_flag flags 0x08 ≡ pad
   is_prioritized : has_flag flags 0x20 ≡ priority
 
 -- the four flags of HEADERS
 four_flags : (end whole pad priority : Bool) → AreFlags (flag end 0x01 + flag whole 0x04 + flag pad 0x08 + flag priority 0x20) end whole pad priority
-four_flags false false false false = record { ends = refl; is_whole = refl; is_padded = refl; is_prioritized = refl }
-four_flags false false false true = record { ends = refl; is_whole = refl; is_padded = refl; is_prioritized = refl }
-four_flags false false true false = record { ends = refl; is_whole = refl; is_padded = refl; is_prioritized = refl }
-four_flags false false true true = record { ends = refl; is_whole = refl; is_padded = refl; is_prioritized = refl }
-four_flags false true false false = record { ends = refl; is_whole = refl; is_padded = refl; is_prioritized = refl }
-four_flags false true false true = record { ends = refl; is_whole = refl; is_padded = refl; is_prioritized = refl }
-four_flags false true true false = record { ends = refl; is_whole = refl; is_padded = refl; is_prioritized = refl }
-four_flags false true true true = record { ends = refl; is_whole = refl; is_padded = refl; is_prioritized = refl }
-four_flags true false false false = record { ends = refl; is_whole = refl; is_padded = refl; is_prioritized = refl }
-four_flags true false false true = record { ends = refl; is_whole = refl; is_padded = refl; is_prioritized = refl }
-four_flags true false true false = record { ends = refl; is_whole = refl; is_padded = refl; is_prioritized = refl }
-four_flags true false true true = record { ends = refl; is_whole = refl; is_padded = refl; is_prioritized = refl }
-four_flags true true false false = record { ends = refl; is_whole = refl; is_padded = refl; is_prioritized = refl }
-four_flags true true false true = record { ends = refl; is_whole = refl; is_padded = refl; is_prioritized = refl }
-four_flags true true true false = record { ends = refl; is_whole = refl; is_padded = refl; is_prioritized = refl }
-four_flags true true true true = record { ends = refl; is_whole = refl; is_padded = refl; is_prioritized = refl }
+four_flags false false false false = record { ends = refl; ends_headers = refl; is_padded = refl; is_prioritized = refl }
+four_flags false false false true = record { ends = refl; ends_headers = refl; is_padded = refl; is_prioritized = refl }
+four_flags false false true false = record { ends = refl; ends_headers = refl; is_padded = refl; is_prioritized = refl }
+four_flags false false true true = record { ends = refl; ends_headers = refl; is_padded = refl; is_prioritized = refl }
+four_flags false true false false = record { ends = refl; ends_headers = refl; is_padded = refl; is_prioritized = refl }
+four_flags false true false true = record { ends = refl; ends_headers = refl; is_padded = refl; is_prioritized = refl }
+four_flags false true true false = record { ends = refl; ends_headers = refl; is_padded = refl; is_prioritized = refl }
+four_flags false true true true = record { ends = refl; ends_headers = refl; is_padded = refl; is_prioritized = refl }
+four_flags true false false false = record { ends = refl; ends_headers = refl; is_padded = refl; is_prioritized = refl }
+four_flags true false false true = record { ends = refl; ends_headers = refl; is_padded = refl; is_prioritized = refl }
+four_flags true false true false = record { ends = refl; ends_headers = refl; is_padded = refl; is_prioritized = refl }
+four_flags true false true true = record { ends = refl; ends_headers = refl; is_padded = refl; is_prioritized = refl }
+four_flags true true false false = record { ends = refl; ends_headers = refl; is_padded = refl; is_prioritized = refl }
+four_flags true true false true = record { ends = refl; ends_headers = refl; is_padded = refl; is_prioritized = refl }
+four_flags true true true false = record { ends = refl; ends_headers = refl; is_padded = refl; is_prioritized = refl }
+four_flags true true true true = record { ends = refl; ends_headers = refl; is_padded = refl; is_prioritized = refl }
 
 -- the flags of DATA: the end's
 end_read : (end pad : Bool) → end ≡ has_flag (flag end 0x01 + flag pad 0x08) 0x01
@@ -130,9 +130,9 @@ one_read false = refl
 one_read true = refl
 
 -- the flag of CONTINUATION
-whole_read : (set : Bool) → set ≡ has_flag (flag set 0x04) 0x04
-whole_read false = refl
-whole_read true = refl
+end_headers_read : (set : Bool) → set ≡ has_flag (flag set 0x04) 0x04
+end_headers_read false = refl
+end_headers_read true = refl
 
 -- a payload that is written is padded where a flag says so
 padded_is : (flagged : Bool) (body : List ℕ) (pad : Option ℕ) → flagged ≡ is_some pad → IsPadded flagged (padded body pad) body pad
@@ -171,7 +171,7 @@ above_0 stream passed = grind (arith, nat_tests)
 below_test : (number bound : ℕ) → nat_lt number bound ≡ true → number < bound
 below_test number bound passed = grind (arith, nat_tests)
 
--- What is written carries the frame behind its head.
+-- What is written carries the frame after its head.
 carries_written : (frame : Frame) → IsTyped frame → IsAllowed frame → Carries (written_head frame) (payload_of frame) frame
 unfolding kind_of_frame stream_of flags_of payload_of has_good_values fits_stream
 carries_written (Data stream end octets pad) typed may =
@@ -182,7 +182,7 @@ carries_written (Headers stream end whole fragment pad priority) typed may =
       refl,
       above_0 stream may.fits,
       sym flags.ends,
-      sym flags.is_whole,
+      sym flags.ends_headers,
       prioritized fragment priority,
       padded_is _ (prioritized fragment priority) pad flags.is_padded,
       prioritized_is _ fragment priority flags.is_prioritized typed.1,
@@ -200,16 +200,16 @@ carries_written (WindowUpdate stream increment) typed may =
     let small : increment < 2 ^ 31 = below_test increment (2 ^ 31) may.good in
     let read = big_number-reads_back 4 increment [] (omega (arith, small)) in
     (refl, refl, refl, sym (ap (λ (n : ℕ). n % 2 ^ 31) read ∙ mod-eq_of_lt small))
-carries_written (Continuation stream whole fragment) typed may = (refl, refl, above_0 stream may.fits, whole_read whole, refl)
+carries_written (Continuation stream whole fragment) typed may = (refl, refl, above_0 stream may.fits, end_headers_read whole, refl)
 carries_written (Unknown kind flags stream payload) typed may = (refl, refl, refl, refl)
 
--- What is written spells the frame.
+-- What is written encodes the frame.
 pub encoding_encodes : (frame : Frame) → IsTyped frame → refusal frame ≡ None → Encodes frame (encoding_of frame)
 encoding_encodes frame typed none =
     let may = allowed frame none in
     let head = head_of-encoding_of frame may in
     record {
-      whole = length-encoding_of frame ∙ ap (λ (read : Head). 9 + read.length) (sym head);
+      complete = length-encoding_of frame ∙ ap (λ (read : Head). 9 + read.length) (sym head);
       carried = subst (λ read. Carries read (drop 9 (encoding_of frame)) frame) (sym head) (subst (λ xs. Carries (written_head frame) xs frame) (sym (drop-encoding_of frame)) (carries_written frame typed may));
     }
 
@@ -283,18 +283,18 @@ fits_length-encoding_of (Continuation stream whole fragment) typed good = refl
 fits_length-encoding_of (Unknown kind flags stream payload) typed good = refl
 
 -- no kind that is written is refused
-not_refused : (frame : Frame) → is_refused (kind_of_frame frame) ≡ false
+not_push_promise : (frame : Frame) → is_push_promise (kind_of_frame frame) ≡ false
 unfolding kind_of_frame
-not_refused (Data stream end octets pad) = refl
-not_refused (Headers stream end whole fragment pad priority) = refl
-not_refused (Priority stream octets) = refl
-not_refused (Reset stream code) = refl
-not_refused (Settings ack pairs) = refl
-not_refused (Ping ack octets) = refl
-not_refused (GoAway last code debug) = refl
-not_refused (WindowUpdate stream increment) = refl
-not_refused (Continuation stream whole fragment) = refl
-not_refused (Unknown kind flags stream payload) = refl
+not_push_promise (Data stream end octets pad) = refl
+not_push_promise (Headers stream end whole fragment pad priority) = refl
+not_push_promise (Priority stream octets) = refl
+not_push_promise (Reset stream code) = refl
+not_push_promise (Settings ack pairs) = refl
+not_push_promise (Ping ack octets) = refl
+not_push_promise (GoAway last code debug) = refl
+not_push_promise (WindowUpdate stream increment) = refl
+not_push_promise (Continuation stream whole fragment) = refl
+not_push_promise (Unknown kind flags stream payload) = refl
 
 -- the padding that is written is not too long
 pads_too_much-encoding_of : (frame : Frame) → IsTyped frame → pads_too_much (kind_of_frame frame) (flags_of frame) (payload_of frame) ≡ false
@@ -315,7 +315,7 @@ pads_too_much-encoding_of (Unknown kind flags stream payload) typed = refl
 written_head_sound : (frame : Frame) (limit : ℕ) → IsTyped frame → IsAllowed frame → length (payload_of frame) ≤ limit → head_fault (written_head frame) limit ≡ None
 unfolding head_fault form_fault
 written_head_sound frame limit typed may within =
-    rw (lt_fails limit (length (payload_of frame)) within, not_refused frame, may.fits, fits_length-encoding_of frame typed may.good) refl
+    rw (lt_fails limit (length (payload_of frame)) within, not_push_promise frame, may.fits, fits_length-encoding_of frame typed may.good) refl
 
 -- So the head that is read back has none.
 pub sound_head : (frame : Frame) (limit : ℕ) → IsTyped frame → refusal frame ≡ None → length (payload_of frame) ≤ limit → head_fault (head_of (encoding_of frame)) limit ≡ None
@@ -328,7 +328,7 @@ written_payload_sound : (frame : Frame) → IsTyped frame → payload_fault (wri
 unfolding payload_fault
 written_payload_sound frame typed = rw (pads_too_much-encoding_of frame typed) refl
 
--- Nor has it behind the head that is read back.
+-- Nor has it after the head that is read back.
 pub sound_payload : (frame : Frame) → IsTyped frame → refusal frame ≡ None → payload_fault (head_of (encoding_of frame)) (drop 9 (encoding_of frame)) ≡ None
 sound_payload frame typed none =
     let may = allowed frame none in

@@ -1,16 +1,17 @@
 //! Writing by examples, whose octets come from RFC 9113, section 6.
 
 use crate::{
-    Frame, FrameRef, Unwritable, head, head_fault, read_payload, write, write_ref, written_frame,
+    Frame, FrameRef, Unwritable, head, head_fault, read_payload, write, write_ref,
+    written_frame_is_read,
 };
 use std::alloc::Global;
 use std::process::Abort;
 use std::test::Fail;
 
-// The frame in the octets, behind a head without fault.
+// The frame in the octets, after a head without fault.
 fn frame_in(octets: &[u8]) -> Option<FrameRef<'_>> {
-    let (front, payload) = octets.split_at_checked(9)?;
-    let read = head(front.first_chunk::<9>()?);
+    let (first_nine, payload) = octets.split_at_checked(9)?;
+    let read = head(first_nine.first_chunk::<9>()?);
     match head_fault(&read, 16384) {
         None if payload.len() == read.length as usize => read_payload(&read, payload).ok(),
         _ => None,
@@ -31,7 +32,7 @@ fn check_lent(
     Ok(())
 }
 
-// The frame, owned and lent, is written as these octets behind what is there, and they are read back.
+// The frame, owned and lent, is written as these octets after what is there, and they are read back.
 fn check(
     rt: &impl Abort,
     alloc: Global,
@@ -52,11 +53,11 @@ fn check_refused(
     rt: &impl Abort,
     alloc: Global,
     owned: &Frame,
-    want: Unwritable,
+    expected: Unwritable,
 ) -> Result<(), Fail> {
     let mut out = Vec::new(alloc);
     out.push(7)?;
-    assert_eq!(rt; write(owned, &mut out), Err(want));
+    assert_eq!(rt; write(owned, &mut out), Err(expected));
     assert_eq!(rt; out.as_slice(), b"\x07".as_slice());
     Ok(())
 }
@@ -169,7 +170,7 @@ fn settings_are_written(rt: HostRuntime) -> Result<(), Fail> {
 
 #[test]
 fn small_frames_are_written(rt: HostRuntime) -> Result<(), Fail> {
-    let rows = [
+    let examples = [
         (
             Frame::Priority {
                 stream: 5,
@@ -215,7 +216,7 @@ fn small_frames_are_written(rt: HostRuntime) -> Result<(), Fail> {
             b"\x00\x00\x04\x08\x00\x00\x00\x00\x00\x7f\xff\xff\xff".as_slice(),
         ),
     ];
-    for (owned, lent, octets) in rows {
+    for (owned, lent, octets) in examples {
         check(&rt, rt.alloc(), &owned, lent, octets)?;
     }
     Ok(())
@@ -256,7 +257,7 @@ fn frames_are_refused(rt: HostRuntime) -> Result<(), Fail> {
     let mut pairs = Vec::new(rt.alloc());
     pairs.push((1, 2))?;
     let no_octets = Vec::new(rt.alloc());
-    let rows = [
+    let examples = [
         (Frame::Reset { stream: 0, code: 8 }, Unwritable::BadStream),
         (
             Frame::Reset {
@@ -272,7 +273,7 @@ fn frames_are_refused(rt: HostRuntime) -> Result<(), Fail> {
             },
             Unwritable::BadValue,
         ),
-        // The stream comes before the value.
+        // The stream is checked first, then the value.
         (
             Frame::WindowUpdate {
                 stream: 0x8000_0000,
@@ -290,8 +291,8 @@ fn frames_are_refused(rt: HostRuntime) -> Result<(), Fail> {
             Unwritable::BadValue,
         ),
     ];
-    for (frame, want) in rows {
-        check_refused(&rt, rt.alloc(), &frame, want)?;
+    for (frame, expected) in examples {
+        check_refused(&rt, rt.alloc(), &frame, expected)?;
     }
     Ok(())
 }
@@ -328,5 +329,5 @@ fn unknown_kinds_are_refused(rt: HostRuntime) -> Result<(), Fail> {
 
 #[test]
 fn the_law_is_called() {
-    written_frame();
+    written_frame_is_read();
 }
