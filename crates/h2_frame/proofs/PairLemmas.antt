@@ -1,5 +1,6 @@
 -- The pairs of SETTINGS, one after another.
-use Rattle.std.proofs.Common.{◌≡◌, ℕ, zero, suc, ◌/◌, ◌<◌, ◌≤◌, List, [], ◌∷◌, length, drop, refl, ap, arith, length-drop}
+use Rattle.std.proofs.Common.{◌≡◌, ℕ, zero, suc, ◌/◌, ◌<◌, ◌≤◌, List, [], ◌∷◌, length, drop, refl}
+use Rattle.std.proofs.Common.{ap, arith, length-drop}
 use Rattle.h2_frame.specs.Pairs.{first_pair, pairs_in, pairs_of}
 
 -- so many pairs are so many
@@ -14,7 +15,8 @@ unfolding pairs_in
 pairs_of-none octets few = let e : length octets / 6 ≡ 0 = omega arith in rw e refl
 
 -- six octets or more begin with a pair
-pub pairs_of-first : (octets : List ℕ) → 6 ≤ length octets → pairs_of octets ≡ first_pair octets ∷ pairs_of (drop 6 octets)
+pub pairs_of-first : (octets : List ℕ) → 6 ≤ length octets
+    → pairs_of octets ≡ first_pair octets ∷ pairs_of (drop 6 octets)
 unfolding pairs_in
 pairs_of-first octets enough =
     let e : length octets / 6 ≡ suc (length (drop 6 octets) / 6) = simp length-drop (omega arith) in

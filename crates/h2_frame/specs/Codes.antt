@@ -1,9 +1,16 @@
 -- Names of error codes, and kinds of frames by their numbers (RFC 9113, sections 6 and 7).
 use Rattle.std.specs.Prelude.{ℕ, ◌==◌, if◌then◌else◌, List, codes}
 use Rattle.h2_frame.specs.declared.code.Code.{Code}
-use Rattle.h2_frame.specs.declared.code.Code.TheVariants.{NoError, ProtocolError, InternalError, FlowControlError, SettingsTimeout, StreamClosed, FrameSizeError, RefusedStream, Cancel, CompressionError, ConnectError, EnhanceYourCalm, InadequateSecurity, Http11Required}
+use Rattle.h2_frame.specs.declared.code.Code.TheVariants.{NoError, ProtocolError, InternalError}
+use Rattle.h2_frame.specs.declared.code.Code.TheVariants.{FlowControlError, SettingsTimeout}
+use Rattle.h2_frame.specs.declared.code.Code.TheVariants.{StreamClosed, FrameSizeError}
+use Rattle.h2_frame.specs.declared.code.Code.TheVariants.{RefusedStream, Cancel, CompressionError}
+use Rattle.h2_frame.specs.declared.code.Code.TheVariants.{ConnectError, EnhanceYourCalm}
+use Rattle.h2_frame.specs.declared.code.Code.TheVariants.{InadequateSecurity, Http11Required}
 use Rattle.h2_frame.specs.declared.kind.Kind.{Kind}
-use Rattle.h2_frame.specs.declared.kind.Kind.TheVariants.{Data, Headers, Priority, RstStream, Settings, PushPromise, Ping, GoAway, WindowUpdate, Continuation, Unknown}
+use Rattle.h2_frame.specs.declared.kind.Kind.TheVariants.{Data, Headers, Priority, RstStream}
+use Rattle.h2_frame.specs.declared.kind.Kind.TheVariants.{Settings, PushPromise, Ping, GoAway}
+use Rattle.h2_frame.specs.declared.kind.Kind.TheVariants.{WindowUpdate, Continuation, Unknown}
 
 -- the name of an error code (RFC 9113, section 7)
 abbrev pub name_of : Code → List ℕ

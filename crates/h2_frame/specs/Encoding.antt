@@ -1,16 +1,21 @@
--- The one encoding of each frame that is written: reserved bits, flags that the kind doesn't define, and octets of padding are
--- zero (RFC 9113, sections 4.1 and 6). And the frames that aren't written.
-use Rattle.std.specs.Prelude.{◌≡◌, ℕ, ◌+◌, ◌^◌, ◌<◌, ◌==◌, nat_lt, nat_le, not, ◌&&◌, ◌||◌, Bool, true, if◌then◌else◌, List, ◌∷◌, ◌++◌, length, replicate, flat_map, Option, Some, None}
+-- The one encoding of each frame that is written: reserved bits, flags that the kind doesn't
+-- define, and octets of padding are zero (RFC 9113, sections 4.1 and 6). And the frames that aren't
+-- written.
+use Rattle.std.specs.Prelude.{◌≡◌, ℕ, ◌+◌, ◌^◌, ◌<◌, ◌==◌, nat_lt, nat_le, not, ◌&&◌, ◌||◌, Bool}
+use Rattle.std.specs.Prelude.{true, if◌then◌else◌, List, ◌∷◌, ◌++◌, length, replicate, flat_map}
+use Rattle.std.specs.Prelude.{Option, Some, None}
 use Rattle.std.specs.List.{AllByRecursion}
 use Rattle.std.specs.Option.{is_some}
 use Rattle.byteorder.specs.Endian.{big_bytes}
 use Rattle.h2_frame.specs.declared.kind.Kind.{Kind}
 use Rattle.h2_frame.specs.declared.kind.Kind.TheVariants as kinds
 use Rattle.h2_frame.specs.declared.owned.Unwritable.{Unwritable}
-use Rattle.h2_frame.specs.declared.owned.Unwritable.TheVariants.{TooLong, BadStream, BadValue, Memory}
+use Rattle.h2_frame.specs.declared.owned.Unwritable.TheVariants.{TooLong, BadStream, BadValue}
+use Rattle.h2_frame.specs.declared.owned.Unwritable.TheVariants.{Memory}
 use Rattle.h2_frame.specs.Codes.{number_of}
 use Rattle.h2_frame.specs.Heads.{fits_stream}
-use Rattle.h2_frame.specs.Frames.{Frame, Data, Headers, Priority, Reset, Settings, Ping, GoAway, WindowUpdate, Continuation, Unknown}
+use Rattle.h2_frame.specs.Frames.{Frame, Data, Headers, Priority, Reset, Settings, Ping, GoAway}
+use Rattle.h2_frame.specs.Frames.{WindowUpdate, Continuation, Unknown}
 
 -- the kind of a frame
 unfoldable pub kind_of_frame : Frame → Kind
@@ -73,7 +78,8 @@ pair_octets pair = big_bytes 2 pair.0 ++ big_bytes 4 pair.1
 -- the payload of a frame
 unfoldable pub payload_of : Frame → List ℕ
 payload_of (Data stream end octets pad) = padded octets pad
-payload_of (Headers stream end whole fragment pad priority) = padded (prioritized fragment priority) pad
+payload_of (Headers stream end whole fragment pad priority) =
+    padded (prioritized fragment priority) pad
 payload_of (Priority stream octets) = octets
 payload_of (Reset stream code) = big_bytes 4 code
 payload_of (Settings ack pairs) = flat_map pair_octets pairs
@@ -83,15 +89,16 @@ payload_of (WindowUpdate stream increment) = big_bytes 4 increment
 payload_of (Continuation stream whole fragment) = fragment
 payload_of (Unknown kind flags stream payload) = payload
 
--- the octets that are written of a frame: 24 bits of length, 8 of kind, 8 of flags, a reserved bit and 31 bits of stream, and
--- the payload
+-- the octets that are written of a frame: 24 bits of length, 8 of kind, 8 of flags, a reserved bit
+-- and 31 bits of stream, and the payload
 unfoldable pub encoding_of : Frame → List ℕ
 encoding_of frame =
     big_bytes 3 (length (payload_of frame))
-    ++ (number_of (kind_of_frame frame) ∷ flags_of frame ∷ (big_bytes 4 (stream_of frame) ++ payload_of frame))
+    ++ (number_of (kind_of_frame frame) ∷ flags_of frame
+    ∷ (big_bytes 4 (stream_of frame) ++ payload_of frame))
 
--- Whether the values of a frame can be written: a last stream and an increment have 31 bits, an acknowledgment of settings has
--- no pairs, and kinds from 0 to 9 aren't unknown.
+-- Whether the values of a frame can be written: a last stream and an increment have 31 bits, an
+-- acknowledgment of settings has no pairs, and kinds from 0 to 9 aren't unknown.
 unfoldable pub has_good_values : Frame → Bool
 has_good_values (Data stream end octets pad) = true
 has_good_values (Headers stream end whole fragment pad priority) = true
@@ -104,16 +111,18 @@ has_good_values (WindowUpdate stream increment) = nat_lt increment (2 ^ 31)
 has_good_values (Continuation stream whole fragment) = true
 has_good_values (Unknown kind flags stream payload) = nat_le 10 kind
 
--- The first refusal of a frame, but for lack of memory: a payload that is too long, then a stream that isn't one for the kind
--- or is above 2^31 - 1, then a value.
+-- The first refusal of a frame, but for lack of memory: a payload that is too long, then a stream
+-- that isn't one for the kind or is above 2^31 - 1, then a value.
 unfoldable pub refusal : Frame → Option Unwritable
 refusal frame =
     if nat_lt 16777215 (length (payload_of frame)) then Some TooLong
-    else if not (nat_lt (stream_of frame) (2 ^ 31) && fits_stream (kind_of_frame frame) (stream_of frame)) then Some BadStream
+    else if not (nat_lt (stream_of frame) (2 ^ 31)
+    && fits_stream (kind_of_frame frame) (stream_of frame)) then Some BadStream
     else if not (has_good_values frame) then Some BadValue
     else None
 
--- What an error of writing says of the frame: that it is its first refusal, or, where an allocation was refused, that it has none.
+-- What an error of writing says of the frame: that it is its first refusal, or, where an allocation
+-- was refused, that it has none.
 abbrev pub IsRefused : Frame → Unwritable → Type 0
 IsRefused frame TooLong = refusal frame ≡ Some TooLong
 IsRefused frame BadStream = refusal frame ≡ Some BadStream
@@ -130,8 +139,8 @@ abbrev pub IsPriority : Option (List ℕ) → Type 0
 IsPriority None = Unit {0}
 IsPriority (Some octets) = length octets ≡ 5
 
--- The numbers of a frame fit its Rust types: a pad length of 8 bits, five octets of priority, a code of 32 bits,
--- and so on.
+-- The numbers of a frame fit its Rust types: a pad length of 8 bits, five octets of priority, a
+-- code of 32 bits, and so on.
 abbrev pub IsTyped : Frame → Type 0
 IsTyped (Data stream end octets pad) = IsPadLength pad
 IsTyped (Headers stream end whole fragment pad priority) = IsPadLength pad × IsPriority priority

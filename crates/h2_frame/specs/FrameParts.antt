@@ -4,13 +4,15 @@ use Rattle.std.specs.List.{AllByRecursion}
 use Rattle.byteorder.specs.Endian.{big_bytes}
 use Rattle.h2_frame.specs.declared.kind.Kind.{Kind}
 use Rattle.h2_frame.specs.declared.frame_parts.FixedFields.{FixedFields}
-use Rattle.h2_frame.specs.declared.frame_parts.FixedFields.TheVariants.{Nothing, Priority, Ping, Word, TwoWords}
+use Rattle.h2_frame.specs.declared.frame_parts.FixedFields.TheVariants.{Nothing, Priority, Ping}
+use Rattle.h2_frame.specs.declared.frame_parts.FixedFields.TheVariants.{Word, TwoWords}
 use Rattle.h2_frame.specs.declared.frame_parts.Body.{Body}
 use Rattle.h2_frame.specs.declared.frame_parts.Body.TheVariants.{Octets, Pairs}
 use Rattle.h2_frame.specs.declared.frame_parts.FrameParts.{FrameParts}
 use Rattle.h2_frame.specs.Codes.{number_of}
 use Rattle.h2_frame.specs.Frames.{Frame}
-use Rattle.h2_frame.specs.Encoding.{kind_of_frame, stream_of, flags_of, payload_of, has_good_values, padded, pair_octets, IsTyped}
+use Rattle.h2_frame.specs.Encoding.{kind_of_frame, stream_of, flags_of, payload_of, has_good_values}
+use Rattle.h2_frame.specs.Encoding.{padded, pair_octets, IsTyped}
 
 -- the octets of the fixed fields
 abbrev pub fixed_octets : FixedFields → List ℕ
@@ -31,7 +33,8 @@ payload_octets parts = padded (fixed_octets parts.fixed_fields ++ body_octets pa
 
 -- the nine octets of a head
 abbrev pub head_octets : Kind → ℕ → ℕ → ℕ → List ℕ
-head_octets kind flags stream count = big_bytes 3 count ++ (number_of kind ∷ flags ∷ big_bytes 4 stream)
+head_octets kind flags stream count =
+    big_bytes 3 count ++ (number_of kind ∷ flags ∷ big_bytes 4 stream)
 
 -- Each pair has 16 bits of identifier and 32 of value.
 abbrev pub ArePairs : List (ℕ × ℕ) → Type 0

@@ -1,6 +1,7 @@
 //! Appending the parts of a frame to a vector that has capacity for them, so that nothing fails.
 
-ghost use Rattle.std.specs.Prelude.{◌≡◌, ◌+◌, ◌*◌, ◌^◌, ◌<◌, ◌≤◌, ◌++◌, length, flat_map, vec_len, MatchOption};
+ghost use Rattle.std.specs.Prelude.{◌≡◌, ◌+◌, ◌*◌, ◌^◌, ◌<◌, ◌≤◌, ◌++◌, length, flat_map, vec_len};
+ghost use Rattle.std.specs.Prelude.{MatchOption};
 ghost use Rattle.std.specs.Vec.{vec_capacity};
 ghost use Rattle.h2_frame.specs.Encoding.{pair_octets};
 ghost use Rattle.h2_frame.specs.FrameParts.{fixed_octets, body_octets, payload_octets, head_octets};
@@ -40,7 +41,8 @@ impl FrameParts<'_> {
     pub(crate) fn append_head(&self, length: u32, out: &mut Vec<u8>)
         requires small { length < 2 ^ 24 }
         requires capacity { vec_len out.old + 9 ≤ vec_capacity out.old }
-        ensures items { out.new.items ≡ out.old.items ++ head_octets self.now.kind self.now.flags self.now.stream length }
+        ensures items { out.new.items ≡ out.old.items
+            ++ head_octets self.now.kind self.now.flags self.now.stream length }
         ensures capacity { vec_capacity out.old ≤ vec_capacity out.new }
     {
         let mut octets = [0; HEAD];
@@ -105,7 +107,8 @@ impl FixedFields {
 }
 
 impl Body<'_> {
-    // How many octets there are; where that is more than a payload may have, some number above that.
+    // How many octets there are; where that is more than a payload may have, some number above
+    // that.
     fn len(self) -> usize
         ensures small { result ≤ 16777215 → result ≡ length (body_octets self.entry) }
         ensures large { 16777215 < result → 16777215 < length (body_octets self.entry) }

@@ -1,7 +1,8 @@
 //! The parts of a frame, as they are written.
 
 ghost use Rattle.std.specs.Prelude.{◌≡◌, flat_map};
-ghost use Rattle.h2_frame.specs.Frames.{Data, Headers, Priority, Reset, Settings, Ping, GoAway, WindowUpdate, Continuation, Unknown};
+ghost use Rattle.h2_frame.specs.Frames.{Data, Headers, Priority, Reset, Settings, Ping, GoAway};
+ghost use Rattle.h2_frame.specs.Frames.{WindowUpdate, Continuation, Unknown};
 ghost use Rattle.h2_frame.specs.Encoding.{flag as flag_bits, pair_octets};
 ghost use Rattle.h2_frame.specs.Pairs.{lent_pairs, pairs_of};
 ghost use Rattle.h2_frame.specs.FrameParts.{ArePairs, Describes, IsPlain};
@@ -56,7 +57,7 @@ pub(crate) struct FrameParts<'a> {
     pub(crate) body: Body<'a>,
 }
 
-#[tactic(auto, unfolding(crate::specs::Encoding::kind_of_frame, crate::specs::Encoding::flags_of, crate::specs::Encoding::stream_of, crate::specs::Encoding::payload_of, crate::specs::Encoding::has_good_values))]
+#[tactic(auto, unfolding(crate::proofs::Rules::parts_of_frames))]
 impl<'a> FrameParts<'a> {
     /// The parts of DATA.
     pub(crate) fn data(stream: u32, end: bool, octets: &'a [u8], pad: Option<u8>) -> FrameParts<'a>
@@ -213,7 +214,8 @@ fn complete_pairs(octets: &[u8]) -> &[u8]
     &octets[..count * PAIR]
 }
 
-// Reads each pair, from which a proof knows that its numbers have 16 and 32 bits. An optimizing compiler drops it.
+// Reads each pair, from which a proof knows that its numbers have 16 and 32 bits. An optimizing
+// compiler drops it.
 fn read_each(pairs: &[(u16, u32)])
     ensures { ArePairs pairs.now }
 {

@@ -1,6 +1,10 @@
-//! The frames of HTTP/2 (RFC 9113, sections 4.1 and 6): heads, payloads and their faults, and writing.
+//! The frames of HTTP/2 (RFC 9113, sections 4.1 and 6): heads, payloads and their faults, and
+//! writing.
 //!
-//! A frame's nine octets of head are read by [`head`], and checked by [`head_fault`] when no octet of its payload has come yet. [`payload_fault`] checks the payload, and [`payload_frame`] reads it and lends it: reading allocates nothing. [`write`] appends the one encoding of a frame that is owned, and [`write_ref`] that of a frame whose payload is lent.
+//! A frame's nine octets of head are read by [`head`], and checked by [`head_fault`] when no octet
+//! of its payload has come yet. [`payload_fault`] checks the payload, and [`payload_frame`] reads
+//! it and lends it: reading allocates nothing. [`write`] appends the one encoding of a frame that
+//! is owned, and [`write_ref`] that of a frame whose payload is lent.
 #![tactic(auto)]
 
 mod appending;

@@ -2,7 +2,8 @@
 
 use thiserror::Error;
 
-/// A frame that owns its payload. [`FrameRef`](crate::FrameRef) is the same, lent, and says what each case is.
+/// A frame that owns its payload. [`FrameRef`](crate::FrameRef) is the same, lent, and says what
+/// each case is.
 #[derive(Debug, PartialEq, Eq, Drop)]
 pub enum Frame {
     /// Octets of a message's body (RFC 9113, section 6.1).
@@ -100,14 +101,16 @@ pub enum Frame {
 /// Why a frame isn't written. Of several the first is answered.
 #[derive(Clone, Copy, Debug, PartialEq, Eq, Error)]
 pub enum Unwritable {
-    /// F1: the payload has more than 16,777,215 octets, which no head can say (RFC 9113, section 4.1).
+    /// F1: the payload has more than 16,777,215 octets, which no head can say (RFC 9113, section
+    /// 4.1).
     #[error("F1 TooLong: the payload has more than 16777215 octets")]
     TooLong,
-    /// F2: a frame of this kind can't be on the stream, or the stream's number is above 2<sup>31</sup> - 1.
+    /// F2: a frame of this kind can't be on the stream, or the stream's number is above
+    /// 2<sup>31</sup> - 1.
     #[error("F2 BadStream: a frame of this kind can't stand on the stream")]
     BadStream,
-    /// F3: a last stream or an increment above 2<sup>31</sup> - 1, an acknowledgment of settings with pairs, or an unknown
-    /// kind with a number from 0 to 9, which are known.
+    /// F3: a last stream or an increment above 2<sup>31</sup> - 1, an acknowledgment of settings
+    /// with pairs, or an unknown kind with a number from 0 to 9, which are known.
     #[error("F3 BadValue: a value of the frame can't be written")]
     BadValue,
     /// F4: an allocation was refused.

@@ -1,8 +1,10 @@
 //! Reading payloads (RFC 9113, section 6).
 
-ghost use Rattle.std.specs.Prelude.{◌≡◌, ◌≤◌, ◌-◌, ◌+◌, ◌∷◌, ◌++◌, length, take, drop, slice_index, None, Some, true, MatchResult, MatchOption};
+ghost use Rattle.std.specs.Prelude.{◌≡◌, ◌≤◌, ◌-◌, ◌+◌, ◌∷◌, ◌++◌, length, take, drop, slice_index};
+ghost use Rattle.std.specs.Prelude.{None, Some, true, MatchResult, MatchOption};
 ghost use Rattle.h2_frame.specs.Heads.{form_fault, has_padding, has_priority};
-ghost use Rattle.h2_frame.specs.Frames.{frame_of, Carries, IsPadded, IsPrioritized, payload_fault as fault_of_payload, pads_too_much, Refuses};
+ghost use Rattle.h2_frame.specs.Frames.{frame_of, Carries, IsPadded, IsPrioritized};
+ghost use Rattle.h2_frame.specs.Frames.{payload_fault as fault_of_payload, pads_too_much, Refuses};
 
 use crate::code::Code;
 use crate::frame::{FrameRef, PayloadError};
@@ -12,10 +14,11 @@ use crate::pairs::Pairs;
 use crate::reading::{ACK, END_HEADERS, END_STREAM, PADDED, PRIORITY, octets_of_flags};
 use byteorder::{BigEndian, ByteOrder};
 
-/// The fault of a payload after a head without fault, or none: DATA whose pad length isn't less than its payload's length
-/// (RFC 9113, section 6.1), or HEADERS whose pad length is above what remains for the fragment (section 6.2), is a
-/// PROTOCOL_ERROR. The slice has the head's length. It allocates nothing.
-#[tactic(auto, unfolding(crate::specs::Heads::form_fault, crate::specs::Heads::fits_length, crate::specs::Frames::payload_fault, crate::specs::Frames::pads_too_much))]
+/// The fault of a payload after a head without fault, or none: DATA whose pad length isn't less
+/// than its payload's length (RFC 9113, section 6.1), or HEADERS whose pad length is above what
+/// remains for the fragment (section 6.2), is a PROTOCOL_ERROR. The slice has the head's length. It
+/// allocates nothing.
+#[tactic(auto, unfolding(crate::proofs::Rules::payload_rules))]
 pub fn payload_fault(head: &Head, payload: &[u8]) -> Option<Code>
     // The head has no fault of its form, but for the limit.
     requires form { form_fault head.now ≡ None }
@@ -37,18 +40,20 @@ pub fn payload_fault(head: &Head, payload: &[u8]) -> Option<Code>
     None
 }
 
-/// Checks and reads the payload after a head without fault, and lends it (RFC 9113, section 6). The slice has the head's length. It allocates nothing.
+/// Checks and reads the payload after a head without fault, and lends it (RFC 9113, section 6). The
+/// slice has the head's length. It allocates nothing.
 ///
 /// # Errors
 ///
 /// [`PayloadError::Code`] with the code of the payload's fault, which [`payload_fault`] answers.
-#[tactic(auto, unfolding(crate::specs::Heads::form_fault, crate::specs::Heads::fits_stream, crate::specs::Heads::fits_length))]
+#[tactic(auto, unfolding(crate::proofs::Rules::form_rules))]
 pub fn read_payload<'a>(head: &Head, payload: &'a [u8]) -> Result<FrameRef<'a>, PayloadError>
     // The head has no fault of its form, but for the limit.
     requires form { form_fault head.now ≡ None }
     requires complete { length payload.now ≡ head.now.length }
     ensures { MatchResult result
-        (λ frame. (fault_of_payload head.now payload.now ≡ None) × Carries head.now payload.now (frame_of frame))
+        (λ frame. (fault_of_payload head.now payload.now ≡ None)
+        × Carries head.now payload.now (frame_of frame))
         (Refuses head.now payload.now) }
 {
     if let Some(code) = payload_fault(head, payload) {
@@ -58,7 +63,7 @@ pub fn read_payload<'a>(head: &Head, payload: &'a [u8]) -> Result<FrameRef<'a>, 
 }
 
 // The frame of a payload without fault.
-#[tactic(auto, unfolding(crate::specs::Heads::form_fault, crate::specs::Heads::fits_stream, crate::specs::Heads::fits_length, crate::specs::Frames::payload_fault, crate::specs::Frames::pads_too_much))]
+#[tactic(auto, unfolding(crate::proofs::Rules::payload_rules))]
 fn payload_frame<'a>(head: &Head, payload: &'a [u8]) -> FrameRef<'a>
     requires form { form_fault head.now ≡ None }
     requires complete { length payload.now ≡ head.now.length }
@@ -112,7 +117,7 @@ fn payload_frame<'a>(head: &Head, payload: &'a [u8]) -> FrameRef<'a>
 }
 
 // The frame of DATA whose payload has no fault.
-#[tactic(auto, unfolding(crate::specs::Heads::form_fault, crate::specs::Heads::fits_stream, crate::specs::Heads::fits_length, crate::specs::Frames::payload_fault, crate::specs::Frames::pads_too_much))]
+#[tactic(auto, unfolding(crate::proofs::Rules::payload_rules))]
 fn data<'a>(head: &Head, payload: &'a [u8]) -> FrameRef<'a>
     requires kind { head.now.kind ≡ Kind.Data }
     requires form { form_fault head.now ≡ None }
@@ -130,7 +135,7 @@ fn data<'a>(head: &Head, payload: &'a [u8]) -> FrameRef<'a>
 }
 
 // The frame of HEADERS whose payload has no fault.
-#[tactic(auto, unfolding(crate::specs::Heads::form_fault, crate::specs::Heads::fits_stream, crate::specs::Heads::fits_length, crate::specs::Frames::payload_fault, crate::specs::Frames::pads_too_much))]
+#[tactic(auto, unfolding(crate::proofs::Rules::payload_rules))]
 fn headers<'a>(head: &Head, payload: &'a [u8]) -> FrameRef<'a>
     requires kind { head.now.kind ≡ Kind.Headers }
     requires form { form_fault head.now ≡ None }
@@ -151,7 +156,8 @@ fn headers<'a>(head: &Head, payload: &'a [u8]) -> FrameRef<'a>
     }
 }
 
-// What lies between the pad length and the padding, and how much padding there is; or all of the payload.
+// What lies between the pad length and the padding, and how much padding there is; or all of the
+// payload.
 fn without_padding(flags: u8, payload: &[u8]) -> (&[u8], Option<u8>)
     requires { has_padding flags ≡ true → 1 + slice_index payload.now 0 ≤ length payload.now }
     ensures padded { IsPadded (has_padding flags) payload.now result.0.now result.1 }

@@ -1,7 +1,9 @@
 //! Reading and checking heads (RFC 9113, sections 4.1, 4.2 and 6).
 
 ghost use Rattle.std.specs.Prelude.{◌≡◌, ◌≤◌, None};
-ghost use Rattle.h2_frame.specs.Heads.{head_of, head_fault as fault_of, form_fault, fits_stream as stream_fits, fits_length as length_fits, octets_of_flags as flag_octets};
+ghost use Rattle.h2_frame.specs.Heads.{head_of, head_fault as fault_of, form_fault};
+ghost use Rattle.h2_frame.specs.Heads.{fits_stream as stream_fits, fits_length as length_fits};
+ghost use Rattle.h2_frame.specs.Heads.{octets_of_flags as flag_octets};
 
 use crate::code::Code;
 use crate::heads::Head;
@@ -23,7 +25,8 @@ pub(crate) const PADDED: u8 = 0x08;
 /// The bit of PRIORITY, in HEADERS.
 pub(crate) const PRIORITY: u8 = 0x20;
 
-/// Reads the nine octets with which a frame begins. The reserved bit is dropped (RFC 9113, section 4.1).
+/// Reads the nine octets with which a frame begins. The reserved bit is dropped (RFC 9113, section
+/// 4.1).
 #[tactic(auto, unfolding(crate::specs::Heads::head_of))]
 pub fn head(octets: &[u8; 9]) -> Head
     ensures { result ≡ head_of octets.now }
@@ -36,7 +39,8 @@ pub fn head(octets: &[u8; 9]) -> Head
     }
 }
 
-/// The fault of a head, where payloads may have at most `limit` octets: the first of these, or none.
+/// The fault of a head, where payloads may have at most `limit` octets: the first of these, or
+/// none.
 ///
 /// 1. A length above the limit: FRAME_SIZE_ERROR.
 /// 2. PUSH_PROMISE, which this profile refuses: PROTOCOL_ERROR.
@@ -46,7 +50,8 @@ pub fn head(octets: &[u8; 9]) -> Head
 pub fn head_fault(head: &Head, limit: u32) -> Option<Code>
     ensures value { result ≡ fault_of head.now limit }
 
-    // Where it is none, the length is within the limit, and the head has no fault of its form, but for the limit.
+    // Where it is none, the length is within the limit, and the head has no fault of its form, but
+    // for the limit.
     ensures within { result ≡ None → head.now.length ≤ limit }
     ensures form { result ≡ None → form_fault head.now ≡ None }
 {

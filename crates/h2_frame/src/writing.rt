@@ -1,6 +1,7 @@
 //! Writing frames (RFC 9113, sections 4.1 and 6).
 
-ghost use Rattle.std.specs.Prelude.{◌≡◌, ◌+◌, ◌≤◌, ◌++◌, length, vec_len, None, Some, IfErr, OnOk, OnErr, IsOk};
+ghost use Rattle.std.specs.Prelude.{◌≡◌, ◌+◌, ◌≤◌, ◌++◌, length, vec_len, None, Some, IfErr, OnOk};
+ghost use Rattle.std.specs.Prelude.{OnErr, IsOk};
 ghost use Rattle.std.specs.Vec.{vec_capacity};
 ghost use Rattle.h2_frame.specs.Frames.{Frame as AnyFrame, frame_of, owned_frame};
 ghost use Rattle.h2_frame.specs.Encoding.{encoding_of, refusal, IsRefused, IsTyped};
@@ -12,19 +13,25 @@ use crate::frame_parts::{ABOVE_31_BITS, FrameParts};
 use crate::owned::{Frame, Unwritable};
 use crate::reading::fits_stream;
 
-/// Appends the frame (RFC 9113, sections 4.1 and 6): its head and its payload, with reserved bits, flags that its kind doesn't
-/// define, and octets of padding zero.
+/// Appends the frame (RFC 9113, sections 4.1 and 6): its head and its payload, with reserved bits,
+/// flags that its kind doesn't define, and octets of padding zero.
 ///
 /// # Errors
 ///
-/// The first of these, and `out` is unchanged: [`Unwritable::TooLong`] where the payload has more than 16,777,215 octets;
-/// [`Unwritable::BadStream`] where the kind can't be on the stream or its number is above 2<sup>31</sup> - 1;
-/// [`Unwritable::BadValue`] for a last stream or an increment above 2<sup>31</sup> - 1, for settings with ACK and pairs, and for an
-/// unknown kind with a number from 0 to 9; and [`Unwritable::Memory`], which doesn't come where `out` has capacity for the frame.
+/// The first of these, and `out` is unchanged: [`Unwritable::TooLong`] where the payload has more
+/// than 16,777,215 octets; [`Unwritable::BadStream`] where the kind can't be on the stream or its
+/// number is above 2<sup>31</sup> - 1; [`Unwritable::BadValue`] for a last stream or an increment
+/// above 2<sup>31</sup> - 1, for settings with ACK and pairs, and for an unknown kind with a number
+/// from 0 to 9; and [`Unwritable::Memory`], which doesn't come where `out` has capacity for the
+/// frame.
 pub fn write(frame: &Frame, out: &mut Vec<u8>) -> Result<(), Unwritable>
-    ensures ok { OnOk result ((refusal (owned_frame frame.now) ≡ None) × (out.new.items ≡ out.old.items ++ encoding_of (owned_frame frame.now))) }
-    ensures err { IfErr result (λ error. IsRefused (owned_frame frame.now) error × (out.new.items ≡ out.old.items)) }
-    ensures has_capacity { refusal (owned_frame frame.now) ≡ None → vec_len out.old + length (encoding_of (owned_frame frame.now)) ≤ vec_capacity out.old → IsOk result }
+    ensures ok { OnOk result ((refusal (owned_frame frame.now) ≡ None)
+        × (out.new.items ≡ out.old.items ++ encoding_of (owned_frame frame.now))) }
+    ensures err { IfErr result (λ error. IsRefused (owned_frame frame.now) error
+        × (out.new.items ≡ out.old.items)) }
+    ensures has_capacity { refusal (owned_frame frame.now) ≡ None
+        → vec_len out.old + length (encoding_of (owned_frame frame.now)) ≤ vec_capacity out.old
+        → IsOk result }
     ensures capacity { vec_capacity out.old ≤ vec_capacity out.new }
     ensures typed { IsTyped (owned_frame frame.now) }
 {
@@ -37,9 +44,13 @@ pub fn write(frame: &Frame, out: &mut Vec<u8>) -> Result<(), Unwritable>
 ///
 /// Those of [`write`].
 pub fn write_ref(frame: FrameRef<'_>, out: &mut Vec<u8>) -> Result<(), Unwritable>
-    ensures ok { OnOk result ((refusal (frame_of frame.entry) ≡ None) × (out.new.items ≡ out.old.items ++ encoding_of (frame_of frame.entry))) }
-    ensures err { IfErr result (λ error. IsRefused (frame_of frame.entry) error × (out.new.items ≡ out.old.items)) }
-    ensures has_capacity { refusal (frame_of frame.entry) ≡ None → vec_len out.old + length (encoding_of (frame_of frame.entry)) ≤ vec_capacity out.old → IsOk result }
+    ensures ok { OnOk result ((refusal (frame_of frame.entry) ≡ None)
+        × (out.new.items ≡ out.old.items ++ encoding_of (frame_of frame.entry))) }
+    ensures err { IfErr result (λ error. IsRefused (frame_of frame.entry) error
+        × (out.new.items ≡ out.old.items)) }
+    ensures has_capacity { refusal (frame_of frame.entry) ≡ None
+        → vec_len out.old + length (encoding_of (frame_of frame.entry)) ≤ vec_capacity out.old
+        → IsOk result }
     ensures capacity { vec_capacity out.old ≤ vec_capacity out.new }
     ensures typed { IsTyped (frame_of frame.entry) }
 {
@@ -49,11 +60,13 @@ pub fn write_ref(frame: FrameRef<'_>, out: &mut Vec<u8>) -> Result<(), Unwritabl
 // Appends a frame that has these parts.
 fn write_parts(parts: &FrameParts<'_>, out: &mut Vec<u8>) -> Result<(), Unwritable>
     ensures ok { (frame : AnyFrame) → Describes parts.now frame
-        → OnOk result ((refusal frame ≡ None) × (out.new.items ≡ out.old.items ++ encoding_of frame)) }
+        → OnOk result ((refusal frame ≡ None)
+        × (out.new.items ≡ out.old.items ++ encoding_of frame)) }
     ensures err { (frame : AnyFrame) → Describes parts.now frame
         → IfErr result (λ error. IsRefused frame error × (out.new.items ≡ out.old.items)) }
     ensures has_capacity { (frame : AnyFrame) → Describes parts.now frame
-        → refusal frame ≡ None → vec_len out.old + length (encoding_of frame) ≤ vec_capacity out.old → IsOk result }
+        → refusal frame ≡ None → vec_len out.old + length (encoding_of frame) ≤ vec_capacity out.old
+        → IsOk result }
     ensures capacity { vec_capacity out.old ≤ vec_capacity out.new }
 {
     let Some(length) = parts.payload_length() else {

@@ -64,7 +64,8 @@ fn faults_of_heads(rt: HostRuntime) {
         // Kind, flags, stream, length: the longest payload and one above it.
         (0, 0, 1, 16384, None),
         (0, 0, 1, 16385, Some(Code::FrameSizeError)),
-        // A length above the limit comes first, then PUSH_PROMISE, then the stream, then the length.
+        // A length above the limit comes first, then PUSH_PROMISE, then the stream, then the
+        // length.
         (5, 0, 0, 16385, Some(Code::FrameSizeError)),
         (5, 0, 1, 4, Some(Code::ProtocolError)),
         (3, 0, 0, 5, Some(Code::ProtocolError)),

@@ -32,7 +32,8 @@ fn check_lent(
     Ok(())
 }
 
-// The frame, owned and lent, is written as these octets after what is there, and they are read back.
+// The frame, owned and lent, is written as these octets after what is there, and they are read
+// back.
 fn check(
     rt: &impl Abort,
     alloc: Global,

@@ -5,4 +5,5 @@ use Rattle.h2_frame.proofs.frame_parts.read_each.Goals as goal
 
 pub loop-id-preserved : goal.loop-id-preserved
 loop-id-preserved c =
-    ArePairs-more c.args.pairs.now c.loop-id.id-index c.loop-id-test.true c.loop-id.invariant (omega arith) (omega arith)
+    ArePairs-more c.args.pairs.now c.loop-id.id-index c.loop-id-test.true c.loop-id.invariant
+    (omega arith) (omega arith)
