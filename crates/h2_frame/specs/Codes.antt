@@ -29,6 +29,23 @@ name_of EnhanceYourCalm = codes "ENHANCE_YOUR_CALM"
 name_of InadequateSecurity = codes "INADEQUATE_SECURITY"
 name_of Http11Required = codes "HTTP_1_1_REQUIRED"
 
+-- the number of an error code (RFC 9113, section 7)
+abbrev pub code_number : Code → ℕ
+code_number NoError = 0
+code_number ProtocolError = 1
+code_number InternalError = 2
+code_number FlowControlError = 3
+code_number SettingsTimeout = 4
+code_number StreamClosed = 5
+code_number FrameSizeError = 6
+code_number RefusedStream = 7
+code_number Cancel = 8
+code_number CompressionError = 9
+code_number ConnectError = 10
+code_number EnhanceYourCalm = 11
+code_number InadequateSecurity = 12
+code_number Http11Required = 13
+
 -- the kind that an octet of a head names (RFC 9113, section 6); other numbers are unknown kinds
 unfoldable pub kind_of : ℕ → Kind
 kind_of number =

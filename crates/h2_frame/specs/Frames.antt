@@ -136,15 +136,23 @@ pub record Encodes (frame : Frame) (octets : List ℕ) : Type 0 where
 abbrev pub pad_length : List ℕ → ℕ
 pad_length payload = slice_index payload 0
 
--- Whether a payload's pad length is too large: in DATA it isn't less than the payload's length
--- (section 6.1); in HEADERS it is above what the pad length and the priority leave for the fragment
--- (section 6.2). Other kinds have no padding.
-unfoldable pub pads_too_much : Kind → ℕ → List ℕ → Bool
-pads_too_much kinds.Data flags payload =
+-- Whether the pad length of DATA is too large: it isn't less than the payload's length (section
+-- 6.1).
+abbrev pub data_pads_too_much : ℕ → List ℕ → Bool
+data_pads_too_much flags payload =
     has_padding flags && nat_le (length payload) (pad_length payload)
-pads_too_much kinds.Headers flags payload =
-    has_padding flags && nat_lt (length payload - octets_of_flags true (has_priority flags))
-    (pad_length payload)
+
+-- Whether the pad length of HEADERS is too large: it is above what the pad length and the priority
+-- leave for the fragment (section 6.2).
+abbrev pub headers_pad_too_much : ℕ → List ℕ → Bool
+headers_pad_too_much flags payload =
+    has_padding flags
+    && nat_lt (length payload - octets_of_flags true (has_priority flags)) (pad_length payload)
+
+-- Whether a payload's pad length is too large. Kinds but DATA and HEADERS have no padding.
+unfoldable pub pads_too_much : Kind → ℕ → List ℕ → Bool
+pads_too_much kinds.Data flags payload = data_pads_too_much flags payload
+pads_too_much kinds.Headers flags payload = headers_pad_too_much flags payload
 pads_too_much kinds.Priority flags payload = false
 pads_too_much kinds.RstStream flags payload = false
 pads_too_much kinds.Settings flags payload = false

@@ -77,7 +77,8 @@ fits_length WindowUpdate flags count = count == 4
 fits_length Continuation flags count = true
 fits_length (Unknown number) flags count = true
 
--- PUSH_PROMISE is refused: no end of this profile allows push.
+-- Whether a frame is PUSH_PROMISE, which is refused: no end of this profile allows push (sections
+-- 6.6 and 8.4).
 abbrev pub is_push_promise : Kind → Bool
 is_push_promise PushPromise = true
 is_push_promise _ = false
@@ -91,7 +92,11 @@ form_fault head =
     else if not (fits_length head.kind head.flags head.length) then Some FrameSizeError
     else None
 
+-- Whether a head's length is above the limit of payloads (section 4.2).
+abbrev pub exceeds_limit : Head → ℕ → Bool
+exceeds_limit head limit = nat_lt limit head.length
+
 -- The fault of a head where payloads may have as many octets as the limit says, known at its ninth
 -- octet: a length above the limit (section 4.2), then a fault of its form.
 unfoldable pub head_fault : Head → ℕ → Option Code
-head_fault head limit = if nat_lt limit head.length then Some FrameSizeError else form_fault head
+head_fault head limit = if exceeds_limit head limit then Some FrameSizeError else form_fault head

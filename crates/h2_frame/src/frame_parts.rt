@@ -1,15 +1,16 @@
 //! The parts of a frame, as they are written.
 
-ghost use Rattle.std.specs.Prelude.{◌≡◌, flat_map};
+ghost use Rattle.std.specs.Prelude.{◌≡◌, ◌^◌, nat_lt, ◌&&◌, flat_map};
 ghost use Rattle.h2_frame.specs.Frames.{Data, Headers, Priority, Reset, Settings, Ping, GoAway};
 ghost use Rattle.h2_frame.specs.Frames.{WindowUpdate, Continuation, Unknown};
 ghost use Rattle.h2_frame.specs.Encoding.{flag as flag_bits, pair_octets};
 ghost use Rattle.h2_frame.specs.Pairs.{lent_pairs, pairs_of};
+ghost use Rattle.h2_frame.specs.Heads.{fits_stream as stream_fits};
 ghost use Rattle.h2_frame.specs.FrameParts.{ArePairs, Describes, IsPlain};
 
 use crate::kind::Kind;
 use crate::pairs::{PAIR, Pairs};
-use crate::reading::{ACK, END_HEADERS, END_STREAM, PADDED, PRIORITY};
+use crate::reading::{ACK, END_HEADERS, END_STREAM, PADDED, PRIORITY, fits_stream};
 
 /// The least number that has more than 31 bits.
 pub(crate) const ABOVE_31_BITS: u32 = 0x8000_0000;
@@ -187,6 +188,13 @@ impl<'a> FrameParts<'a> {
             has_good_values: kind >= 10,
             ..FrameParts::plain(Kind::Unknown(kind), stream, payload)
         }
+    }
+
+    /// Whether the stream's number has 31 bits, and a frame of the kind may be on it.
+    pub(crate) fn has_good_stream(&self) -> bool
+        ensures { result ≡ (nat_lt self.now.stream (2 ^ 31) && stream_fits self.now.kind self.now.stream) }
+    {
+        self.stream < ABOVE_31_BITS && fits_stream(self.kind, self.stream)
     }
 
     // The parts of a payload that is this body, with no flags.

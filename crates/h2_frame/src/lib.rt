@@ -29,6 +29,6 @@ pub use kind::Kind;
 pub use laws::{nine_octets, one_frame, within_limit, written_frame_is_read};
 pub use owned::{Frame, Unwritable};
 pub use pairs::{PairIter, Pairs};
-pub use payload::{payload_fault, read_payload};
+pub use payload::{payload_fault, payload_frame, read_payload};
 pub use reading::{head, head_fault};
 pub use writing::{write, write_ref};

@@ -62,9 +62,11 @@ pub fn read_payload<'a>(head: &Head, payload: &'a [u8]) -> Result<FrameRef<'a>, 
     Ok(payload_frame(head, payload))
 }
 
-// The frame of a payload without fault.
+/// The frame of a payload without fault, after a head without fault (RFC 9113, section 6); the
+/// payload is lent. The slice has the head's length, and [`payload_fault`] answers none for it. It
+/// allocates nothing.
 #[tactic(auto, unfolding(crate::proofs::Rules::payload_rules))]
-fn payload_frame<'a>(head: &Head, payload: &'a [u8]) -> FrameRef<'a>
+pub fn payload_frame<'a>(head: &Head, payload: &'a [u8]) -> FrameRef<'a>
     requires form { form_fault head.now ≡ None }
     requires complete { length payload.now ≡ head.now.length }
     requires sound { fault_of_payload head.now payload.now ≡ None }

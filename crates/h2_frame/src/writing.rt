@@ -9,9 +9,8 @@ ghost use Rattle.h2_frame.specs.FrameParts.{Describes};
 
 use crate::appending::HEAD;
 use crate::frame::FrameRef;
-use crate::frame_parts::{ABOVE_31_BITS, FrameParts};
+use crate::frame_parts::FrameParts;
 use crate::owned::{Frame, Unwritable};
-use crate::reading::fits_stream;
 
 /// Appends the frame (RFC 9113, sections 4.1 and 6): its head and its payload, with reserved bits,
 /// flags that its kind doesn't define, and octets of padding zero.
@@ -29,7 +28,7 @@ pub fn write(frame: &Frame, out: &mut Vec<u8>) -> Result<(), Unwritable>
         × (out.new.items ≡ out.old.items ++ encoding_of (owned_frame frame.now))) }
     ensures err { IfErr result (λ error. IsRefused (owned_frame frame.now) error
         × (out.new.items ≡ out.old.items)) }
-    ensures has_capacity { refusal (owned_frame frame.now) ≡ None
+    ensures room { refusal (owned_frame frame.now) ≡ None
         → vec_len out.old + length (encoding_of (owned_frame frame.now)) ≤ vec_capacity out.old
         → IsOk result }
     ensures capacity { vec_capacity out.old ≤ vec_capacity out.new }
@@ -48,7 +47,7 @@ pub fn write_ref(frame: FrameRef<'_>, out: &mut Vec<u8>) -> Result<(), Unwritabl
         × (out.new.items ≡ out.old.items ++ encoding_of (frame_of frame.entry))) }
     ensures err { IfErr result (λ error. IsRefused (frame_of frame.entry) error
         × (out.new.items ≡ out.old.items)) }
-    ensures has_capacity { refusal (frame_of frame.entry) ≡ None
+    ensures room { refusal (frame_of frame.entry) ≡ None
         → vec_len out.old + length (encoding_of (frame_of frame.entry)) ≤ vec_capacity out.old
         → IsOk result }
     ensures capacity { vec_capacity out.old ≤ vec_capacity out.new }
@@ -64,7 +63,7 @@ fn write_parts(parts: &FrameParts<'_>, out: &mut Vec<u8>) -> Result<(), Unwritab
         × (out.new.items ≡ out.old.items ++ encoding_of frame)) }
     ensures err { (frame : AnyFrame) → Describes parts.now frame
         → IfErr result (λ error. IsRefused frame error × (out.new.items ≡ out.old.items)) }
-    ensures has_capacity { (frame : AnyFrame) → Describes parts.now frame
+    ensures room { (frame : AnyFrame) → Describes parts.now frame
         → refusal frame ≡ None → vec_len out.old + length (encoding_of frame) ≤ vec_capacity out.old
         → IsOk result }
     ensures capacity { vec_capacity out.old ≤ vec_capacity out.new }
@@ -72,7 +71,7 @@ fn write_parts(parts: &FrameParts<'_>, out: &mut Vec<u8>) -> Result<(), Unwritab
     let Some(length) = parts.payload_length() else {
         return Err(Unwritable::TooLong);
     };
-    if parts.stream >= ABOVE_31_BITS || !fits_stream(parts.kind, parts.stream) {
+    if !parts.has_good_stream() {
         return Err(Unwritable::BadStream);
     }
     if !parts.has_good_values {

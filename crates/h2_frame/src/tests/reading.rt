@@ -2,7 +2,7 @@
 
 use crate::{
     Code, FrameRef, Head, Kind, PayloadError, head, head_fault, nine_octets, one_frame,
-    payload_fault, read_payload, within_limit,
+    payload_fault, payload_frame, read_payload, within_limit,
 };
 use std::test::Fail;
 
@@ -342,6 +342,40 @@ fn faults_of_payloads_are_errors(rt: HostRuntime) {
     }
 }
 
+// One frame of each kind.
+const FRAMES: [&[u8]; 12] = [
+    b"\x00\x00\x03\x00\x00\x00\x00\x00\x01abc",
+    b"\x00\x00\x06\x00\x08\x00\x00\x00\x01\x02abc\x00\x00",
+    b"\x00\x00\x02\x01\x04\x00\x00\x00\x03\x82\x84",
+    b"\x00\x00\x09\x01\x2c\x00\x00\x00\x03\x01\x80\x00\x00\x00\x0f\x82\x84\x00",
+    b"\x00\x00\x05\x02\x00\x00\x00\x00\x05\x80\x00\x00\x00\x0f",
+    b"\x00\x00\x04\x03\x00\x00\x00\x00\x07\x00\x00\x00\x08",
+    b"\x00\x00\x06\x04\x00\x00\x00\x00\x00\x00\x03\x00\x00\x00\x64",
+    b"\x00\x00\x08\x06\x00\x00\x00\x00\x00\x01\x02\x03\x04\x05\x06\x07\x08",
+    b"\x00\x00\x0a\x07\x00\x00\x00\x00\x00\x00\x00\x00\x09\x00\x00\x00\x00hi",
+    b"\x00\x00\x04\x08\x00\x00\x00\x00\x0b\x00\x00\x00\x10",
+    b"\x00\x00\x02\x09\x04\x00\x00\x00\x0d\x86\x87",
+    b"\x00\x00\x03\x42\x07\x00\x00\x00\x0fxyz",
+];
+
+#[test]
+fn frames_have_the_kind_stream_and_length_of_their_heads(rt: HostRuntime) -> Result<(), Fail> {
+    for octets in FRAMES {
+        let Some(first_nine) = octets.first_chunk::<9>() else {
+            return Err(Fail::from("no head"));
+        };
+        let read = head(first_nine);
+        let Some(frame) = frame_in(octets) else {
+            return Err(Fail::from("no frame"));
+        };
+        assert_eq!(rt; frame.kind(), read.kind);
+        assert_eq!(rt; frame.stream(), read.stream);
+        assert_eq!(rt; frame.payload_len(), read.length as usize);
+        assert_eq!(rt; payload_frame(&read, &octets[9..]), frame);
+    }
+    Ok(())
+}
+
 #[test]
 fn codes_have_their_names(rt: HostRuntime) -> Result<(), Fail> {
     let examples = [
@@ -365,6 +399,11 @@ fn codes_have_their_names(rt: HostRuntime) -> Result<(), Fail> {
         let text = format!(in rt.alloc(); "{code}")?;
         assert_eq!(rt; text.as_str(), name);
     }
+    for (number, (code, _)) in (0..).zip(examples) {
+        assert_eq!(rt; code.number(), number);
+        assert_eq!(rt; Code::from_number(number), Some(code));
+    }
+    assert_eq!(rt; Code::from_number(14), None);
     let error = format!(in rt.alloc(); "{}", PayloadError::Code(Code::ProtocolError))?;
     assert_eq!(rt; error.as_str(), "fault of a payload: PROTOCOL_ERROR");
     Ok(())

@@ -148,8 +148,8 @@ fn settings_are_written(rt: HostRuntime) -> Result<(), Fail> {
     pairs.push((0xf0, 0x0102_0304))?;
     let mut out = Vec::new(rt.alloc());
     write(&Frame::Settings { ack: false, pairs }, &mut out)?;
-    let octets =
-        b"\x00\x00\x0c\x04\x00\x00\x00\x00\x00\x00\x03\x00\x00\x00\x64\x00\xf0\x01\x02\x03\x04".as_slice();
+    let octets: &[u8] = b"\x00\x00\x0c\x04\x00\x00\x00\x00\x00\
+        \x00\x03\x00\x00\x00\x64\x00\xf0\x01\x02\x03\x04";
     assert_eq!(rt; out.as_slice(), octets);
     let Some(lent) = frame_in(octets) else {
         return Err(Fail::from("no SETTINGS"));
