@@ -11,7 +11,10 @@ fn frame_in(octets: &[u8]) -> Option<FrameRef<'_>> {
     let (first_nine, payload) = octets.split_at_checked(9)?;
     let read = head(first_nine.first_chunk::<9>()?);
     match head_fault(&read, 16384) {
-        None if payload.len() == read.length as usize => read_payload(&read, payload).ok(),
+        None if payload.len() == read.length as usize => match payload_fault(&read, payload) {
+            None => Some(payload_frame(&read, payload)),
+            Some(_) => None,
+        },
         _ => None,
     }
 }
@@ -371,7 +374,6 @@ fn frames_have_the_kind_stream_and_length_of_their_heads(rt: HostRuntime) -> Res
         assert_eq!(rt; frame.kind(), read.kind);
         assert_eq!(rt; frame.stream(), read.stream);
         assert_eq!(rt; frame.payload_len(), read.length as usize);
-        assert_eq!(rt; payload_frame(&read, &octets[9..]), frame);
     }
     Ok(())
 }
