@@ -1,10 +1,16 @@
--- Frames that go on with a grouping: what each frame without fault adds to the items and makes of the block that has begun.
-use Rattle.std.proofs.Common.{◌≡◌, ℕ, ◌+◌, ◌≤◌, ◌==◌, nat_lt, if◌then◌else◌, Bool, true, false, List, [], ◌∷◌, ◌++◌, length, Option, None, Some, refl, ap, sym, ◌∙◌, inl, inr, append_assoc, length-append, append-nil, subst}
+-- Frames that continue a grouping: what each frame without fault adds to the items, and what it
+-- makes of the block that has begun.
+use Rattle.std.proofs.Common.{◌≡◌, ℕ, ◌+◌, ◌≤◌, ◌==◌, nat_lt, if◌then◌else◌, Bool, true, false}
+use Rattle.std.proofs.Common.{List, [], ◌∷◌, ◌++◌, length, Option, None, Some, refl, ap, sym, ◌∙◌}
+use Rattle.std.proofs.Common.{inl, inr, append_assoc, length-append, append-nil, subst}
 use Rattle.std.proofs.lemmas.Bool.{ltb-false, eqb-true, cases_Bool}
-use Rattle.h2_frame.specs.Frames.{Frame, Data, Headers, Priority, Reset, Settings, Ping, GoAway, WindowUpdate, Continuation, Unknown}
+use Rattle.h2_frame.specs.Frames.{Frame, Data, Headers, Priority, Reset, Settings, Ping, GoAway}
+use Rattle.h2_frame.specs.Frames.{WindowUpdate, Continuation, Unknown}
 use Rattle.h2_block.specs.declared.fault.BlockFault.{BlockFault}
 use Rattle.h2_block.specs.declared.fault.BlockFault.TheVariants.{Interrupted, Stray, TooLong}
-use Rattle.h2_block.specs.Grouping.{Item, alone, block, Begun, max_block_octets, is_standalone, fault_outside, fault_inside, next_fault, AreContinuations, IsBegun, IsItem, AreItems, IsLeft, Groups}
+use Rattle.h2_block.specs.Grouping.{Item, alone, block, Begun, max_block_octets, is_standalone}
+use Rattle.h2_block.specs.Grouping.{fault_outside, fault_inside, next_fault, AreContinuations}
+use Rattle.h2_block.specs.Grouping.{IsBegun, IsItem, AreItems, IsLeft, Groups}
 
 -- what a frame without fault adds to the items
 abbrev pub step_items : Option Begun → Frame → List Item
@@ -19,136 +25,192 @@ step_items None (GoAway last code debug) = alone (GoAway last code debug) ∷ []
 step_items None (WindowUpdate stream increment) = alone (WindowUpdate stream increment) ∷ []
 step_items None (Continuation stream whole fragment) = []
 step_items None (Unknown kind flags stream payload) = alone (Unknown kind flags stream payload) ∷ []
-step_items (Some begun) (Continuation stream true fragment) = block begun.stream begun.end (begun.octets ++ fragment) ∷ []
+step_items (Some begun) (Continuation stream true fragment) =
+    block begun.stream begun.end (begun.octets ++ fragment) ∷ []
 step_items (Some begun) frame = []
 
 -- what a frame without fault makes of the block that has begun
 abbrev pub step_begun : Option Begun → Frame → Option Begun
-step_begun None (Headers stream end false fragment pad priority) = Some (record { stream = stream; end = end; octets = fragment })
+step_begun None (Headers stream end false fragment pad priority) =
+    Some (record { stream = stream; end = end; octets = fragment })
 step_begun None frame = None
-step_begun (Some begun) (Continuation stream false fragment) = Some (record { stream = begun.stream; end = begun.end; octets = begun.octets ++ fragment })
+step_begun (Some begun) (Continuation stream false fragment) =
+    Some (record { stream = begun.stream; end = begun.end; octets = begun.octets ++ fragment })
 step_begun (Some begun) frame = None
 
 -- none is no fault
-pub none_some : {Goal : Type 0} (fault : BlockFault) → ◌≡◌ {A = Option BlockFault} None (Some fault) → Goal
+pub none_some : {Goal : Type 0} (fault : BlockFault) → ◌≡◌ {A = Option BlockFault} None (Some fault)
+    → Goal
 none_some fault e = (cc)
 
--- One more item behind items.
-pub AreItems-push : (items : List Item) (frames : List Frame) (item : Item) (last : List Frame) → AreItems items frames → IsItem item last
+-- One more item after items.
+pub AreItems-push : (items : List Item) (frames : List Frame) (item : Item) (last : List Frame)
+    → AreItems items frames → IsItem item last
     → AreItems (items ++ item ∷ []) (frames ++ last)
-AreItems-push [] frames item last none whole = (last, [], rw none (sym (append-nil last)), whole, refl)
-AreItems-push (other ∷ items) frames item last (first, others, joined, other_whole, rest) whole =
-    (first, others ++ last, rw joined (append_assoc first others last), other_whole, AreItems-push items others item last rest whole)
+AreItems-push [] frames item last none whole =
+    (last, [], rw none (sym (append-nil last)), whole, refl)
+AreItems-push (other ∷ items) frames item last (first, others, joined, is_item, rest) whole = (
+  first,
+  others ++ last,
+  rw joined (append_assoc first others last),
+  is_item,
+  AreItems-push items others item last rest whole,
+)
 
 -- The frame makes what was left an item.
-closes : (frames : List Frame) (items : List Item) (begun : Option Begun) (frame : Frame) (item : Item) → (groups : Groups frames items begun)
-    → IsItem item (groups.left ++ frame ∷ []) → Groups (frames ++ frame ∷ []) (items ++ item ∷ []) None
+closes : (frames : List Frame) (items : List Item) (begun : Option Begun) (frame : Frame)
+    (item : Item) → (groups : Groups frames items begun)
+    → IsItem item (groups.left ++ frame ∷ [])
+    → Groups (frames ++ frame ∷ []) (items ++ item ∷ []) None
 closes frames items begun frame item groups whole = record {
-  whole = groups.whole ++ (groups.left ++ frame ∷ []);
+  complete = groups.complete ++ (groups.left ++ frame ∷ []);
   left = [];
-  joined = ap (λ (line : List Frame). line ++ frame ∷ []) groups.joined ∙ append_assoc groups.whole groups.left (frame ∷ []) ∙ sym (append-nil _);
-  grouped = AreItems-push items groups.whole item (groups.left ++ frame ∷ []) groups.grouped whole;
+  joined = ap (λ (line : List Frame). line ++ frame ∷ []) groups.joined
+      ∙ append_assoc groups.complete groups.left (frame ∷ []) ∙ sym (append-nil _);
+  grouped = AreItems-push items groups.complete item
+      (groups.left ++ frame ∷ []) groups.grouped whole;
   unfinished = refl;
 }
 
 -- The frame leaves a block that has begun.
-leaves : (frames : List Frame) (items : List Item) (begun : Option Begun) (frame : Frame) (after : Begun) → (groups : Groups frames items begun)
-    → IsLeft (Some after) (groups.left ++ frame ∷ []) → Groups (frames ++ frame ∷ []) (items ++ []) (Some after)
+leaves : (frames : List Frame) (items : List Item) (begun : Option Begun) (frame : Frame)
+    (after : Begun) → (groups : Groups frames items begun)
+    → IsLeft (Some after) (groups.left ++ frame ∷ [])
+    → Groups (frames ++ frame ∷ []) (items ++ []) (Some after)
 leaves frames items begun frame after groups left = record {
-  whole = groups.whole;
+  complete = groups.complete;
   left = groups.left ++ frame ∷ [];
-  joined = ap (λ (line : List Frame). line ++ frame ∷ []) groups.joined ∙ append_assoc groups.whole groups.left (frame ∷ []);
+  joined = ap (λ (line : List Frame). line ++ frame ∷ []) groups.joined
+      ∙ append_assoc groups.complete groups.left (frame ∷ []);
   grouped = rw append-nil groups.grouped;
   unfinished = left;
 }
 
 -- outside blocks nothing is left
-nothing_left : (frames : List Frame) (items : List Item) (frame : Frame) → (groups : Groups frames items None) → groups.left ++ frame ∷ [] ≡ frame ∷ []
-nothing_left frames items frame groups = ap (λ (line : List Frame). line ++ frame ∷ []) groups.unfinished
+nothing_left : (frames : List Frame) (items : List Item) (frame : Frame)
+    → (groups : Groups frames items None) → groups.left ++ frame ∷ [] ≡ frame ∷ []
+nothing_left frames items frame groups =
+    ap (λ (line : List Frame). line ++ frame ∷ []) groups.unfinished
 
--- A frame that stands alone is an item outside blocks.
-stands : (frames : List Frame) (items : List Item) (frame : Frame) → is_standalone frame ≡ true → Groups frames items None
+-- A standalone frame is an item outside blocks.
+is_standalone_now : (frames : List Frame) (items : List Item) (frame : Frame)
+    → is_standalone frame ≡ true → Groups frames items None
     → Groups (frames ++ frame ∷ []) (items ++ alone frame ∷ []) None
-stands frames items frame is_alone groups = closes frames items None frame (alone frame) groups (is_alone, nothing_left frames items frame groups)
+is_standalone_now frames items frame is_alone groups =
+    closes frames items None frame (alone frame) groups (
+      is_alone,
+      nothing_left frames items frame groups,
+    )
 
--- One more CONTINUATION behind CONTINUATIONs.
-AreContinuations-push : (stream : ℕ) (frames : List Frame) (octets fragment : List ℕ) → AreContinuations stream frames octets
-    → AreContinuations stream (frames ++ Continuation stream false fragment ∷ []) (octets ++ fragment)
-AreContinuations-push stream [] octets fragment none = (fragment, [], refl, rw none (sym (append-nil fragment)), refl)
-AreContinuations-push stream (frame ∷ frames) octets fragment (first, others, is, joined, rest) =
-    (first, others ++ fragment, is, rw joined (append_assoc first others fragment), AreContinuations-push stream frames others fragment rest)
+-- One more CONTINUATION after CONTINUATIONs.
+AreContinuations-push : (stream : ℕ) (frames : List Frame) (octets fragment : List ℕ)
+    → AreContinuations stream frames octets
+    → AreContinuations stream (frames ++ Continuation stream false fragment ∷ [])
+    (octets ++ fragment)
+AreContinuations-push stream [] octets fragment none =
+    (fragment, [], refl, rw none (sym (append-nil fragment)), refl)
+AreContinuations-push stream (frame ∷ frames) octets fragment (first, others, is, joined, rest) = (
+  first,
+  others ++ fragment,
+  is,
+  rw joined (append_assoc first others fragment),
+  AreContinuations-push stream frames others fragment rest,
+)
 
--- One more CONTINUATION behind a block that has begun.
-IsBegun-push : (stream : ℕ) (end : Bool) (octets fragment : List ℕ) (frames : List Frame) → IsBegun stream end octets frames
+-- One more CONTINUATION after a block that has begun.
+IsBegun-push : (stream : ℕ) (end : Bool) (octets fragment : List ℕ) (frames : List Frame)
+    → IsBegun stream end octets frames
     → IsBegun stream end (octets ++ fragment) (frames ++ Continuation stream false fragment ∷ [])
 IsBegun-push stream end octets fragment frames begun = record {
   fragment = begun.fragment;
   pad = begun.pad;
   priority = begun.priority;
-  behind = begun.behind ++ Continuation stream false fragment ∷ [];
+  following = begun.following ++ Continuation stream false fragment ∷ [];
   others = begun.others ++ fragment;
   opened = ap (λ (line : List Frame). line ++ Continuation stream false fragment ∷ []) begun.opened;
-  continued = AreContinuations-push stream begun.behind begun.others fragment begun.continued;
-  joined = ap (λ (line : List ℕ). line ++ fragment) begun.joined ∙ append_assoc begun.fragment begun.others fragment;
+  continued = AreContinuations-push stream begun.following begun.others fragment begun.continued;
+  joined = ap (λ (line : List ℕ). line ++ fragment) begun.joined
+      ∙ append_assoc begun.fragment begun.others fragment;
 }
 
--- a test against the most octets that tells no fault
-within_most : (count : ℕ) (fault : BlockFault) → (if nat_lt max_block_octets count then Some fault else None) ≡ None → count ≤ max_block_octets
-within_most count fault sound = elim (cases_Bool (nat_lt max_block_octets count)) [
+-- a test against the limit that finds no fault
+within_limit : (count : ℕ) (fault : BlockFault)
+    → (if nat_lt max_block_octets count then Some fault else None) ≡ None → count ≤ max_block_octets
+within_limit count fault sound = elim (cases_Bool (nat_lt max_block_octets count)) [
   | inl above ↦ none_some fault (sym (rw above at sound))
   | inr below ↦ ltb-false max_block_octets count below
 ]
 
--- a CONTINUATION that is no fault inside a block is of its stream, and the block stays within the most octets
-pub within_block : (begun : Begun) (stream : ℕ) (whole : Bool) (fragment : List ℕ) → fault_inside begun (Continuation stream whole fragment) ≡ None
+-- a CONTINUATION that is no fault inside a block is of its stream, and the block stays within the
+-- limit
+pub within_block : (begun : Begun) (stream : ℕ) (whole : Bool) (fragment : List ℕ)
+    → fault_inside begun (Continuation stream whole fragment) ≡ None
     → (stream ≡ begun.stream) × (length (begun.octets ++ fragment) ≤ max_block_octets)
 unfolding fault_inside
 within_block begun stream whole fragment sound = elim (cases_Bool (stream == begun.stream)) [
   | inl same ↦ (
     eqb-true stream begun.stream same,
-    rw length-append (within_most (length begun.octets + length fragment) TooLong (rw same at sound)),
+    rw length-append (within_limit (length begun.octets + length fragment) TooLong
+        (rw same at sound)),
   )
   | inr other ↦ none_some Interrupted (sym (rw other at sound))
 ]
 
--- A frame without fault goes on with a grouping.
-pub Groups-step : (frames : List Frame) (items : List Item) (begun : Option Begun) (frame : Frame) → Groups frames items begun → next_fault begun frame ≡ None
+-- A frame without fault continues a grouping.
+pub Groups-step : (frames : List Frame) (items : List Item) (begun : Option Begun) (frame : Frame)
+    → Groups frames items begun → next_fault begun frame ≡ None
     → Groups (frames ++ frame ∷ []) (items ++ step_items begun frame) (step_begun begun frame)
 unfolding fault_outside fault_inside is_standalone
-Groups-step frames items None (Data stream end octets pad) groups sound = stands frames items (Data stream end octets pad) refl groups
+Groups-step frames items None (Data stream end octets pad) groups sound =
+    is_standalone_now frames items (Data stream end octets pad) refl groups
 Groups-step frames items None (Headers stream end true fragment pad priority) groups sound =
-    closes frames items None (Headers stream end true fragment pad priority) (block stream end fragment) groups (
-      inl (record { pad = pad; priority = priority; one = nothing_left frames items (Headers stream end true fragment pad priority) groups }),
-      within_most (length fragment) TooLong sound,
+    closes frames items None (Headers stream end true fragment pad priority)
+    (block stream end fragment) groups (
+      inl (record {
+        pad = pad;
+        priority = priority;
+        one = nothing_left frames items (Headers stream end true fragment pad priority) groups;
+      }),
+      within_limit (length fragment) TooLong sound,
     )
 Groups-step frames items None (Headers stream end false fragment pad priority) groups sound =
-    leaves frames items None (Headers stream end false fragment pad priority) (record { stream = stream; end = end; octets = fragment }) groups (
+    leaves frames items None (Headers stream end false fragment pad priority)
+    (record { stream = stream; end = end; octets = fragment }) groups (
       record {
         fragment = fragment;
         pad = pad;
         priority = priority;
-        behind = [];
+        following = [];
         others = [];
         opened = nothing_left frames items (Headers stream end false fragment pad priority) groups;
         continued = refl;
         joined = sym (append-nil fragment);
       },
-      within_most (length fragment) TooLong sound,
+      within_limit (length fragment) TooLong sound,
     )
-Groups-step frames items None (Priority stream octets) groups sound = stands frames items (Priority stream octets) refl groups
-Groups-step frames items None (Reset stream code) groups sound = stands frames items (Reset stream code) refl groups
-Groups-step frames items None (Settings ack pairs) groups sound = stands frames items (Settings ack pairs) refl groups
-Groups-step frames items None (Ping ack octets) groups sound = stands frames items (Ping ack octets) refl groups
-Groups-step frames items None (GoAway last code debug) groups sound = stands frames items (GoAway last code debug) refl groups
-Groups-step frames items None (WindowUpdate stream increment) groups sound = stands frames items (WindowUpdate stream increment) refl groups
-Groups-step frames items None (Continuation stream whole fragment) groups sound = none_some Stray (sym sound)
-Groups-step frames items None (Unknown kind flags stream payload) groups sound = stands frames items (Unknown kind flags stream payload) refl groups
+Groups-step frames items None (Priority stream octets) groups sound =
+    is_standalone_now frames items (Priority stream octets) refl groups
+Groups-step frames items None (Reset stream code) groups sound =
+    is_standalone_now frames items (Reset stream code) refl groups
+Groups-step frames items None (Settings ack pairs) groups sound =
+    is_standalone_now frames items (Settings ack pairs) refl groups
+Groups-step frames items None (Ping ack octets) groups sound =
+    is_standalone_now frames items (Ping ack octets) refl groups
+Groups-step frames items None (GoAway last code debug) groups sound =
+    is_standalone_now frames items (GoAway last code debug) refl groups
+Groups-step frames items None (WindowUpdate stream increment) groups sound =
+    is_standalone_now frames items (WindowUpdate stream increment) refl groups
+Groups-step frames items None (Continuation stream whole fragment) groups sound =
+    none_some Stray (sym sound)
+Groups-step frames items None (Unknown kind flags stream payload) groups sound =
+    is_standalone_now frames items (Unknown kind flags stream payload) refl groups
 Groups-step frames items (Some begun) (Continuation stream true fragment) groups sound =
     let within = within_block begun stream true fragment sound in
-    closes frames items (Some begun) (Continuation stream true fragment) (block begun.stream begun.end (begun.octets ++ fragment)) groups (
+    closes frames items (Some begun) (Continuation stream true fragment)
+    (block begun.stream begun.end (begun.octets ++ fragment)) groups (
       inr (record {
-        before = groups.left;
-        front = begun.octets;
+        preceding = groups.left;
+        prefix = begun.octets;
         last = fragment;
         begun = groups.unfinished.0;
         ended = ap (λ (n : ℕ). groups.left ++ Continuation n true fragment ∷ []) within.0;
@@ -158,17 +220,30 @@ Groups-step frames items (Some begun) (Continuation stream true fragment) groups
     )
 Groups-step frames items (Some begun) (Continuation stream false fragment) groups sound =
     let within = within_block begun stream false fragment sound in
-    leaves frames items (Some begun) (Continuation stream false fragment) (record { stream = begun.stream; end = begun.end; octets = begun.octets ++ fragment }) groups (
-      subst (λ (n : ℕ). IsBegun begun.stream begun.end (begun.octets ++ fragment) (groups.left ++ Continuation n false fragment ∷ [])) (sym within.0)
-          (IsBegun-push begun.stream begun.end begun.octets fragment groups.left groups.unfinished.0),
+    leaves frames items (Some begun) (Continuation stream false fragment)
+    (record { stream = begun.stream; end = begun.end; octets = begun.octets ++ fragment })
+    groups (
+      subst (λ (n : ℕ). IsBegun begun.stream begun.end (begun.octets ++ fragment)
+          (groups.left ++ Continuation n false fragment ∷ [])) (sym within.0)
+          (IsBegun-push begun.stream begun.end begun.octets fragment groups.left
+          groups.unfinished.0),
       within.1,
     )
-Groups-step frames items (Some begun) (Data stream end octets pad) groups sound = none_some Interrupted (sym sound)
-Groups-step frames items (Some begun) (Headers stream end whole fragment pad priority) groups sound = none_some Interrupted (sym sound)
-Groups-step frames items (Some begun) (Priority stream octets) groups sound = none_some Interrupted (sym sound)
-Groups-step frames items (Some begun) (Reset stream code) groups sound = none_some Interrupted (sym sound)
-Groups-step frames items (Some begun) (Settings ack pairs) groups sound = none_some Interrupted (sym sound)
-Groups-step frames items (Some begun) (Ping ack octets) groups sound = none_some Interrupted (sym sound)
-Groups-step frames items (Some begun) (GoAway last code debug) groups sound = none_some Interrupted (sym sound)
-Groups-step frames items (Some begun) (WindowUpdate stream increment) groups sound = none_some Interrupted (sym sound)
-Groups-step frames items (Some begun) (Unknown kind flags stream payload) groups sound = none_some Interrupted (sym sound)
+Groups-step frames items (Some begun) (Data stream end octets pad) groups sound =
+    none_some Interrupted (sym sound)
+Groups-step frames items (Some begun) (Headers stream end whole fragment pad priority) groups
+    sound = none_some Interrupted (sym sound)
+Groups-step frames items (Some begun) (Priority stream octets) groups sound =
+    none_some Interrupted (sym sound)
+Groups-step frames items (Some begun) (Reset stream code) groups sound =
+    none_some Interrupted (sym sound)
+Groups-step frames items (Some begun) (Settings ack pairs) groups sound =
+    none_some Interrupted (sym sound)
+Groups-step frames items (Some begun) (Ping ack octets) groups sound =
+    none_some Interrupted (sym sound)
+Groups-step frames items (Some begun) (GoAway last code debug) groups sound =
+    none_some Interrupted (sym sound)
+Groups-step frames items (Some begun) (WindowUpdate stream increment) groups sound =
+    none_some Interrupted (sym sound)
+Groups-step frames items (Some begun) (Unknown kind flags stream payload) groups sound =
+    none_some Interrupted (sym sound)

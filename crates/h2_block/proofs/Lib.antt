@@ -1,5 +1,5 @@
 pub mod GroupLemmas
-pub mod HeldLemmas
-mod Rows
+pub mod PartialBlockLemmas
+mod Examples
 pub mod RunLemmas
 pub mod SpreadLemmas

@@ -1,15 +1,17 @@
 -- Field blocks in a list of frames (RFC 9113, sections 4.3, 6.2 and 6.10).
-use Rattle.std.specs.Prelude.{◌≡◌, ◌⊎◌, ℕ, ◌+◌, ◌≤◌, ◌==◌, nat_lt, not, Bool, true, false, if◌then◌else◌, List, [], ◌∷◌, ◌++◌, length, Option, Some, None}
-use Rattle.h2_frame.specs.Frames.{Frame, Data, Headers, Priority, Reset, Settings, Ping, GoAway, WindowUpdate, Continuation, Unknown}
+use Rattle.std.specs.Prelude.{◌≡◌, ◌⊎◌, ℕ, ◌+◌, ◌≤◌, ◌==◌, nat_lt, not, Bool, true, false}
+use Rattle.std.specs.Prelude.{if◌then◌else◌, List, [], ◌∷◌, ◌++◌, length, Option, Some, None}
+use Rattle.h2_frame.specs.Frames.{Frame, Data, Headers, Priority, Reset, Settings, Ping, GoAway}
+use Rattle.h2_frame.specs.Frames.{WindowUpdate, Continuation, Unknown}
 use Rattle.h2_block.specs.declared.fault.BlockFault.{BlockFault}
 use Rattle.h2_block.specs.declared.fault.BlockFault.TheVariants.{Interrupted, Stray, TooLong}
 
--- the most octets of a block (own)
+-- the limit of a block's octets (own)
 abbrev pub max_block_octets : ℕ
 max_block_octets = 65552
 
--- An item: a frame that is no part of a block, or a whole block with its stream, whether its sender sends nothing behind it, and
--- its octets.
+-- An item: a frame that is no part of a block, or a complete block with its stream, whether nothing
+-- follows it on the stream, and its octets.
 pub data Item : Type 0 where
   alone : (frame : Frame) → Item
   block : (stream : ℕ) (end : Bool) (octets : List ℕ) → Item
@@ -27,25 +29,27 @@ is_standalone (WindowUpdate stream increment) = true
 is_standalone (Continuation stream whole fragment) = false
 is_standalone (Unknown kind flags stream payload) = true
 
--- The frames are CONTINUATIONs of the stream, none of which ends the block, and the octets are their fragments, joined.
+-- The frames are CONTINUATIONs of the stream, none of which ends the block, and the octets are
+-- their fragments, joined.
 abbrev pub AreContinuations : ℕ → List Frame → List ℕ → Type 0
 AreContinuations stream [] octets = octets ≡ []
 AreContinuations stream (frame ∷ frames) octets =
-    (fragment others : List ℕ) × (frame ≡ Continuation stream false fragment) × (octets ≡ fragment ++ others) × AreContinuations stream frames others
+    (fragment others : List ℕ) × (frame ≡ Continuation stream false fragment)
+    × (octets ≡ fragment ++ others) × AreContinuations stream frames others
 
--- The frames are a block that has begun and isn't whole: HEADERS that doesn't end it, and CONTINUATIONs of the same stream. The
--- octets are the fragments, joined.
+-- The frames are a block that has begun and isn't complete: HEADERS that doesn't end it, and
+-- CONTINUATIONs of the same stream. The octets are the fragments, joined.
 pub record IsBegun (stream : ℕ) (end : Bool) (octets : List ℕ) (frames : List Frame) : Type 0 where
   pub fragment : List ℕ
   pub pad : Option ℕ
   pub priority : Option (List ℕ)
-  pub behind : List Frame
+  pub following : List Frame
   pub others : List ℕ
-  pub opened : frames ≡ Headers stream end false fragment pad priority ∷ behind
-  pub continued : AreContinuations stream behind others
+  pub opened : frames ≡ Headers stream end false fragment pad priority ∷ following
+  pub continued : AreContinuations stream following others
   pub joined : octets ≡ fragment ++ others
 
--- The frame is HEADERS that is a whole block alone.
+-- The frame is HEADERS that is a complete block by itself.
 pub record IsSingle (stream : ℕ) (end : Bool) (octets : List ℕ) (frames : List Frame) : Type 0 where
   pub pad : Option ℕ
   pub priority : Option (List ℕ)
@@ -53,26 +57,29 @@ pub record IsSingle (stream : ℕ) (end : Bool) (octets : List ℕ) (frames : Li
 
 -- The frames are a block that had begun, and a CONTINUATION that ends it.
 pub record IsEnded (stream : ℕ) (end : Bool) (octets : List ℕ) (frames : List Frame) : Type 0 where
-  pub before : List Frame
-  pub front : List ℕ
+  pub preceding : List Frame
+  pub prefix : List ℕ
   pub last : List ℕ
-  pub begun : IsBegun stream end front before
-  pub ended : frames ≡ before ++ Continuation stream true last ∷ []
-  pub joined : octets ≡ front ++ last
+  pub begun : IsBegun stream end prefix preceding
+  pub ended : frames ≡ preceding ++ Continuation stream true last ∷ []
+  pub joined : octets ≡ prefix ++ last
 
--- The frames are the item: a frame that stands alone, or a block, whose octets are no more than the most.
+-- The frames are the item: a standalone frame, or a block within the limit.
 abbrev pub IsItem : Item → List Frame → Type 0
 IsItem (alone frame) frames = (is_standalone frame ≡ true) × (frames ≡ frame ∷ [])
 IsItem (block stream end octets) frames =
-    (IsSingle stream end octets frames ⊎ IsEnded stream end octets frames) × (length octets ≤ max_block_octets)
+    (IsSingle stream end octets frames ⊎ IsEnded stream end octets frames)
+    × (length octets ≤ max_block_octets)
 
--- The frames are these items, one behind another.
+-- The frames are these items, one after another.
 abbrev pub AreItems : List Item → List Frame → Type 0
 AreItems [] frames = frames ≡ []
 AreItems (item ∷ items) frames =
-    (first others : List Frame) × (frames ≡ first ++ others) × IsItem item first × AreItems items others
+    (first others : List Frame) × (frames ≡ first ++ others) × IsItem item first
+    × AreItems items others
 
--- a block that has begun: its stream, whether its sender sends nothing behind it, and its octets so far
+-- a block that has begun: its stream, whether nothing follows it on the stream, and its octets so
+-- far
 pub record Begun : Type 0 where
   pub stream : ℕ
   pub end : Bool
@@ -81,20 +88,23 @@ pub record Begun : Type 0 where
 -- The frames at the end are a block that has begun, or none.
 abbrev pub IsLeft : Option Begun → List Frame → Type 0
 IsLeft None frames = frames ≡ []
-IsLeft (Some begun) frames = IsBegun begun.stream begun.end begun.octets frames × (length begun.octets ≤ max_block_octets)
+IsLeft (Some begun) frames = IsBegun begun.stream begun.end begun.octets frames
+    × (length begun.octets ≤ max_block_octets)
 
 -- So far the frames are the items, and then a block that has begun, or none.
 pub record Groups (frames : List Frame) (items : List Item) (begun : Option Begun) : Type 0 where
-  pub whole : List Frame
+  pub complete : List Frame
   pub left : List Frame
-  pub joined : frames ≡ whole ++ left
-  pub grouped : AreItems items whole
+  pub joined : frames ≡ complete ++ left
+  pub grouped : AreItems items complete
   pub unfinished : IsLeft begun left
 
--- The fault of a frame outside blocks: CONTINUATION is stray (section 6.10), and HEADERS begin no block above the most octets.
+-- The fault of a frame outside blocks: CONTINUATION is stray (section 6.10), and HEADERS begin no
+-- block above the limit.
 unfoldable pub fault_outside : Frame → Option BlockFault
 fault_outside (Data stream end octets pad) = None
-fault_outside (Headers stream end whole fragment pad priority) = if nat_lt max_block_octets (length fragment) then Some TooLong else None
+fault_outside (Headers stream end whole fragment pad priority) =
+    if nat_lt max_block_octets (length fragment) then Some TooLong else None
 fault_outside (Priority stream octets) = None
 fault_outside (Reset stream code) = None
 fault_outside (Settings ack pairs) = None
@@ -104,8 +114,8 @@ fault_outside (WindowUpdate stream increment) = None
 fault_outside (Continuation stream whole fragment) = Some Stray
 fault_outside (Unknown kind flags stream payload) = None
 
--- The fault of a frame inside a block: anything but a CONTINUATION of its stream, an unknown kind too, interrupts it (section
--- 6.10); and the block has no more than the most octets.
+-- The fault of a frame inside a block: anything but a CONTINUATION of its stream, an unknown kind
+-- too, interrupts it (section 6.10); and the block stays within the limit.
 unfoldable pub fault_inside : Begun → Frame → Option BlockFault
 fault_inside begun (Data stream end octets pad) = Some Interrupted
 fault_inside begun (Headers stream end whole fragment pad priority) = Some Interrupted
@@ -126,12 +136,13 @@ abbrev pub next_fault : Option Begun → Frame → Option BlockFault
 next_fault None frame = fault_outside frame
 next_fault (Some begun) frame = fault_inside begun frame
 
--- The last of the frames is at fault; those before it are the items, and then a block that has begun, or none. Nothing from
--- it on is an item.
-pub record GroupingFaultAt (frames : List Frame) (items : List Item) (fault : BlockFault) : Type 0 where
-  pub before : List Frame
+-- The last of the frames is at fault; those that precede it are the items, and then a block that
+-- has begun, or none. Nothing from it on is an item.
+pub record GroupingFaultAt (frames : List Frame) (items : List Item)
+    (fault : BlockFault) : Type 0 where
+  pub preceding : List Frame
   pub last : Frame
   pub begun : Option Begun
-  pub joined : frames ≡ before ++ last ∷ []
-  pub grouped : Groups before items begun
+  pub joined : frames ≡ preceding ++ last ∷ []
+  pub grouped : Groups preceding items begun
   pub faulty : next_fault begun last ≡ Some fault

@@ -1,4 +1,4 @@
 pub mod Grouping
 pub mod Gather
 pub mod Spread
-pub mod Kept
+pub mod PartialBlock

@@ -9,23 +9,24 @@ use thiserror::Error;
 /// Why frames aren't grouped any further.
 #[derive(Clone, Copy, Debug, PartialEq, Eq, Error)]
 pub enum BlockFault {
-    /// Inside a block stands another frame than a CONTINUATION of its stream (RFC 9113, section 6.10).
-    #[error("B1 Interrupted: another frame stands inside a field block")]
+    /// Inside a block comes another frame than a CONTINUATION of its stream (RFC 9113, section
+    /// 6.10).
+    #[error("B1 Interrupted: another frame is_standalone_now inside a field block")]
     Interrupted,
-    /// A CONTINUATION stands outside a block (section 6.10).
-    #[error("B2 Stray: a CONTINUATION stands outside a field block")]
+    /// A CONTINUATION comes outside a block (section 6.10).
+    #[error("B2 Stray: a CONTINUATION is_standalone_now outside a field block")]
     Stray,
     /// A block has more than 65,552 octets.
     #[error("B3 TooLong: a field block has more than 65552 octets")]
     TooLong,
-    /// Memory was refused.
+    /// An allocation was refused.
     #[error("B4 Memory: out of memory")]
     Memory,
 }
 
 impl BlockFault {
-    /// The code with which the connection ends: PROTOCOL_ERROR for a block that is interrupted or stray, ENHANCE_YOUR_CALM for one
-    /// that is too long, and INTERNAL_ERROR for want of memory.
+    /// The code with which the connection ends: PROTOCOL_ERROR for a block that is interrupted or
+    /// stray, ENHANCE_YOUR_CALM for one that is too long, and INTERNAL_ERROR for lack of memory.
     pub fn code(self) -> Code
         ensures { result ≡ block_fault_code self }
     {

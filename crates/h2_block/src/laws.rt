@@ -1,31 +1,39 @@
 //! Laws of field blocks in frames, each the contract of a function that does nothing.
 
-ghost use Rattle.std.specs.Prelude.{◌≡◌, ℕ, ◌^◌, ◌<◌, ◌≤◌, ◌++◌, Bool, List, [], ◌∷◌, length, Option, None};
+ghost use Rattle.std.specs.Prelude.{◌≡◌, ℕ, ◌^◌, ◌<◌, ◌≤◌, ◌++◌, Bool, List, [], ◌∷◌, length};
+ghost use Rattle.std.specs.Prelude.{Option, None};
 ghost use Rattle.std.specs.List.{AllByRecursion};
 ghost use Rattle.h2_frame.specs.Frames.{Frame};
-ghost use Rattle.h2_frame.specs.Writing.{payload_of, refusal, IsTyped};
+ghost use Rattle.h2_frame.specs.Encoding.{payload_of, refusal, IsTyped};
 ghost use Rattle.h2_block.specs.declared.fault.BlockFault.{BlockFault};
 ghost use Rattle.h2_block.specs.Grouping.{Item, block, Begun, Groups, GroupingFaultAt};
 ghost use Rattle.h2_block.specs.Spread.{spread_frames};
 
-/// Frames have one grouping: their items, and the block that has begun behind them, are the same, however they were found.
+/// Frames have one grouping: their items, and the block that has begun after them, are the same,
+/// however they were found.
 pub fn one_grouping()
     ensures { (frames : List Frame) (items others : List Item) (begun other : Option Begun)
-        → Groups frames items begun → Groups frames others other → (items ≡ others) × (begun ≡ other) }
+        → Groups frames items begun → Groups frames others other
+        → (items ≡ others) × (begun ≡ other) }
 {}
 
-/// Frames at fault have no grouping, whatever comes behind them, and no other fault: nothing from the frame at fault on is an item.
+/// Frames at fault have no grouping, whatever follows them, and no other fault: nothing from the
+/// frame at fault on is an item.
 pub fn no_grouping_past_a_fault()
-    ensures grouping { (frames more : List Frame) (items others : List Item) (fault : BlockFault) (begun : Option Begun)
+    ensures grouping { (frames more : List Frame) (items others : List Item) (fault : BlockFault)
+        (begun : Option Begun)
         → GroupingFaultAt frames items fault → Groups (frames ++ more) others begun → ⊥ }
     ensures fault { (frames more : List Frame) (items others : List Item) (fault other : BlockFault)
-        → GroupingFaultAt frames items fault → GroupingFaultAt (frames ++ more) others other → (items ≡ others) × (fault ≡ other) × (more ≡ []) }
+        → GroupingFaultAt frames items fault → GroupingFaultAt (frames ++ more) others other
+        → (items ≡ others) × (fault ≡ other) × (more ≡ []) }
 {}
 
-/// The frames over which a block is spread are one block of its octets, can be written, and have payloads of 16,384 octets at most.
+/// The frames over which a block is spread are one block of its octets, can be written, and have
+/// payloads of 16,384 octets at most.
 pub fn spread_block()
     ensures grouped { (stream : ℕ) (end : Bool) (octets : List ℕ) → length octets ≤ 65552
         → Groups (spread_frames stream end octets) (block stream end octets ∷ []) None }
     ensures writable { (stream : ℕ) (end : Bool) (octets : List ℕ) → 1 ≤ stream → stream < 2 ^ 31
-        → AllByRecursion (λ frame. (refusal frame ≡ None) × IsTyped frame × (length (payload_of frame) ≤ 16384)) (spread_frames stream end octets) }
+        → AllByRecursion (λ frame. (refusal frame ≡ None) × IsTyped frame
+        × (length (payload_of frame) ≤ 16384)) (spread_frames stream end octets) }
 {}

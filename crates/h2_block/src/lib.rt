@@ -1,14 +1,14 @@
 //! Field blocks in a stream of frames (RFC 9113, sections 4.3, 6.2 and 6.10).
 //!
-//! [`Gather::take`] joins HEADERS and the CONTINUATIONs behind it to one block, and passes every other frame on. [`spread`] writes
-//! a block over as many frames as it needs.
+//! [`Gather::take`] joins HEADERS and the CONTINUATIONs that follow it to one block, and passes
+//! every other frame on. [`spread`] writes a block over as many frames as it needs.
 #![tactic(auto)]
 
 mod fault;
 mod gather;
 mod gathered;
-mod held;
 mod laws;
+mod partial_block;
 mod spreading;
 #[cfg(test)]
 mod tests;

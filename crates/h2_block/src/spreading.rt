@@ -1,31 +1,38 @@
-//! Writing field blocks over frames.
+//! Spreading a field block over frames.
 
-ghost use Rattle.std.specs.Prelude.{◌≡◌, ◌+◌, ◌^◌, ◌<◌, ◌≤◌, ◌++◌, length, take, vec_len, None, IfErr, OnOk, OnErr, IsOk};
+ghost use Rattle.std.specs.Prelude.{◌≡◌, ◌+◌, ◌^◌, ◌<◌, ◌≤◌, ◌++◌, length, take, vec_len, None};
+ghost use Rattle.std.specs.Prelude.{IfErr, OnOk, OnErr, IsOk};
 ghost use Rattle.std.specs.Vec.{vec_capacity};
 ghost use Rattle.h2_frame.specs.Frames.{frame_of};
-ghost use Rattle.h2_frame.specs.Writing.{encoding_of, refusal};
+ghost use Rattle.h2_frame.specs.Encoding.{encoding_of, refusal};
 ghost use Rattle.h2_block.specs.Spread.{spread_frames, encoding_of_frames};
 
 use crate::fault::BlockFault;
 use h2_frame::{FrameRef, write_ref};
 
-/// The most octets of a frame's payload (RFC 9113, section 4.2).
-const MOST_PAYLOAD: usize = 16_384;
+/// The limit of a frame's payload (RFC 9113, section 4.2).
+const MAX_PAYLOAD: usize = 16_384;
 
-/// Appends the frames of a field block on a stream, from 1 to 2<sup>31</sup> - 1, of 65,552 octets at most (RFC 9113, sections 4.3,
-/// 6.2 and 6.10): HEADERS and CONTINUATIONs, each filled to 16,384 octets but the last. An empty block is one empty HEADERS. `end`
-/// says that nothing comes behind the block on the stream.
+/// Appends the frames of a field block on a stream, from 1 to 2<sup>31</sup> - 1, of 65,552 octets
+/// at most (RFC 9113, sections 4.3, 6.2 and 6.10): HEADERS and CONTINUATIONs, each full with 16,384
+/// octets but the last. An empty block is one empty HEADERS. `end` says that nothing follows the
+/// block on the stream.
 ///
 /// # Errors
 ///
-/// [`BlockFault::Memory`], and `out` is unchanged. It doesn't come where `out` has room for the frames.
+/// [`BlockFault::Memory`], and `out` is unchanged. It doesn't come where `out` has capacity for the
+/// frames.
 pub fn spread(stream: u32, end: bool, octets: &[u8], out: &mut Vec<u8>) -> Result<(), BlockFault>
     requires at_least { 1 ≤ stream }
     requires at_most { stream < 2 ^ 31 }
     requires length { length octets.now ≤ 65552 }
-    ensures ok { OnOk result (out.new.items ≡ out.old.items ++ encoding_of_frames (spread_frames stream end octets.now)) }
-    ensures err { IfErr result (λ fault. (fault ≡ BlockFault.Memory) × (out.new.items ≡ out.old.items)) }
-    ensures room { vec_len out.old + length (encoding_of_frames (spread_frames stream end octets.now)) ≤ vec_capacity out.old → IsOk result }
+    ensures ok { OnOk result (out.new.items ≡ out.old.items
+        ++ encoding_of_frames (spread_frames stream end octets.now)) }
+    ensures err { IfErr result (λ fault. (fault ≡ BlockFault.Memory)
+        × (out.new.items ≡ out.old.items)) }
+    ensures room { vec_len out.old
+        + length (encoding_of_frames (spread_frames stream end octets.now)) ≤ vec_capacity out.old
+        → IsOk result }
     ensures capacity { vec_capacity out.old ≤ vec_capacity out.new }
 {
     let start = out.len();
@@ -40,12 +47,14 @@ pub fn spread(stream: u32, end: bool, octets: &[u8], out: &mut Vec<u8>) -> Resul
 fn append_block(stream: u32, end: bool, octets: &[u8], out: &mut Vec<u8>) -> Result<(), BlockFault>
     requires at_least { 1 ≤ stream }
     requires at_most { stream < 2 ^ 31 }
-    ensures ok { OnOk result (out.new.items ≡ out.old.items ++ encoding_of_frames (spread_frames stream end octets.now)) }
-    ensures front { take (vec_len out.old) out.new.items ≡ out.old.items }
-    ensures full { OnErr result (vec_capacity out.old < vec_len out.old + length (encoding_of_frames (spread_frames stream end octets.now))) }
+    ensures ok { OnOk result (out.new.items ≡ out.old.items
+        ++ encoding_of_frames (spread_frames stream end octets.now)) }
+    ensures prefix { take (vec_len out.old) out.new.items ≡ out.old.items }
+    ensures full { OnErr result (vec_capacity out.old < vec_len out.old
+        + length (encoding_of_frames (spread_frames stream end octets.now))) }
     ensures capacity { vec_capacity out.old ≤ vec_capacity out.new }
 {
-    let (first, mut rest) = octets.split_at(octets.len().min(MOST_PAYLOAD));
+    let (first, mut rest) = octets.split_at(octets.len().min(MAX_PAYLOAD));
     let headers = FrameRef::Headers {
         stream,
         end,
@@ -56,14 +65,14 @@ fn append_block(stream: u32, end: bool, octets: &[u8], out: &mut Vec<u8>) -> Res
     };
     append(headers, out)?;
     while !rest.is_empty() {
-        let (fragment, behind) = rest.split_at(rest.len().min(MOST_PAYLOAD));
+        let (fragment, following) = rest.split_at(rest.len().min(MAX_PAYLOAD));
         let continuation = FrameRef::Continuation {
             stream,
-            whole: behind.is_empty(),
+            whole: following.is_empty(),
             fragment,
         };
         append(continuation, out)?;
-        rest = behind;
+        rest = following;
     }
     Ok(())
 }
@@ -73,7 +82,8 @@ fn append(frame: FrameRef<'_>, out: &mut Vec<u8>) -> Result<(), BlockFault>
     requires { refusal (frame_of frame) ≡ None }
     ensures ok { OnOk result (out.new.items ≡ out.old.items ++ encoding_of (frame_of frame.entry)) }
     ensures err { OnErr result (out.new.items ≡ out.old.items) }
-    ensures full { OnErr result (vec_capacity out.old < vec_len out.old + length (encoding_of (frame_of frame.entry))) }
+    ensures full { OnErr result (vec_capacity out.old < vec_len out.old
+        + length (encoding_of (frame_of frame.entry))) }
     ensures capacity { vec_capacity out.old ≤ vec_capacity out.new }
 {
     write_ref(frame, out).map_err(|_| BlockFault::Memory)

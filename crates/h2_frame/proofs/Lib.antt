@@ -2,5 +2,6 @@ pub mod FrameLemmas
 pub mod HeadLemmas
 pub mod PaddingLemmas
 pub mod PairLemmas
-pub mod WritingLemmas
-pub mod WrittenLemmas
+pub mod Rules
+pub mod FramePartsLemmas
+pub mod EncodingLemmas

@@ -1,9 +1,16 @@
 -- Names of error codes, and kinds of frames by their numbers (RFC 9113, sections 6 and 7).
 use Rattle.std.specs.Prelude.{ℕ, ◌==◌, if◌then◌else◌, List, codes}
 use Rattle.h2_frame.specs.declared.code.Code.{Code}
-use Rattle.h2_frame.specs.declared.code.Code.TheVariants.{NoError, ProtocolError, InternalError, FlowControlError, SettingsTimeout, StreamClosed, FrameSizeError, RefusedStream, Cancel, CompressionError, ConnectError, EnhanceYourCalm, InadequateSecurity, Http11Required}
+use Rattle.h2_frame.specs.declared.code.Code.TheVariants.{NoError, ProtocolError, InternalError}
+use Rattle.h2_frame.specs.declared.code.Code.TheVariants.{FlowControlError, SettingsTimeout}
+use Rattle.h2_frame.specs.declared.code.Code.TheVariants.{StreamClosed, FrameSizeError}
+use Rattle.h2_frame.specs.declared.code.Code.TheVariants.{RefusedStream, Cancel, CompressionError}
+use Rattle.h2_frame.specs.declared.code.Code.TheVariants.{ConnectError, EnhanceYourCalm}
+use Rattle.h2_frame.specs.declared.code.Code.TheVariants.{InadequateSecurity, Http11Required}
 use Rattle.h2_frame.specs.declared.kind.Kind.{Kind}
-use Rattle.h2_frame.specs.declared.kind.Kind.TheVariants.{Data, Headers, Priority, RstStream, Settings, PushPromise, Ping, GoAway, WindowUpdate, Continuation, Unknown}
+use Rattle.h2_frame.specs.declared.kind.Kind.TheVariants.{Data, Headers, Priority, RstStream}
+use Rattle.h2_frame.specs.declared.kind.Kind.TheVariants.{Settings, PushPromise, Ping, GoAway}
+use Rattle.h2_frame.specs.declared.kind.Kind.TheVariants.{WindowUpdate, Continuation, Unknown}
 
 -- the name of an error code (RFC 9113, section 7)
 abbrev pub name_of : Code → List ℕ
@@ -21,6 +28,23 @@ name_of ConnectError = codes "CONNECT_ERROR"
 name_of EnhanceYourCalm = codes "ENHANCE_YOUR_CALM"
 name_of InadequateSecurity = codes "INADEQUATE_SECURITY"
 name_of Http11Required = codes "HTTP_1_1_REQUIRED"
+
+-- the number of an error code (RFC 9113, section 7)
+abbrev pub code_number : Code → ℕ
+code_number NoError = 0
+code_number ProtocolError = 1
+code_number InternalError = 2
+code_number FlowControlError = 3
+code_number SettingsTimeout = 4
+code_number StreamClosed = 5
+code_number FrameSizeError = 6
+code_number RefusedStream = 7
+code_number Cancel = 8
+code_number CompressionError = 9
+code_number ConnectError = 10
+code_number EnhanceYourCalm = 11
+code_number InadequateSecurity = 12
+code_number Http11Required = 13
 
 -- the kind that an octet of a head names (RFC 9113, section 6); other numbers are unknown kinds
 unfoldable pub kind_of : ℕ → Kind

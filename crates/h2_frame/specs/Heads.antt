@@ -1,15 +1,18 @@
--- The nine octets at a frame's front, and their faults (RFC 9113, sections 4.1, 4.2 and 6).
-use Rattle.std.specs.Prelude.{ℕ, ◌+◌, ◌%◌, ◌^◌, ◌==◌, nat_lt, nat_le, not, Bool, true, false, if◌then◌else◌, List, drop, slice_index, bit_and, Option, Some, None}
+-- The nine octets with which a frame begins, and their faults (RFC 9113, sections 4.1, 4.2 and 6).
+use Rattle.std.specs.Prelude.{ℕ, ◌+◌, ◌%◌, ◌^◌, ◌==◌, nat_lt, nat_le, not, Bool, true, false}
+use Rattle.std.specs.Prelude.{if◌then◌else◌, List, drop, slice_index, bit_and, Option, Some, None}
 use Rattle.byteorder.specs.Endian.{big_number}
 use Rattle.h2_frame.specs.declared.code.Code.{Code}
 use Rattle.h2_frame.specs.declared.code.Code.TheVariants.{ProtocolError, FrameSizeError}
 use Rattle.h2_frame.specs.declared.kind.Kind.{Kind}
-use Rattle.h2_frame.specs.declared.kind.Kind.TheVariants.{Data, Headers, Priority, RstStream, Settings, PushPromise, Ping, GoAway, WindowUpdate, Continuation, Unknown}
+use Rattle.h2_frame.specs.declared.kind.Kind.TheVariants.{Data, Headers, Priority, RstStream}
+use Rattle.h2_frame.specs.declared.kind.Kind.TheVariants.{Settings, PushPromise, Ping, GoAway}
+use Rattle.h2_frame.specs.declared.kind.Kind.TheVariants.{WindowUpdate, Continuation, Unknown}
 use Rattle.h2_frame.specs.declared.heads.Head.{Head}
 use Rattle.h2_frame.specs.Codes.{kind_of}
 
--- The head that nine octets spell: 24 bits of length, 8 of kind, 8 of flags, a reserved bit that is ignored, and 31 of
--- stream number (section 4.1). Octets behind the ninth aren't looked at.
+-- The head that nine octets encode: 24 bits of length, 8 of kind, 8 of flags, a reserved bit that
+-- is ignored, and 31 of stream number (section 4.1). Octets after the ninth aren't read.
 unfoldable pub head_of : List ℕ → Head
 head_of octets =
     record {
@@ -38,8 +41,9 @@ has_padding flags = has_flag flags 0x08
 abbrev pub has_priority : ℕ → Bool
 has_priority flags = has_flag flags 0x20
 
--- Whether a frame of this kind may stand on the stream: some kinds belong to a stream, some to the connection, which is
--- stream 0, and some to either (sections 6.1 to 6.10). Of an unknown kind nothing is demanded (section 5.5).
+-- Whether a frame of this kind may be on the stream: some kinds belong to a stream, some to the
+-- connection, which is stream 0, and some to either (sections 6.1 to 6.10). Of an unknown kind
+-- nothing is demanded (section 5.5).
 unfoldable pub fits_stream : Kind → ℕ → Bool
 fits_stream Data stream = nat_lt 0 stream
 fits_stream Headers stream = nat_lt 0 stream
@@ -53,14 +57,16 @@ fits_stream WindowUpdate stream = true
 fits_stream Continuation stream = nat_lt 0 stream
 fits_stream (Unknown number) stream = true
 
--- the octets of a payload that its flags ask for: one for the pad length, and in HEADERS five for the priority
+-- the octets of a payload that its flags ask for: one for the pad length, and in HEADERS five for
+-- the priority
 abbrev pub octets_of_flags : Bool → Bool → ℕ
 octets_of_flags padded prioritized = (if padded then 1 else 0) + (if prioritized then 5 else 0)
 
 -- Whether a payload of this kind, with these flags, may have the length (sections 6.1 to 6.10).
 unfoldable pub fits_length : Kind → ℕ → ℕ → Bool
 fits_length Data flags count = nat_le (octets_of_flags (has_padding flags) false) count
-fits_length Headers flags count = nat_le (octets_of_flags (has_padding flags) (has_priority flags)) count
+fits_length Headers flags count =
+    nat_le (octets_of_flags (has_padding flags) (has_priority flags)) count
 fits_length Priority flags count = count == 5
 fits_length RstStream flags count = count == 4
 fits_length Settings flags count = if has_ack flags then count == 0 else count % 6 == 0
@@ -71,21 +77,26 @@ fits_length WindowUpdate flags count = count == 4
 fits_length Continuation flags count = true
 fits_length (Unknown number) flags count = true
 
--- PUSH_PROMISE is refused: no end of this profile allows push.
-abbrev pub is_refused : Kind → Bool
-is_refused PushPromise = true
-is_refused _ = false
+-- Whether a frame is PUSH_PROMISE, which is refused: no end of this profile allows push (sections
+-- 6.6 and 8.4).
+abbrev pub is_push_promise : Kind → Bool
+is_push_promise PushPromise = true
+is_push_promise _ = false
 
--- The fault of a head's form, the limit put aside: a refused kind, then a stream that the kind can't have, then a length that
--- it can't have.
+-- The fault of a head's form, but for the limit: a refused kind, then a stream that the kind can't
+-- have, then a length that it can't have.
 unfoldable pub form_fault : Head → Option Code
 form_fault head =
-    if is_refused head.kind then Some ProtocolError
+    if is_push_promise head.kind then Some ProtocolError
     else if not (fits_stream head.kind head.stream) then Some ProtocolError
     else if not (fits_length head.kind head.flags head.length) then Some FrameSizeError
     else None
 
--- The fault of a head where payloads may have as many octets as the limit says, known at its ninth octet: a length above
--- the limit (section 4.2), then a fault of its form.
+-- Whether a head's length is above the limit of payloads (section 4.2).
+abbrev pub exceeds_limit : Head → ℕ → Bool
+exceeds_limit head limit = nat_lt limit head.length
+
+-- The fault of a head where payloads may have as many octets as the limit says, known at its ninth
+-- octet: a length above the limit (section 4.2), then a fault of its form.
 unfoldable pub head_fault : Head → ℕ → Option Code
-head_fault head limit = if nat_lt limit head.length then Some FrameSizeError else form_fault head
+head_fault head limit = if exceeds_limit head limit then Some FrameSizeError else form_fault head

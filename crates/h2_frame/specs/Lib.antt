@@ -2,5 +2,5 @@ pub mod Codes
 pub mod Heads
 pub mod Pairs
 pub mod Frames
-pub mod Writing
-pub mod Parts
+pub mod Encoding
+pub mod FrameParts

@@ -21,6 +21,6 @@ pairs_of octets = pairs_in (length octets / 6) octets
 abbrev pub lent_pairs : Pairs → List (ℕ × ℕ)
 lent_pairs pairs = pairs_of pairs.octets.now
 
--- the pairs that an iterator has left
+-- the pairs that an iterator has still to yield
 abbrev pub pairs_left : PairIter → List (ℕ × ℕ)
 pairs_left iterator = pairs_of iterator.octets.now

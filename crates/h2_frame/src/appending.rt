@@ -1,12 +1,13 @@
-//! Appending the parts of a frame to a vector that has room for them, so that nothing fails.
+//! Appending the parts of a frame to a vector that has capacity for them, so that nothing fails.
 
-ghost use Rattle.std.specs.Prelude.{◌≡◌, ◌+◌, ◌*◌, ◌^◌, ◌<◌, ◌≤◌, ◌++◌, length, flat_map, vec_len, MatchOption};
+ghost use Rattle.std.specs.Prelude.{◌≡◌, ◌+◌, ◌*◌, ◌^◌, ◌<◌, ◌≤◌, ◌++◌, length, flat_map, vec_len};
+ghost use Rattle.std.specs.Prelude.{MatchOption};
 ghost use Rattle.std.specs.Vec.{vec_capacity};
-ghost use Rattle.h2_frame.specs.Writing.{pair_octets};
-ghost use Rattle.h2_frame.specs.Parts.{front_octets, body_octets, payload_octets, head_octets};
+ghost use Rattle.h2_frame.specs.Encoding.{pair_octets};
+ghost use Rattle.h2_frame.specs.FrameParts.{fixed_octets, body_octets, payload_octets, head_octets};
 
+use crate::frame_parts::{Body, FixedFields, FrameParts};
 use crate::pairs::PAIR;
-use crate::parts::{Body, Front, Parts};
 use byteorder::{BigEndian, ByteOrder};
 
 /// The octets of a head.
@@ -15,7 +16,7 @@ pub(crate) const HEAD: usize = 9;
 // The most octets of a payload: 24 bits of a head say how many there are (RFC 9113, section 4.1).
 const MOST: usize = 0xff_ffff;
 
-impl Parts<'_> {
+impl FrameParts<'_> {
     /// How many octets the payload has, or none where no head can say it.
     pub(crate) fn payload_length(&self) -> Option<u32>
         ensures { MatchOption result (16777215 < length (payload_octets self.now))
@@ -29,7 +30,7 @@ impl Parts<'_> {
             Some(count) => 1 + usize::from(count),
             None => 0,
         };
-        let length = padding + self.front.len() + body;
+        let length = padding + self.fixed_fields.len() + body;
         if length > MOST {
             return None;
         }
@@ -39,8 +40,9 @@ impl Parts<'_> {
     /// Appends the head of a payload of so many octets.
     pub(crate) fn append_head(&self, length: u32, out: &mut Vec<u8>)
         requires small { length < 2 ^ 24 }
-        requires room { vec_len out.old + 9 ≤ vec_capacity out.old }
-        ensures items { out.new.items ≡ out.old.items ++ head_octets self.now.kind self.now.flags self.now.stream length }
+        requires capacity { vec_len out.old + 9 ≤ vec_capacity out.old }
+        ensures items { out.new.items ≡ out.old.items
+            ++ head_octets self.now.kind self.now.flags self.now.stream length }
         ensures capacity { vec_capacity out.old ≤ vec_capacity out.new }
     {
         let mut octets = [0; HEAD];
@@ -58,45 +60,45 @@ impl Parts<'_> {
         ensures capacity { vec_capacity out.old ≤ vec_capacity out.new }
     {
         let Some(count) = self.pad else {
-            self.front.append(out);
+            self.fixed_fields.append(out);
             self.body.append(out);
             return;
         };
         out.push(count).unwrap();
-        self.front.append(out);
+        self.fixed_fields.append(out);
         self.body.append(out);
         let end = out.len() + usize::from(count);
         out.resize(end, 0).unwrap();
     }
 }
 
-impl Front {
+impl FixedFields {
     // How many octets there are.
     fn len(self) -> usize
-        ensures value { result ≡ length (front_octets self) }
+        ensures value { result ≡ length (fixed_octets self) }
         ensures small { result ≤ 8 }
     {
         match self {
-            Front::Nothing => 0,
-            Front::Priority(octets) => octets.len(),
-            Front::Ping(octets) => octets.len(),
-            Front::Word(_) => 4,
-            Front::TwoWords(_, _) => 8,
+            FixedFields::Nothing => 0,
+            FixedFields::Priority(octets) => octets.len(),
+            FixedFields::Ping(octets) => octets.len(),
+            FixedFields::Word(_) => 4,
+            FixedFields::TwoWords(_, _) => 8,
         }
     }
 
     // Appends the octets.
     fn append(self, out: &mut Vec<u8>)
-        requires { vec_len out.old + length (front_octets self) ≤ vec_capacity out.old }
-        ensures items { out.new.items ≡ out.old.items ++ front_octets self }
+        requires { vec_len out.old + length (fixed_octets self) ≤ vec_capacity out.old }
+        ensures items { out.new.items ≡ out.old.items ++ fixed_octets self }
         ensures capacity { vec_capacity out.old ≤ vec_capacity out.new }
     {
         match self {
-            Front::Nothing => {}
-            Front::Priority(octets) => out.extend_from_slice(&octets).unwrap(),
-            Front::Ping(octets) => out.extend_from_slice(&octets).unwrap(),
-            Front::Word(word) => out.extend_from_slice(&word.to_be_bytes()).unwrap(),
-            Front::TwoWords(first, second) => {
+            FixedFields::Nothing => {}
+            FixedFields::Priority(octets) => out.extend_from_slice(&octets).unwrap(),
+            FixedFields::Ping(octets) => out.extend_from_slice(&octets).unwrap(),
+            FixedFields::Word(word) => out.extend_from_slice(&word.to_be_bytes()).unwrap(),
+            FixedFields::TwoWords(first, second) => {
                 out.extend_from_slice(&first.to_be_bytes()).unwrap();
                 out.extend_from_slice(&second.to_be_bytes()).unwrap();
             }
@@ -105,7 +107,8 @@ impl Front {
 }
 
 impl Body<'_> {
-    // How many octets there are; where that is more than a payload may have, some number above that.
+    // How many octets there are; where that is more than a payload may have, some number above
+    // that.
     fn len(self) -> usize
         ensures small { result ≤ 16777215 → result ≡ length (body_octets self.entry) }
         ensures large { 16777215 < result → 16777215 < length (body_octets self.entry) }

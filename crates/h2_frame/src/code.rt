@@ -1,7 +1,7 @@
 //! Error codes (RFC 9113, section 7).
 
-ghost use Rattle.std.specs.Prelude.{◌≡◌, Some};
-ghost use Rattle.h2_frame.specs.Codes.{name_of};
+ghost use Rattle.std.specs.Prelude.{◌≡◌, ◌<◌, Some, IfSome, IfNone};
+ghost use Rattle.h2_frame.specs.Codes.{code_number, name_of};
 
 use std::fmt;
 
@@ -12,7 +12,7 @@ pub enum Code {
     NoError,
     /// 1: the peer broke a rule that no other code names.
     ProtocolError,
-    /// 2: an end met a fault of its own, as want of memory.
+    /// 2: an end met a fault of its own, as an allocation that was refused.
     InternalError,
     /// 3: the peer passed a window.
     FlowControlError,
@@ -39,6 +39,52 @@ pub enum Code {
 }
 
 impl Code {
+    /// The code's number in RFC 9113, section 7, from 0 to 13.
+    pub fn number(self) -> u32
+        ensures { result ≡ code_number self }
+    {
+        match self {
+            Code::NoError => 0,
+            Code::ProtocolError => 1,
+            Code::InternalError => 2,
+            Code::FlowControlError => 3,
+            Code::SettingsTimeout => 4,
+            Code::StreamClosed => 5,
+            Code::FrameSizeError => 6,
+            Code::RefusedStream => 7,
+            Code::Cancel => 8,
+            Code::CompressionError => 9,
+            Code::ConnectError => 10,
+            Code::EnhanceYourCalm => 11,
+            Code::InadequateSecurity => 12,
+            Code::Http11Required => 13,
+        }
+    }
+
+    /// The code of a number, or none for a number above 13, which RFC 9113, section 7, doesn't name.
+    pub fn from_number(number: u32) -> Option<Code>
+        ensures some { IfSome result (λ code. code_number code ≡ number) }
+        ensures none { IfNone result (13 < number) }
+    {
+        Some(match number {
+            0 => Code::NoError,
+            1 => Code::ProtocolError,
+            2 => Code::InternalError,
+            3 => Code::FlowControlError,
+            4 => Code::SettingsTimeout,
+            5 => Code::StreamClosed,
+            6 => Code::FrameSizeError,
+            7 => Code::RefusedStream,
+            8 => Code::Cancel,
+            9 => Code::CompressionError,
+            10 => Code::ConnectError,
+            11 => Code::EnhanceYourCalm,
+            12 => Code::InadequateSecurity,
+            13 => Code::Http11Required,
+            _ => return None,
+        })
+    }
+
     /// The code's name in RFC 9113, section 7, as `PROTOCOL_ERROR`.
     pub fn name(self) -> &'static str
         ensures { result.now ≡ name_of self }

@@ -1,7 +1,12 @@
-//! Frames that lend what they hold, as they are read.
+//! Frames whose payload is lent, as they are read.
+
+ghost use Rattle.std.specs.Prelude.{◌≡◌, ◌≤◌, [], length};
+ghost use Rattle.h2_frame.specs.Frames.{frame_of};
+ghost use Rattle.h2_frame.specs.Encoding.{kind_of_frame, stream_of, payload_of, padded, prioritized};
 
 use crate::code::Code;
-use crate::pairs::Pairs;
+use crate::kind::Kind;
+use crate::pairs::{PAIR, Pairs};
 use thiserror::Error;
 
 /// A frame whose payload is lent.
@@ -11,7 +16,7 @@ pub enum FrameRef<'a> {
     Data {
         /// The stream, not 0.
         stream: u32,
-        /// Whether the stream's sender sends nothing behind it (END_STREAM).
+        /// Whether it is the last frame that its sender sends on the stream (END_STREAM).
         end: bool,
         /// The octets, without padding.
         octets: &'a [u8],
@@ -22,7 +27,7 @@ pub enum FrameRef<'a> {
     Headers {
         /// The stream, not 0.
         stream: u32,
-        /// Whether the stream's sender sends nothing behind the block (END_STREAM).
+        /// Whether nothing follows the block on the stream (END_STREAM).
         end: bool,
         /// Whether the block ends with this frame (END_HEADERS).
         whole: bool,
@@ -67,17 +72,17 @@ pub enum FrameRef<'a> {
         last: u32,
         /// Why, by its number; any is allowed.
         code: u32,
-        /// Octets for whoever looks for the cause.
+        /// Additional debug data.
         debug: &'a [u8],
     },
     /// More octets may be sent (section 6.9).
     WindowUpdate {
         /// The stream, or 0 for the connection.
         stream: u32,
-        /// How many octets more, less than 2<sup>31</sup>; 0 is a fault that the connection judges.
+        /// How many octets more, less than 2<sup>31</sup>; 0 is a fault, which isn't checked here.
         increment: u32,
     },
-    /// A field block goes on (section 6.10).
+    /// More of a field block (section 6.10).
     Continuation {
         /// The stream, not 0.
         stream: u32,
@@ -97,6 +102,88 @@ pub enum FrameRef<'a> {
         /// Its payload.
         payload: &'a [u8],
     },
+}
+
+#[tactic(auto, unfolding(crate::proofs::Rules::parts_of_frames))]
+impl FrameRef<'_> {
+    /// The frame's kind.
+    pub fn kind(self) -> Kind
+        ensures { result ≡ kind_of_frame (frame_of self.entry) }
+    {
+        match self {
+            FrameRef::Data { .. } => Kind::Data,
+            FrameRef::Headers { .. } => Kind::Headers,
+            FrameRef::Priority { .. } => Kind::Priority,
+            FrameRef::Reset { .. } => Kind::RstStream,
+            FrameRef::Settings { .. } => Kind::Settings,
+            FrameRef::Ping { .. } => Kind::Ping,
+            FrameRef::GoAway { .. } => Kind::GoAway,
+            FrameRef::WindowUpdate { .. } => Kind::WindowUpdate,
+            FrameRef::Continuation { .. } => Kind::Continuation,
+            FrameRef::Unknown { kind, .. } => Kind::Unknown(kind),
+        }
+    }
+
+    /// The frame's stream; 0 is the connection.
+    pub fn stream(self) -> u32
+        ensures { result ≡ stream_of (frame_of self.entry) }
+    {
+        match self {
+            FrameRef::Data { stream, .. }
+            | FrameRef::Headers { stream, .. }
+            | FrameRef::Priority { stream, .. }
+            | FrameRef::Reset { stream, .. }
+            | FrameRef::WindowUpdate { stream, .. }
+            | FrameRef::Continuation { stream, .. }
+            | FrameRef::Unknown { stream, .. } => stream,
+            FrameRef::Settings { .. } | FrameRef::Ping { .. } | FrameRef::GoAway { .. } => 0,
+        }
+    }
+
+    /// How many octets the frame's payload has, padding and pad length included (RFC 9113, section
+    /// 4.1).
+    pub fn payload_len(self) -> usize
+        ensures { result ≡ length (payload_of (frame_of self.entry)) }
+    {
+        match self {
+            FrameRef::Data { octets, pad, .. } => padding_len(pad) + octets.len(),
+            FrameRef::Headers {
+                fragment,
+                pad,
+                priority,
+                ..
+            } => padding_len(pad) + priority_len(priority) + fragment.len(),
+            FrameRef::Priority { octets, .. } => octets.len(),
+            FrameRef::Reset { .. } | FrameRef::WindowUpdate { .. } => 4,
+            FrameRef::Settings { pairs, .. } => pairs.octets.len() / PAIR * PAIR,
+            FrameRef::Ping { octets, .. } => octets.len(),
+            FrameRef::GoAway { debug, .. } => 8 + debug.len(),
+            FrameRef::Continuation { fragment, .. } => fragment.len(),
+            FrameRef::Unknown { payload, .. } => payload.len(),
+        }
+    }
+}
+
+// How many octets the pad length and the padding are.
+pub(crate) fn padding_len(pad: Option<u8>) -> usize
+    ensures value { result ≡ length (padded [] pad) }
+    ensures small { result ≤ 256 }
+{
+    match pad {
+        Some(count) => 1 + usize::from(count),
+        None => 0,
+    }
+}
+
+// How many octets the priority is.
+fn priority_len(priority: Option<[u8; 5]>) -> usize
+    ensures value { result ≡ length (prioritized [] priority) }
+    ensures small { result ≤ 5 }
+{
+    match priority {
+        Some(octets) => octets.len(),
+        None => 0,
+    }
 }
 
 /// Why a payload isn't read.

@@ -2,7 +2,7 @@
 
 use crate::kind::Kind;
 
-/// The nine octets at a frame's front, as numbers (RFC 9113, section 4.1).
+/// The nine octets with which a frame begins, as numbers (RFC 9113, section 4.1).
 #[derive(Clone, Copy, Debug, PartialEq, Eq)]
 pub struct Head {
     /// Octets of payload, less than 2<sup>24</sup> in a head that was read.

@@ -24,7 +24,7 @@ pub enum Kind {
     GoAway,
     /// 8: more octets may be sent.
     WindowUpdate,
-    /// 9: a field block goes on.
+    /// 9: more of a field block.
     Continuation,
     /// Any other number: [`Kind::from_number`] gives it for 10 and above alone.
     Unknown(u8),

@@ -4,31 +4,35 @@ ghost use Rattle.std.specs.Prelude.{◌≡◌, ℕ, ◌+◌, ◌≤◌, ◌++◌
 ghost use Rattle.h2_frame.specs.declared.heads.Head.{Head};
 ghost use Rattle.h2_frame.specs.Heads.{head_of, form_fault, head_fault as fault_of};
 ghost use Rattle.h2_frame.specs.Frames.{Frame, Encodes, payload_fault};
-ghost use Rattle.h2_frame.specs.Writing.{payload_of, encoding_of, refusal, IsTyped};
+ghost use Rattle.h2_frame.specs.Encoding.{payload_of, encoding_of, refusal, IsTyped};
 
-/// Octets spell one frame at most.
+/// Octets encode one frame at most.
 pub fn one_frame()
-    ensures { (frame other : Frame) (octets : List ℕ) → Encodes frame octets → Encodes other octets → frame ≡ other }
+    ensures { (frame other : Frame) (octets : List ℕ) → Encodes frame octets → Encodes other octets
+        → frame ≡ other }
 {}
 
 /// A head is read from nine octets, whatever follows them.
 pub fn nine_octets()
-    ensures { (octets more : List ℕ) → 9 ≤ length octets → head_of (octets ++ more) ≡ head_of octets }
+    ensures { (octets more : List ℕ) → 9 ≤ length octets
+        → head_of (octets ++ more) ≡ head_of octets }
 {}
 
-/// A head without fault has a length within the limit, and no fault of its form, which is what is left of the faults with the
-/// limit put aside.
+/// A head without fault has a length within the limit, and no fault of its form, which is what is
+/// left of the faults with but for the limit.
 pub fn within_limit()
     ensures length { (read : Head) (limit : ℕ) → fault_of read limit ≡ None → read.length ≤ limit }
     ensures form { (read : Head) (limit : ℕ) → fault_of read limit ≡ None → form_fault read ≡ None }
 {}
 
-/// What is written of a frame that no refusal keeps from it spells that frame, so it is read back; and neither its head nor its
-/// payload has a fault, where the limit allows its length.
-pub fn written_frame()
+/// What is written of a frame that can be written encodes that frame, so it is read back; and
+/// neither its head nor its payload has a fault, where the limit allows its length.
+pub fn written_frame_is_read()
     ensures length { (frame : Frame) → length (encoding_of frame) ≡ 9 + length (payload_of frame) }
-    ensures spelled { (frame : Frame) → IsTyped frame → refusal frame ≡ None → Encodes frame (encoding_of frame) }
-    ensures sound_head { (frame : Frame) (limit : ℕ) → IsTyped frame → refusal frame ≡ None → length (payload_of frame) ≤ limit
+    ensures encodes { (frame : Frame) → IsTyped frame → refusal frame ≡ None
+        → Encodes frame (encoding_of frame) }
+    ensures sound_head { (frame : Frame) (limit : ℕ) → IsTyped frame → refusal frame ≡ None
+        → length (payload_of frame) ≤ limit
         → fault_of (head_of (encoding_of frame)) limit ≡ None }
     ensures sound_payload { (frame : Frame) → IsTyped frame → refusal frame ≡ None
         → payload_fault (head_of (encoding_of frame)) (drop 9 (encoding_of frame)) ≡ None }

@@ -1,34 +1,34 @@
-//! The frames of HTTP/2 (RFC 9113, sections 4.1 and 6): heads, payloads and their faults, and writing.
+//! The frames of HTTP/2 (RFC 9113, sections 4.1 and 6): heads, payloads and their faults, and
+//! writing.
 //!
-//! A frame's nine octets of head are read by [`head`], and judged by [`head_fault`] before any octet of its payload has
-//! come. [`read_payload`] reads what follows, and lends it: reading takes no memory. [`write`] appends the one spelling of a
-//! frame that is written, and [`write_ref`] that of a frame whose octets are lent.
+//! A frame's nine octets of head are read by [`head`], and checked by [`head_fault`] when no octet
+//! of its payload has come yet. [`payload_fault`] checks the payload, and [`payload_frame`] reads
+//! it and lends it: reading allocates nothing. [`write`] appends the one encoding of a frame that
+//! is owned, and [`write_ref`] that of a frame whose payload is lent.
 #![tactic(auto)]
 
 mod appending;
 mod code;
 mod frame;
+mod frame_parts;
 mod heads;
 mod kind;
 mod laws;
 mod owned;
 mod pairs;
-mod parts;
 mod payload;
 mod reading;
 #[cfg(test)]
 mod tests;
-#[cfg(test)]
-mod tests_writing;
 mod writing;
 
 pub use code::Code;
 pub use frame::{FrameRef, PayloadError};
 pub use heads::Head;
 pub use kind::Kind;
-pub use laws::{nine_octets, one_frame, within_limit, written_frame};
+pub use laws::{nine_octets, one_frame, within_limit, written_frame_is_read};
 pub use owned::{Frame, Unwritable};
 pub use pairs::{PairIter, Pairs};
-pub use payload::{payload_fault, read_payload};
+pub use payload::{payload_fault, payload_frame, read_payload};
 pub use reading::{head, head_fault};
 pub use writing::{write, write_ref};

@@ -1,15 +1,16 @@
-//! Frames that own what they hold, as they are written.
+//! Frames that own their payload, as they are written.
 
 use thiserror::Error;
 
-/// A frame that owns its payload. [`FrameRef`](crate::FrameRef) is the same, lent, and says what each case is.
+/// A frame that owns its payload. [`FrameRef`](crate::FrameRef) is the same, lent, and says what
+/// each case is.
 #[derive(Debug, PartialEq, Eq, Drop)]
 pub enum Frame {
     /// Octets of a message's body (RFC 9113, section 6.1).
     Data {
         /// The stream, not 0.
         stream: u32,
-        /// Whether the stream's sender sends nothing behind it (END_STREAM).
+        /// Whether it is the last frame that its sender sends on the stream (END_STREAM).
         end: bool,
         /// The octets.
         octets: Vec<u8>,
@@ -20,7 +21,7 @@ pub enum Frame {
     Headers {
         /// The stream, not 0.
         stream: u32,
-        /// Whether the stream's sender sends nothing behind the block (END_STREAM).
+        /// Whether nothing follows the block on the stream (END_STREAM).
         end: bool,
         /// Whether the block ends with this frame (END_HEADERS).
         whole: bool,
@@ -65,7 +66,7 @@ pub enum Frame {
         last: u32,
         /// Why, by its number.
         code: u32,
-        /// Octets for whoever looks for the cause.
+        /// Additional debug data.
         debug: Vec<u8>,
     },
     /// More octets may be sent (section 6.9).
@@ -75,7 +76,7 @@ pub enum Frame {
         /// How many octets more, less than 2<sup>31</sup>.
         increment: u32,
     },
-    /// A field block goes on (section 6.10).
+    /// More of a field block (section 6.10).
     Continuation {
         /// The stream, not 0.
         stream: u32,
@@ -100,17 +101,19 @@ pub enum Frame {
 /// Why a frame isn't written. Of several the first is answered.
 #[derive(Clone, Copy, Debug, PartialEq, Eq, Error)]
 pub enum Unwritable {
-    /// F1: the payload has more than 16,777,215 octets, which no head can say (RFC 9113, section 4.1).
+    /// F1: the payload has more than 16,777,215 octets, which no head can say (RFC 9113, section
+    /// 4.1).
     #[error("F1 TooLong: the payload has more than 16777215 octets")]
     TooLong,
-    /// F2: a frame of this kind can't stand on the stream, or the stream's number is above 2<sup>31</sup> - 1.
+    /// F2: a frame of this kind can't be on the stream, or the stream's number is above
+    /// 2<sup>31</sup> - 1.
     #[error("F2 BadStream: a frame of this kind can't stand on the stream")]
     BadStream,
-    /// F3: a last stream or an increment above 2<sup>31</sup> - 1, an acknowledgment of settings with pairs, or an unknown
-    /// kind with a number from 0 to 9, which are known.
+    /// F3: a last stream or an increment above 2<sup>31</sup> - 1, an acknowledgment of settings
+    /// with pairs, or an unknown kind with a number from 0 to 9, which are known.
     #[error("F3 BadValue: a value of the frame can't be written")]
     BadValue,
-    /// F4: memory was refused.
+    /// F4: an allocation was refused.
     #[error("F4 Memory: out of memory")]
     Memory,
 }

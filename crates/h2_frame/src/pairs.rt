@@ -9,7 +9,7 @@ use byteorder::{BigEndian, ByteOrder};
 /// The octets of a pair.
 pub(crate) const PAIR: usize = 6;
 
-/// The pairs of a SETTINGS frame, identifier and value, in the octets that spell them.
+/// The pairs of a SETTINGS frame, identifier and value, in the octets that encode them.
 #[derive(Clone, Copy, Debug, PartialEq, Eq)]
 pub struct Pairs<'a> {
     pub(crate) octets: &'a [u8],

@@ -1,25 +1,28 @@
 //! Reading payloads (RFC 9113, section 6).
 
-ghost use Rattle.std.specs.Prelude.{◌≡◌, ◌≤◌, ◌-◌, ◌+◌, ◌∷◌, ◌++◌, length, take, drop, slice_index, None, Some, true, MatchResult, MatchOption};
-ghost use Rattle.h2_frame.specs.Heads.{form_fault, has_padding, has_priority, octets_of_flags};
-ghost use Rattle.h2_frame.specs.Frames.{frame_of, Carries, IsPadded, IsPrioritized, payload_fault as fault_of_payload, pads_too_much, Refuses};
+ghost use Rattle.std.specs.Prelude.{◌≡◌, ◌≤◌, ◌-◌, ◌+◌, ◌∷◌, ◌++◌, length, take, drop, slice_index};
+ghost use Rattle.std.specs.Prelude.{None, Some, true, MatchResult, MatchOption};
+ghost use Rattle.h2_frame.specs.Heads.{form_fault, has_padding, has_priority};
+ghost use Rattle.h2_frame.specs.Frames.{frame_of, Carries, IsPadded, IsPrioritized};
+ghost use Rattle.h2_frame.specs.Frames.{payload_fault as fault_of_payload, pads_too_much, Refuses};
 
 use crate::code::Code;
 use crate::frame::{FrameRef, PayloadError};
 use crate::heads::Head;
 use crate::kind::Kind;
 use crate::pairs::Pairs;
-use crate::reading::{ACK, END_HEADERS, END_STREAM, PADDED, PRIORITY, least_length};
+use crate::reading::{ACK, END_HEADERS, END_STREAM, PADDED, PRIORITY, octets_of_flags};
 use byteorder::{BigEndian, ByteOrder};
 
-/// The fault of a payload behind a head without fault, or none: DATA whose pad length isn't less than its payload's length
-/// (RFC 9113, section 6.1), or HEADERS whose pad length is above what is left for the fragment (section 6.2), is a
-/// PROTOCOL_ERROR. The slice has the head's length. It takes no memory.
-#[tactic(auto, unfolding(crate::specs::Heads::form_fault, crate::specs::Heads::fits_length, crate::specs::Frames::payload_fault, crate::specs::Frames::pads_too_much))]
+/// The fault of a payload after a head without fault, or none: DATA whose pad length isn't less
+/// than its payload's length (RFC 9113, section 6.1), or HEADERS whose pad length is above what
+/// remains for the fragment (section 6.2), is a PROTOCOL_ERROR. The slice has the head's length. It
+/// allocates nothing.
+#[tactic(auto, unfolding(crate::proofs::Rules::payload_rules))]
 pub fn payload_fault(head: &Head, payload: &[u8]) -> Option<Code>
-    // The head has no fault of its form, the limit put aside.
+    // The head has no fault of its form, but for the limit.
     requires form { form_fault head.now ≡ None }
-    requires whole { length payload.now ≡ head.now.length }
+    requires complete { length payload.now ≡ head.now.length }
     ensures { result ≡ fault_of_payload head.now payload.now }
 {
     if head.flags & PADDED == 0 {
@@ -30,39 +33,42 @@ pub fn payload_fault(head: &Head, payload: &[u8]) -> Option<Code>
         Kind::Headers => head.flags & PRIORITY != 0,
         _ => return None,
     };
-    let left = payload.len() - least_length(true, prioritized) as usize;
+    let left = payload.len() - octets_of_flags(true, prioritized) as usize;
     if usize::from(payload[0]) > left {
         return Some(Code::ProtocolError);
     }
     None
 }
 
-/// Reads the payload behind a head without fault, and lends it (RFC 9113, section 6). The slice has the head's length. It takes no
-/// memory.
+/// Checks and reads the payload after a head without fault, and lends it (RFC 9113, section 6). The
+/// slice has the head's length. It allocates nothing.
 ///
 /// # Errors
 ///
 /// [`PayloadError::Code`] with the code of the payload's fault, which [`payload_fault`] answers.
-#[tactic(auto, unfolding(crate::specs::Heads::form_fault, crate::specs::Heads::fits_stream, crate::specs::Heads::fits_length))]
+#[tactic(auto, unfolding(crate::proofs::Rules::form_rules))]
 pub fn read_payload<'a>(head: &Head, payload: &'a [u8]) -> Result<FrameRef<'a>, PayloadError>
-    // The head has no fault of its form, the limit put aside.
+    // The head has no fault of its form, but for the limit.
     requires form { form_fault head.now ≡ None }
-    requires whole { length payload.now ≡ head.now.length }
+    requires complete { length payload.now ≡ head.now.length }
     ensures { MatchResult result
-        (λ frame. (fault_of_payload head.now payload.now ≡ None) × Carries head.now payload.now (frame_of frame))
+        (λ frame. (fault_of_payload head.now payload.now ≡ None)
+        × Carries head.now payload.now (frame_of frame))
         (Refuses head.now payload.now) }
 {
     if let Some(code) = payload_fault(head, payload) {
         return Err(PayloadError::Code(code));
     }
-    Ok(frame_behind(head, payload))
+    Ok(payload_frame(head, payload))
 }
 
-// The frame of a payload without fault.
-#[tactic(auto, unfolding(crate::specs::Heads::form_fault, crate::specs::Heads::fits_stream, crate::specs::Heads::fits_length, crate::specs::Frames::payload_fault, crate::specs::Frames::pads_too_much))]
-fn frame_behind<'a>(head: &Head, payload: &'a [u8]) -> FrameRef<'a>
+/// The frame of a payload without fault, after a head without fault (RFC 9113, section 6); the
+/// payload is lent. The slice has the head's length, and [`payload_fault`] answers none for it. It
+/// allocates nothing.
+#[tactic(auto, unfolding(crate::proofs::Rules::payload_rules))]
+pub fn payload_frame<'a>(head: &Head, payload: &'a [u8]) -> FrameRef<'a>
     requires form { form_fault head.now ≡ None }
-    requires whole { length payload.now ≡ head.now.length }
+    requires complete { length payload.now ≡ head.now.length }
     requires sound { fault_of_payload head.now payload.now ≡ None }
     ensures { Carries head.now payload.now (frame_of result) }
 {
@@ -113,11 +119,11 @@ fn frame_behind<'a>(head: &Head, payload: &'a [u8]) -> FrameRef<'a>
 }
 
 // The frame of DATA whose payload has no fault.
-#[tactic(auto, unfolding(crate::specs::Heads::form_fault, crate::specs::Heads::fits_stream, crate::specs::Heads::fits_length, crate::specs::Frames::payload_fault, crate::specs::Frames::pads_too_much))]
+#[tactic(auto, unfolding(crate::proofs::Rules::payload_rules))]
 fn data<'a>(head: &Head, payload: &'a [u8]) -> FrameRef<'a>
     requires kind { head.now.kind ≡ Kind.Data }
     requires form { form_fault head.now ≡ None }
-    requires whole { length payload.now ≡ head.now.length }
+    requires complete { length payload.now ≡ head.now.length }
     requires sound { fault_of_payload head.now payload.now ≡ None }
     ensures { Carries head.now payload.now (frame_of result) }
 {
@@ -131,11 +137,11 @@ fn data<'a>(head: &Head, payload: &'a [u8]) -> FrameRef<'a>
 }
 
 // The frame of HEADERS whose payload has no fault.
-#[tactic(auto, unfolding(crate::specs::Heads::form_fault, crate::specs::Heads::fits_stream, crate::specs::Heads::fits_length, crate::specs::Frames::payload_fault, crate::specs::Frames::pads_too_much))]
+#[tactic(auto, unfolding(crate::proofs::Rules::payload_rules))]
 fn headers<'a>(head: &Head, payload: &'a [u8]) -> FrameRef<'a>
     requires kind { head.now.kind ≡ Kind.Headers }
     requires form { form_fault head.now ≡ None }
-    requires whole { length payload.now ≡ head.now.length }
+    requires complete { length payload.now ≡ head.now.length }
     requires sound { fault_of_payload head.now payload.now ≡ None }
     ensures { Carries head.now payload.now (frame_of result) }
 {
@@ -152,7 +158,8 @@ fn headers<'a>(head: &Head, payload: &'a [u8]) -> FrameRef<'a>
     }
 }
 
-// What stands between the pad length and the padding, and how much padding there is; or the whole payload.
+// What lies between the pad length and the padding, and how much padding there is; or all of the
+// payload.
 fn without_padding(flags: u8, payload: &[u8]) -> (&[u8], Option<u8>)
     requires { has_padding flags ≡ true → 1 + slice_index payload.now 0 ≤ length payload.now }
     ensures padded { IsPadded (has_padding flags) payload.now result.0.now result.1 }
@@ -165,7 +172,7 @@ fn without_padding(flags: u8, payload: &[u8]) -> (&[u8], Option<u8>)
     (&payload[1..end], Some(pad))
 }
 
-// What stands behind the priority, and the priority; or the whole body.
+// What follows the priority, and the priority; or all of the body.
 fn without_priority(flags: u8, body: &[u8]) -> (&[u8], Option<[u8; 5]>)
     requires { has_priority flags ≡ true → 5 ≤ length body.now }
     ensures { IsPrioritized (has_priority flags) body.now result.0.now result.1 }

@@ -1,7 +1,9 @@
-//! Reading and judging heads (RFC 9113, sections 4.1, 4.2 and 6).
+//! Reading and checking heads (RFC 9113, sections 4.1, 4.2 and 6).
 
 ghost use Rattle.std.specs.Prelude.{◌≡◌, ◌≤◌, None};
-ghost use Rattle.h2_frame.specs.Heads.{head_of, head_fault as fault_of, form_fault, fits_stream, fits_length, octets_of_flags};
+ghost use Rattle.h2_frame.specs.Heads.{head_of, head_fault as fault_of, form_fault};
+ghost use Rattle.h2_frame.specs.Heads.{fits_stream as stream_fits, fits_length as length_fits};
+ghost use Rattle.h2_frame.specs.Heads.{octets_of_flags as flag_octets};
 
 use crate::code::Code;
 use crate::heads::Head;
@@ -23,7 +25,8 @@ pub(crate) const PADDED: u8 = 0x08;
 /// The bit of PRIORITY, in HEADERS.
 pub(crate) const PRIORITY: u8 = 0x20;
 
-/// Reads the nine octets at a frame's front. The reserved bit is dropped (RFC 9113, section 4.1).
+/// Reads the nine octets with which a frame begins. The reserved bit is dropped (RFC 9113, section
+/// 4.1).
 #[tactic(auto, unfolding(crate::specs::Heads::head_of))]
 pub fn head(octets: &[u8; 9]) -> Head
     ensures { result ≡ head_of octets.now }
@@ -36,36 +39,38 @@ pub fn head(octets: &[u8; 9]) -> Head
     }
 }
 
-/// The fault of a head, where payloads may have at most `limit` octets: the first of these, or none.
+/// The fault of a head, where payloads may have at most `limit` octets: the first of these, or
+/// none.
 ///
 /// 1. A length above the limit: FRAME_SIZE_ERROR.
 /// 2. PUSH_PROMISE, which this profile refuses: PROTOCOL_ERROR.
-/// 3. A stream that the kind can't stand on: PROTOCOL_ERROR.
+/// 3. A stream that the kind can't be on: PROTOCOL_ERROR.
 /// 4. A length that the kind can't have: FRAME_SIZE_ERROR.
 #[tactic(auto, unfolding(crate::specs::Heads::head_fault, crate::specs::Heads::form_fault))]
 pub fn head_fault(head: &Head, limit: u32) -> Option<Code>
     ensures value { result ≡ fault_of head.now limit }
 
-    // Where it is none, the length is within the limit, and the head has no fault of its form, the limit put aside.
+    // Where it is none, the length is within the limit, and the head has no fault of its form, but
+    // for the limit.
     ensures within { result ≡ None → head.now.length ≤ limit }
     ensures form { result ≡ None → form_fault head.now ≡ None }
 {
     if head.length > limit {
         return Some(Code::FrameSizeError);
     }
-    if head.kind == Kind::PushPromise || !may_stand_on(head.kind, head.stream) {
+    if head.kind == Kind::PushPromise || !fits_stream(head.kind, head.stream) {
         return Some(Code::ProtocolError);
     }
-    if !may_have_length(head.kind, head.flags, head.length) {
+    if !fits_length(head.kind, head.flags, head.length) {
         return Some(Code::FrameSizeError);
     }
     None
 }
 
-/// Whether a frame of the kind may stand on the stream.
+/// Whether a frame of the kind may be on the stream.
 #[tactic(auto, unfolding(crate::specs::Heads::fits_stream))]
-pub(crate) fn may_stand_on(kind: Kind, stream: u32) -> bool
-    ensures { result ≡ fits_stream kind stream }
+pub(crate) fn fits_stream(kind: Kind, stream: u32) -> bool
+    ensures { result ≡ stream_fits kind stream }
 {
     match kind {
         Kind::Data
@@ -81,12 +86,12 @@ pub(crate) fn may_stand_on(kind: Kind, stream: u32) -> bool
 
 // Whether a payload of the kind, with these flags, may have the length.
 #[tactic(auto, unfolding(crate::specs::Heads::fits_length))]
-fn may_have_length(kind: Kind, flags: u8, length: u32) -> bool
-    ensures { result ≡ fits_length kind flags length }
+fn fits_length(kind: Kind, flags: u8, length: u32) -> bool
+    ensures { result ≡ length_fits kind flags length }
 {
     match kind {
-        Kind::Data => length >= least_length(flags & PADDED != 0, false),
-        Kind::Headers => length >= least_length(flags & PADDED != 0, flags & PRIORITY != 0),
+        Kind::Data => length >= octets_of_flags(flags & PADDED != 0, false),
+        Kind::Headers => length >= octets_of_flags(flags & PADDED != 0, flags & PRIORITY != 0),
         Kind::Priority => length == 5,
         Kind::RstStream | Kind::WindowUpdate => length == 4,
         Kind::Settings if flags & ACK != 0 => length == 0,
@@ -98,8 +103,8 @@ fn may_have_length(kind: Kind, flags: u8, length: u32) -> bool
 }
 
 /// The octets that flags ask for: the pad length, and the priority.
-pub(crate) fn least_length(padded: bool, prioritized: bool) -> u32
-    ensures { result ≡ octets_of_flags padded prioritized }
+pub(crate) fn octets_of_flags(padded: bool, prioritized: bool) -> u32
+    ensures { result ≡ flag_octets padded prioritized }
 {
     let pad_length = if padded { 1 } else { 0 };
     let priority = if prioritized { 5 } else { 0 };

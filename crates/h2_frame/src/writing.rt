@@ -1,30 +1,36 @@
 //! Writing frames (RFC 9113, sections 4.1 and 6).
 
-ghost use Rattle.std.specs.Prelude.{◌≡◌, ◌+◌, ◌≤◌, ◌++◌, length, vec_len, None, Some, IfErr, OnOk, OnErr, IsOk};
+ghost use Rattle.std.specs.Prelude.{◌≡◌, ◌+◌, ◌≤◌, ◌++◌, length, vec_len, None, Some, IfErr, OnOk};
+ghost use Rattle.std.specs.Prelude.{OnErr, IsOk};
 ghost use Rattle.std.specs.Vec.{vec_capacity};
 ghost use Rattle.h2_frame.specs.Frames.{Frame as AnyFrame, frame_of, owned_frame};
-ghost use Rattle.h2_frame.specs.Writing.{encoding_of, refusal, IsRefused, IsTyped};
-ghost use Rattle.h2_frame.specs.Parts.{Describes};
+ghost use Rattle.h2_frame.specs.Encoding.{encoding_of, refusal, IsRefused, IsTyped};
+ghost use Rattle.h2_frame.specs.FrameParts.{Describes};
 
 use crate::appending::HEAD;
 use crate::frame::FrameRef;
+use crate::frame_parts::FrameParts;
 use crate::owned::{Frame, Unwritable};
-use crate::parts::{ABOVE_31_BITS, Parts};
-use crate::reading::may_stand_on;
 
-/// Appends the frame (RFC 9113, sections 4.1 and 6): its head and its payload, with reserved bits, flags that its kind doesn't
-/// define, and octets of padding zero.
+/// Appends the frame (RFC 9113, sections 4.1 and 6): its head and its payload, with reserved bits,
+/// flags that its kind doesn't define, and octets of padding zero.
 ///
 /// # Errors
 ///
-/// The first of these, and `out` is unchanged: [`Unwritable::TooLong`] where the payload has more than 16,777,215 octets;
-/// [`Unwritable::BadStream`] where the kind can't stand on the stream or its number is above 2<sup>31</sup> - 1;
-/// [`Unwritable::BadValue`] for a last stream or an increment above 2<sup>31</sup> - 1, for settings with ACK and pairs, and for an
-/// unknown kind with a number from 0 to 9; and [`Unwritable::Memory`], which doesn't come where `out` has room for the frame.
+/// The first of these, and `out` is unchanged: [`Unwritable::TooLong`] where the payload has more
+/// than 16,777,215 octets; [`Unwritable::BadStream`] where the kind can't be on the stream or its
+/// number is above 2<sup>31</sup> - 1; [`Unwritable::BadValue`] for a last stream or an increment
+/// above 2<sup>31</sup> - 1, for settings with ACK and pairs, and for an unknown kind with a number
+/// from 0 to 9; and [`Unwritable::Memory`], which doesn't come where `out` has capacity for the
+/// frame.
 pub fn write(frame: &Frame, out: &mut Vec<u8>) -> Result<(), Unwritable>
-    ensures ok { OnOk result ((refusal (owned_frame frame.now) ≡ None) × (out.new.items ≡ out.old.items ++ encoding_of (owned_frame frame.now))) }
-    ensures err { IfErr result (λ error. IsRefused (owned_frame frame.now) error × (out.new.items ≡ out.old.items)) }
-    ensures room { refusal (owned_frame frame.now) ≡ None → vec_len out.old + length (encoding_of (owned_frame frame.now)) ≤ vec_capacity out.old → IsOk result }
+    ensures ok { OnOk result ((refusal (owned_frame frame.now) ≡ None)
+        × (out.new.items ≡ out.old.items ++ encoding_of (owned_frame frame.now))) }
+    ensures err { IfErr result (λ error. IsRefused (owned_frame frame.now) error
+        × (out.new.items ≡ out.old.items)) }
+    ensures room { refusal (owned_frame frame.now) ≡ None
+        → vec_len out.old + length (encoding_of (owned_frame frame.now)) ≤ vec_capacity out.old
+        → IsOk result }
     ensures capacity { vec_capacity out.old ≤ vec_capacity out.new }
     ensures typed { IsTyped (owned_frame frame.now) }
 {
@@ -37,9 +43,13 @@ pub fn write(frame: &Frame, out: &mut Vec<u8>) -> Result<(), Unwritable>
 ///
 /// Those of [`write`].
 pub fn write_ref(frame: FrameRef<'_>, out: &mut Vec<u8>) -> Result<(), Unwritable>
-    ensures ok { OnOk result ((refusal (frame_of frame.entry) ≡ None) × (out.new.items ≡ out.old.items ++ encoding_of (frame_of frame.entry))) }
-    ensures err { IfErr result (λ error. IsRefused (frame_of frame.entry) error × (out.new.items ≡ out.old.items)) }
-    ensures room { refusal (frame_of frame.entry) ≡ None → vec_len out.old + length (encoding_of (frame_of frame.entry)) ≤ vec_capacity out.old → IsOk result }
+    ensures ok { OnOk result ((refusal (frame_of frame.entry) ≡ None)
+        × (out.new.items ≡ out.old.items ++ encoding_of (frame_of frame.entry))) }
+    ensures err { IfErr result (λ error. IsRefused (frame_of frame.entry) error
+        × (out.new.items ≡ out.old.items)) }
+    ensures room { refusal (frame_of frame.entry) ≡ None
+        → vec_len out.old + length (encoding_of (frame_of frame.entry)) ≤ vec_capacity out.old
+        → IsOk result }
     ensures capacity { vec_capacity out.old ≤ vec_capacity out.new }
     ensures typed { IsTyped (frame_of frame.entry) }
 {
@@ -47,19 +57,21 @@ pub fn write_ref(frame: FrameRef<'_>, out: &mut Vec<u8>) -> Result<(), Unwritabl
 }
 
 // Appends a frame that has these parts.
-fn write_parts(parts: &Parts<'_>, out: &mut Vec<u8>) -> Result<(), Unwritable>
+fn write_parts(parts: &FrameParts<'_>, out: &mut Vec<u8>) -> Result<(), Unwritable>
     ensures ok { (frame : AnyFrame) → Describes parts.now frame
-        → OnOk result ((refusal frame ≡ None) × (out.new.items ≡ out.old.items ++ encoding_of frame)) }
+        → OnOk result ((refusal frame ≡ None)
+        × (out.new.items ≡ out.old.items ++ encoding_of frame)) }
     ensures err { (frame : AnyFrame) → Describes parts.now frame
         → IfErr result (λ error. IsRefused frame error × (out.new.items ≡ out.old.items)) }
     ensures room { (frame : AnyFrame) → Describes parts.now frame
-        → refusal frame ≡ None → vec_len out.old + length (encoding_of frame) ≤ vec_capacity out.old → IsOk result }
+        → refusal frame ≡ None → vec_len out.old + length (encoding_of frame) ≤ vec_capacity out.old
+        → IsOk result }
     ensures capacity { vec_capacity out.old ≤ vec_capacity out.new }
 {
     let Some(length) = parts.payload_length() else {
         return Err(Unwritable::TooLong);
     };
-    if parts.stream >= ABOVE_31_BITS || !may_stand_on(parts.kind, parts.stream) {
+    if !parts.has_good_stream() {
         return Err(Unwritable::BadStream);
     }
     if !parts.has_good_values {
@@ -74,7 +86,7 @@ fn write_parts(parts: &Parts<'_>, out: &mut Vec<u8>) -> Result<(), Unwritable>
 }
 
 // The parts of a frame that is lent.
-fn lent_parts(frame: FrameRef<'_>) -> Parts<'_>
+fn lent_parts(frame: FrameRef<'_>) -> FrameParts<'_>
     ensures { Describes result (frame_of frame.entry) }
 {
     match frame {
@@ -83,7 +95,7 @@ fn lent_parts(frame: FrameRef<'_>) -> Parts<'_>
             end,
             octets,
             pad,
-        } => Parts::data(stream, end, octets, pad),
+        } => FrameParts::data(stream, end, octets, pad),
         FrameRef::Headers {
             stream,
             end,
@@ -91,29 +103,31 @@ fn lent_parts(frame: FrameRef<'_>) -> Parts<'_>
             fragment,
             pad,
             priority,
-        } => Parts::headers(stream, end, whole, fragment, pad, priority),
-        FrameRef::Priority { stream, octets } => Parts::priority(stream, octets),
-        FrameRef::Reset { stream, code } => Parts::reset(stream, code),
-        FrameRef::Settings { ack, pairs } => Parts::lent_settings(ack, pairs),
-        FrameRef::Ping { ack, octets } => Parts::ping(ack, octets),
-        FrameRef::GoAway { last, code, debug } => Parts::go_away(last, code, debug),
-        FrameRef::WindowUpdate { stream, increment } => Parts::window_update(stream, increment),
+        } => FrameParts::headers(stream, end, whole, fragment, pad, priority),
+        FrameRef::Priority { stream, octets } => FrameParts::priority(stream, octets),
+        FrameRef::Reset { stream, code } => FrameParts::reset(stream, code),
+        FrameRef::Settings { ack, pairs } => FrameParts::lent_settings(ack, pairs),
+        FrameRef::Ping { ack, octets } => FrameParts::ping(ack, octets),
+        FrameRef::GoAway { last, code, debug } => FrameParts::go_away(last, code, debug),
+        FrameRef::WindowUpdate { stream, increment } => FrameParts::window_update(
+            stream, increment,
+        ),
         FrameRef::Continuation {
             stream,
             whole,
             fragment,
-        } => Parts::continuation(stream, whole, fragment),
+        } => FrameParts::continuation(stream, whole, fragment),
         FrameRef::Unknown {
             kind,
             flags,
             stream,
             payload,
-        } => Parts::unknown(kind, flags, stream, payload),
+        } => FrameParts::unknown(kind, flags, stream, payload),
     }
 }
 
 // The parts of a frame that is owned.
-fn owned_parts(frame: &Frame) -> Parts<'_>
+fn owned_parts(frame: &Frame) -> FrameParts<'_>
     ensures { Describes result (owned_frame frame.now) }
 {
     match frame {
@@ -122,7 +136,7 @@ fn owned_parts(frame: &Frame) -> Parts<'_>
             end,
             octets,
             pad,
-        } => Parts::data(*stream, *end, octets, *pad),
+        } => FrameParts::data(*stream, *end, octets, *pad),
         Frame::Headers {
             stream,
             end,
@@ -130,23 +144,23 @@ fn owned_parts(frame: &Frame) -> Parts<'_>
             fragment,
             pad,
             priority,
-        } => Parts::headers(*stream, *end, *whole, fragment, *pad, *priority),
-        Frame::Priority { stream, octets } => Parts::priority(*stream, *octets),
-        Frame::Reset { stream, code } => Parts::reset(*stream, *code),
-        Frame::Settings { ack, pairs } => Parts::settings(*ack, pairs),
-        Frame::Ping { ack, octets } => Parts::ping(*ack, *octets),
-        Frame::GoAway { last, code, debug } => Parts::go_away(*last, *code, debug),
-        Frame::WindowUpdate { stream, increment } => Parts::window_update(*stream, *increment),
+        } => FrameParts::headers(*stream, *end, *whole, fragment, *pad, *priority),
+        Frame::Priority { stream, octets } => FrameParts::priority(*stream, *octets),
+        Frame::Reset { stream, code } => FrameParts::reset(*stream, *code),
+        Frame::Settings { ack, pairs } => FrameParts::settings(*ack, pairs),
+        Frame::Ping { ack, octets } => FrameParts::ping(*ack, *octets),
+        Frame::GoAway { last, code, debug } => FrameParts::go_away(*last, *code, debug),
+        Frame::WindowUpdate { stream, increment } => FrameParts::window_update(*stream, *increment),
         Frame::Continuation {
             stream,
             whole,
             fragment,
-        } => Parts::continuation(*stream, *whole, fragment),
+        } => FrameParts::continuation(*stream, *whole, fragment),
         Frame::Unknown {
             kind,
             flags,
             stream,
             payload,
-        } => Parts::unknown(*kind, *flags, *stream, payload),
+        } => FrameParts::unknown(*kind, *flags, *stream, payload),
     }
 }

@@ -1,150 +1,231 @@
--- What a buffer's state is, by its fields.
-use Rattle.std.proofs.Common.{◌≡◌, ℕ, ◌+◌, ◌<◌, ◌≤◌, Bool, true, false, List, ◌++◌, length, take, drop, Option, None, Some, is_some, MatchOption, refl, arith, length-append, length-take, length-drop, append_assoc, subst, [], ◌-◌, ap, sym, ◌∙◌, inl, inr}
-use Rattle.std.proofs.lemmas.Bool.{le-ltb, lt-ltb, cases_lt}
+-- What the steps of a call make of a buffer's state.
+use Rattle.std.proofs.Common.{◌≡◌, ℕ, ◌+◌, ◌-◌, ◌<◌, ◌≤◌, Bool, false, true, List, [], ◌++◌, length}
+use Rattle.std.proofs.Common.{take, drop}
+use Rattle.std.proofs.Common.{Option, None, Some, MatchOption, refl, arith, length-append}
+use Rattle.std.proofs.Common.{length-take, length-drop}
+use Rattle.std.proofs.Common.{append_assoc, subst, ap, sym, ◌∙◌}
 use Rattle.std.proofs.lemmas.List.{take_rest, take-append-drop}
 use Rattle.h2_frame.specs.declared.code.Code.{Code}
 use Rattle.h2_wire.specs.declared.fault.WireFault.{WireFault}
 use Rattle.h2_wire.specs.declared.fault.WireFault.TheVariants as faults
 use Rattle.h2_wire.specs.declared.buffer.Buffer.{Buffer}
+use Rattle.h2_wire.specs.declared.buffer.Phase.{Phase}
+use Rattle.h2_wire.specs.declared.buffer.Phase.TheVariants as phases
 use Rattle.h2_frame.specs.declared.heads.Head.{Head}
 use Rattle.h2_frame.specs.Heads.{head_of, head_fault, form_fault}
 use Rattle.h2_frame.specs.Frames.{Frame, Carries, payload_fault}
-use Rattle.h2_frame.proofs.HeadLemmas.{head_of-append, length-head_fault}
-use Rattle.h2_wire.specs.Streams.{preface, Limits, IsAfterPreface, IsPartial}
-use Rattle.h2_wire.specs.Cutter.{CutterState, saturated, CutterRepresents, CutterFaults, CutterFails}
-use Rattle.h2_wire.specs.Buffers.{state_of, rest_of}
-use Rattle.h2_wire.specs.Steps.{Continues, Completes, OpensSoundly}
-use Rattle.h2_wire.proofs.StepLemmas.{goes_held, goes_whole, head_of-take}
-
--- inside the preface the rest is what was matched of it
-pub rest_of-matched : (buffer : Buffer) → buffer.fault ≡ None → buffer.matched < 24 → rest_of buffer ≡ take buffer.matched preface
-rest_of-matched buffer sound inside = rw (sound, lt-ltb buffer.matched 24 inside) refl
-
--- behind it the rest is what is held
-pub rest_of-held : (buffer : Buffer) → buffer.fault ≡ None → 24 ≤ buffer.matched → buffer.lent ≡ false → rest_of buffer ≡ buffer.held.items
-rest_of-held buffer sound behind lent = rw (sound, le-ltb buffer.matched 24 behind, lent) refl
+use Rattle.h2_frame.proofs.HeadLemmas.{head_of-append}
+use Rattle.h2_wire.specs.Streams.{preface, BeginsWithPreface, Limits, IsAfterPreface, IsPartial}
+use Rattle.h2_wire.specs.Cutter.{CutterState, saturated, CutterRepresents, CutterFaults}
+use Rattle.h2_wire.specs.Cutter.{CutterFails}
+use Rattle.h2_wire.specs.Buffer.{state_of, unparsed_of, fault_of, is_in_preface, BufferInvariant}
+use Rattle.h2_wire.specs.Buffer.{IsPartialPayload}
+use Rattle.h2_wire.specs.Step.{BufferContinues, BufferCompletes, StartsFrame, StartsPayload}
+use Rattle.h2_wire.proofs.StepLemmas.{continues_partial, completes_frame, head_of-take, opens_past}
 
 -- where there is no fault yet, what is said of a first one
-pub if_first : (fault : Option WireFault) (First : Type 0) (Known : WireFault → Type 0) → fault ≡ None → First → MatchOption fault First Known
+pub if_first : (fault : Option WireFault) (First : Type 0) (Known : WireFault → Type 0)
+    → fault ≡ None → First → MatchOption fault First Known
 if_first None First Known none holds = holds
 if_first (Some known) First Known none holds = (cc)
 
--- A first fault breaks off.
-pub fails_preface : (old : CutterState) (piece : List ℕ) (new : CutterState) → old.fault ≡ None → CutterFaults old piece faults.BadPreface new → CutterFails old piece faults.BadPreface new
-fails_preface old piece new sound broken = if_first old.fault (CutterFaults old piece faults.BadPreface new) (λ known. new ≡ old) sound broken
+-- A first fault ends the stream.
+pub fails_preface : (old : CutterState) (piece : List ℕ) (new : CutterState) → old.fault ≡ None
+    → CutterFaults old piece faults.BadPreface new → CutterFails old piece faults.BadPreface new
+fails_preface old piece new sound failed_now =
+    if_first old.fault (CutterFaults old piece faults.BadPreface new)
+    (λ known. new ≡ old) sound failed_now
 
-pub fails_head : (old : CutterState) (piece : List ℕ) (code : Code) (new : CutterState) → old.fault ≡ None → CutterFaults old piece (faults.HeadFault code) new
+pub fails_head : (old : CutterState) (piece : List ℕ) (code : Code) (new : CutterState)
+    → old.fault ≡ None → CutterFaults old piece (faults.HeadFault code) new
     → CutterFails old piece (faults.HeadFault code) new
-fails_head old piece code new sound broken = if_first old.fault (CutterFaults old piece (faults.HeadFault code) new) (λ known. new ≡ old) sound broken
+fails_head old piece code new sound failed_now =
+    if_first old.fault (CutterFaults old piece (faults.HeadFault code) new)
+    (λ known. new ≡ old) sound failed_now
 
-pub fails_payload : (old : CutterState) (piece : List ℕ) (code : Code) (new : CutterState) → old.fault ≡ None → CutterFaults old piece (faults.PayloadFault code) new
+pub fails_payload : (old : CutterState) (piece : List ℕ) (code : Code) (new : CutterState)
+    → old.fault ≡ None → CutterFaults old piece (faults.PayloadFault code) new
     → CutterFails old piece (faults.PayloadFault code) new
-fails_payload old piece code new sound broken = if_first old.fault (CutterFaults old piece (faults.PayloadFault code) new) (λ known. new ≡ old) sound broken
+fails_payload old piece code new sound failed_now =
+    if_first old.fault (CutterFaults old piece (faults.PayloadFault code) new)
+    (λ known. new ≡ old) sound failed_now
 
--- The piece is held behind what was held, and no frame is whole.
-pub continues : (old held new : Buffer) (piece : List ℕ) (start : ℕ) → held ≡ record old { held = held.held }
-    → new ≡ record held { matched = 24; place = saturated (held.place + length piece) }
-    → held.held.items ≡ old.held.items ++ drop start piece → old.fault ≡ None → old.lent ≡ false
-    → ((expects : Bool) (limits : Limits) (stream : List ℕ) (so_far : List Frame) → CutterRepresents (state_of old) expects limits stream so_far
-    → (past : IsAfterPreface expects limits (stream ++ take start piece) so_far old.held.items) × IsPartial (limits (length past.part + 9)) (old.held.items ++ drop start piece))
-    → Continues (state_of old) piece (length piece) new
-continues old held new piece start same changed items sound lent opens =
-    let fault : held.fault ≡ None = ap (λ (b : Buffer). b.fault) same ∙ sound in
-    let not_lent : held.lent ≡ false = ap (λ (b : Buffer). b.lent) same ∙ lent in
+-- The piece is kept after what was kept, and no frame is complete.
+pub keeps_piece : (old appended new : Buffer) (piece : List ℕ) (start : ℕ) (phase : Phase)
+    → appended ≡ record old { octets = appended.octets }
+    → new ≡ record appended { phase = phase; place = saturated (appended.place + length piece) }
+    → appended.octets.items ≡ old.octets.items ++ drop start piece → fault_of phase ≡ None
+    → is_in_preface phase ≡ false
+    → unparsed_of phase appended.octets.items ≡ appended.octets.items
+    → ((expects : Bool) (limits : Limits) (stream : List ℕ) (so_far : List Frame)
+    → CutterRepresents (state_of old) expects limits stream so_far
+    → (past : IsAfterPreface expects limits (stream ++ take start piece) so_far old.octets.items)
+    × IsPartial (limits (length past.part + 9)) (old.octets.items ++ drop start piece))
+    → BufferContinues (state_of old) piece (length piece) new
+keeps_piece old appended new piece start phase same changed items sound after kept opens =
     rw changed (record {
       all = refl;
-      goes_on = goes_held (state_of old) _ piece old.held.items start fault refl (ap (λ (b : Buffer). b.limit) same)
-          (ap (λ (b : Buffer). saturated (b.place + length piece)) same) (rw (fault, not_lent) items) opens;
+      continues = continues_partial (state_of old) _ piece old.octets.items start sound after
+          (ap (λ (b : Buffer). b.limit) same)
+          (ap (λ (b : Buffer). saturated (b.place + length piece)) same) (kept ∙ items) opens;
     })
 
--- What is held is less than its frame.
-pub held_within : (held more : List ℕ) (limit : ℕ) (head : Head) → IsPartial limit held → head ≡ head_of (held ++ more) → length held < 9 + head.length
-held_within held more limit head partial is_head =
-    elim (cases_lt (length held) 9) [
-      | inl few ↦ omega arith
-      | inr nine ↦
-          let front : head ≡ head_of held = is_head ∙ head_of-append held more nine in
-          rw front (partial nine).1
-    ]
-
--- The head that is held is sound, or it is the one that was judged now.
-pub sound_head : (held more : List ℕ) (limit : ℕ) (head : Head) → IsPartial limit held → head ≡ head_of (held ++ more) → 9 ≤ length held
+-- A head that has come was checked when its ninth octet came.
+pub sound_head : (partial more : List ℕ) (limit : ℕ) (head : Head) → IsPartial limit partial
+    → head ≡ head_of (partial ++ more) → 9 ≤ length partial
     → head_fault head limit ≡ None
-sound_head held more limit head partial is_head nine = rw (is_head, head_of-append held more nine) (partial nine).0
+sound_head partial more limit head fits is_head nine =
+    rw (is_head, head_of-append partial more nine) (fits nine).0
 
 -- The head that nine octets of two slices give is that of the octets joined.
-pub read_head : (held lent piece octets : List ℕ) (start : ℕ) (head : Head) → lent ≡ held
+pub read_head : (partial lent piece octets : List ℕ) (start : ℕ) (head : Head) → lent ≡ partial
     → 9 ≤ length lent + length (take (length piece - start) (drop start piece))
-    → octets ≡ take 9 (lent ++ take (length piece - start) (drop start piece)) → head ≡ head_of octets
-    → (9 ≤ length held + length (drop start piece)) × (head ≡ head_of (held ++ drop start piece))
-read_head held lent piece octets start head same enough front is_head =
-    let behind : take (length piece - start) (drop start piece) ≡ drop start piece = take_rest piece start in
-    let nine : 9 ≤ length held + length (drop start piece) = rw (same, behind) at enough in
-    (nine, is_head ∙ ap head_of (front ∙ rw (same, behind) refl) ∙ head_of-take (held ++ drop start piece) 9 (omega arith) (simp length-append nine))
+    → octets ≡ take 9 (lent ++ take (length piece - start) (drop start piece))
+    → head ≡ head_of octets
+    → (9 ≤ length partial + length (drop start piece))
+    × (head ≡ head_of (partial ++ drop start piece))
+read_head partial lent piece octets start head same enough prefix is_head =
+    let following : take (length piece - start) (drop start piece) ≡ drop start piece =
+    take_rest piece start in
+    let nine : 9 ≤ length partial + length (drop start piece) = rw (same, following) at enough in (
+      nine,
+      is_head ∙ ap head_of (prefix ∙ rw (same, following) refl)
+          ∙ head_of-take (partial ++ drop start piece) 9 (omega arith) (simp length-append nine),
+    )
 
 -- A frame's head is that of the octets up to its end.
-pub whole_head : (held more : List ℕ) (wanted : ℕ) → 9 ≤ length (held ++ take wanted more) → head_of (held ++ more) ≡ head_of (held ++ take wanted more)
-whole_head held more wanted nine =
-    ap (λ (octets : List ℕ). head_of (held ++ octets)) (sym (take-append-drop wanted more))
-    ∙ ap head_of (sym (append_assoc held (take wanted more) (drop wanted more)))
-    ∙ head_of-append (held ++ take wanted more) (drop wanted more) nine
+pub complete_head : (partial more : List ℕ) (missing_octets : ℕ)
+    → 9 ≤ length (partial ++ take missing_octets more)
+    → head_of (partial ++ more) ≡ head_of (partial ++ take missing_octets more)
+complete_head partial more missing_octets nine =
+    ap (λ (octets : List ℕ). head_of (partial ++ octets))
+    (sym (take-append-drop missing_octets more))
+    ∙ ap head_of (sym (append_assoc partial (take missing_octets more) (drop missing_octets more)))
+    ∙ head_of-append (partial ++ take missing_octets more) (drop missing_octets more) nine
 
--- so many octets more make a frame whole
-pub length-whole : (held more : List ℕ) (wanted : ℕ) (head : Head) → length held + wanted ≡ 9 + head.length → wanted ≤ length more
-    → length (held ++ take wanted more) ≡ 9 + head.length
-length-whole held more wanted head counted enough =
-    length-append held (take wanted more) ∙ ap (λ (n : ℕ). length held + n) (length-take wanted more) ∙ omega arith
+-- so many octets more complete a frame
+pub length-complete : (partial more : List ℕ) (missing_octets : ℕ) (head : Head)
+    → length partial + missing_octets ≡ 9 + head.length → missing_octets ≤ length more
+    → length (partial ++ take missing_octets more) ≡ 9 + head.length
+length-complete partial more missing_octets head counted enough =
+    length-append partial (take missing_octets more)
+    ∙ ap (λ (n : ℕ). length partial + n) (length-take missing_octets more) ∙ omega arith
 
--- The frame is whole with the octets that are held now, and without fault.
-pub completes : (old held new : Buffer) (piece : List ℕ) (start wanted : ℕ) (head : Head) → held ≡ record old { held = held.held }
-    → new ≡ record held { matched = 24; lent = true; place = saturated (held.place + (start + wanted)) }
-    → held.held.items ≡ old.held.items ++ take wanted (drop start piece) → old.fault ≡ None
-    → length old.held.items + wanted ≡ 9 + head.length → 0 < wanted → start ≤ length piece → wanted ≤ length (drop start piece)
-    → head ≡ head_of (old.held.items ++ drop start piece) → form_fault head ≡ None
-    → payload_fault head (drop 9 held.held.items) ≡ None
-    → OpensSoundly (state_of old) (take start piece) old.held.items head
-    → Completes (state_of old) piece (start + wanted) head new
-completes old held new piece start wanted head same changed items sound counted some within enough is_head form sound_payload opens =
-    let fault : held.fault ≡ None = ap (λ (b : Buffer). b.fault) same ∙ sound in
-    let whole : length (old.held.items ++ take wanted (drop start piece)) ≡ 9 + head.length = length-whole old.held.items (drop start piece) wanted head counted enough in
-    let front : head ≡ head_of (old.held.items ++ take wanted (drop start piece)) = is_head ∙ whole_head old.held.items (drop start piece) wanted (omega (arith, whole)) in
-    let all_within : start + wanted ≤ length piece = omega (arith, length-drop start piece) in
-    let nothing : rest_of (record held { matched = 24; lent = true; place = saturated (held.place + (start + wanted)) }) ≡ [] = rw fault refl in
+-- The frame is complete with the octets that are kept now, and without fault.
+pub completes : (old appended new : Buffer) (piece : List ℕ) (start missing_octets : ℕ)
+    (head : Head)
+    → appended ≡ record old { octets = appended.octets }
+    → new ≡ record appended {
+      phase = phases.Lent;
+      place = saturated (appended.place + (start + missing_octets));
+    }
+    → appended.octets.items ≡ old.octets.items ++ take missing_octets (drop start piece)
+    → StartsPayload old piece start head
+    → length old.octets.items + missing_octets ≡ 9 + head.length
+    → missing_octets ≤ length (drop start piece) → form_fault head ≡ None
+    → payload_fault head (drop 9 appended.octets.items) ≡ None
+    → BufferCompletes (state_of old) piece (start + missing_octets) head new
+completes old appended new piece start missing_octets head same changed items starts counted enough
+    form sound_payload =
+    let following : List ℕ = drop start piece in
+    let complete : length (old.octets.items ++ take missing_octets following) ≡ 9 + head.length =
+    length-complete old.octets.items following missing_octets head counted enough in
+    let prefix : head ≡ head_of (old.octets.items ++ take missing_octets following) =
+    starts.is_head
+    ∙ complete_head old.octets.items following missing_octets (omega (arith, complete)) in
+    let within : start ≤ length piece = starts.within in
+    let short : length old.octets.items < 9 + head.length = starts.short in
+    let all_within : start + missing_octets ≤ length piece =
+    omega (arith, enough, length-drop start piece) in
     rw changed (record {
       within = all_within;
-      some = omega arith;
-      whole = ap length items ∙ whole;
+      some = omega (arith, counted, short);
+      complete = ap length items ∙ complete;
       form = form;
       sound = sound_payload;
-      nothing_behind = nothing;
-      goes_on = λ frame carried.
-          goes_whole (state_of old) _ piece old.held.items start wanted frame fault refl (ap (λ (b : Buffer). b.limit) same)
-          (ap (λ (b : Buffer). saturated (b.place + (start + wanted))) same) all_within nothing (λ expects limits stream so_far stood.
-          let (past, sound_head) = opens expects limits stream so_far stood in (
+      none_unparsed = refl;
+      continues = λ frame carried.
+          completes_frame (state_of old) _ piece old.octets.items start missing_octets frame refl
+          refl
+          (ap (λ (b : Buffer). b.limit) same)
+          (ap (λ (b : Buffer). saturated (b.place + (start + missing_octets))) same) all_within refl
+          (λ expects limits stream so_far represented.
+          let (past, sound_head) = starts.opens expects limits stream so_far represented in (
             past,
             record {
-              spelled = record {
-                whole = rw (← front) whole;
-                carried = subst (λ (h : Head). Carries h (drop 9 (old.held.items ++ take wanted (drop start piece))) frame) front (rw items at carried);
+              encodes = record {
+                complete = rw (← prefix) complete;
+                carried =
+                    subst (λ (h : Head).
+                    Carries h (drop 9 (old.octets.items ++ take missing_octets following))
+                    frame) prefix (rw items at carried);
               };
-              sound_head = rw (← front) sound_head;
-              sound_payload = rw (← front) (rw items at sound_payload);
+              sound_head = rw (← prefix) sound_head;
+              sound_payload = rw (← prefix) (rw items at sound_payload);
             },
           ));
     })
 
--- where there is no fault there is none
-pub none_of : (fault : Option WireFault) → is_some fault ≡ false → fault ≡ None
-none_of None none = refl
-none_of (Some fault) none = (cc)
+-- A head begins or continues.
+pub starts_head : (buffer : Buffer) (piece : List ℕ) → buffer.phase ≡ phases.Head
+    → BufferInvariant buffer → StartsFrame buffer piece 0
+starts_head buffer piece is invariant =
+    let few : length buffer.octets.items < 9 = rw is at invariant in
+    let sound : fault_of buffer.phase ≡ None = rw is refl in
+    let after : is_in_preface buffer.phase ≡ false = rw is refl in
+    let unparsed : unparsed_of buffer.phase buffer.octets.items ≡ buffer.octets.items =
+    rw is refl in
+    record {
+      invariant = invariant;
+      sound = sound;
+      within = omega arith;
+      few = few;
+      opens = λ expects limits stream so_far represented.
+          rw unparsed at (opens_past (state_of buffer) after expects limits stream so_far
+          represented);
+    }
 
--- What is held of a frame is within nine octets and the limit.
-pub held_limit : (held : List ℕ) (limit : ℕ) → IsPartial limit held → length held ≤ 9 + limit
-held_limit held limit partial =
-    elim (cases_lt (length held) 9) [
-      | inl few ↦ omega arith
-      | inr nine ↦
-          let less = (partial nine).1 in
-          let within = length-head_fault (head_of held) limit (partial nine).0 in
-          omega arith
-    ]
+-- A payload continues.
+pub starts_payload : (buffer : Buffer) (piece : List ℕ) (head : Head)
+    → buffer.phase ≡ phases.Payload head
+    → BufferInvariant buffer → StartsPayload buffer piece 0 head
+starts_payload buffer piece head is invariant =
+    let kept : IsPartialPayload buffer.limit head buffer.octets.items = rw is at invariant in
+    let sound : fault_of buffer.phase ≡ None = rw is refl in
+    let after : is_in_preface buffer.phase ≡ false = rw is refl in
+    let unparsed : unparsed_of buffer.phase buffer.octets.items ≡ buffer.octets.items =
+    rw is refl in
+    let nine : 9 ≤ length buffer.octets.items = kept.nine in
+    let is_head : head ≡ head_of (buffer.octets.items ++ piece) = kept.is_head
+    ∙ sym (head_of-append buffer.octets.items piece nine) in
+    record {
+      invariant = invariant;
+      sound = sound;
+      within = omega arith;
+      short = kept.short;
+      nine = omega (arith, nine);
+      is_head = is_head;
+      sound_head = kept.sound;
+      opens = λ expects limits stream so_far represented.
+          let past =
+          rw unparsed at (opens_past
+          (state_of buffer) after expects limits stream so_far represented) in (
+            past,
+            sound_head buffer.octets.items piece
+                (limits (length past.part + 9)) head past.partial is_head nine,
+          );
+    }
+
+-- octets that complete the preface begin with it
+pub begins_with_preface : (matched count : ℕ) (unparsed piece : List ℕ)
+    → unparsed ≡ take matched preface
+    → take count piece ≡ drop matched preface → BeginsWithPreface (unparsed ++ piece)
+begins_with_preface matched count unparsed piece kept same = record {
+  following = drop count piece;
+  joined = ap (λ (octets : List ℕ). unparsed ++ octets) (sym (take-append-drop count piece))
+      ∙ sym (append_assoc unparsed (take count piece) (drop count piece))
+      ∙ ap (λ (octets : List ℕ). octets ++ drop count piece)
+      (ap (λ (octets : List ℕ). octets ++ take count piece) kept
+      ∙ ap (λ (octets : List ℕ). take matched preface ++ octets) same
+      ∙ take-append-drop matched preface);
+}

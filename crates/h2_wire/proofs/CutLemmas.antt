@@ -1,5 +1,6 @@
 -- What a call answers, from what it made of its buffer.
-use Rattle.std.proofs.Common.{◌≡◌, ℕ, Bool, true, false, List, [], drop, Option, None, Some, IfSome, Result, Ok, Err, refl, ap, arith, inl, inr, lit<}
+use Rattle.std.proofs.Common.{◌≡◌, ℕ, Bool, true, false, List, [], drop, Option, None, Some, IfSome}
+use Rattle.std.proofs.Common.{Result, Ok, Err, refl, ap, arith, inl, inr, lit<}
 use Rattle.std.proofs.lemmas.List.{take_all}
 use Rattle.h2_frame.specs.declared.heads.Head.{Head}
 use Rattle.h2_frame.specs.declared.frame.FrameRef.{FrameRef}
@@ -11,64 +12,99 @@ use Rattle.h2_wire.specs.declared.fault.WireFault.TheVariants as faults
 use Rattle.h2_wire.specs.Streams.{preface, expected_preface}
 use Rattle.h2_wire.specs.Cutter.{CutterState, CutterRepresents, CutterAdvances}
 use Rattle.h2_wire.proofs.StreamLemmas.{IsPartial-empty}
-use Rattle.h2_wire.specs.Buffers.{state_of}
-use Rattle.h2_wire.specs.Steps.{Continues, Completes}
+use Rattle.h2_wire.specs.Buffer.{state_of}
+use Rattle.h2_wire.specs.Step.{BufferContinues, BufferCompletes}
 
--- the whole piece was used
-pub advances_none : (old : CutterState) (piece : List ℕ) (used : ℕ) (new : Buffer) → Continues old piece used new
+-- all of the piece was used
+pub advances_none : (old : CutterState) (piece : List ℕ) (used : ℕ) (new : Buffer)
+    → BufferContinues old piece used new
     → CutterAdvances old piece (record { used = used; frame = None }) (state_of new)
 advances_none old piece used new more = record {
-  goes_on = rw (take_all used piece (omega (arith, more.all))) more.goes_on;
-  nothing_behind_a_frame = λ some. (cc);
+  continues = rw (take_all used piece (omega (arith, more.all))) more.continues;
+  none_unparsed_after_a_frame = λ some. (cc);
 }
 
 -- a frame is lent
-pub advances_some : (old : CutterState) (piece : List ℕ) (used : ℕ) (head : Head) (frame : FrameRef) (new : Buffer) → Completes old piece used head new
-    → Carries head (drop 9 new.held.items) (frame_of frame) → CutterAdvances old piece (record { used = used; frame = Some frame }) (state_of new)
-advances_some old piece used head frame new whole carried = record {
-  goes_on = whole.goes_on (frame_of frame) carried;
-  nothing_behind_a_frame = λ some. whole.nothing_behind;
+pub advances_some : (old : CutterState) (piece : List ℕ) (used : ℕ) (head : Head) (frame : FrameRef)
+    (new : Buffer) → BufferCompletes old piece used head new
+    → Carries head (drop 9 new.octets.items) (frame_of frame)
+    → CutterAdvances old piece (record { used = used; frame = Some frame }) (state_of new)
+advances_some old piece used head frame new complete carried = record {
+  continues = complete.continues (frame_of frame) carried;
+  none_unparsed_after_a_frame = λ some. complete.none_unparsed;
 }
 
 -- Where a call answered otherwise than by a fault there was none before.
-pub not_failed : {A B : Type 0} (fault : Option WireFault) (one : A) (other : B) → IfSome fault (λ known. ◌≡◌ {A = Result A WireFault} (Ok one) (Err known))
+pub not_failed : {A B : Type 0} (fault : Option WireFault) (one : A) (other : B)
+    → IfSome fault (λ known. ◌≡◌ {A = Result A WireFault} (Ok one) (Err known))
     → IfSome fault (λ known. ◌≡◌ {A = Result B WireFault} (Ok other) (Err known))
 not_failed None one other failed = tt
 not_failed (Some known) one other failed = (cc)
 
 -- a fault that was answered below is answered above
-pub failed_again : (A B : Type 0) (known : Option WireFault) (fault : WireFault) → IfSome known (λ first. ◌≡◌ {A = Result A WireFault} (Err fault) (Err first))
+pub failed_again : (A B : Type 0) (known : Option WireFault) (fault : WireFault)
+    → IfSome known (λ first. ◌≡◌ {A = Result A WireFault} (Err fault) (Err first))
     → IfSome known (λ first. ◌≡◌ {A = Result B WireFault} (Err fault) (Err first))
 failed_again A B None fault failed = tt
 failed_again A B (Some first) fault failed = let same : fault ≡ first = cc in ap Err same
 
 -- Where a call answered otherwise than by a fault no head was at fault.
-pub not_judged : {A B : Type 0} (Judged : Code → Type 0) (one : A) (other : B)
-    → ((code : Code) → Judged code → ◌≡◌ {A = Result A WireFault} (Ok one) (Err (faults.HeadFault code)))
-    → (code : Code) → Judged code → ◌≡◌ {A = Result B WireFault} (Ok other) (Err (faults.HeadFault code))
-not_judged Judged one other judged code faulty = let never = judged code faulty in (cc)
+pub not_checked : {A B : Type 0} (Checked : Code → Type 0) (one : A) (other : B)
+    → ((code : Code) → Checked code
+    → ◌≡◌ {A = Result A WireFault} (Ok one) (Err (faults.HeadFault code)))
+    → (code : Code) → Checked code
+    → ◌≡◌ {A = Result B WireFault} (Ok other) (Err (faults.HeadFault code))
+not_checked Checked one other checked code faulty = let never = checked code faulty in (cc)
 
--- a head at fault that was told below is told above
-pub judged_again : (A B : Type 0) (Judged : Code → Type 0) (fault : WireFault)
-    → ((code : Code) → Judged code → ◌≡◌ {A = Result A WireFault} (Err fault) (Err (faults.HeadFault code)))
-    → (code : Code) → Judged code → ◌≡◌ {A = Result B WireFault} (Err fault) (Err (faults.HeadFault code))
-judged_again A B Judged fault judged code faulty =
-    let told = judged code faulty in let same : fault ≡ faults.HeadFault code = cc in ap Err same
+-- a head at fault that was reported below is reported above
+pub checked_again : (A B : Type 0) (Checked : Code → Type 0) (fault : WireFault)
+    → ((code : Code) → Checked code
+    → ◌≡◌ {A = Result A WireFault} (Err fault) (Err (faults.HeadFault code)))
+    → (code : Code) → Checked code
+    → ◌≡◌ {A = Result B WireFault} (Err fault) (Err (faults.HeadFault code))
+checked_again A B Checked fault checked code faulty =
+    let reported = checked code faulty in let same : fault ≡ faults.HeadFault code = cc in
+    ap Err same
+
+-- what is known where memory was refused below is known above
+pub memory_again : (A B Known : Type 0) (fault : WireFault)
+    → (◌≡◌ {A = Result A WireFault} (Err fault) (Err faults.Memory) → Known)
+    → ◌≡◌ {A = Result B WireFault} (Err fault) (Err faults.Memory) → Known
+memory_again A B Known fault known refused =
+    let same : fault ≡ faults.Memory = cc in known (ap Err same)
 
 -- The empty stream, of a cutter that has used nothing.
-pub stands_empty : (expects : Bool) (limit : ℕ) → CutterRepresents (record { limit = limit; before = expects; rest = []; place = 0; fault = None }) expects (λ _. limit) [] []
+pub represents_empty : (expects : Bool) (limit : ℕ)
+    → CutterRepresents (record {
+      limit = limit;
+      in_preface = expects;
+      unparsed = [];
+      place = 0;
+      fault = None;
+    }) expects (λ _. limit) [] []
 unfolding expected_preface preface
-stands_empty true limit = record {
+represents_empty true limit = record {
   sound = refl;
-  split = inl (record { missing = preface; opens = refl; short = lit< tt; none = refl; all = refl });
-  before = refl;
+  split = inl (record {
+    missing = preface;
+    opens = refl;
+    short = lit< tt;
+    none = refl;
+    all = refl;
+  });
+  in_preface = refl;
   place = refl;
   ahead = λ place later. refl;
 }
-stands_empty false limit = record {
+represents_empty false limit = record {
   sound = refl;
-  split = inr (record { part = []; joined = refl; sound = record { body = []; opened = refl; framed = refl }; partial = IsPartial-empty limit });
-  before = refl;
+  split = inr (record {
+    part = [];
+    joined = refl;
+    sound = record { body = []; opened = refl; framed = refl };
+    partial = IsPartial-empty limit;
+  });
+  in_preface = refl;
   place = refl;
   ahead = λ place later. refl;
 }

@@ -1,5 +1,7 @@
 -- A stream has one fault at most, and no reading past it.
-use Rattle.std.proofs.Common.{◌≡◌, ◌≢◌, ℕ, suc, ◌+◌, Bool, List, [], ◌∷◌, ◌++◌, length, take, drop, Option, Some, refl, ap, sym, ◌∙◌, inl, inr, arith, append_assoc, length-append, length-take}
+use Rattle.std.proofs.Common.{◌≡◌, ◌≢◌, ℕ, suc, ◌+◌, Bool, List, [], ◌∷◌, ◌++◌, length, take, drop}
+use Rattle.std.proofs.Common.{Option, Some, refl, ap, sym, ◌∙◌, inl, inr, arith, append_assoc}
+use Rattle.std.proofs.Common.{length-append, length-take}
 use Rattle.std.proofs.lemmas.List.{take-append-drop}
 use Rattle.h2_frame.specs.declared.code.Code.{Code}
 use Rattle.h2_frame.specs.Heads.{head_of, head_fault}
@@ -7,195 +9,318 @@ use Rattle.h2_frame.specs.Frames.{Frame}
 use Rattle.h2_frame.proofs.HeadLemmas.{head_of-append}
 use Rattle.h2_wire.specs.declared.fault.WireFault.{WireFault}
 use Rattle.h2_wire.specs.declared.fault.WireFault.TheVariants as faults
-use Rattle.h2_wire.specs.Streams.{Limits, IsSound, IsPartial, IsInsidePreface, IsAfterPreface, Frames, IsWrongPreface, EndsWithFault, WireFaultAt}
-use Rattle.h2_wire.proofs.ReadingLemmas.{none_some, same_front, same_rest, same_head, partial_stops, wrong_head_stops, wrong_payload_stops, one_past}
+use Rattle.h2_wire.specs.Streams.{Limits, IsSound, IsPartial, IsInsidePreface, IsAfterPreface}
+use Rattle.h2_wire.specs.Streams.{Frames, IsWrongPreface, EndsWithFault, WireFaultAt}
+use Rattle.h2_wire.proofs.ReadingLemmas.{none_some, same_prefix, same_following, same_head}
+use Rattle.h2_wire.proofs.ReadingLemmas.{partial_stops, wrong_head_stops, wrong_payload_stops}
+use Rattle.h2_wire.proofs.ReadingLemmas.{one_past}
 
--- no head at fault begins a partial rest
-pub partial_no_head : (limit : ℕ) (front more : List ℕ) (code : Code) → IsPartial limit (front ++ more) → length front ≡ 9
-    → head_fault (head_of front) limit ≡ Some code → ⊥
-partial_no_head limit front more code partial nine faulty =
-    let sound = (partial (omega (arith, length-append front more))).0 in
-    let same : head_of (front ++ more) ≡ head_of front = head_of-append front more (omega arith) in
+-- no head at fault begins a partial frame
+pub partial_no_head : (limit : ℕ) (prefix more : List ℕ) (code : Code)
+    → IsPartial limit (prefix ++ more) → length prefix ≡ 9
+    → head_fault (head_of prefix) limit ≡ Some code → ⊥
+partial_no_head limit prefix more code partial nine faulty =
+    let sound = (partial (omega (arith, length-append prefix more))).0 in
+    let same : head_of (prefix ++ more) ≡ head_of prefix =
+    head_of-append prefix more (omega arith) in
     none_some code (sym (rw same at sound) ∙ faulty)
 
--- no whole frame begins a partial rest
-pub partial_no_frame : (limit : ℕ) (front more : List ℕ) → IsPartial limit (front ++ more) → length front ≡ 9 + (head_of front).length → ⊥
-partial_no_frame limit front more partial whole =
-    let less = (partial (omega (arith, length-append front more))).1 in
-    let same : head_of (front ++ more) ≡ head_of front = head_of-append front more (omega arith) in
+-- no complete frame begins a partial frame
+pub partial_no_frame : (limit : ℕ) (prefix more : List ℕ) → IsPartial limit (prefix ++ more)
+    → length prefix ≡ 9 + (head_of prefix).length → ⊥
+partial_no_frame limit prefix more partial complete =
+    let less = (partial (omega (arith, length-append prefix more))).1 in
+    let same : head_of (prefix ++ more) ≡ head_of prefix =
+    head_of-append prefix more (omega arith) in
     let less_now = rw same at less in
-    omega (arith, less_now, length-append front more)
+    omega (arith, less_now, length-append prefix more)
 
 -- What is less than the preface has no sound part.
-pub short_past : (expects : Bool) (limits : Limits) (stream : List ℕ) (frames others : List Frame) (rest other : List ℕ)
-    → IsInsidePreface expects stream frames rest → IsAfterPreface expects limits stream others other → ⊥
-short_past expects limits stream frames others rest other short past =
-    let counted = simp length-append at (ap length (past.joined ∙ ap (λ (octets : List ℕ). octets ++ other) past.sound.opened)) in
+pub short_past : (expects : Bool) (limits : Limits) (stream : List ℕ) (frames others : List Frame)
+    (unparsed other : List ℕ)
+    → IsInsidePreface expects stream frames unparsed
+    → IsAfterPreface expects limits stream others other → ⊥
+short_past expects limits stream frames others unparsed other short past =
+    let counted =
+    simp length-append at (ap length (past.joined
+    ∙ ap (λ (octets : List ℕ). octets ++ other) past.sound.opened)) in
     let few = short.short in
     omega (arith, counted)
 
--- A reading of a stream has one line: less than the preface, or a sound part and a partial rest.
-pub one_reading_lem : (expects : Bool) (limits : Limits) (stream : List ℕ) (frames others : List Frame) (rest other : List ℕ)
-    → Frames expects limits stream frames rest → Frames expects limits stream others other → (frames ≡ others) × (rest ≡ other)
-one_reading_lem expects limits stream frames others rest other (inl short) (inl again) = (short.none ∙ sym again.none, short.all ∙ sym again.all)
-one_reading_lem expects limits stream frames others rest other (inl short) (inr past) = absurd (short_past expects limits stream frames others rest other short past)
-one_reading_lem expects limits stream frames others rest other (inr past) (inl short) = absurd (short_past expects limits stream others frames other rest short past)
-one_reading_lem expects limits stream frames others rest other (inr past) (inr again) =
-    let one = one_past expects limits stream frames others past.part again.part rest other past.joined again.joined past.sound again.sound
-    (partial_stops _ rest past.partial) (partial_stops _ other again.partial) in
+-- A stream has one reading: less than the preface, or a sound part and a partial frame.
+pub one_reading_lem : (expects : Bool) (limits : Limits) (stream : List ℕ)
+    (frames others : List Frame) (unparsed other : List ℕ)
+    → Frames expects limits stream frames unparsed → Frames expects limits stream others other
+    → (frames ≡ others) × (unparsed ≡ other)
+one_reading_lem expects limits stream frames others unparsed other (inl short) (inl again) =
+    (short.none ∙ sym again.none, short.all ∙ sym again.all)
+one_reading_lem expects limits stream frames others unparsed other (inl short) (inr past) =
+    absurd (short_past expects limits stream frames others unparsed other short past)
+one_reading_lem expects limits stream frames others unparsed other (inr past) (inl short) =
+    absurd (short_past expects limits stream others frames other unparsed short past)
+one_reading_lem expects limits stream frames others unparsed other (inr past) (inr again) =
+    let one =
+    one_past expects limits stream frames others past.part again.part unparsed other past.joined
+    again.joined past.sound again.sound
+    (partial_stops _ unparsed past.partial) (partial_stops _ other again.partial) in
     (one.0, one.2)
 
 -- What begins with a sound part has no octet that isn't the preface's.
-pub sound_no_wrong : (expects : Bool) (limits : Limits) (frames before : List Frame) (part tail octets beyond : List ℕ) → IsSound expects limits frames part
-    → IsWrongPreface expects before octets → part ++ tail ≡ octets ++ beyond → ⊥
-sound_no_wrong expects limits frames before part tail octets beyond sound wrong joined =
-    let right_line : part ++ tail ≡ wrong.front ++ (wrong.right ∷ (wrong.missing ++ (sound.body ++ tail))) =
-    ap (λ (line : List ℕ). line ++ tail) (sound.opened ∙ ap (λ (line : List ℕ). line ++ sound.body) wrong.opens)
-    ∙ append_assoc (wrong.front ++ wrong.right ∷ wrong.missing) sound.body tail ∙ append_assoc wrong.front (wrong.right ∷ wrong.missing) (sound.body ++ tail) in
-    let wrong_line : octets ++ beyond ≡ wrong.front ++ (wrong.wrong ∷ beyond) = ap (λ (line : List ℕ). line ++ beyond) wrong.reads ∙ append_assoc wrong.front (wrong.wrong ∷ []) beyond in
-    let at = same_rest wrong.front wrong.front _ _ refl (sym right_line ∙ joined ∙ wrong_line) in
+pub sound_no_wrong : (expects : Bool) (limits : Limits) (frames preceding : List Frame)
+    (part tail octets beyond : List ℕ) → IsSound expects limits frames part
+    → IsWrongPreface expects preceding octets → part ++ tail ≡ octets ++ beyond → ⊥
+sound_no_wrong expects limits frames preceding part tail octets beyond sound wrong joined =
+    let right_line : part ++ tail ≡ wrong.prefix
+    ++ (wrong.right ∷ (wrong.missing ++ (sound.body ++ tail))) =
+    ap (λ (line : List ℕ). line ++ tail) (sound.opened
+    ∙ ap (λ (line : List ℕ). line ++ sound.body) wrong.opens)
+    ∙ append_assoc (wrong.prefix ++ wrong.right ∷ wrong.missing) sound.body tail
+    ∙ append_assoc wrong.prefix (wrong.right ∷ wrong.missing) (sound.body ++ tail) in
+    let wrong_line : octets ++ beyond ≡ wrong.prefix ++ (wrong.wrong ∷ beyond) =
+    ap (λ (line : List ℕ). line ++ beyond) wrong.reads
+    ∙ append_assoc wrong.prefix (wrong.wrong ∷ []) beyond in
+    let at = same_following wrong.prefix wrong.prefix _ _ refl (sym right_line ∙ joined
+    ∙ wrong_line) in
     let same : wrong.wrong ≡ wrong.right = cc in
     wrong.differs same
 
 -- What is less than the preface has no octet that isn't the preface's.
-pub short_no_wrong : (expects : Bool) (stream : List ℕ) (frames before : List Frame) (rest octets beyond : List ℕ) → IsInsidePreface expects stream frames rest
-    → IsWrongPreface expects before octets → stream ≡ octets ++ beyond → ⊥
-short_no_wrong expects stream frames before rest octets beyond short wrong joined =
-    let wrong_line : stream ++ short.missing ≡ wrong.front ++ (wrong.wrong ∷ (beyond ++ short.missing)) =
-    ap (λ (line : List ℕ). line ++ short.missing) (joined ∙ ap (λ (line : List ℕ). line ++ beyond) wrong.reads ∙ append_assoc wrong.front (wrong.wrong ∷ []) beyond)
-    ∙ append_assoc wrong.front (wrong.wrong ∷ beyond) short.missing in
-    let at = same_rest wrong.front wrong.front _ _ refl (sym wrong.opens ∙ short.opens ∙ wrong_line) in
+pub short_no_wrong : (expects : Bool) (stream : List ℕ) (frames preceding : List Frame)
+    (unparsed octets beyond : List ℕ) → IsInsidePreface expects stream frames unparsed
+    → IsWrongPreface expects preceding octets → stream ≡ octets ++ beyond → ⊥
+short_no_wrong expects stream frames preceding unparsed octets beyond short wrong joined =
+    let wrong_line : stream ++ short.missing ≡ wrong.prefix
+    ++ (wrong.wrong ∷ (beyond ++ short.missing)) =
+    ap (λ (line : List ℕ). line ++ short.missing) (joined
+    ∙ ap (λ (line : List ℕ). line ++ beyond) wrong.reads
+    ∙ append_assoc wrong.prefix (wrong.wrong ∷ []) beyond)
+    ∙ append_assoc wrong.prefix (wrong.wrong ∷ beyond) short.missing in
+    let at = same_following wrong.prefix wrong.prefix _ _ refl (sym wrong.opens ∙ short.opens
+    ∙ wrong_line) in
     let same : wrong.wrong ≡ wrong.right = cc in
     wrong.differs same
 
 -- The first octet that isn't the preface's is one.
-pub wrong_once : (front other : List ℕ) (right correct wrong false_one : ℕ) (missing absent beyond behind : List ℕ) → wrong ≢ right → false_one ≢ correct
-    → front ++ right ∷ missing ≡ other ++ correct ∷ absent → front ++ wrong ∷ beyond ≡ other ++ false_one ∷ behind → length front ≡ length other
-wrong_once [] [] right correct wrong false_one missing absent beyond behind differs deviates opens reads = refl
-wrong_once [] (octet ∷ other) right correct wrong false_one missing absent beyond behind differs deviates opens reads =
+pub wrong_once : (prefix other : List ℕ) (right correct wrong false_one : ℕ)
+    (missing absent beyond following : List ℕ) → wrong ≢ right → false_one ≢ correct
+    → prefix ++ right ∷ missing ≡ other ++ correct ∷ absent
+    → prefix ++ wrong ∷ beyond ≡ other ++ false_one ∷ following → length prefix ≡ length other
+wrong_once [] [] right correct wrong false_one missing absent beyond following differs deviates
+    opens reads = refl
+wrong_once [] (octet ∷ other) right correct wrong false_one missing absent beyond following differs
+    deviates opens reads =
     let same : wrong ≡ right = cc in absurd (differs same)
-wrong_once (octet ∷ front) [] right correct wrong false_one missing absent beyond behind differs deviates opens reads =
+wrong_once (octet ∷ prefix) [] right correct wrong false_one missing absent beyond following differs
+    deviates opens reads =
     let same : false_one ≡ correct = cc in absurd (deviates same)
-wrong_once (octet ∷ front) (another ∷ other) right correct wrong false_one missing absent beyond behind differs deviates opens reads =
-    let opens_on : front ++ right ∷ missing ≡ other ++ correct ∷ absent = cc in
-    let reads_on : front ++ wrong ∷ beyond ≡ other ++ false_one ∷ behind = cc in
-    ap suc (wrong_once front other right correct wrong false_one missing absent beyond behind differs deviates opens_on reads_on)
+wrong_once (octet ∷ prefix) (another ∷ other) right correct wrong false_one missing absent beyond
+    following differs deviates opens reads =
+    let opens_on : prefix ++ right ∷ missing ≡ other ++ correct ∷ absent = cc in
+    let reads_on : prefix ++ wrong ∷ beyond ≡ other ++ false_one ∷ following = cc in
+    ap suc (wrong_once prefix other right correct wrong false_one missing absent beyond following
+    differs deviates opens_on reads_on)
 
 -- Two makings of a fault in one line are one: of one length, and of one fault.
-pub one_making : (expects : Bool) (limits : Limits) (frames afters : List Frame) (octets others beyond behind : List ℕ) (fault another : WireFault)
-    → EndsWithFault expects limits frames octets fault → EndsWithFault expects limits afters others another → octets ++ beyond ≡ others ++ behind
+pub one_making : (expects : Bool) (limits : Limits) (frames afters : List Frame)
+    (octets others beyond following : List ℕ) (fault another : WireFault)
+    → EndsWithFault expects limits frames octets fault
+    → EndsWithFault expects limits afters others another → octets ++ beyond ≡ others ++ following
     → (frames ≡ afters) × (length octets ≡ length others) × (fault ≡ another)
-one_making expects limits frames afters octets others beyond behind faults.BadPreface faults.BadPreface made again joined =
-    let line : made.front ++ made.wrong ∷ beyond ≡ again.front ++ again.wrong ∷ behind =
-    sym (ap (λ (w : List ℕ). w ++ beyond) made.reads ∙ append_assoc made.front (made.wrong ∷ []) beyond) ∙ joined
-    ∙ ap (λ (w : List ℕ). w ++ behind) again.reads ∙ append_assoc again.front (again.wrong ∷ []) behind in
-    let fronts = wrong_once made.front again.front made.right again.right made.wrong again.wrong made.missing again.missing beyond behind made.differs again.differs
+one_making expects limits frames afters octets others beyond following faults.BadPreface
+    faults.BadPreface made again joined =
+    let line : made.prefix ++ made.wrong ∷ beyond ≡ again.prefix ++ again.wrong ∷ following =
+    sym (ap (λ (w : List ℕ). w ++ beyond) made.reads
+    ∙ append_assoc made.prefix (made.wrong ∷ []) beyond) ∙ joined
+    ∙ ap (λ (w : List ℕ). w ++ following) again.reads
+    ∙ append_assoc again.prefix (again.wrong ∷ []) following in
+    let prefixes =
+    wrong_once made.prefix again.prefix made.right again.right made.wrong again.wrong
+    made.missing again.missing beyond following made.differs again.differs
     (sym made.opens ∙ again.opens) line in
     let ours = simp length-append at (ap length made.reads) in
     let theirs = simp length-append at (ap length again.reads) in
-    (made.none ∙ sym again.none, omega (arith, ours, theirs, fronts), refl)
-one_making expects limits frames afters octets others beyond behind faults.BadPreface (faults.HeadFault code) made again joined =
-    absurd (sound_no_wrong expects limits afters frames again.part (again.last ++ behind) octets beyond again.sound made
-    (sym (joined ∙ ap (λ (w : List ℕ). w ++ behind) again.joined ∙ append_assoc again.part again.last behind)))
-one_making expects limits frames afters octets others beyond behind faults.BadPreface (faults.PayloadFault code) made again joined =
-    absurd (sound_no_wrong expects limits afters frames again.part (again.last ++ behind) octets beyond again.sound made
-    (sym (joined ∙ ap (λ (w : List ℕ). w ++ behind) again.joined ∙ append_assoc again.part again.last behind)))
-one_making expects limits frames afters octets others beyond behind faults.BadPreface faults.Memory made again joined = absurd again
-one_making expects limits frames afters octets others beyond behind (faults.HeadFault code) faults.BadPreface made again joined =
-    absurd (sound_no_wrong expects limits frames afters made.part (made.last ++ beyond) others behind made.sound again
-    (sym (sym joined ∙ ap (λ (w : List ℕ). w ++ beyond) made.joined ∙ append_assoc made.part made.last beyond)))
-one_making expects limits frames afters octets others beyond behind (faults.HeadFault code) (faults.HeadFault other) made again joined =
-    let one = one_past expects limits (octets ++ beyond) frames afters made.part again.part (made.last ++ beyond) (again.last ++ behind)
+    (made.none ∙ sym again.none, omega (arith, ours, theirs, prefixes), refl)
+one_making expects limits frames afters octets others beyond following faults.BadPreface
+    (faults.HeadFault code) made again joined =
+    absurd (sound_no_wrong expects limits afters frames again.part
+    (again.last ++ following) octets beyond again.sound made
+    (sym (joined ∙ ap (λ (w : List ℕ). w ++ following) again.joined
+    ∙ append_assoc again.part again.last following)))
+one_making expects limits frames afters octets others beyond following faults.BadPreface
+    (faults.PayloadFault code) made again joined =
+    absurd (sound_no_wrong expects limits afters frames again.part
+    (again.last ++ following) octets beyond again.sound made
+    (sym (joined ∙ ap (λ (w : List ℕ). w ++ following) again.joined
+    ∙ append_assoc again.part again.last following)))
+one_making expects limits frames afters octets others beyond following faults.BadPreface
+    faults.Memory made again joined = absurd again
+one_making expects limits frames afters octets others beyond following
+    (faults.HeadFault code) faults.BadPreface made again joined =
+    absurd (sound_no_wrong expects limits frames afters made.part
+    (made.last ++ beyond) others following made.sound again
+    (sym (sym joined ∙ ap (λ (w : List ℕ). w ++ beyond) made.joined
+    ∙ append_assoc made.part made.last beyond)))
+one_making expects limits frames afters octets others beyond following (faults.HeadFault code)
+    (faults.HeadFault other) made again joined =
+    let one = one_past expects limits (octets ++ beyond) frames afters made.part again.part
+    (made.last ++ beyond) (again.last ++ following)
     (ap (λ (w : List ℕ). w ++ beyond) made.joined ∙ append_assoc made.part made.last beyond)
-    (joined ∙ ap (λ (w : List ℕ). w ++ behind) again.joined ∙ append_assoc again.part again.last behind) made.sound again.sound
-    (wrong_head_stops _ made.last beyond code made.nine made.faulty) (wrong_head_stops _ again.last behind other again.nine again.faulty) in
-    let same : head_of made.last ≡ head_of again.last = same_head made.last again.last beyond behind (omega (arith, made.nine)) (omega (arith, again.nine)) one.2 in
-    let codes : ◌≡◌ {A = Option Code} (Some code) (Some other) = sym made.faulty ∙ rw (one.1, same) again.faulty in
+    (joined ∙ ap (λ (w : List ℕ). w ++ following) again.joined
+    ∙ append_assoc again.part again.last following) made.sound again.sound
+    (wrong_head_stops _ made.last beyond code made.nine made.faulty)
+    (wrong_head_stops _ again.last following other again.nine again.faulty) in
+    let same : head_of made.last ≡ head_of again.last =
+    same_head made.last again.last beyond following (omega (arith, made.nine))
+    (omega (arith, again.nine)) one.2 in
+    let codes : ◌≡◌ {A = Option Code} (Some code) (Some other) = sym made.faulty
+    ∙ rw (one.1, same) again.faulty in
     let parts : length made.part ≡ length again.part = ap length one.1 in
     let ours = simp length-append at (ap length made.joined) in
     let theirs = simp length-append at (ap length again.joined) in
-    let code_same : code ≡ other = cc in
-    (one.0, omega (arith, ours, theirs, parts, made.nine, again.nine), ap faults.HeadFault code_same)
-one_making expects limits frames afters octets others beyond behind (faults.HeadFault code) (faults.PayloadFault other) made again joined =
-    let one = one_past expects limits (octets ++ beyond) frames afters made.part again.part (made.last ++ beyond) (again.last ++ behind)
+    let code_same : code ≡ other = cc in (
+      one.0,
+      omega (arith, ours, theirs, parts, made.nine, again.nine),
+      ap faults.HeadFault code_same,
+    )
+one_making expects limits frames afters octets others beyond following (faults.HeadFault code)
+    (faults.PayloadFault other) made again joined =
+    let one = one_past expects limits (octets ++ beyond) frames afters made.part again.part
+    (made.last ++ beyond) (again.last ++ following)
     (ap (λ (w : List ℕ). w ++ beyond) made.joined ∙ append_assoc made.part made.last beyond)
-    (joined ∙ ap (λ (w : List ℕ). w ++ behind) again.joined ∙ append_assoc again.part again.last behind) made.sound again.sound
-    (wrong_head_stops _ made.last beyond code made.nine made.faulty) (wrong_payload_stops _ again.last behind other again.whole again.faulty) in
-    let same : head_of made.last ≡ head_of again.last = same_head made.last again.last beyond behind (omega (arith, made.nine)) (omega (arith, again.whole)) one.2 in
+    (joined ∙ ap (λ (w : List ℕ). w ++ following) again.joined
+    ∙ append_assoc again.part again.last following) made.sound again.sound
+    (wrong_head_stops _ made.last beyond code made.nine made.faulty)
+    (wrong_payload_stops _ again.last following other again.complete again.faulty) in
+    let same : head_of made.last ≡ head_of again.last =
+    same_head made.last again.last beyond following (omega (arith, made.nine))
+    (omega (arith, again.complete)) one.2 in
     none_some code (sym (rw (one.1, same) again.sound_head) ∙ made.faulty)
-one_making expects limits frames afters octets others beyond behind (faults.HeadFault code) faults.Memory made again joined = absurd again
-one_making expects limits frames afters octets others beyond behind (faults.PayloadFault code) faults.BadPreface made again joined =
-    absurd (sound_no_wrong expects limits frames afters made.part (made.last ++ beyond) others behind made.sound again
-    (sym (sym joined ∙ ap (λ (w : List ℕ). w ++ beyond) made.joined ∙ append_assoc made.part made.last beyond)))
-one_making expects limits frames afters octets others beyond behind (faults.PayloadFault code) (faults.HeadFault other) made again joined =
-    let one = one_past expects limits (octets ++ beyond) frames afters made.part again.part (made.last ++ beyond) (again.last ++ behind)
+one_making expects limits frames afters octets others beyond following
+    (faults.HeadFault code) faults.Memory made again joined = absurd again
+one_making expects limits frames afters octets others beyond following
+    (faults.PayloadFault code) faults.BadPreface made again joined =
+    absurd (sound_no_wrong expects limits frames afters made.part
+    (made.last ++ beyond) others following made.sound again
+    (sym (sym joined ∙ ap (λ (w : List ℕ). w ++ beyond) made.joined
+    ∙ append_assoc made.part made.last beyond)))
+one_making expects limits frames afters octets others beyond following (faults.PayloadFault code)
+    (faults.HeadFault other) made again joined =
+    let one = one_past expects limits (octets ++ beyond) frames afters made.part again.part
+    (made.last ++ beyond) (again.last ++ following)
     (ap (λ (w : List ℕ). w ++ beyond) made.joined ∙ append_assoc made.part made.last beyond)
-    (joined ∙ ap (λ (w : List ℕ). w ++ behind) again.joined ∙ append_assoc again.part again.last behind) made.sound again.sound
-    (wrong_payload_stops _ made.last beyond code made.whole made.faulty) (wrong_head_stops _ again.last behind other again.nine again.faulty) in
-    let same : head_of made.last ≡ head_of again.last = same_head made.last again.last beyond behind (omega (arith, made.whole)) (omega (arith, again.nine)) one.2 in
+    (joined ∙ ap (λ (w : List ℕ). w ++ following) again.joined
+    ∙ append_assoc again.part again.last following) made.sound again.sound
+    (wrong_payload_stops _ made.last beyond code made.complete made.faulty)
+    (wrong_head_stops _ again.last following other again.nine again.faulty) in
+    let same : head_of made.last ≡ head_of again.last =
+    same_head made.last again.last beyond following (omega (arith, made.complete))
+    (omega (arith, again.nine)) one.2 in
     none_some other (sym (rw (← one.1, ← same) made.sound_head) ∙ again.faulty)
-one_making expects limits frames afters octets others beyond behind (faults.PayloadFault code) (faults.PayloadFault other) made again joined =
-    let one = one_past expects limits (octets ++ beyond) frames afters made.part again.part (made.last ++ beyond) (again.last ++ behind)
+one_making expects limits frames afters octets others beyond following (faults.PayloadFault code)
+    (faults.PayloadFault other) made again joined =
+    let one = one_past expects limits (octets ++ beyond) frames afters made.part again.part
+    (made.last ++ beyond) (again.last ++ following)
     (ap (λ (w : List ℕ). w ++ beyond) made.joined ∙ append_assoc made.part made.last beyond)
-    (joined ∙ ap (λ (w : List ℕ). w ++ behind) again.joined ∙ append_assoc again.part again.last behind) made.sound again.sound
-    (wrong_payload_stops _ made.last beyond code made.whole made.faulty) (wrong_payload_stops _ again.last behind other again.whole again.faulty) in
-    let same : head_of made.last ≡ head_of again.last = same_head made.last again.last beyond behind (omega (arith, made.whole)) (omega (arith, again.whole)) one.2 in
-    let long : length made.last ≡ length again.last = made.whole ∙ ap (λ head. 9 + head.length) same ∙ sym again.whole in
-    let last : made.last ≡ again.last = same_front made.last again.last beyond behind long one.2 in
-    let codes : ◌≡◌ {A = Option Code} (Some code) (Some other) = sym made.faulty ∙ rw last again.faulty in
+    (joined ∙ ap (λ (w : List ℕ). w ++ following) again.joined
+    ∙ append_assoc again.part again.last following) made.sound again.sound
+    (wrong_payload_stops _ made.last beyond code made.complete made.faulty)
+    (wrong_payload_stops _ again.last following other again.complete again.faulty) in
+    let same : head_of made.last ≡ head_of again.last =
+    same_head made.last again.last beyond following (omega (arith, made.complete))
+    (omega (arith, again.complete)) one.2 in
+    let long : length made.last ≡ length again.last = made.complete
+    ∙ ap (λ head. 9 + head.length) same ∙ sym again.complete in
+    let last : made.last ≡ again.last =
+    same_prefix made.last again.last beyond following long one.2 in
+    let codes : ◌≡◌ {A = Option Code} (Some code) (Some other) = sym made.faulty
+    ∙ rw last again.faulty in
     let parts : length made.part ≡ length again.part = ap length one.1 in
     let ours = simp length-append at (ap length made.joined) in
     let theirs = simp length-append at (ap length again.joined) in
     let code_same : code ≡ other = cc in
     (one.0, omega (arith, ours, theirs, parts, long), ap faults.PayloadFault code_same)
-one_making expects limits frames afters octets others beyond behind (faults.PayloadFault code) faults.Memory made again joined = absurd again
-one_making expects limits frames afters octets others beyond behind faults.Memory another made again joined = absurd made
+one_making expects limits frames afters octets others beyond following
+    (faults.PayloadFault code) faults.Memory made again joined = absurd again
+one_making expects limits frames afters octets others beyond following faults.Memory another made
+    again joined = absurd made
 
 -- A line in which a fault is made has no reading.
-pub no_reading : (expects : Bool) (limits : Limits) (octets beyond stream rest : List ℕ) (before frames : List Frame) (fault : WireFault)
-    → EndsWithFault expects limits before octets fault → stream ≡ octets ++ beyond → Frames expects limits stream frames rest → ⊥
-no_reading expects limits octets beyond stream rest before frames faults.BadPreface made joined (inl short) =
-    short_no_wrong expects stream frames before rest octets beyond short made joined
-no_reading expects limits octets beyond stream rest before frames faults.BadPreface made joined (inr past) =
-    sound_no_wrong expects limits frames before past.part rest octets beyond past.sound made (sym past.joined ∙ joined)
-no_reading expects limits octets beyond stream rest before frames (faults.HeadFault code) made joined (inl short) =
-    let counted = simp length-append at (ap length (joined ∙ ap (λ (w : List ℕ). w ++ beyond) made.joined ∙ ap (λ (w : List ℕ). (w ++ made.last) ++ beyond) made.sound.opened)) in
+pub no_reading : (expects : Bool) (limits : Limits) (octets beyond stream unparsed : List ℕ)
+    (preceding frames : List Frame) (fault : WireFault)
+    → EndsWithFault expects limits preceding octets fault → stream ≡ octets ++ beyond
+    → Frames expects limits stream frames unparsed → ⊥
+no_reading expects limits octets beyond stream unparsed preceding frames faults.BadPreface made
+    joined (inl short) =
+    short_no_wrong expects stream frames preceding unparsed octets beyond short made joined
+no_reading expects limits octets beyond stream unparsed preceding frames faults.BadPreface made
+    joined (inr past) =
+    sound_no_wrong expects limits frames preceding past.part unparsed octets beyond past.sound made
+    (sym past.joined ∙ joined)
+no_reading expects limits octets beyond stream unparsed preceding frames
+    (faults.HeadFault code) made joined (inl short) =
+    let counted =
+    simp length-append at (ap length (joined ∙ ap (λ (w : List ℕ). w ++ beyond) made.joined
+    ∙ ap (λ (w : List ℕ). (w ++ made.last) ++ beyond) made.sound.opened)) in
     let few = short.short in
     omega (arith, counted, few)
-no_reading expects limits octets beyond stream rest before frames (faults.HeadFault code) made joined (inr past) =
-    let one = one_past expects limits stream before frames made.part past.part (made.last ++ beyond) rest
-    (joined ∙ ap (λ (w : List ℕ). w ++ beyond) made.joined ∙ append_assoc made.part made.last beyond) past.joined made.sound past.sound
-    (wrong_head_stops _ made.last beyond code made.nine made.faulty) (partial_stops _ rest past.partial) in
-    partial_no_head (limits (length made.part + 9)) made.last beyond code (rw (one.1, one.2) past.partial) made.nine made.faulty
-no_reading expects limits octets beyond stream rest before frames (faults.PayloadFault code) made joined (inl short) =
-    let counted = simp length-append at (ap length (joined ∙ ap (λ (w : List ℕ). w ++ beyond) made.joined ∙ ap (λ (w : List ℕ). (w ++ made.last) ++ beyond) made.sound.opened)) in
+no_reading expects limits octets beyond stream unparsed preceding frames
+    (faults.HeadFault code) made joined (inr past) =
+    let one = one_past expects limits stream preceding frames made.part past.part
+    (made.last ++ beyond) unparsed
+    (joined ∙ ap (λ (w : List ℕ). w ++ beyond) made.joined
+    ∙ append_assoc made.part made.last beyond) past.joined made.sound past.sound
+    (wrong_head_stops _ made.last beyond code made.nine made.faulty)
+    (partial_stops _ unparsed past.partial) in
+    partial_no_head (limits (length made.part + 9)) made.last beyond code
+    (rw (one.1, one.2) past.partial) made.nine made.faulty
+no_reading expects limits octets beyond stream unparsed preceding frames
+    (faults.PayloadFault code) made joined (inl short) =
+    let counted =
+    simp length-append at (ap length (joined ∙ ap (λ (w : List ℕ). w ++ beyond) made.joined
+    ∙ ap (λ (w : List ℕ). (w ++ made.last) ++ beyond) made.sound.opened)) in
     let few = short.short in
     omega (arith, counted, few)
-no_reading expects limits octets beyond stream rest before frames (faults.PayloadFault code) made joined (inr past) =
-    let one = one_past expects limits stream before frames made.part past.part (made.last ++ beyond) rest
-    (joined ∙ ap (λ (w : List ℕ). w ++ beyond) made.joined ∙ append_assoc made.part made.last beyond) past.joined made.sound past.sound
-    (wrong_payload_stops _ made.last beyond code made.whole made.faulty) (partial_stops _ rest past.partial) in
-    partial_no_frame (limits (length made.part + 9)) made.last beyond (rw (one.1, one.2) past.partial) made.whole
-no_reading expects limits octets beyond stream rest before frames faults.Memory made joined read = made
+no_reading expects limits octets beyond stream unparsed preceding frames
+    (faults.PayloadFault code) made joined (inr past) =
+    let one = one_past expects limits stream preceding frames made.part past.part
+    (made.last ++ beyond) unparsed
+    (joined ∙ ap (λ (w : List ℕ). w ++ beyond) made.joined
+    ∙ append_assoc made.part made.last beyond) past.joined made.sound past.sound
+    (wrong_payload_stops _ made.last beyond code made.complete made.faulty)
+    (partial_stops _ unparsed past.partial) in
+    partial_no_frame (limits (length made.part + 9)) made.last beyond
+    (rw (one.1, one.2) past.partial) made.complete
+no_reading expects limits octets beyond stream unparsed preceding frames faults.Memory made joined
+    read = made
 
--- A stream has one fault at most, also with octets behind it.
-pub one_fault_lem : (expects : Bool) (limits : Limits) (stream more : List ℕ) (frames others : List Frame) (place other : ℕ) (fault another : WireFault)
-    → WireFaultAt expects limits stream frames place fault → WireFaultAt expects limits (stream ++ more) others other another
+-- A stream has one fault at most, also with octets that follow.
+pub one_fault_lem : (expects : Bool) (limits : Limits) (stream more : List ℕ)
+    (frames others : List Frame) (place other : ℕ) (fault another : WireFault)
+    → WireFaultAt expects limits stream frames place fault
+    → WireFaultAt expects limits (stream ++ more) others other another
     → (frames ≡ others) × (place ≡ other) × (fault ≡ another)
 one_fault_lem expects limits stream more frames others place other fault another at by =
-    let line : take place stream ++ (drop place stream ++ more) ≡ take other (stream ++ more) ++ drop other (stream ++ more) =
-    sym (append_assoc (take place stream) (drop place stream) more) ∙ ap (λ (w : List ℕ). w ++ more) (take-append-drop place stream)
+    let line : take place stream ++ (drop place stream ++ more) ≡ take other (stream ++ more)
+    ++ drop other (stream ++ more) =
+    sym (append_assoc (take place stream) (drop place stream) more)
+    ∙ ap (λ (w : List ℕ). w ++ more) (take-append-drop place stream)
     ∙ sym (take-append-drop other (stream ++ more)) in
-    let one = one_making expects limits frames others (take place stream) (take other (stream ++ more)) _ _ fault another at.made by.made line in
+    let one = one_making expects limits frames others (take place stream)
+    (take other (stream ++ more)) _ _ fault another at.made by.made line in
     let within = at.within in
     let within_more = by.within in
     let ours : length (take place stream) ≡ place = length-take place stream ∙ omega arith in
-    let theirs : length (take other (stream ++ more)) ≡ other = length-take other (stream ++ more) ∙ omega arith in
+    let theirs : length (take other (stream ++ more)) ≡ other = length-take other (stream ++ more)
+    ∙ omega arith in
     (one.0, sym ours ∙ one.1 ∙ theirs, one.2)
 
--- A stream that is at fault has no reading, whatever comes behind it.
-pub no_reading_lem : (expects : Bool) (limits : Limits) (stream more : List ℕ) (frames others : List Frame) (place : ℕ) (fault : WireFault) (rest : List ℕ)
-    → WireFaultAt expects limits stream frames place fault → Frames expects limits (stream ++ more) others rest → ⊥
-no_reading_lem expects limits stream more frames others place fault rest at read =
-    no_reading expects limits (take place stream) (drop place stream ++ more) (stream ++ more) rest frames others fault at.made
-    (ap (λ (w : List ℕ). w ++ more) (sym (take-append-drop place stream)) ∙ append_assoc (take place stream) (drop place stream) more) read
+-- A stream that is at fault has no reading, whatever follows it.
+pub no_reading_lem : (expects : Bool) (limits : Limits) (stream more : List ℕ)
+    (frames others : List Frame) (place : ℕ) (fault : WireFault) (unparsed : List ℕ)
+    → WireFaultAt expects limits stream frames place fault
+    → Frames expects limits (stream ++ more) others unparsed → ⊥
+no_reading_lem expects limits stream more frames others place fault unparsed at read =
+    no_reading expects limits (take place stream) (drop place stream ++ more)
+    (stream ++ more) unparsed frames others fault at.made
+    (ap (λ (w : List ℕ). w ++ more) (sym (take-append-drop place stream))
+    ∙ append_assoc (take place stream) (drop place stream) more) read

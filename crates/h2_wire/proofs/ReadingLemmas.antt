@@ -1,5 +1,7 @@
 -- A stream has one reading or one fault.
-use Rattle.std.proofs.Common.{◌≡◌, ℕ, ◌+◌, ◌<◌, ◌≤◌, Bool, List, [], ◌∷◌, ◌++◌, length, take, drop, Option, None, Some, refl, ap, sym, ◌∙◌, arith, subst, append_assoc, length-append}
+use Rattle.std.proofs.Common.{◌≡◌, ℕ, ◌+◌, ◌<◌, ◌≤◌, Bool, List, [], ◌∷◌, ◌++◌, length, take, drop}
+use Rattle.std.proofs.Common.{Option, None, Some, refl, ap, sym, ◌∙◌, arith, subst, append_assoc}
+use Rattle.std.proofs.Common.{length-append}
 use Rattle.std.proofs.Math.Seq.{take-append_seam, drop-append_seam}
 use Rattle.h2_frame.specs.declared.code.Code.{Code}
 use Rattle.h2_frame.specs.Heads.{head_of, head_fault}
@@ -16,96 +18,157 @@ none_some code e = (cc)
 pub one_code : (code other : Code) → ◌≡◌ {A = Option Code} (Some code) (Some other) → code ≡ other
 one_code code other e = cc
 
--- Two fronts of one length of one list are one.
-pub same_front : (xs ys rest others : List ℕ) → length xs ≡ length ys → xs ++ rest ≡ ys ++ others → xs ≡ ys
-same_front xs ys rest others same joined =
-    sym (take-append_seam xs rest) ∙ ap (take (length xs)) joined ∙ ap (λ (n : ℕ). take n (ys ++ others)) same ∙ take-append_seam ys others
+-- Two prefixes of one length of one list are one.
+pub same_prefix : (xs ys unparsed others : List ℕ) → length xs ≡ length ys
+    → xs ++ unparsed ≡ ys ++ others → xs ≡ ys
+same_prefix xs ys unparsed others same joined =
+    sym (take-append_seam xs unparsed) ∙ ap (take (length xs)) joined
+    ∙ ap (λ (n : ℕ). take n (ys ++ others)) same ∙ take-append_seam ys others
 
--- What stands behind one front is one.
-pub same_rest : (xs ys rest others : List ℕ) → length xs ≡ length ys → xs ++ rest ≡ ys ++ others → rest ≡ others
-same_rest xs ys rest others same joined =
-    sym (drop-append_seam xs rest) ∙ ap (drop (length xs)) joined ∙ ap (λ (n : ℕ). drop n (ys ++ others)) same ∙ drop-append_seam ys others
+-- What follows one prefix is one.
+pub same_following : (xs ys unparsed others : List ℕ) → length xs ≡ length ys
+    → xs ++ unparsed ≡ ys ++ others → unparsed ≡ others
+same_following xs ys unparsed others same joined =
+    sym (drop-append_seam xs unparsed) ∙ ap (drop (length xs)) joined
+    ∙ ap (λ (n : ℕ). drop n (ys ++ others)) same ∙ drop-append_seam ys others
 
--- The heads of two octet lists of at least nine octets, one a front of the other's line, are one.
-pub same_head : (xs ys rest others : List ℕ) → 9 ≤ length xs → 9 ≤ length ys → xs ++ rest ≡ ys ++ others → head_of xs ≡ head_of ys
-same_head xs ys rest others nine enough joined = sym (head_of-append xs rest nine) ∙ ap head_of joined ∙ head_of-append ys others enough
+-- Two lists of at least nine octets that begin one line have one head.
+pub same_head : (xs ys unparsed others : List ℕ) → 9 ≤ length xs → 9 ≤ length ys
+    → xs ++ unparsed ≡ ys ++ others → head_of xs ≡ head_of ys
+same_head xs ys unparsed others nine enough joined = sym (head_of-append xs unparsed nine)
+    ∙ ap head_of joined ∙ head_of-append ys others enough
 
 -- Where no sound frame begins.
 abbrev pub Stops : ℕ → List ℕ → Type 0
-Stops limit tail = (frame : Frame) (front more : List ℕ) → tail ≡ front ++ more → IsFrame limit frame front → ⊥
+Stops limit tail = (frame : Frame) (prefix more : List ℕ) → tail ≡ prefix ++ more
+    → IsFrame limit frame prefix → ⊥
 
--- a whole frame has nine octets or more
-pub nine_in_frame : (limit : ℕ) (frame : Frame) (octets : List ℕ) → IsFrame limit frame octets → 9 ≤ length octets
-nine_in_frame limit frame octets sound = let whole = sound.spelled.whole in omega arith
+-- a complete frame has nine octets or more
+pub nine_in_frame : (limit : ℕ) (frame : Frame) (octets : List ℕ) → IsFrame limit frame octets
+    → 9 ≤ length octets
+nine_in_frame limit frame octets sound = let complete = sound.encodes.complete in omega arith
 
--- a partial rest stops
-pub partial_stops : (limit : ℕ) (rest : List ℕ) → IsPartial limit rest → Stops limit rest
-partial_stops limit rest partial frame front more joined sound =
-    let nine = nine_in_frame limit frame front sound in
-    let counted : length rest ≡ length front + length more = ap length joined ∙ length-append front more in
-    let front_head : head_of rest ≡ head_of front = ap head_of joined ∙ head_of-append front more nine in
+-- a partial frame stops
+pub partial_stops : (limit : ℕ) (unparsed : List ℕ) → IsPartial limit unparsed
+    → Stops limit unparsed
+partial_stops limit unparsed partial frame prefix more joined sound =
+    let nine = nine_in_frame limit frame prefix sound in
+    let counted : length unparsed ≡ length prefix + length more = ap length joined
+    ∙ length-append prefix more in
+    let front_head : head_of unparsed ≡ head_of prefix = ap head_of joined
+    ∙ head_of-append prefix more nine in
     let less = (partial (omega arith)).1 in
-    let less_now : length rest < 9 + (head_of front).length = rw front_head at less in
-    let whole = sound.spelled.whole in
+    let less_now : length unparsed < 9 + (head_of prefix).length = rw front_head at less in
+    let complete = sound.encodes.complete in
     absurd (omega arith)
 
 -- a head at fault stops
-pub wrong_head_stops : (limit : ℕ) (last more : List ℕ) (code : Code) → length last ≡ 9 → head_fault (head_of last) limit ≡ Some code → Stops limit (last ++ more)
-wrong_head_stops limit last more code nine faulty frame front others joined sound =
-    let same : head_of last ≡ head_of front = same_head last front more others (omega arith) (nine_in_frame limit frame front sound) joined in
-    let none : head_fault (head_of last) limit ≡ None = ap (λ head. head_fault head limit) same ∙ sound.sound_head in
+pub wrong_head_stops : (limit : ℕ) (last more : List ℕ) (code : Code) → length last ≡ 9
+    → head_fault (head_of last) limit ≡ Some code → Stops limit (last ++ more)
+wrong_head_stops limit last more code nine faulty frame prefix others joined sound =
+    let same : head_of last ≡ head_of prefix =
+    same_head last prefix more others (omega arith)
+    (nine_in_frame limit frame prefix sound) joined in
+    let none : head_fault (head_of last) limit ≡ None = ap (λ head. head_fault head limit) same
+    ∙ sound.sound_head in
     none_some code (sym none ∙ faulty)
 
 -- a payload at fault stops
-pub wrong_payload_stops : (limit : ℕ) (last more : List ℕ) (code : Code) → length last ≡ 9 + (head_of last).length
+pub wrong_payload_stops : (limit : ℕ) (last more : List ℕ) (code : Code)
+    → length last ≡ 9 + (head_of last).length
     → payload_fault (head_of last) (drop 9 last) ≡ Some code → Stops limit (last ++ more)
-wrong_payload_stops limit last more code whole faulty frame front others joined sound =
-    let same : head_of last ≡ head_of front = same_head last front more others (omega arith) (nine_in_frame limit frame front sound) joined in
-    let long : length last ≡ length front = whole ∙ ap (λ head. 9 + head.length) same ∙ sym sound.spelled.whole in
-    let one : last ≡ front = same_front last front more others long joined in
-    let none : payload_fault (head_of last) (drop 9 last) ≡ None = subst (λ (octets : List ℕ). payload_fault (head_of octets) (drop 9 octets) ≡ None) (sym one) sound.sound_payload in
+wrong_payload_stops limit last more code complete faulty frame prefix others joined sound =
+    let same : head_of last ≡ head_of prefix =
+    same_head last prefix more others (omega arith)
+    (nine_in_frame limit frame prefix sound) joined in
+    let long : length last ≡ length prefix = complete ∙ ap (λ head. 9 + head.length) same
+    ∙ sym sound.encodes.complete in
+    let one : last ≡ prefix = same_prefix last prefix more others long joined in
+    let none : payload_fault (head_of last) (drop 9 last) ≡ None =
+    subst (λ (octets : List ℕ). payload_fault (head_of octets) (drop 9 octets) ≡ None)
+    (sym one) sound.sound_payload in
     none_some code (sym none ∙ faulty)
 
--- Two lists of frames that stand at one place, each up to where no sound frame begins, are one.
-pub one_body : (limits : Limits) (before : ℕ) (frames others : List Frame) (body another tail end : List ℕ)
-    → AreFrames limits before frames body → AreFrames limits before others another → body ++ tail ≡ another ++ end
-    → Stops (limits (before + length body + 9)) tail → Stops (limits (before + length another + 9)) end
+-- Two lists of frames at one place, each up to where no sound frame begins, are one.
+pub one_body : (limits : Limits) (preceding : ℕ) (frames others : List Frame)
+    (body another tail end : List ℕ)
+    → AreFrames limits preceding frames body → AreFrames limits preceding others another
+    → body ++ tail ≡ another ++ end
+    → Stops (limits (preceding + length body + 9)) tail
+    → Stops (limits (preceding + length another + 9)) end
     → (frames ≡ others) × (body ≡ another)
-one_body limits before [] [] body another tail end none nothing joined stops ends = (refl, none ∙ sym nothing)
-one_body limits before [] (other ∷ others) body another tail end none (first, behind, split, sound, framed) joined stops ends =
-    let begins : tail ≡ first ++ (behind ++ end) = rw none at joined ∙ rw split (append_assoc first behind end) in
-    let at : before + length body + 9 ≡ before + 9 = rw none (omega arith) in
-    absurd (stops other first (behind ++ end) begins (rw at sound))
-one_body limits before (frame ∷ frames) [] body another tail end (first, behind, split, sound, framed) nothing joined stops ends =
-    let begins : end ≡ first ++ (behind ++ tail) = sym (sym (rw split (append_assoc first behind tail)) ∙ rw nothing at joined) in
-    let at : before + length another + 9 ≡ before + 9 = rw nothing (omega arith) in
-    absurd (ends frame first (behind ++ tail) begins (rw at sound))
-one_body limits before (frame ∷ frames) (other ∷ others) body another tail end (first, behind, split, sound, framed) (second, beyond, parted, whole, sequel) joined stops ends =
-    let line : first ++ (behind ++ tail) ≡ second ++ (beyond ++ end) =
-    sym (append_assoc first behind tail) ∙ ap (λ (octets : List ℕ). octets ++ tail) (sym split) ∙ joined ∙ ap (λ (octets : List ℕ). octets ++ end) parted ∙ append_assoc second beyond end in
+one_body limits preceding [] [] body another tail end none nothing joined stops ends =
+    (refl, none ∙ sym nothing)
+one_body limits preceding [] (other ∷ others) body another tail end none
+    (first, following, split, sound, framed) joined stops ends =
+    let begins : tail ≡ first ++ (following ++ end) = rw none at joined
+    ∙ rw split (append_assoc first following end) in
+    let at : preceding + length body + 9 ≡ preceding + 9 = rw none (omega arith) in
+    absurd (stops other first (following ++ end) begins (rw at sound))
+one_body limits preceding (frame ∷ frames) [] body another tail end
+    (first, following, split, sound, framed) nothing joined stops ends =
+    let begins : end ≡ first ++ (following ++ tail) =
+    sym (sym (rw split (append_assoc first following tail)) ∙ rw nothing at joined) in
+    let at : preceding + length another + 9 ≡ preceding + 9 = rw nothing (omega arith) in
+    absurd (ends frame first (following ++ tail) begins (rw at sound))
+one_body limits preceding (frame ∷ frames) (other ∷ others) body another tail end
+    (first, following, split, sound, framed) (
+      second,
+      beyond,
+      parted,
+      complete,
+      sequel,
+    ) joined stops ends =
+    let line : first ++ (following ++ tail) ≡ second ++ (beyond ++ end) =
+    sym (append_assoc first following tail) ∙ ap (λ (octets : List ℕ). octets ++ tail) (sym split)
+    ∙ joined ∙ ap (λ (octets : List ℕ). octets ++ end) parted
+    ∙ append_assoc second beyond end in
     let same : head_of first ≡ head_of second =
-    same_head first second (behind ++ tail) (beyond ++ end) (nine_in_frame _ frame first sound) (nine_in_frame _ other second whole) line in
-    let long : length first ≡ length second = sound.spelled.whole ∙ ap (λ head. 9 + head.length) same ∙ sym whole.spelled.whole in
-    let one : first ≡ second = same_front first second (behind ++ tail) (beyond ++ end) long line in
+    same_head first second (following ++ tail) (beyond ++ end) (nine_in_frame _ frame first sound)
+    (nine_in_frame _ other second complete) line in
+    let long : length first ≡ length second = sound.encodes.complete
+    ∙ ap (λ head. 9 + head.length) same ∙ sym complete.encodes.complete in
+    let one : first ≡ second =
+    same_prefix first second (following ++ tail) (beyond ++ end) long line in
     let sequel_now = rw (← long) at sequel in
-    let at : before + length body + 9 ≡ before + length first + length behind + 9 = rw (split, length-append) (omega arith) in
-    let by : before + length another + 9 ≡ before + length first + length beyond + 9 = rw (parted, length-append, ← long) (omega arith) in
-    let rest = one_body limits (before + length first) frames others behind beyond tail end framed sequel_now
-    (same_rest first second (behind ++ tail) (beyond ++ end) long line) (rw at at stops) (rw by at ends) in
-    let frame_same : frame ≡ other = one_frame_lem frame other first sound.spelled (subst (λ (octets : List ℕ). Encodes other octets) (sym one) whole.spelled) in
-    (rw (frame_same, rest.0) refl, split ∙ rw (one, rest.1) refl ∙ sym parted)
+    let at : preceding + length body + 9 ≡ preceding + length first + length following + 9 =
+    rw (split, length-append) (omega arith) in
+    let by : preceding + length another + 9 ≡ preceding + length first + length beyond + 9 =
+    rw (parted, length-append, ← long) (omega arith) in
+    let unparsed =
+    one_body limits (preceding + length first) frames others following beyond tail end framed
+    sequel_now
+    (same_following first second (following ++ tail) (beyond ++ end) long line) (rw at at stops)
+    (rw by at ends) in
+    let frame_same : frame ≡ other =
+    one_frame_lem frame other first sound.encodes
+    (subst (λ (octets : List ℕ). Encodes other octets) (sym one) complete.encodes) in
+    (rw (frame_same, unparsed.0) refl, split ∙ rw (one, unparsed.1) refl ∙ sym parted)
 
--- Two readings behind the opening are one.
-pub one_past : (expects : Bool) (limits : Limits) (stream : List ℕ) (frames others : List Frame) (part another tail end : List ℕ)
-    → stream ≡ part ++ tail → stream ≡ another ++ end → (sound : IsSound expects limits frames part) → (again : IsSound expects limits others another)
-    → Stops (limits (length part + 9)) tail → Stops (limits (length another + 9)) end → (frames ≡ others) × (part ≡ another) × (tail ≡ end)
-one_past expects limits stream frames others part another tail end joined rejoined sound again stops ends =
-    let line : expected_preface expects ++ (sound.body ++ tail) ≡ expected_preface expects ++ (again.body ++ end) =
-    sym (append_assoc (expected_preface expects) sound.body tail) ∙ ap (λ (octets : List ℕ). octets ++ tail) (sym sound.opened) ∙ sym joined
-    ∙ rejoined ∙ ap (λ (octets : List ℕ). octets ++ end) again.opened ∙ append_assoc (expected_preface expects) again.body end in
-    let behind : sound.body ++ tail ≡ again.body ++ end = same_rest (expected_preface expects) (expected_preface expects) _ _ refl line in
-    let at : length part + 9 ≡ length (expected_preface expects) + length sound.body + 9 = ap (λ (octets : List ℕ). length octets + 9) sound.opened ∙ rw length-append refl in
-    let by : length another + 9 ≡ length (expected_preface expects) + length again.body + 9 = ap (λ (octets : List ℕ). length octets + 9) again.opened ∙ rw length-append refl in
-    let one = one_body limits (length (expected_preface expects)) frames others sound.body again.body tail end sound.framed again.framed behind (rw at at stops) (rw by at ends) in
-    let same : part ≡ another = sound.opened ∙ ap (λ (octets : List ℕ). expected_preface expects ++ octets) one.1 ∙ sym again.opened in
-    (one.0, same, same_rest part another tail end (ap length same) (sym joined ∙ rejoined))
+-- Two readings after the preface are one.
+pub one_past : (expects : Bool) (limits : Limits) (stream : List ℕ) (frames others : List Frame)
+    (part another tail end : List ℕ)
+    → stream ≡ part ++ tail → stream ≡ another ++ end → (sound : IsSound expects limits frames part)
+    → (again : IsSound expects limits others another)
+    → Stops (limits (length part + 9)) tail → Stops (limits (length another + 9)) end
+    → (frames ≡ others) × (part ≡ another) × (tail ≡ end)
+one_past expects limits stream frames others part another tail end joined rejoined sound again stops
+    ends =
+    let line : expected_preface expects ++ (sound.body ++ tail) ≡ expected_preface expects
+    ++ (again.body ++ end) =
+    sym (append_assoc (expected_preface expects) sound.body tail)
+    ∙ ap (λ (octets : List ℕ). octets ++ tail) (sym sound.opened) ∙ sym joined
+    ∙ rejoined ∙ ap (λ (octets : List ℕ). octets ++ end) again.opened
+    ∙ append_assoc (expected_preface expects) again.body end in
+    let following : sound.body ++ tail ≡ again.body ++ end =
+    same_following (expected_preface expects) (expected_preface expects) _ _ refl line in
+    let at : length part + 9 ≡ length (expected_preface expects) + length sound.body + 9 =
+    ap (λ (octets : List ℕ). length octets + 9) sound.opened ∙ rw length-append refl in
+    let by : length another + 9 ≡ length (expected_preface expects) + length again.body + 9 =
+    ap (λ (octets : List ℕ). length octets + 9) again.opened ∙ rw length-append refl in
+    let one =
+    one_body limits (length (expected_preface expects)) frames others sound.body again.body tail
+    end sound.framed again.framed following (rw at at stops) (rw by at ends) in
+    let same : part ≡ another = sound.opened
+    ∙ ap (λ (octets : List ℕ). expected_preface expects ++ octets) one.1 ∙ sym again.opened in
+    (one.0, same, same_following part another tail end (ap length same) (sym joined ∙ rejoined))

@@ -1,8 +1,10 @@
 -- The codes of a stream's faults (RFC 9113, sections 3.4, 5.4.1 and 7).
+use Rattle.std.specs.Prelude.{Bool, true, false}
 use Rattle.h2_frame.specs.declared.code.Code.{Code}
 use Rattle.h2_frame.specs.declared.code.Code.TheVariants.{ProtocolError, InternalError}
 use Rattle.h2_wire.specs.declared.fault.WireFault.{WireFault}
-use Rattle.h2_wire.specs.declared.fault.WireFault.TheVariants.{BadPreface, HeadFault, PayloadFault, Memory}
+use Rattle.h2_wire.specs.declared.fault.WireFault.TheVariants.{BadPreface, HeadFault, PayloadFault}
+use Rattle.h2_wire.specs.declared.fault.WireFault.TheVariants.{Memory}
 
 -- the code with which the connection ends
 abbrev pub wire_fault_code : WireFault → Code
@@ -10,3 +12,10 @@ wire_fault_code BadPreface = ProtocolError
 wire_fault_code (HeadFault code) = code
 wire_fault_code (PayloadFault code) = code
 wire_fault_code Memory = InternalError
+
+-- whether the fault is a wrong octet of the preface
+abbrev pub is_bad_preface : WireFault → Bool
+is_bad_preface BadPreface = true
+is_bad_preface (HeadFault code) = false
+is_bad_preface (PayloadFault code) = false
+is_bad_preface Memory = false

@@ -1,5 +1,5 @@
 pub mod Faults
 pub mod Streams
 pub mod Cutter
-pub mod Buffers
-pub mod Steps
+pub mod Buffer
+pub mod Step

@@ -18,14 +18,14 @@ pub enum WireFault {
     /// A payload is at fault, known at its last octet.
     #[error("V3 PayloadFault: {0}")]
     PayloadFault(Code),
-    /// Memory was refused.
+    /// An allocation was refused.
     #[error("V4 Memory: out of memory")]
     Memory,
 }
 
 impl WireFault {
-    /// The code with which the connection ends: that of the fault, PROTOCOL_ERROR for a wrong preface, and INTERNAL_ERROR
-    /// for want of memory.
+    /// The code with which the connection ends: that of the fault, PROTOCOL_ERROR for a wrong
+    /// preface, and INTERNAL_ERROR for lack of memory.
     pub fn code(self) -> Code
         ensures { result ≡ wire_fault_code self }
     {

@@ -7,30 +7,40 @@ ghost use Rattle.h2_frame.specs.Frames.{Frame, payload_fault};
 ghost use Rattle.h2_wire.specs.declared.fault.WireFault.{WireFault as Fault};
 ghost use Rattle.h2_wire.specs.Streams.{Limits, IsFrame, IsPartial, Frames, WireFaultAt};
 
-/// A stream has one reading: its frames and its rest are the same, however it was cut.
+/// A stream has one reading: its frames and its unparsed octets are the same, however it was cut.
 pub fn one_reading()
-    ensures { (expects : Bool) (limits : Limits) (stream : List ℕ) (frames others : List Frame) (rest other : List ℕ)
-        → Frames expects limits stream frames rest → Frames expects limits stream others other → (frames ≡ others) × (rest ≡ other) }
+    ensures { (expects : Bool) (limits : Limits) (stream : List ℕ) (frames others : List Frame)
+        (unparsed other : List ℕ)
+        → Frames expects limits stream frames unparsed → Frames expects limits stream others other
+        → (frames ≡ others) × (unparsed ≡ other) }
 {}
 
-/// A stream has one fault at most, at one place behind the same frames, also with octets behind it.
+/// A stream has one fault at most, at one place after the same frames, also with octets that
+/// follow.
 pub fn one_fault()
-    ensures { (expects : Bool) (limits : Limits) (stream more : List ℕ) (frames others : List Frame) (place other : ℕ) (fault another : Fault)
-        → WireFaultAt expects limits stream frames place fault → WireFaultAt expects limits (stream ++ more) others other another
+    ensures { (expects : Bool) (limits : Limits) (stream more : List ℕ) (frames others : List Frame)
+        (place other : ℕ) (fault another : Fault)
+        → WireFaultAt expects limits stream frames place fault
+        → WireFaultAt expects limits (stream ++ more) others other another
         → (frames ≡ others) × (place ≡ other) × (fault ≡ another) }
 {}
 
-/// A stream that is at fault has no reading, whatever comes behind it.
+/// A stream that is at fault has no reading, whatever follows it.
 pub fn no_reading_past_a_fault()
-    ensures { (expects : Bool) (limits : Limits) (stream more : List ℕ) (frames others : List Frame) (place : ℕ) (fault : Fault) (rest : List ℕ)
-        → WireFaultAt expects limits stream frames place fault → Frames expects limits (stream ++ more) others rest → ⊥ }
+    ensures { (expects : Bool) (limits : Limits) (stream more : List ℕ) (frames others : List Frame)
+        (place : ℕ) (fault : Fault) (unparsed : List ℕ)
+        → WireFaultAt expects limits stream frames place fault
+        → Frames expects limits (stream ++ more) others unparsed → ⊥ }
 {}
 
-/// No front of a partial rest is a whole frame, a head at fault, or a whole frame with a payload at fault.
-pub fn nothing_in_a_rest()
-    ensures frame { (limit : ℕ) (front more : List ℕ) (frame : Frame) → IsPartial limit (front ++ more) → IsFrame limit frame front → ⊥ }
-    ensures head { (limit : ℕ) (front more : List ℕ) (code : Code) → IsPartial limit (front ++ more) → length front ≡ 9
-        → head_fault (head_of front) limit ≡ Some code → ⊥ }
-    ensures payload { (limit : ℕ) (front more : List ℕ) (code : Code) → IsPartial limit (front ++ more) → length front ≡ 9 + (head_of front).length
-        → payload_fault (head_of front) (drop 9 front) ≡ Some code → ⊥ }
+/// No prefix of a partial frame is a frame, a head at fault, or a frame with a payload at fault.
+pub fn nothing_in_a_partial_frame()
+    ensures frame { (limit : ℕ) (prefix more : List ℕ) (frame : Frame)
+        → IsPartial limit (prefix ++ more) → IsFrame limit frame prefix → ⊥ }
+    ensures head { (limit : ℕ) (prefix more : List ℕ) (code : Code)
+        → IsPartial limit (prefix ++ more) → length prefix ≡ 9
+        → head_fault (head_of prefix) limit ≡ Some code → ⊥ }
+    ensures payload { (limit : ℕ) (prefix more : List ℕ) (code : Code)
+        → IsPartial limit (prefix ++ more) → length prefix ≡ 9 + (head_of prefix).length
+        → payload_fault (head_of prefix) (drop 9 prefix) ≡ Some code → ⊥ }
 {}

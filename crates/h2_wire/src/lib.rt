@@ -1,7 +1,8 @@
 //! A stream of HTTP/2 frames, cut (RFC 9113, sections 3.4 and 4.1).
 //!
-//! [`Cutter::cut`] takes pieces of any length, and lends each frame once it is whole. The frames that it answers are those
-//! of the joined octets, and a fault comes where it stands in them, however they were cut into pieces.
+//! [`Cutter::cut`] takes pieces of any length, and lends each frame once it is complete. The frames
+//! that it answers are those of the joined octets, and a fault comes at its place in them, however
+//! they were cut into pieces.
 #![tactic(auto)]
 
 mod buffer;
@@ -16,4 +17,4 @@ mod tests;
 pub use cut::Cut;
 pub use cutter::Cutter;
 pub use fault::WireFault;
-pub use laws::{no_reading_past_a_fault, nothing_in_a_rest, one_fault, one_reading};
+pub use laws::{no_reading_past_a_fault, nothing_in_a_partial_frame, one_fault, one_reading};

@@ -6,13 +6,14 @@ ghost use Rattle.h2_wire.specs.Streams.{preface};
 /// The octets with which a client begins.
 pub(crate) const PREFACE: [u8; 24] = *b"PRI * HTTP/2.0\r\n\r\nSM\r\n\r\n";
 
-/// How many octets at the piece's front go on with the preface, of which so many were matched before.
-pub(crate) fn go_on(matched: usize, piece: &[u8]) -> usize
+/// How many octets of the piece continue the preface, of which so many were matched already.
+pub(crate) fn matching_octets(matched: usize, piece: &[u8]) -> usize
     requires { matched ≤ 24 }
     ensures within { result ≤ length piece.now }
     ensures bound { matched + result ≤ 24 }
     ensures same { take result piece.now ≡ take result (drop matched preface) }
-    ensures differs { result < length piece.now → matched + result < 24 → slice_index piece.now result ≢ slice_index preface (matched + result) }
+    ensures differs { result < length piece.now → matched + result < 24
+        → slice_index piece.now result ≢ slice_index preface (matched + result) }
 {
     for (count, octet) in piece.iter().enumerate() {
         if matched + count == PREFACE.len() || *octet != PREFACE[matched + count] {

@@ -1,6 +1,6 @@
 -- The pairs so far are appended.
 use Rattle.std.proofs.Common.{◌≡◌, ◌≤◌, ◌++◌, take, flat_map, vec_capacity}
-use Rattle.h2_frame.specs.Writing.{pair_octets}
+use Rattle.h2_frame.specs.Encoding.{pair_octets}
 use Rattle.h2_frame.proofs.appending.append_pairs.Given as goal
 
 abbrev pub invariant-loop-id : goal.invariant-loop-id

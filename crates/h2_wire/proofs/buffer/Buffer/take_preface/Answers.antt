@@ -1,36 +1,109 @@
--- Inside the preface: it goes on, or an octet is wrong.
-use Rattle.std.proofs.Common.{◌≡◌, ◌+◌, ◌<◌, length, take, drop, arith, refl, sym, ◌∙◌}
-use Rattle.std.proofs.lemmas.Bool.{lt-ltb}
+-- Inside the preface: it is complete, or continues, or an octet is wrong.
+use Rattle.std.proofs.Common.{◌≡◌, ◌+◌, ◌<◌, ◌≤◌, ◌++◌, [], length, take, drop, arith, refl, sym}
+use Rattle.std.proofs.Common.{◌∙◌, ap, true, subst, List, ℕ}
+use Rattle.std.proofs.Common.{None, length-drop}
 use Rattle.std.proofs.lemmas.List.{take_all}
 use Rattle.h2_wire.specs.declared.fault.WireFault.TheVariants as faults
+use Rattle.h2_wire.specs.declared.buffer.Phase.TheVariants as phases
 use Rattle.h2_wire.specs.Streams.{preface}
-use Rattle.h2_wire.specs.Buffers.{state_of}
-use Rattle.h2_wire.proofs.BufferLemmas.{rest_of-matched, fails_preface}
-use Rattle.h2_wire.proofs.CallLemmas.{breaks}
-use Rattle.h2_wire.proofs.StepLemmas.{goes_short, wrong_preface}
+use Rattle.h2_wire.specs.Buffer.{state_of, fault_of, is_in_preface, unparsed_of, FitsPhase}
+use Rattle.h2_wire.specs.Step.{Opens}
+use Rattle.h2_wire.proofs.BufferLemmas.{fails_preface, begins_with_preface}
+use Rattle.h2_wire.proofs.CallLemmas.{fails_at}
+use Rattle.h2_wire.proofs.StepLemmas.{opens_first, continues_preface, wrong_preface}
 use Rattle.h2_wire.proofs.buffer.Buffer.take_preface.Goals as goal
 
-pub returns-then-start-piece-clause-takes : goal.returns-then-start-piece-clause-takes
-returns-then-start-piece-clause-takes c =
+-- the preface ends with the octets that match
+ends : (matched count : ℕ) (piece : List ℕ) → take count piece ≡ take count (drop matched preface)
+    → matched + count ≡ 24 → take count piece ≡ drop matched preface
+unfolding preface
+ends matched count piece same all =
+    same ∙ take_all count (drop matched preface) (rw length-drop (omega (arith, all)))
+
+pub take_head-requires : goal.take_head-requires
+take_head-requires c =
     let old = c.args.self.now in
-    let inside : old.matched < 24 = omega (arith, c.requires.inside) in
-    rw (c.break_off.ensures.fault, c.break_off.ensures.after)
-    (fails_preface (state_of old) c.args.piece.now _ c.requires.sound
-    (breaks (state_of old) _ c.args.piece.now faults.BadPreface (c.args.start + 1) refl refl refl (omega (arith, c.if-start-piece.true)) refl
-    (wrong_preface (state_of old) old.matched c.args.start c.args.piece.now (lt-ltb old.matched 24 inside) (rest_of-matched old c.requires.sound inside)
-    c.if-start-piece.true c.requires.inside c.requires.same (c.requires.differs c.if-start-piece.true))))
+    let count = c.matching_octets-count.result in
+    let fits : FitsPhase old.limit (phases.Preface c.args.matched) old.octets.items =
+    rw c.requires.phase at c.requires.invariant in
+    let inside : is_in_preface old.phase ≡ true = rw c.requires.phase refl in
+    let unparsed : unparsed_of old.phase old.octets.items ≡ take c.args.matched preface =
+    rw c.requires.phase refl in
+    let same = ends c.args.matched count c.args.piece.now c.matching_octets-count.ensures.same
+    (omega arith) in
+    record {
+      starts = record {
+        invariant = c.requires.invariant;
+        sound = rw c.requires.phase refl;
+        within = c.matching_octets-count.ensures.within;
+        few = rw fits.1 (omega arith);
+        opens = subst (λ (items : List ℕ). Opens (state_of old) (take count c.args.piece.now) items)
+            (sym fits.1)
+            (opens_first (state_of old) c.args.matched
+            (take count c.args.piece.now) inside unparsed same);
+      };
+    }
+
+pub returns-then-matched-count-eq24-clause-preface
+    : goal.returns-then-matched-count-eq24-clause-preface
+returns-then-matched-count-eq24-clause-preface c = λ memory.
+    let old = c.args.self.now in
+    let count = c.matching_octets-count.result in
+    let unparsed : unparsed_of old.phase old.octets.items ≡ take c.args.matched preface =
+    rw c.requires.phase refl in
+    let same = ends c.args.matched count c.args.piece.now c.matching_octets-count.ensures.same
+    (omega arith) in
+    begins_with_preface c.args.matched count
+    (unparsed_of old.phase old.octets.items) c.args.piece.now unparsed same
+
+pub returns-then-count-piece-clause-takes : goal.returns-then-count-piece-clause-takes
+returns-then-count-piece-clause-takes c =
+    let old = c.args.self.now in
+    let piece = c.args.piece.now in
+    let count = c.matching_octets-count.result in
+    let inside : is_in_preface old.phase ≡ true = rw c.requires.phase refl in
+    let sound : fault_of old.phase ≡ None = rw c.requires.phase refl in
+    let unparsed : unparsed_of old.phase old.octets.items ≡ take c.args.matched preface =
+    rw c.requires.phase refl in
+    let few : c.args.matched + c.matching_octets-count.result < 24 =
+    omega (arith, c.matching_octets-count.ensures.bound) in
+    let less : c.matching_octets-count.result < length piece = omega arith in
+    record {
+      invariant = rw c.fail.ensures.after tt;
+      makes = rw (c.fail.ensures.fault, c.fail.ensures.after)
+          (fails_preface (state_of old) piece _ sound
+          (fails_at (state_of old) _ piece faults.BadPreface (count + 1) refl refl refl refl
+          (omega (arith, less)) refl
+          (wrong_preface (state_of old) c.args.matched count piece inside unparsed less few
+          c.matching_octets-count.ensures.same
+          (c.matching_octets-count.ensures.differs less few))));
+    }
 
 pub returns-clause-takes : goal.returns-clause-takes
 returns-clause-takes c =
     let old = c.args.self.now in
     let piece = c.args.piece.now in
-    let all : c.args.start ≡ length piece = omega (arith, c.if-start-piece.false, c.requires.within) in
-    let inside : old.matched < 24 = omega (arith, c.requires.inside) in
-    let inside_now : old.matched + length piece < 24 = rw all at c.requires.inside in
-    let same : piece ≡ take (length piece) (drop old.matched preface) =
-    sym (take_all (length piece) piece (omega arith)) ∙ rw all at c.requires.same in
-    rw (c.count.ensures, all) (record {
-      all = refl;
-      goes_on = goes_short (state_of old) _ old.matched piece c.requires.sound (lt-ltb old.matched 24 inside) (lt-ltb (old.matched + length piece) 24 inside_now)
-          refl refl (rest_of-matched old c.requires.sound inside) inside_now same (rw (c.requires.sound, lt-ltb (old.matched + length piece) 24 inside_now) refl);
-    })
+    let count = c.matching_octets-count.result in
+    let fits : FitsPhase old.limit (phases.Preface c.args.matched) old.octets.items =
+    rw c.requires.phase at c.requires.invariant in
+    let inside : is_in_preface old.phase ≡ true = rw c.requires.phase refl in
+    let sound : fault_of old.phase ≡ None = rw c.requires.phase refl in
+    let unparsed : unparsed_of old.phase old.octets.items ≡ take c.args.matched preface =
+    rw c.requires.phase refl in
+    let all : c.matching_octets-count.result ≡ length piece =
+    omega (arith, c.matching_octets-count.ensures.within) in
+    let few : c.args.matched + c.matching_octets-count.result < 24 =
+    omega (arith, c.matching_octets-count.ensures.bound) in
+    let few_now : c.args.matched + length piece < 24 = rw all at few in
+    let same : piece ≡ take (length piece) (drop c.args.matched preface) =
+    sym (take_all (length piece) piece (omega arith))
+    ∙ rw all at c.matching_octets-count.ensures.same in
+    record {
+      invariant = rw c.pass.ensures (few, fits.1);
+      makes = rw (c.pass.ensures, all) (record {
+        all = refl;
+        continues =
+            continues_preface (state_of old) _ c.args.matched piece refl inside refl refl refl
+            unparsed few_now same refl;
+      });
+    }

@@ -2,9 +2,11 @@
 use Rattle.std.proofs.Common.{refl, arith}
 use Rattle.std.proofs.lemmas.List.{take_rest}
 use Rattle.std.proofs.lemmas.Result.{err_from_is_err_and}
-use Rattle.h2_wire.proofs.CutLemmas.{advances_none, advances_some, not_failed, failed_again, not_judged, judged_again}
+use Rattle.h2_wire.proofs.CutLemmas.{advances_none, advances_some, not_failed, failed_again}
+use Rattle.h2_wire.proofs.CutLemmas.{not_checked, checked_again}
+use Rattle.h2_wire.proofs.CutLemmas.{memory_again}
 use Rattle.h2_wire.specs.Cutter.{FaultsAtHead}
-use Rattle.h2_wire.specs.Buffers.{state_of}
+use Rattle.h2_wire.specs.Buffer.{state_of}
 use Rattle.h2_wire.proofs.cutter.Cutter.cut.Goals as goal
 use Rattle.h2_wire.proofs.cutter.Cutter.cut.Goals.{in-None, in-Some}
 
@@ -12,13 +14,18 @@ pub returns-in_err-step : goal.returns-in_err-step
 returns-in_err-step c =
     let answer = err_from_is_err_and c.from_residual.result c.from_residual.ensures.1 in
     rw (answer.1, answer.2, ← c.self.view_is) (
-      (refl, λ _. tt, c.in_err-step.ensures.takes),
+      (refl, λ _. tt, c.in_err-step.ensures.takes.makes),
       record {
         used = tt;
         all = tt;
         some = tt;
         failed = failed_again _ _ _ c.in_err-step.field-0.0 c.in_err-step.ensures.failed;
-        judged = judged_again _ _ (λ code. FaultsAtHead (state_of c.self.inside.buffer) c.args.piece.now code) c.in_err-step.field-0.0 c.in_err-step.ensures.judged;
+        checked =
+            checked_again _ _
+            (λ code. FaultsAtHead (state_of c.self.inside.buffer) c.args.piece.now code)
+            c.in_err-step.field-0.0 c.in_err-step.ensures.checked;
+        preface = λ inside. memory_again _ _ _ c.in_err-step.field-0.0
+            (c.in_err-step.ensures.preface inside);
         after = tt;
       },
     )
@@ -26,29 +33,49 @@ returns-in_err-step c =
 pub returns : goal.returns
 returns c = elim c.match-step.branch [
   | in-None w ↦
-      let more = rw w.in-None.is at c.in_ok-step.ensures.takes in
+      let more = rw w.in-None.is at c.in_ok-step.ensures.takes.makes in
       rw (w.self-is, w.frame-is, ← c.self.view_is) (
-        (refl, λ _. tt, advances_none _ c.args.piece.now c.in_ok-step.step.used c.take.new.self more),
+        (
+          refl,
+          λ _. tt,
+          advances_none _ c.args.piece.now c.in_ok-step.step.used c.take.new.self more,
+        ),
         record {
           used = omega (arith, more.all);
           all = λ _. more.all;
           some = λ some. (cc);
           failed = not_failed _ c.in_ok-step.step _ c.in_ok-step.ensures.failed;
-          judged = not_judged (λ code. FaultsAtHead (state_of c.self.inside.buffer) c.args.piece.now code) c.in_ok-step.step _ c.in_ok-step.ensures.judged;
+          checked =
+              not_checked
+              (λ code. FaultsAtHead (state_of c.self.inside.buffer) c.args.piece.now code)
+              c.in_ok-step.step _ c.in_ok-step.ensures.checked;
+          preface = λ inside memory. (cc);
           after = tt;
         },
       )
   | in-Some w ↦
-      let whole = rw w.in-Some.is at c.in_ok-step.ensures.takes in
-      let carried = rw (take_rest w.deref.result.now 9, w.deref.ensures.value) at w.lend.ensures in
+      let complete = rw w.in-Some.is at c.in_ok-step.ensures.takes.makes in
+      let carried = rw (
+        take_rest w.deref.result.now 9,
+        w.deref.ensures.value,
+      ) at w.payload_frame.ensures in
       rw (w.self-is, w.frame-is, ← c.self.view_is) (
-        (refl, λ _. tt, advances_some _ c.args.piece.now c.in_ok-step.step.used w.in-Some.head w.lend.result c.take.new.self whole carried),
+        (
+          refl,
+          λ _. tt,
+          advances_some _ c.args.piece.now c.in_ok-step.step.used w.in-Some.head
+              w.payload_frame.result c.take.new.self complete carried,
+        ),
         record {
-          used = whole.within;
+          used = complete.within;
           all = λ none. (cc);
-          some = λ _. whole.some;
+          some = λ _. complete.some;
           failed = not_failed _ c.in_ok-step.step _ c.in_ok-step.ensures.failed;
-          judged = not_judged (λ code. FaultsAtHead (state_of c.self.inside.buffer) c.args.piece.now code) c.in_ok-step.step _ c.in_ok-step.ensures.judged;
+          checked =
+              not_checked
+              (λ code. FaultsAtHead (state_of c.self.inside.buffer) c.args.piece.now code)
+              c.in_ok-step.step _ c.in_ok-step.ensures.checked;
+          preface = λ inside memory. (cc);
           after = tt;
         },
       )

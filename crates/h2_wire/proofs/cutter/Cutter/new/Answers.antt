@@ -1,10 +1,11 @@
--- A new cutter stands for the empty stream.
+-- A new cutter represents the empty stream.
 use Rattle.std.proofs.Common.{[], subst, sym}
 use Rattle.h2_wire.specs.Cutter.{CutterState, CutterRepresents}
-use Rattle.h2_wire.proofs.CutLemmas.{stands_empty}
+use Rattle.h2_wire.proofs.CutLemmas.{represents_empty}
 use Rattle.h2_wire.proofs.cutter.Cutter.new.Goals as goal
 
-pub returns-clause-stands : goal.returns-clause-stands
-returns-clause-stands c =
-    subst (λ (state : CutterState). CutterRepresents state c.args.expect_preface (λ _. c.args.limit) [] []) (sym c.new.ensures.state)
-    (stands_empty c.args.expect_preface c.args.limit)
+pub returns-clause-represents : goal.returns-clause-represents
+returns-clause-represents c =
+    subst (λ (state : CutterState). CutterRepresents state c.args.expect_preface
+    (λ _. c.args.limit) [] []) (sym c.new.ensures.state)
+    (represents_empty c.args.expect_preface c.args.limit)

@@ -1,0 +1,241 @@
+//! What a gatherer keeps between calls.
+
+ghost use Rattle.std.specs.Prelude.{◌≡◌, ℕ, ◌+◌, ◌<◌, ◌++◌, List, [], length, vec_len, Option};
+ghost use Rattle.std.specs.Prelude.{IfSome, IfOk, IfErr, OnOk, None, Some, Ok, Err, true, IsOk};
+ghost use Rattle.h2_frame.specs.Frames.{frame_of, Headers, Continuation};
+ghost use Rattle.h2_block.specs.Grouping.{is_standalone};
+ghost use Rattle.h2_block.specs.Gather.{GatherRepresents, GatherTakes, LeavesNone};
+ghost use Rattle.h2_block.specs.Gather.{ReportsFault, PassesItself, PassesNothing};
+ghost use Rattle.h2_block.specs.PartialBlock.{state_of, PartialBlockInvariant};
+
+use crate::fault::BlockFault;
+use crate::gathered::Gathered;
+use h2_frame::FrameRef;
+use std::alloc::Global;
+use std::mem;
+
+/// The limit of a block's octets.
+const MAX_BLOCK_OCTETS: usize = 65_552;
+
+/// The HEADERS with which a block began.
+#[derive(Clone, Copy, Debug)]
+pub(crate) struct Opening {
+    /// The block's stream.
+    pub(crate) stream: u32,
+    /// Whether nothing follows it on the stream.
+    pub(crate) end: bool,
+}
+
+/// What a gatherer keeps between calls.
+#[derive(Debug, Drop)]
+pub(crate) struct PartialBlock {
+    alloc: Global,
+    /// What the block that has begun was opened with.
+    pub(crate) opening: Option<Opening>,
+    /// The octets of the block that has begun.
+    pub(crate) octets: Vec<u8>,
+    /// The fault that ended the frames.
+    pub(crate) fault: Option<BlockFault>,
+}
+
+impl PartialBlock {
+    /// No frame was taken.
+    pub(crate) fn new(alloc: Global) -> PartialBlock
+        ensures represents { GatherRepresents (state_of result) [] [] }
+        ensures invariant { PartialBlockInvariant result }
+    {
+        PartialBlock {
+            alloc,
+            opening: None,
+            octets: Vec::new(alloc),
+            fault: None,
+        }
+    }
+
+    /// Takes the next frame.
+    pub(crate) fn take<'a>(&mut self, frame: FrameRef<'a>) -> Result<Gathered<'a>, BlockFault>
+        requires { PartialBlockInvariant self.old }
+        ensures failed { IfSome self.old.fault (λ fault. result ≡ Err fault) }
+        ensures reported { self.old.fault ≡ None
+            → ReportsFault (state_of self.old).begun (frame_of frame.entry) result }
+        ensures alone { self.old.fault ≡ None → (state_of self.old).begun ≡ None
+            → is_standalone (frame_of frame.entry) ≡ true → IsOk result }
+        ensures passed { PassesItself frame.entry result }
+        ensures takes { GatherTakes (state_of self.old) (frame_of frame.entry) result
+            (state_of self.new) }
+        ensures ended { LeavesNone result (state_of self.new) }
+        ensures invariant { PartialBlockInvariant self.new }
+    {
+        if let Some(fault) = self.fault {
+            return Err(fault);
+        }
+        match self.opening {
+            None => self.take_outside(frame),
+            Some(opening) => self.take_inside(opening, frame),
+        }
+    }
+
+    // Takes a frame outside blocks.
+    fn take_outside<'a>(&mut self, frame: FrameRef<'a>) -> Result<Gathered<'a>, BlockFault>
+        requires sound { self.old.fault ≡ None }
+        requires outside { self.old.opening ≡ None }
+        requires invariant { PartialBlockInvariant self.old }
+        ensures reported { ReportsFault None (frame_of frame.entry) result }
+        ensures alone { is_standalone (frame_of frame.entry) ≡ true → IsOk result }
+        ensures passed { PassesItself frame.entry result }
+        ensures takes { GatherTakes (state_of self.old) (frame_of frame.entry) result
+            (state_of self.new) }
+        ensures ended { LeavesNone result (state_of self.new) }
+        ensures invariant { PartialBlockInvariant self.new }
+    {
+        match frame {
+            FrameRef::Headers {
+                stream,
+                end,
+                whole,
+                fragment,
+                ..
+            } => self.begin(Opening { stream, end }, whole, fragment),
+            FrameRef::Continuation { .. } => Err(self.fail(BlockFault::Stray)),
+            other => Ok(Gathered::Pass(other)),
+        }
+    }
+
+    // Takes a frame inside the block that was opened so.
+    fn take_inside<'a>(
+        &mut self,
+        opening: Opening,
+        frame: FrameRef<'a>,
+    ) -> Result<Gathered<'a>, BlockFault>
+        requires sound { self.old.fault ≡ None }
+        requires inside { self.old.opening ≡ Some opening }
+        requires invariant { PartialBlockInvariant self.old }
+        ensures reported { ReportsFault (state_of self.old).begun (frame_of frame.entry) result }
+        ensures passed { PassesNothing result }
+        ensures takes { GatherTakes (state_of self.old) (frame_of frame.entry) result
+            (state_of self.new) }
+        ensures ended { LeavesNone result (state_of self.new) }
+        ensures invariant { PartialBlockInvariant self.new }
+    {
+        match frame {
+            FrameRef::Continuation {
+                stream,
+                whole,
+                fragment,
+            } if stream == opening.stream => self.extend(opening, whole, fragment),
+            _ => Err(self.fail(BlockFault::Interrupted)),
+        }
+    }
+
+    // HEADERS begins a block, or is a complete one.
+    fn begin<'a>(
+        &mut self,
+        opening: Opening,
+        whole: bool,
+        fragment: &[u8],
+    ) -> Result<Gathered<'a>, BlockFault>
+        requires sound { self.old.fault ≡ None }
+        requires outside { self.old.opening ≡ None }
+        requires invariant { PartialBlockInvariant self.old }
+        ensures reported { 65552 < length fragment.now → result ≡ Err BlockFault.TooLong }
+        ensures passed { PassesNothing result }
+        ensures takes { (pad : Option ℕ) (priority : Option (List ℕ))
+            → GatherTakes (state_of self.old)
+            (Headers opening.stream opening.end whole fragment.now pad priority) result
+            (state_of self.new) }
+        ensures ended { LeavesNone result (state_of self.new) }
+        ensures invariant { PartialBlockInvariant self.new }
+    {
+        if fragment.len() > MAX_BLOCK_OCTETS {
+            return Err(self.fail(BlockFault::TooLong));
+        }
+        if whole {
+            return Ok(Gathered::Block {
+                stream: opening.stream,
+                end: opening.end,
+                octets: self.copy(fragment)?,
+            });
+        }
+        self.append(fragment)?;
+        self.opening = Some(opening);
+        Ok(Gathered::More)
+    }
+
+    // A CONTINUATION of the block that was opened so continues it, or ends it.
+    fn extend<'a>(
+        &mut self,
+        opening: Opening,
+        whole: bool,
+        fragment: &[u8],
+    ) -> Result<Gathered<'a>, BlockFault>
+        requires sound { self.old.fault ≡ None }
+        requires inside { self.old.opening ≡ Some opening }
+        requires invariant { PartialBlockInvariant self.old }
+        ensures reported { 65552 < vec_len self.old.octets + length fragment.now
+            → result ≡ Err BlockFault.TooLong }
+        ensures passed { PassesNothing result }
+        ensures takes { GatherTakes (state_of self.old)
+            (Continuation opening.stream whole fragment.now) result (state_of self.new) }
+        ensures ended { LeavesNone result (state_of self.new) }
+        ensures invariant { PartialBlockInvariant self.new }
+    {
+        if fragment.len() > MAX_BLOCK_OCTETS - self.octets.len() {
+            return Err(self.fail(BlockFault::TooLong));
+        }
+        self.append(fragment)?;
+        if !whole {
+            return Ok(Gathered::More);
+        }
+        Ok(Gathered::Block {
+            stream: opening.stream,
+            end: opening.end,
+            octets: self.end(),
+        })
+    }
+
+    // The octets, in a list of their own.
+    fn copy(&self, octets: &[u8]) -> Result<Vec<u8>, BlockFault>
+        ensures ok { IfOk result (λ copied. copied.items ≡ octets.now) }
+        ensures err { IfErr result (λ fault. fault ≡ BlockFault.Memory) }
+    {
+        Vec::from_slice(self.alloc, octets).map_err(|_| BlockFault::Memory)
+    }
+
+    // Appends these octets, or changes nothing.
+    fn append(&mut self, octets: &[u8]) -> Result<(), BlockFault>
+        ensures ok { OnOk result (self.new.octets.items ≡ self.old.octets.items ++ octets.now) }
+        ensures err { IfErr result (λ fault. (fault ≡ BlockFault.Memory)
+            × (self.new.octets.items ≡ self.old.octets.items)) }
+        ensures same { self.new ≡ record self.old { octets = self.new.octets } }
+    {
+        self.octets
+            .extend_from_slice(octets)
+            .map_err(|_| BlockFault::Memory)
+    }
+
+    // The block has ended; its octets are handed out.
+    fn end(&mut self) -> Vec<u8>
+        ensures octets { result.items ≡ self.old.octets.items }
+        ensures none { self.new.octets.items ≡ [] }
+        ensures after { self.new ≡ record self.old { opening = None; octets = self.new.octets } }
+    {
+        self.opening = None;
+        mem::replace(&mut self.octets, Vec::new(self.alloc))
+    }
+
+    // The frames are at fault, and no octets are kept.
+    fn fail(&mut self, fault: BlockFault) -> BlockFault
+        ensures fault { result ≡ fault }
+        ensures none { self.new.octets.items ≡ [] }
+        ensures after { self.new ≡ record self.old {
+          opening = None;
+          octets = self.new.octets;
+          fault = Some fault;
+        } }
+    {
+        self.opening = None;
+        self.octets.clear();
+        self.fault = Some(fault);
+        fault
+    }
+}

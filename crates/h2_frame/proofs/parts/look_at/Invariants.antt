@@ -1,7 +1,0 @@
--- The pairs so far were read.
-use Rattle.std.proofs.Common.{take}
-use Rattle.h2_frame.specs.Parts.{ArePairs}
-use Rattle.h2_frame.proofs.parts.look_at.Given as goal
-
-abbrev pub invariant-loop-id : goal.invariant-loop-id
-invariant-loop-id l = ArePairs (take l.id-index l.pairs)

@@ -1,0 +1,121 @@
+-- A head continues: it isn't complete yet, or is at fault, or has no fault.
+use Rattle.std.proofs.Common.{◌≡◌, ◌+◌, ◌-◌, ◌<◌, ◌≤◌, length, take, drop, arith, ◌++◌, Some, refl}
+use Rattle.std.proofs.Common.{sym, ◌∙◌, ap}
+use Rattle.std.proofs.Common.{length-drop, length-append}
+use Rattle.std.proofs.lemmas.List.{take_rest}
+use Rattle.h2_frame.specs.declared.heads.Head.{Head}
+use Rattle.h2_frame.specs.Heads.{head_of, head_fault}
+use Rattle.h2_wire.specs.declared.buffer.Phase.TheVariants as phases
+use Rattle.h2_wire.specs.declared.fault.WireFault.TheVariants as faults
+use Rattle.h2_wire.specs.Buffer.{state_of}
+use Rattle.h2_wire.proofs.BufferLemmas.{keeps_piece, fails_head, read_head}
+use Rattle.h2_wire.proofs.CallLemmas.{fails_at}
+use Rattle.h2_wire.proofs.ReadingLemmas.{none_some, one_code}
+use Rattle.h2_wire.proofs.StepLemmas.{wrong_head, limit_ahead}
+use Rattle.h2_wire.proofs.buffer.Buffer.take_head.Goals as goal
+
+pub returns-in_default-clause-takes : goal.returns-in_default-clause-takes
+returns-in_default-clause-takes c =
+    let old = c.args.self.now in
+    let piece = c.args.piece.now in
+    let following : take (length piece - c.args.start) (drop c.args.start piece)
+    ≡ drop c.args.start piece = take_rest piece c.args.start in
+    let items = rw following at c.in_ok-append.ensures.ok in
+    let none = c.in_default.ensures.none in
+    let few : length old.octets.items + length (drop c.args.start piece) < 9 =
+    rw (c.deref.ensures.value, following) at none in
+    let short : length (old.octets.items ++ drop c.args.start piece) < 9 = rw length-append few in
+    record {
+      invariant = rw (c.pass.ensures, items) short;
+      makes = keeps_piece old c.append.new.self c.pass.new.self piece c.args.start phases.Head
+          c.in_ok-append.ensures.same
+          c.pass.ensures items refl refl refl
+          (λ expects limits stream so_far represented. (
+            c.requires.starts.opens expects limits stream so_far represented,
+            λ nine. absurd (omega (arith, short)),
+          ));
+    }
+
+pub returns-in-Some-head_fault-clause-takes : goal.returns-in-Some-head_fault-clause-takes
+returns-in-Some-head_fault-clause-takes c =
+    let old = c.args.self.now in
+    let piece = c.args.piece.now in
+    let starts = c.requires.starts in
+    let some = c.in-Some.ensures.some in
+    let (nine, is_head) =
+    read_head old.octets.items c.deref.result.now piece c.in-Some.octets c.args.start
+    c.head-head.result c.deref.ensures.value some.0 some.1 c.head-head.ensures in
+    let few : length old.octets.items < 9 = starts.few in
+    let within : c.args.start ≤ length piece = starts.within in
+    let faulty : head_fault (head_of (old.octets.items ++ drop c.args.start piece)) old.limit
+    ≡ Some c.in-Some-head_fault.code =
+    ap (λ (head : Head). head_fault head old.limit) (sym is_head) ∙ sym c.head_fault.ensures.value
+    ∙ c.in-Some-head_fault.is in
+    let used : c.args.start + (9 - c.len.result) ≡ c.args.start + (9 - length old.octets.items) =
+    omega (arith, c.len.ensures, old.octets.ok.0) in
+    record {
+      invariant = rw c.fail.ensures.after tt;
+      makes = rw (c.fail.ensures.fault, c.fail.ensures.after, used)
+          (fails_head (state_of old) piece c.in-Some-head_fault.code _ starts.sound
+          (fails_at (state_of old) _ piece (faults.HeadFault c.in-Some-head_fault.code)
+          (c.args.start + (9 - length old.octets.items)) refl refl refl refl
+          (omega (arith, nine, within, length-drop c.args.start piece)) refl
+          (wrong_head (state_of old) piece old.octets.items c.args.start c.in-Some-head_fault.code
+          starts.opens few nine faulty)));
+    }
+
+pub take_payload-requires : goal.take_payload-requires
+take_payload-requires c =
+    let old = c.args.self.now in
+    let piece = c.args.piece.now in
+    let starts = c.requires.starts in
+    let some = c.in-Some.ensures.some in
+    let (nine, is_head) =
+    read_head old.octets.items c.deref.result.now piece c.in-Some.octets c.args.start
+    c.head-head.result c.deref.ensures.value some.0 some.1 c.head-head.ensures in
+    let few : length old.octets.items < 9 = starts.few in
+    let sound = sym c.head_fault.ensures.value ∙ c.in_default-head_fault.is in
+    record {
+      starts = record {
+        invariant = starts.invariant;
+        sound = starts.sound;
+        within = starts.within;
+        short = omega (arith, few);
+        nine = nine;
+        is_head = is_head;
+        sound_head = sound;
+        opens = λ expects limits stream so_far represented.
+            let past = starts.opens expects limits stream so_far represented in (
+              past,
+              rw (limit_ahead (state_of old) expects limits stream so_far
+                  (take c.args.start piece) old.octets.items represented past few) sound,
+            );
+      };
+    }
+
+pub returns-in-Some-head_fault-clause-checked : goal.returns-in-Some-head_fault-clause-checked
+returns-in-Some-head_fault-clause-checked c = λ code faulty.
+    let old = c.args.self.now in
+    let some = c.in-Some.ensures.some in
+    let is_head =
+    (read_head old.octets.items c.deref.result.now c.args.piece.now c.in-Some.octets
+    c.args.start c.head-head.result c.deref.ensures.value some.0 some.1
+    c.head-head.ensures).1 in
+    let reported : head_fault c.head-head.result old.limit ≡ Some c.in-Some-head_fault.code =
+    sym c.head_fault.ensures.value ∙ c.in-Some-head_fault.is in
+    let found : head_fault c.head-head.result old.limit ≡ Some code =
+    ap (λ (head : Head). head_fault head old.limit) is_head ∙ faulty.faulty in
+    let same : c.in-Some-head_fault.code ≡ code = one_code _ _ (sym reported ∙ found) in
+    rw (c.fail.ensures.fault, same) refl
+
+pub returns-clause-checked : goal.returns-clause-checked
+returns-clause-checked c = λ code faulty.
+    let old = c.args.self.now in
+    let some = c.in-Some.ensures.some in
+    let is_head =
+    (read_head old.octets.items c.deref.result.now c.args.piece.now c.in-Some.octets
+    c.args.start c.head-head.result c.deref.ensures.value some.0 some.1
+    c.head-head.ensures).1 in
+    let found : head_fault c.head-head.result old.limit ≡ Some code =
+    ap (λ (head : Head). head_fault head old.limit) is_head ∙ faulty.faulty in
+    none_some code (sym (sym c.head_fault.ensures.value ∙ c.in_default-head_fault.is) ∙ found)

@@ -1,7 +1,0 @@
--- The octets so far go on with the preface.
-use Rattle.std.proofs.Common.{◌≡◌, ◌+◌, ◌≤◌, take, drop}
-use Rattle.h2_wire.specs.Streams.{preface}
-use Rattle.h2_wire.proofs.preface.go_on.Given as goal
-
-abbrev pub invariant-loop-count : goal.invariant-loop-count
-invariant-loop-count l = (l.matched + l.count ≤ 24) × (take l.count l.piece ≡ take l.count (drop l.matched preface))
