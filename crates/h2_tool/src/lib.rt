@@ -4,21 +4,12 @@
 //! a reader and prints to two writers, so tests run it in memory.
 #![tactic(auto)]
 
-mod blocks;
-mod engine;
-mod failure;
-mod hexadecimal;
-mod lines;
-mod order;
+mod args;
 mod program;
 mod show;
-mod status;
 #[cfg(test)]
 mod tests;
 
-pub use failure::Failure;
-pub use hexadecimal::{HexError, from_hex};
-pub use order::{ShowOrder, Side, show_order};
+pub use args::show_args;
 pub use program::{no_words, run};
-pub use show::{cmd_show, show_input};
-pub use status::Status;
+pub use show::cmd_show;

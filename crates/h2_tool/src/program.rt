@@ -1,16 +1,15 @@
 //! The program as a whole.
 
 ghost use Rattle.std.specs.Prelude.{◌≡◌, ◌≢◌, IfSome};
-ghost use Rattle.h2_tool.specs.declared.order.ShowOrder.{ShowOrder as Order};
-ghost use Rattle.h2_tool.specs.Telling.{TellsInput};
-ghost use Rattle.h2_tool.specs.Statuses.{status_of};
+ghost use Rattle.h2_show.specs.declared.options.ShowOptions.{ShowOptions as Options};
+ghost use Rattle.h2_show.specs.Telling.{TellsInput};
+ghost use Rattle.h2_show.specs.Statuses.{status_of};
 
-use crate::failure::Failure;
-use crate::order::no_command;
+use crate::args::no_command;
 use crate::show::cmd_show;
-use crate::status::Status;
 use clap::Error;
 use clap::error::ErrorKind;
+use h2_show::{Failure, Status};
 use std::alloc::Global;
 use std::io::{self, Read, Write};
 
@@ -23,7 +22,7 @@ pub fn run<R: Read, W: Write, E: Write>(
     out: &mut W,
     err: &mut E,
 ) -> Status
-    ensures fault { result ≡ Status.Fault → IfSome (R.remaining input.old) (λ given. (order : Order) × TellsInput order given result) }
+    ensures fault { result ≡ Status.Fault → IfSome (R.remaining input.old) (λ given. (options : Options) × TellsInput options given result) }
 {
     if let Some((name, others)) = words.split_first() {
         if name.as_str() == "show" {
