@@ -31,13 +31,13 @@ decode_append table mid after (block stream end octets ∷ items) others (fields
 pub represent_alone : (blocks : Blocks) (gather : GatherState) (frame passed : Frame)
     (frames : List Frame)
     → ((so_far : List Frame) (items : List Item) → GatherRepresents blocks.gather so_far items
-      → GatherRepresents gather (so_far ++ frame ∷ []) (items ++ alone passed ∷ []))
+    → GatherRepresents gather (so_far ++ frame ∷ []) (items ++ alone passed ∷ []))
     → BlocksRepresent blocks frames
     → BlocksRepresent (record { gather = gather; decoder = blocks.decoder }) (frames ++ frame ∷ [])
 represent_alone blocks gather frame passed frames continues represents =
     let decoded = represents.decoded in
     let after = continues frames decoded.items
-        (record { sound = represents.grouping; split = decoded.grouped }) in
+    (record { sound = represents.grouping; split = decoded.grouped }) in
     record {
       grouping = after.sound;
       decoding = represents.decoding;
@@ -54,13 +54,13 @@ represent_alone blocks gather frame passed frames continues represents =
 pub represent_more : (blocks : Blocks) (gather : GatherState) (frame : Frame)
     (frames : List Frame)
     → ((so_far : List Frame) (items : List Item) → GatherRepresents blocks.gather so_far items
-      → GatherRepresents gather (so_far ++ frame ∷ []) (items ++ []))
+    → GatherRepresents gather (so_far ++ frame ∷ []) (items ++ []))
     → BlocksRepresent blocks frames
     → BlocksRepresent (record { gather = gather; decoder = blocks.decoder }) (frames ++ frame ∷ [])
 represent_more blocks gather frame frames continues represents =
     let decoded = represents.decoded in
     let after = continues frames decoded.items
-        (record { sound = represents.grouping; split = decoded.grouped }) in
+    (record { sound = represents.grouping; split = decoded.grouped }) in
     record {
       grouping = after.sound;
       decoding = represents.decoding;
@@ -76,14 +76,14 @@ represent_more blocks gather frame frames continues represents =
 pub represent_block : (blocks new : Blocks) (gather : GatherState) (frame : Frame)
     (frames : List Frame) (stream : ℕ) (end : Bool) (octets : List ℕ) (list : FieldList)
     → ((so_far : List Frame) (items : List Item) → GatherRepresents blocks.gather so_far items
-      → GatherRepresents gather (so_far ++ frame ∷ []) (items ++ block stream end octets ∷ []))
+    → GatherRepresents gather (so_far ++ frame ∷ []) (items ++ block stream end octets ∷ []))
     → new.gather ≡ gather → Decodes blocks.decoder octets 65536 list new.decoder
     → BlocksRepresent blocks frames → BlocksRepresent new (frames ++ frame ∷ [])
 represent_block blocks new gather frame frames stream end octets list continues same decodes
     represents =
     let decoded = represents.decoded in
     let after = continues frames decoded.items
-        (record { sound = represents.grouping; split = decoded.grouped }) in
+    (record { sound = represents.grouping; split = decoded.grouped }) in
     let table : new.decoder.table ≡ decodes.after = rw decodes.state refl in
     record {
       grouping = rw same after.sound;
@@ -102,14 +102,14 @@ represent_block blocks new gather frame frames stream end octets list continues 
 misgrouped : (blocks : Blocks) (gather : GatherState) (frame : Frame) (frames : List Frame)
     (fault : BlockFault)
     → MatchOption blocks.gather.fault (GatherFaults blocks.gather frame fault gather)
-      (λ known. gather ≡ blocks.gather)
+    (λ known. gather ≡ blocks.gather)
     → BlocksRepresent blocks frames
     → EndsWithBlockError (frames ++ frame ∷ []) (block_fault_code fault)
 misgrouped blocks gather frame frames fault fails represents =
     let decoded = represents.decoded in
     let faults : GatherFaults blocks.gather frame fault gather =
     subst (λ (known : Option BlockFault). MatchOption known
-        (GatherFaults blocks.gather frame fault gather) (λ known. gather ≡ blocks.gather))
+    (GatherFaults blocks.gather frame fault gather) (λ known. gather ≡ blocks.gather))
     represents.grouping fails in
     inl (record {
       items = decoded.items;
@@ -138,7 +138,7 @@ grouping_error_reports blocks gather frame frames grouping.Memory fails represen
 pub decoding_error_reports : (blocks : Blocks) (gather : GatherState) (frame : Frame)
     (frames : List Frame) (stream : ℕ) (end : Bool) (octets : List ℕ) (error : BlockError)
     → ((so_far : List Frame) (items : List Item) → GatherRepresents blocks.gather so_far items
-      → GatherRepresents gather (so_far ++ frame ∷ []) (items ++ block stream end octets ∷ []))
+    → GatherRepresents gather (so_far ++ frame ∷ []) (items ++ block stream end octets ∷ []))
     → gather.begun ≡ None
     → (blocks.decoder.failed ≡ false → DecodingErrorReports blocks.decoder octets error)
     → BlocksRepresent blocks frames → BlockErrorReports (frames ++ frame ∷ []) error
@@ -148,7 +148,7 @@ decoding_error_reports blocks gather frame frames stream end octets (errors.Faul
     ended undecoded represents =
     let decoded = represents.decoded in
     let after = continues frames decoded.items
-        (record { sound = represents.grouping; split = decoded.grouped }) in
+    (record { sound = represents.grouping; split = decoded.grouped }) in
     let known = undecoded represents.decoding in
     inr (record {
       items = decoded.items;

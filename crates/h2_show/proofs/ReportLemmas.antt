@@ -2,7 +2,7 @@
 use Rattle.std.proofs.Common.{◌≡◌, ◌≢◌, ℕ, ◌+◌, ◌≤◌, ◌==◌, not, ◌&&◌, Bool, true, false, List, []}
 use Rattle.std.proofs.Common.{◌∷◌, ◌++◌, length, take, if◌then◌else◌, Option, Some, None, IfSome}
 use Rattle.std.proofs.Common.{subst, sym, ap, ◌∙◌, refl, arith, append_assoc, append-nil}
-use Rattle.std.proofs.Common.{length-append}
+use Rattle.std.proofs.Common.{length-append, Result, Ok, Err, IfOk}
 use Rattle.std.specs.Option.{is_some}
 use Rattle.std.specs.Io.KnownBytes.{Consumes, IsAtEnd}
 use Rattle.std.proofs.KnownBytes.{Consumes-trans, Consumes-whole}
@@ -18,6 +18,8 @@ use Rattle.h2_wire.specs.Cutter.{CutterState, CutterRepresents}
 use Rattle.h2_block.specs.Grouping.{Begun}
 use Rattle.h2_show.specs.declared.blocks.Blocks.{Blocks}
 use Rattle.h2_show.specs.declared.blocks.BlockError.TheVariants as errors
+use Rattle.h2_show.specs.declared.options.Side.{Side}
+use Rattle.h2_show.specs.declared.show.Shown.{Shown}
 use Rattle.h2_show.specs.declared.viewer.ShowError.{ShowError}
 use Rattle.h2_show.specs.declared.viewer.ShowError.TheVariants.{Wire, Block, Output}
 use Rattle.h2_show.specs.declared.status.Status.{Status}
@@ -27,24 +29,34 @@ use Rattle.h2_show.specs.Viewer.{ViewerRepresents, ViewerContinues, ShowErrorRep
 use Rattle.h2_show.specs.Viewer.{IsStreamFault, StatusReportsAfter}
 use Rattle.h2_show.specs.Report.{StatusReports, HasWireFaultAt, HasBlockErrorAt, IsAtFault}
 use Rattle.h2_show.specs.Report.{inside_frame, inside_block, wire_fault, block_error}
+use Rattle.h2_show.specs.Report.{StatusReportsOctets, begins_with_preface, first_limits}
 
 -- the status at the end of a stream without fault
 end_reports : (expects : Bool) (limits : Limits) (stream : List ℕ) (frames : List Frame)
     (unparsed : List ℕ) (begun : Option Begun) (table : Entries)
     → Frames expects limits stream frames unparsed → FramesDecode frames begun table
     → StatusReports expects limits stream
-      (if length unparsed == 0 && not (is_some begun) then Good else Fault)
+    (if length unparsed == 0 && not (is_some begun) then Good else Fault)
 end_reports expects limits stream frames [] None table reading decoded =
     record { frames = frames; table = table; reading = reading; decoded = decoded }
 end_reports expects limits stream frames [] (Some begun) table reading decoded =
     inside_block (record {
-      frames = frames; begun = begun; table = table; reading = reading; decoded = decoded
+      frames = frames;
+      begun = begun;
+      table = table;
+      reading = reading;
+      decoded = decoded;
     })
 end_reports expects limits stream frames (first ∷ others) begun table reading decoded =
     let some : (length (first ∷ others) == 0) ≡ false = grind (arith, nat_tests) in
     rw some (inside_frame (record {
-      frames = frames; unparsed = first ∷ others; begun = begun; table = table;
-      reading = reading; some = λ none. (cc); decoded = decoded
+      frames = frames;
+      unparsed = first ∷ others;
+      begun = begun;
+      table = table;
+      reading = reading;
+      some = λ none. (cc);
+      decoded = decoded;
     }))
 
 -- the status at the end of the input reports all octets
@@ -53,7 +65,7 @@ pub end_reports_after : (expects : Bool) (limits : Limits) (cutter new_cutter : 
     → ViewerRepresents cutter blocks expects limits stream
     → ViewerContinues cutter blocks octets new_cutter new_blocks
     → status ≡ (if length new_cutter.rest == 0 && not (is_some new_blocks.gather.begun)
-      then Good else Fault)
+    then Good else Fault)
     → StatusReports expects limits (stream ++ octets) status
 end_reports_after expects limits cutter new_cutter blocks new_blocks stream octets status
     represents continues known =
@@ -140,7 +152,7 @@ pub end_reports_all : (cutter new_cutter : CutterState) (blocks new_blocks : Blo
     → Consumes before mid octets → Consumes mid after (take count buffer) → count ≡ 0
     → IsAtEnd after → ViewerContinues cutter blocks octets new_cutter new_blocks
     → status ≡ (if length new_cutter.rest == 0 && not (is_some new_blocks.gather.begun)
-      then Good else Fault)
+    then Good else Fault)
     → IfSome before (λ all. StatusReportsAfter cutter blocks all status)
 end_reports_all cutter new_cutter blocks new_blocks before mid after octets buffer count status
     first none zero end continues known =
@@ -150,8 +162,8 @@ end_reports_all cutter new_cutter blocks new_blocks before mid after octets buff
     (subst (λ (n : ℕ). Consumes mid after (take n buffer)) zero none)) in
     Consumes-whole before after octets (λ all. StatusReportsAfter cutter blocks all status) all end
     (λ expects limits stream represents.
-      end_reports_after expects limits cutter new_cutter blocks new_blocks stream octets status
-      represents continues known)
+    end_reports_after expects limits cutter new_cutter blocks new_blocks stream octets status
+    represents continues known)
 
 -- the status of an error in a piece reports all octets that the reader had
 pub error_reports_all : (cutter mid_cutter new_cutter : CutterState) (blocks mid_blocks : Blocks)
@@ -169,11 +181,23 @@ error_reports_all cutter mid_cutter new_cutter blocks mid_blocks (Some all) (Som
     piece error status read continues fails known =
     λ expects limits stream represents.
     let found = fault_reports expects limits ((stream ++ octets) ++ piece) left error new_cutter
-        (fails expects limits (stream ++ octets) (continues expects limits stream represents))
-        known.1 in
+    (fails expects limits (stream ++ octets) (continues expects limits stream represents))
+    known.1 in
     let same : ((stream ++ octets) ++ piece) ++ left ≡ stream ++ all =
     ap (λ (prefix : List ℕ). prefix ++ left) (append_assoc stream octets piece)
     ∙ append_assoc stream (octets ++ piece) left
     ∙ ap (λ (after : List ℕ). stream ++ after) (sym read) in
     subst (λ (reported : Status). StatusReports expects limits (stream ++ all) reported)
     (sym known.0) (subst (IsAtFault expects limits) same found)
+
+-- after no octets the status reports the octets alone
+pub octets_reported : {E : Type 0} (from : Side) (cutter : CutterState) (blocks : Blocks)
+    (before : Option (List ℕ)) (result : Result Shown E)
+    → ViewerRepresents cutter blocks (begins_with_preface from) first_limits []
+    → IfOk result (λ shown. IfSome before
+    (λ octets. StatusReportsAfter cutter blocks octets shown.status))
+    → IfOk result (λ shown. IfSome before (λ octets. StatusReportsOctets from octets shown.status))
+octets_reported from cutter blocks before (Err error) represents reported = tt
+octets_reported from cutter blocks None (Ok shown) represents reported = tt
+octets_reported from cutter blocks (Some octets) (Ok shown) represents reported =
+    reported (begins_with_preface from) first_limits [] represents

@@ -48,7 +48,7 @@ used_within piece done used within unused =
 -- a prefix of the piece, and a prefix of what follows it, are a prefix of the piece
 prefix_append : (piece : List ℕ) (done used : ℕ)
     → take done piece ++ take used (take (length piece - done) (drop done piece))
-      ≡ take (done + used) piece
+    ≡ take (done + used) piece
 prefix_append piece done used =
     ap (λ (unused : List ℕ). take done piece ++ take used unused) (take_rest piece done)
     ∙ sym (take-add done used piece)
@@ -57,7 +57,7 @@ prefix_append piece done used =
 step_continues : (cutter new_cutter : CutterState) (blocks new_blocks : Blocks) (used : List ℕ)
     (frames : List Frame) → CutterContinues cutter used frames new_cutter
     → ((so_far : List Frame) → BlocksRepresent blocks so_far
-      → BlocksRepresent new_blocks (so_far ++ frames))
+    → BlocksRepresent new_blocks (so_far ++ frames))
     → ViewerContinues cutter blocks used new_cutter new_blocks
 step_continues cutter new_cutter blocks new_blocks used frames continues blocks_continue expects
     limits stream represents =
@@ -76,7 +76,7 @@ pub continues_without_frame : (cutter mid_cutter new_cutter : CutterState)
 continues_without_frame cutter mid_cutter new_cutter blocks mid_blocks piece done cut continues
     none advances =
     let cuts : CutterContinues mid_cutter
-        (take cut.used (take (length piece - done) (drop done piece))) [] new_cutter =
+    (take cut.used (take (length piece - done) (drop done piece))) [] new_cutter =
     rw none at advances.goes_on in
     subst (λ (octets : List ℕ). ViewerContinues cutter blocks octets new_cutter mid_blocks)
     (prefix_append piece done cut.used)
@@ -94,13 +94,13 @@ pub continues_with_frame : (cutter mid_cutter new_cutter : CutterState)
     → cut.frame ≡ Some frame
     → CutterAdvances mid_cutter (take (length piece - done) (drop done piece)) cut new_cutter
     → ((so_far : List Frame) → BlocksRepresent mid_blocks so_far
-      → BlocksRepresent new_blocks (so_far ++ frame_of frame ∷ []))
+    → BlocksRepresent new_blocks (so_far ++ frame_of frame ∷ []))
     → ViewerContinues cutter blocks (take (done + cut.used) piece) new_cutter new_blocks
 continues_with_frame cutter mid_cutter new_cutter blocks mid_blocks new_blocks piece done cut frame
     continues some advances blocks_continue =
     let cuts : CutterContinues mid_cutter
-        (take cut.used (take (length piece - done) (drop done piece)))
-        (frame_of frame ∷ []) new_cutter =
+    (take cut.used (take (length piece - done) (drop done piece)))
+    (frame_of frame ∷ []) new_cutter =
     rw some at advances.goes_on in
     subst (λ (octets : List ℕ). ViewerContinues cutter blocks octets new_cutter new_blocks)
     (prefix_append piece done cut.used)
@@ -112,7 +112,7 @@ continues_with_frame cutter mid_cutter new_cutter blocks mid_blocks new_blocks p
 -- a stream, a prefix of the piece, and what follows it
 stream_and_piece : (stream piece : List ℕ) (done : ℕ)
     → (stream ++ take done piece) ++ take (length piece - done) (drop done piece)
-      ≡ stream ++ piece
+    ≡ stream ++ piece
 stream_and_piece stream piece done =
     append_assoc stream (take done piece) _
     ∙ ap (λ (unused : List ℕ). stream ++ (take done piece ++ unused)) (take_rest piece done)
@@ -125,7 +125,7 @@ faults_of_sound : (fault : WireFault) (mid new : CutterState) (unused : List ℕ
     → CutterFaults mid unused fault new
 faults_of_sound fault mid new unused sound fails =
     subst (λ (known : Option WireFault).
-        MatchOption known (CutterFaults mid unused fault new) (λ known. new ≡ mid))
+    MatchOption known (CutterFaults mid unused fault new) (λ known. new ≡ mid))
     sound fails
 
 -- a fault in what follows a prefix of the piece is one of the stream with the piece
@@ -133,8 +133,8 @@ wire_fault_reports : (fault : WireFault) (cutter mid_cutter new_cutter : CutterS
     (blocks mid_blocks : Blocks) (piece : List ℕ) (done : ℕ)
     → ViewerContinues cutter blocks (take done piece) mid_cutter mid_blocks
     → MatchOption mid_cutter.fault
-      (CutterFaults mid_cutter (take (length piece - done) (drop done piece)) fault new_cutter)
-      (λ known. new_cutter ≡ mid_cutter)
+    (CutterFaults mid_cutter (take (length piece - done) (drop done piece)) fault new_cutter)
+    (λ known. new_cutter ≡ mid_cutter)
     → (expects : Bool) (limits : Limits) (stream : List ℕ)
     → ViewerRepresents cutter blocks expects limits stream
     → WireFaultReports expects limits (stream ++ piece) fault new_cutter
@@ -142,7 +142,7 @@ wire_fault_reports fault cutter mid_cutter new_cutter blocks mid_blocks piece do
     expects limits stream represents =
     let after = continues expects limits stream represents in
     let faults = faults_of_sound fault mid_cutter new_cutter
-        (take (length piece - done) (drop done piece)) after.cut.sound fails in
+    (take (length piece - done) (drop done piece)) after.cut.sound fails in
     let found = faults.at expects limits (stream ++ take done piece) after.frames after.cut in (
       found.0,
       record {
@@ -196,7 +196,7 @@ pub fails_at_frame : (error : BlockError) (cutter mid_cutter new_cutter : Cutter
     → CutterAdvances mid_cutter (take (length piece - done) (drop done piece)) cut new_cutter
     → done + cut.used ≤ length piece
     → ((so_far : List Frame) → BlocksRepresent mid_blocks so_far
-      → BlockErrorReports (so_far ++ frame_of frame ∷ []) error)
+    → BlockErrorReports (so_far ++ frame_of frame ∷ []) error)
     → ViewerFails cutter blocks piece (Block error) new_cutter
 fails_at_frame errors.Memory cutter mid_cutter new_cutter blocks mid_blocks piece done cut frame
     continues some advances within reports = λ expects limits stream represents. tt
@@ -205,13 +205,13 @@ fails_at_frame (errors.Fault code) cutter mid_cutter new_cutter blocks mid_block
     λ expects limits stream represents.
     let after = continues expects limits stream represents in
     let cuts : CutterContinues mid_cutter
-        (take cut.used (take (length piece - done) (drop done piece)))
-        (frame_of frame ∷ []) new_cutter =
+    (take cut.used (take (length piece - done) (drop done piece)))
+    (frame_of frame ∷ []) new_cutter =
     rw some at advances.goes_on in
     let prefix : List ℕ = stream ++ take (done + cut.used) piece in
     let frames : List Frame = after.frames ++ frame_of frame ∷ [] in
     let same : (stream ++ take done piece)
-        ++ take cut.used (take (length piece - done) (drop done piece)) ≡ prefix =
+    ++ take cut.used (take (length piece - done) (drop done piece)) ≡ prefix =
     append_assoc stream (take done piece) _
     ∙ ap (λ (octets : List ℕ). stream ++ octets) (prefix_append piece done cut.used) in
     let cut_after : CutterRepresents new_cutter expects limits prefix frames =

@@ -36,10 +36,10 @@ ItemsDecode table (block stream end octets ∷ items) after =
 
 -- The frames group, all their blocks decode, and `begun` has begun after them.
 pub record FramesDecode (frames : List Frame) (begun : Option Begun) (table : Entries) : Type 0
-    where
-  pub items : List Item
-  pub grouped : Groups frames items begun
-  pub decoded : ItemsDecode first_table items table
+  where
+    pub items : List Item
+    pub grouped : Groups frames items begun
+    pub decoded : ItemsDecode first_table items table
 
 -- The last of the frames doesn't group; those preceding it group, and their blocks decode.
 pub record IsMisgrouped (frames : List Frame) (code : Code) : Type 0 where

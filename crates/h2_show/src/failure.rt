@@ -1,12 +1,12 @@
 //! Why a command fails.
 
 ghost use Rattle.std.specs.Prelude.{◌≡◌, ◌≢◌};
+ghost use Rattle.h2_show.specs.declared.failure.Failure.TheVariants.{BadHex};
 ghost use Rattle.h2_show.specs.Hexadecimal.{failure_of_text};
 ghost use Rattle.h2_show.specs.Status.{failure_status};
 
 use crate::hexadecimal::HexError;
 use crate::status::Status;
-use std::alloc::AllocError;
 use std::io;
 use thiserror::Error;
 
@@ -38,7 +38,7 @@ impl Failure {
 }
 
 impl From<io::Error> for Failure {
-    ghost from_gives = { λ error failure. failure ≢ Failure.BadHex };
+    ghost from_gives = { λ error failure. failure ≢ BadHex };
 
     fn from(error: io::Error) -> Failure {
         match error.kind() {

@@ -1,5 +1,7 @@
 //! Frames and fields as lines of text.
 
+ghost use Rattle.std.specs.Prelude.{◌<◌};
+
 use h2_frame::{FrameRef, Pairs};
 use hpack::{Field, List};
 use std::fmt;
@@ -11,11 +13,11 @@ const PAIR: usize = 6;
 /// The octets of a priority (RFC 9113, section 6.3).
 const PRIORITY: usize = 5;
 
-/// The octets of GOAWAY before those for whoever looks for the cause (RFC 9113, section 6.8).
+/// The octets of GOAWAY preceding its debug data (RFC 9113, section 6.8).
 const GOAWAY: usize = 8;
 
-/// The line of a frame, without its end: the kind, the stream, the octets of the payload, and then what the kind tells.
-/// The words are divided by one space, and numbers are decimal.
+/// The line of a frame, without its end: the kind, the stream, the octets of the payload, and then
+/// what the kind adds. The words are divided by one space, and numbers are decimal.
 #[derive(Clone, Copy)]
 pub(crate) struct FrameLine<'a>(pub(crate) FrameRef<'a>);
 
@@ -148,7 +150,8 @@ pub(crate) fn write_list<W: Write>(list: &List, out: &mut W) -> io::Result<()> {
     Ok(())
 }
 
-// Prints the line of a field: two spaces, `!` where it is never indexed, the name, a colon and a space, and the value.
+// Prints the line of a field: two spaces, `!` where it is never indexed, the name, a colon and a
+// space, and the value.
 fn write_field<W: Write>(field: &Field, out: &mut W) -> io::Result<()> {
     out.write_all(if field.sensitive { b"  !" } else { b"  " })?;
     write_text(field.name.as_slice(), out)?;
@@ -157,11 +160,14 @@ fn write_field<W: Write>(field: &Field, out: &mut W) -> io::Result<()> {
     out.write_all(b"\n")
 }
 
-// Prints octets as text: those that aren't printable ASCII, and the backslash, as `\x` and two hexadecimal digits.
+// Prints octets as text: those that aren't printable ASCII, and the backslash, escaped.
 fn write_text<W: Write>(octets: &[u8], out: &mut W) -> io::Result<()> {
-    for run in octets.chunk_by(|one, other| is_plain(*one) && is_plain(*other)) {
-        match run {
-            [octet] if !is_plain(*octet) => write!(out, "\\x{octet:02x}")?,
+    for run in octets.split_inclusive(|octet| !is_plain(*octet)) {
+        match run.split_last() {
+            Some((last, plain)) if !is_plain(*last) => {
+                out.write_all(plain)?;
+                out.write_all(&escaped(*last))?;
+            }
             _ => out.write_all(run)?,
         }
     }
@@ -171,4 +177,20 @@ fn write_text<W: Write>(octets: &[u8], out: &mut W) -> io::Result<()> {
 // Whether an octet is printed as it is.
 fn is_plain(octet: u8) -> bool {
     (0x20..=0x7e).contains(&octet) && octet != b'\\'
+}
+
+// An octet as `\x` and two hexadecimal digits.
+fn escaped(octet: u8) -> [u8; 4] {
+    [b'\\', b'x', digit(octet / 16), digit(octet % 16)]
+}
+
+// A number as a hexadecimal digit.
+fn digit(number: u8) -> u8
+    requires { number < 16 }
+{
+    if number < 10 {
+        b'0' + number
+    } else {
+        b'a' + (number - 10)
+    }
 }

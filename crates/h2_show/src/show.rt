@@ -158,8 +158,7 @@ fn write_piece<W: Write + Drop>(
     ensures written { OnOk result (writer_buffer lines.new ≡ []) }
 {
     viewer.show_piece(piece, lines)?;
-    lines.flush()?;
-    Ok(())
+    Ok(lines.flush()?)
 }
 
 // Shows octets in hexadecimal, whose text is read to its end first.
@@ -181,12 +180,7 @@ fn show_hex<R: Read, W: Write>(
 }
 
 // Shows the octets that an end sent, all at once.
-fn show_all<W: Write>(
-    alloc: Global,
-    from: Side,
-    octets: &[u8],
-    out: &mut W,
-) -> io::Result<Shown>
+fn show_all<W: Write>(alloc: Global, from: Side, octets: &[u8], out: &mut W) -> io::Result<Shown>
     ensures { IfOk result (λ shown. StatusReportsOctets from octets.now shown.status) }
 {
     let mut viewer = Viewer::new(alloc, from)?;

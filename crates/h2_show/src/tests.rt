@@ -1,87 +1,98 @@
 //! Tests of what is shown, in memory.
 
+mod cases;
 mod devices;
 mod examples;
+mod failing;
+mod hints;
 mod long;
-mod rows;
 
-use crate::{Failure, ShowOptions, Side, Status, from_hex, show_input};
-use devices::{Faulty, Pieces};
+use crate::{Failure, ShowOptions, Shown, Side, Status, from_hex, show_input};
+use cases::{CASES, Case};
+use devices::Pieces;
 use examples::EXAMPLES;
-use rows::{ROWS, Row};
 use std::alloc::Global;
-use std::io::ErrorKind;
 use std::process::Abort;
 use std::test::Fail;
 
-const FROM_CLIENT: ShowOptions = ShowOptions {
-    hex: false,
-    from: Side::Client,
-};
+fn options_of(hex: bool, from: Side) -> ShowOptions {
+    ShowOptions { hex, from }
+}
 
-fn text_of(alloc: Global, parts: &[&str]) -> Result<String, Fail> {
+fn status_of(shown: Result<Shown, Failure>) -> Result<Status, Failure> {
+    Ok(shown?.status)
+}
+
+// The octets of a case.
+fn octets_of(alloc: Global, case: &Case<'_>) -> Result<Vec<u8>, Fail> {
+    let text = text_of(alloc, case.octets, "")?;
+    Ok(from_hex(alloc, text.as_bytes())?)
+}
+
+// The parts, each with this end.
+fn text_of(alloc: Global, parts: &[&str], end: &str) -> Result<String, Fail> {
     let mut text = String::new(alloc);
     for part in parts {
         text.push_str(part)?;
+        text.push_str(end)?;
     }
     Ok(text)
 }
 
-// Runs a row from its octets, cut in the pieces that are given.
-fn run_row(
+// Runs a case from its octets, cut in the pieces that are given.
+fn run_case(
     rt: &(impl Abort + AllocGlobal),
-    row: &Row<'_>,
+    case: &Case<'_>,
     mut input: Pieces<'_>,
 ) -> Result<(), Fail> {
-    let options = ShowOptions {
-        hex: false,
-        from: row.from,
-    };
     let mut out = Vec::new(rt.alloc());
-    let status = show_input(rt.alloc(), options, &mut input, &mut out);
-    assert_eq!(rt; out.as_slice(), row.lines.as_bytes());
-    assert_eq!(rt; status, Ok(row.status));
+    let shown = show_input(
+        rt.alloc(),
+        options_of(false, case.from),
+        &mut input,
+        &mut out,
+    );
+    let lines = text_of(rt.alloc(), case.lines, "\n")?;
+    assert_eq!(rt; out.as_slice(), lines.as_bytes());
+    assert_eq!(rt; status_of(shown), Ok(case.status));
     Ok(())
 }
 
 #[test]
-fn rows_however_cut(rt: HostRuntime) -> Result<(), Fail> {
-    for row in ROWS.iter().chain(&EXAMPLES) {
-        let text = text_of(rt.alloc(), row.octets)?;
-        let octets = from_hex(rt.alloc(), text.as_bytes())?;
-        run_row(&rt, row, Pieces::new(&octets, usize::MAX, usize::MAX))?;
-        run_row(&rt, row, Pieces::new(&octets, 1, 1))?;
+fn cases_however_cut(rt: HostRuntime) -> Result<(), Fail> {
+    for case in CASES.iter().chain(&EXAMPLES) {
+        let octets = octets_of(rt.alloc(), case)?;
+        run_case(&rt, case, Pieces::new(&octets, usize::MAX, usize::MAX))?;
+        run_case(&rt, case, Pieces::new(&octets, 1, 1))?;
         for place in 1..octets.len() {
-            run_row(&rt, row, Pieces::new(&octets, place, usize::MAX))?;
+            run_case(&rt, case, Pieces::new(&octets, place, usize::MAX))?;
         }
     }
     Ok(())
 }
 
 #[test]
-fn rows_in_hexadecimal(rt: HostRuntime) -> Result<(), Fail> {
-    for row in ROWS.iter().chain(&EXAMPLES) {
-        let text = text_of(rt.alloc(), row.octets)?;
-        let options = ShowOptions {
-            hex: true,
-            from: row.from,
-        };
+fn cases_in_hexadecimal(rt: HostRuntime) -> Result<(), Fail> {
+    for case in CASES.iter().chain(&EXAMPLES) {
+        let text = text_of(rt.alloc(), case.octets, "\n")?;
+        let lines = text_of(rt.alloc(), case.lines, "\n")?;
         let mut out = Vec::new(rt.alloc());
         let mut input = Pieces::new(text.as_bytes(), 7, 11);
-        let status = show_input(rt.alloc(), options, &mut input, &mut out);
-        assert_eq!(rt; out.as_slice(), row.lines.as_bytes());
-        assert_eq!(rt; status, Ok(row.status));
+        let shown = show_input(
+            rt.alloc(),
+            options_of(true, case.from),
+            &mut input,
+            &mut out,
+        );
+        assert_eq!(rt; out.as_slice(), lines.as_bytes());
+        assert_eq!(rt; status_of(shown), Ok(case.status));
     }
     Ok(())
 }
 
 #[test]
 fn hexadecimal_text(rt: HostRuntime) -> Result<(), Fail> {
-    let options = ShowOptions {
-        hex: true,
-        from: Side::Server,
-    };
-    let rows = [
+    let cases = [
         (
             "000000\t42 00\r\n00000000\n",
             "KIND66 0 0 flags=0\n",
@@ -95,72 +106,19 @@ fn hexadecimal_text(rt: HostRuntime) -> Result<(), Fail> {
         ("0000004200000000000", "", Err(Failure::BadHex)),
         ("00000042000000000g", "", Err(Failure::BadHex)),
     ];
-    for (text, lines, status) in &rows {
+    for (text, lines, status) in &cases {
         let mut out = Vec::new(rt.alloc());
         let mut input = Pieces::new(text.as_bytes(), 5, usize::MAX);
-        let ended = show_input(rt.alloc(), options, &mut input, &mut out);
+        let options = options_of(true, Side::Server);
+        let shown = show_input(rt.alloc(), options, &mut input, &mut out);
         assert_eq!(rt; out.as_slice(), lines.as_bytes());
-        assert_eq!(rt; ended, *status);
-    }
-    Ok(())
-}
-
-// Runs the first row one octet a piece with a fault of the reader or the writer, and looks at what comes of it.
-fn run_faulty(
-    rt: &(impl Abort + AllocGlobal),
-    reads: usize,
-    writes: usize,
-) -> Result<Result<Status, Failure>, Fail> {
-    let row = &ROWS[0];
-    let text = text_of(rt.alloc(), row.octets)?;
-    let octets = from_hex(rt.alloc(), text.as_bytes())?;
-    let mut input = Faulty::new(Pieces::new(&octets, 1, 1), reads, ErrorKind::Other);
-    let mut out = Faulty::new(Vec::new(rt.alloc()), writes, ErrorKind::Other);
-    let status = show_input(rt.alloc(), FROM_CLIENT, &mut input, &mut out);
-    let printed = out.inner.as_slice();
-    assert!(rt;
-        row.lines.as_bytes().starts_with(printed),
-        "reads {reads}, writes {writes}"
-    );
-    if status.is_ok() {
-        assert_eq!(rt; printed, row.lines.as_bytes());
-    }
-    Ok(status)
-}
-
-#[test]
-fn devices_that_fail(rt: HostRuntime) -> Result<(), Fail> {
-    // The octets are 58, and the end is read too.
-    for reads in 0..59 {
-        assert_eq!(rt; run_faulty(&rt, reads, usize::MAX)?, Err(Failure::Device));
-    }
-    assert_eq!(rt; run_faulty(&rt, 59, usize::MAX)?, Ok(Status::Good));
-    // Three lines are written.
-    for writes in 0..3 {
-        assert_eq!(rt; run_faulty(&rt, usize::MAX, writes)?, Err(Failure::Device));
-    }
-    assert_eq!(rt; run_faulty(&rt, usize::MAX, 3)?, Ok(Status::Good));
-    Ok(())
-}
-
-#[test]
-fn interrupted_reads(rt: HostRuntime) -> Result<(), Fail> {
-    let row = &ROWS[0];
-    let text = text_of(rt.alloc(), row.octets)?;
-    let octets = from_hex(rt.alloc(), text.as_bytes())?;
-    for reads in 0..4 {
-        let pieces = Pieces::new(&octets, 20, 20);
-        let mut input = Faulty::new(pieces, reads, ErrorKind::Interrupted);
-        let mut out = Vec::new(rt.alloc());
-        let status = show_input(rt.alloc(), FROM_CLIENT, &mut input, &mut out);
-        assert_eq!(rt; out.as_slice(), row.lines.as_bytes());
-        assert_eq!(rt; status, Ok(Status::Good));
+        assert_eq!(rt; status_of(shown), *status);
     }
     Ok(())
 }
 
 #[test]
-fn codes(rt: HostRuntime) {
+fn exit_codes(rt: HostRuntime) {
     let codes = [
         (Status::Good, 0),
         (Status::Fault, 1),

@@ -1,7 +1,7 @@
 //! The commands of the program `h2`.
 //!
-//! [`run`] takes the words of a command line and answers with the status that the program ends with. A command reads from
-//! a reader and prints to two writers, so tests run it in memory.
+//! [`run`] takes the words of a command line and answers the status that the program ends with. A
+//! command reads from a reader and prints to two writers, so tests run it in memory.
 #![tactic(auto)]
 
 mod args;

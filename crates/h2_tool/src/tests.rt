@@ -1,13 +1,14 @@
 //! Tests of the commands, in memory.
 
-use crate::{cmd_show, run};
+use crate::{cmd_show, no_words, run};
 use h2_show::Status;
 use std::alloc::Global;
-use std::io::{self, ErrorKind, Read};
+use std::io::{self, ErrorKind, Read, Write};
 use std::process::Abort;
 use std::test::Fail;
 
-// A reader that fails.
+// A reader and a writer that fail.
+#[derive(Drop)]
 struct Failing;
 
 impl Read for Failing {
@@ -16,124 +17,239 @@ impl Read for Failing {
     }
 }
 
-fn words(alloc: Global, texts: &[&str]) -> Result<Vec<String>, Fail> {
+impl Write for Failing {
+    fn write(&mut self, _buf: &[u8]) -> io::Result<usize> {
+        Err(io::Error::from(ErrorKind::Other))
+    }
+
+    fn flush(&mut self) -> io::Result<()> {
+        Ok(())
+    }
+}
+
+// The words of a line, divided by one space.
+fn words_of(alloc: Global, line: &str) -> Result<Vec<String>, Fail> {
     let mut words = Vec::new(alloc);
-    for text in texts {
-        words.push(String::from_str(alloc, text)?)?;
+    for word in line.split(' ') {
+        if !word.is_empty() {
+            words.push(String::from_str(alloc, word)?)?;
+        }
     }
     Ok(words)
 }
 
-// What a text begins with, and how the program ends, for words that order nothing. The input fails at its first read.
+// What a text begins with, and how the program ends, for words that give no options. The input
+// fails at its first read.
 #[test]
-fn words_are_judged_first(rt: HostRuntime) -> Result<(), Fail> {
-    let rows = [
+fn words_are_checked_first(rt: HostRuntime) -> Result<(), Fail> {
+    let show = "Prints the frames of a stream and the header fields of its blocks\n\n\
+        Usage: h2 show [OPTIONS] < FILE\n";
+    let cases = [
+        ("show --help", show, "", Status::Good),
+        ("show -h", show, "", Status::Good),
+        ("help show", show, "", Status::Good),
         (
-            ["show", "--help", ""],
-            "Prints the frames of standard input",
+            "--help",
+            "Shows streams of HTTP/2 over cleartext\n",
             "",
             Status::Good,
         ),
+        ("--version", "h2 0.1.0\n", "", Status::Good),
         (
-            ["--help", "", ""],
-            "Shows streams of HTTP/2 over cleartext",
             "",
-            Status::Good,
-        ),
-        (["--version", "", ""], "h2 0.1.0\n", "", Status::Good),
-        (
-            ["help", "show", ""],
-            "Prints the frames of standard input, one line each, and the header fields under each block\n\nUsage: h2 show",
             "",
-            Status::Good,
-        ),
-        (
-            ["", "", ""],
-            "",
-            "Shows streams of HTTP/2 over cleartext",
+            "Shows streams of HTTP/2 over cleartext\n",
             Status::Usage,
         ),
         (
-            ["nonsense", "", ""],
+            "nonsense",
             "",
             "error: unrecognized subcommand 'nonsense'\n",
             Status::Usage,
         ),
         (
-            ["show", "nonsense", ""],
+            "show file.hex",
             "",
-            "error: unexpected argument 'nonsense' found\n",
+            "error: unexpected argument 'file.hex' found\n\nUsage: h2 show [OPTIONS] < FILE\n",
             Status::Usage,
         ),
         (
-            ["show", "--from", "x"],
+            "show --from x",
             "",
             "error: invalid value 'x' for '--from <SIDE>'\n",
             Status::Usage,
         ),
         (
-            ["show", "--hex", "--hex"],
+            "show --hex --hex",
             "",
             "error: the argument '--hex' cannot be used multiple times\n",
             Status::Usage,
         ),
     ];
-    for (texts, shown, error, status) in &rows {
-        let all = words(rt.alloc(), texts)?;
-        let count = texts.iter().filter(|text| !text.is_empty()).count();
-        let given = all.get(..count).ok_or("fewer words")?;
+    for (line, shown, error, status) in &cases {
+        let words = words_of(rt.alloc(), line)?;
         let mut out = Vec::new(rt.alloc());
         let mut err = Vec::new(rt.alloc());
-        let ended = run(rt.alloc(), given, &mut Failing, &mut out, &mut err);
+        let ended = run(
+            rt.alloc(),
+            words.as_slice(),
+            &mut Failing,
+            &mut out,
+            &mut err,
+        );
         assert!(rt;
             out.starts_with(shown.as_bytes()) && (out.is_empty() == shown.is_empty()),
-            "out at {shown}"
+            "out at {line}"
         );
         assert!(rt;
             err.starts_with(error.as_bytes()) && (err.is_empty() == error.is_empty()),
-            "err at {error}"
+            "err at {line}"
         );
         assert_eq!(rt; ended, *status);
     }
     Ok(())
 }
 
+// Each line of the help fits 80 columns, and has what the lines mean.
 #[test]
-fn texts_of_failures(rt: HostRuntime) -> Result<(), Fail> {
-    let words = words(rt.alloc(), &["--hex"])?;
+fn help_fits_80_columns(rt: HostRuntime) -> Result<(), Fail> {
+    for line in ["show --help", "--help"] {
+        let words = words_of(rt.alloc(), line)?;
+        let mut out = Vec::new(rt.alloc());
+        let mut err = Vec::new(rt.alloc());
+        run(
+            rt.alloc(),
+            words.as_slice(),
+            &mut Failing,
+            &mut out,
+            &mut err,
+        );
+        let help = String::from_utf8(out)?;
+        for text in help.lines() {
+            assert!(rt; text.chars().count() <= 80, "{text}");
+        }
+        if line == "show --help" {
+            let parts = [
+                "!",
+                r"\x00",
+                "fault",
+                "rest",
+                "N1 Device",
+                "N3 Memory",
+                "Example:",
+            ];
+            for part in &parts {
+                assert!(rt; help.contains(*part), "{part}");
+            }
+        }
+    }
+    Ok(())
+}
+
+// Where the text of wrong words can't be written the status is that of a device.
+#[test]
+fn texts_that_cannot_be_written(rt: HostRuntime) -> Result<(), Fail> {
+    for line in [
+        "",
+        "nonsense",
+        "show file.hex",
+        "--help",
+        "show --help",
+        "--version",
+    ] {
+        let words = words_of(rt.alloc(), line)?;
+        let ended = run(
+            rt.alloc(),
+            words.as_slice(),
+            &mut Failing,
+            &mut Failing,
+            &mut Failing,
+        );
+        assert_eq!(rt; ended, Status::Device, "{line}");
+    }
+    Ok(())
+}
+
+#[test]
+fn words_that_cannot_be_had(rt: HostRuntime) -> Result<(), Fail> {
+    let cases = [
+        (
+            ErrorKind::InvalidData,
+            "error: a word isn't UTF-8\n",
+            Status::Usage,
+            Status::Device,
+        ),
+        (
+            ErrorKind::OutOfMemory,
+            "N3 Memory\n",
+            Status::Memory,
+            Status::Memory,
+        ),
+    ];
+    for (kind, text, status, unwritten) in &cases {
+        let error = io::Error::from(*kind);
+        let mut err = Vec::new(rt.alloc());
+        assert_eq!(rt; no_words(&error, &mut err), *status);
+        assert_eq!(rt; err.as_slice(), text.as_bytes());
+        assert_eq!(rt; no_words(&error, &mut Failing), *unwritten);
+    }
+    Ok(())
+}
+
+// Lines, standard error and the status, where the input is one of these texts.
+#[test]
+fn shown_texts(rt: HostRuntime) -> Result<(), Fail> {
+    let hexadecimal = "hint: the input looks like hexadecimal text: try --hex\n";
+    let server = "hint: the input begins with no client's preface: try --from server\n";
+    let fault = "fault PROTOCOL_ERROR at 1\n";
+    let cases = [
+        ("show", "50", fault, hexadecimal, Status::Fault),
+        ("show --from client", "50g", fault, server, Status::Fault),
+        ("show --hex", "00", fault, server, Status::Fault),
+        ("show --hex", "50", "rest 1\n", "", Status::Fault),
+        (
+            "show --hex --from=server",
+            "50",
+            "rest 1\n",
+            "",
+            Status::Fault,
+        ),
+        ("show --from=server", "50", "rest 2\n", "", Status::Fault),
+        ("show", "", "", "", Status::Good),
+        ("show --hex", "0g", "", "bad hex\n", Status::Usage),
+    ];
+    for (line, text, lines, error, status) in &cases {
+        let words = words_of(rt.alloc(), line)?;
+        let mut out = Vec::new(rt.alloc());
+        let mut err = Vec::new(rt.alloc());
+        let mut input = text.as_bytes();
+        let ended = run(rt.alloc(), words.as_slice(), &mut input, &mut out, &mut err);
+        assert_eq!(rt; out.as_slice(), lines.as_bytes());
+        assert_eq!(rt; err.as_slice(), error.as_bytes());
+        assert_eq!(rt; ended, *status);
+        // A standard error that fails changes nothing of the rest.
+        let mut out = Vec::new(rt.alloc());
+        let mut input = text.as_bytes();
+        let ended = run(
+            rt.alloc(),
+            words.as_slice(),
+            &mut input,
+            &mut out,
+            &mut Failing,
+        );
+        assert_eq!(rt; out.as_slice(), lines.as_bytes());
+        assert_eq!(rt; ended, *status);
+    }
+    Ok(())
+}
+
+#[test]
+fn failing_input(rt: HostRuntime) -> Result<(), Fail> {
     let mut out = Vec::new(rt.alloc());
-    let mut err = Vec::new(rt.alloc());
-    let mut input = b"0g".as_slice();
-    let status = cmd_show(rt.alloc(), words.as_slice(), &mut input, &mut out, &mut err);
-    assert_eq!(rt; status, Status::Usage);
-    assert_eq!(rt; err.as_slice(), b"bad hex\n".as_slice());
     let mut err = Vec::new(rt.alloc());
     let status = cmd_show(rt.alloc(), &[], &mut Failing, &mut out, &mut err);
     assert_eq!(rt; status, Status::Device);
     assert_eq!(rt; err.as_slice(), b"N1 Device\n".as_slice());
     assert_eq!(rt; out.as_slice(), b"".as_slice());
-    Ok(())
-}
-
-#[test]
-fn rows_of_words(rt: HostRuntime) -> Result<(), Fail> {
-    let rows = [
-        (["show", "--hex", ""], "rest 1\n", Status::Fault),
-        (["show", "--hex", "--from=client"], "rest 1\n", Status::Fault),
-        (["show", "--hex", "--from=server"], "rest 1\n", Status::Fault),
-        (["show", "", ""], "fault PROTOCOL_ERROR at 1\n", Status::Fault),
-        (["show", "--from=server", ""], "rest 2\n", Status::Fault),
-    ];
-    for (texts, lines, status) in &rows {
-        let all = words(rt.alloc(), texts)?;
-        let count = texts.iter().filter(|text| !text.is_empty()).count();
-        let given = all.get(..count).ok_or("fewer words")?;
-        let mut out = Vec::new(rt.alloc());
-        let mut err = Vec::new(rt.alloc());
-        let mut input = b"50".as_slice();
-        let ended = run(rt.alloc(), given, &mut input, &mut out, &mut err);
-        assert_eq!(rt; out.as_slice(), lines.as_bytes());
-        assert_eq!(rt; ended, *status);
-    }
     Ok(())
 }

@@ -1,5 +1,6 @@
 //! Readers and writers over memory.
 
+use std::alloc::Global;
 use std::io::{self, ErrorKind, Read, Write};
 
 // Gives octets in pieces.
@@ -74,5 +75,34 @@ impl<D: Write> Write for Faulty<D> {
 
     fn flush(&mut self) -> io::Result<()> {
         self.inner.flush()
+    }
+}
+
+// Keeps so many octets, and takes none after them.
+#[derive(Drop)]
+pub struct Full {
+    pub octets: Vec<u8>,
+    room: usize,
+}
+
+impl Full {
+    pub fn new(alloc: Global, room: usize) -> Full {
+        Full {
+            octets: Vec::new(alloc),
+            room,
+        }
+    }
+}
+
+impl Write for Full {
+    fn write(&mut self, buf: &[u8]) -> io::Result<usize> {
+        let count = self.room.min(buf.len());
+        self.octets.extend_from_slice(&buf[..count])?;
+        self.room -= count;
+        Ok(count)
+    }
+
+    fn flush(&mut self) -> io::Result<()> {
+        Ok(())
     }
 }

@@ -9,4 +9,4 @@ invariant-loop g l =
     (octets : List ℕ)
     × Consumes (g.R.Read.remaining l.initial.input) (g.R.Read.remaining l.input) octets
     × ViewerContinues l.initial.viewer.cutter l.initial.viewer.blocks octets l.viewer.cutter
-      l.viewer.blocks
+    l.viewer.blocks

@@ -10,19 +10,19 @@ returns-in_err-take-clause-err c =
     let result = c.from_residual.result in
     let answer = err_from_is_err_and result c.from_residual.ensures.1 in
     rw (answer.1, answer.2) (λ frames represents.
-      grouping_error_reports c.args.self.now c.take.new.self _ frames c.in_err-take.field-0.0
-      c.in_err-take.ensures.takes represents)
+    grouping_error_reports c.args.self.now c.take.new.self _ frames c.in_err-take.field-0.0
+    c.in_err-take.ensures.takes represents)
 
 pub returns-in_err-decode-in-Block-clause-err : goal.returns-in_err-decode-in-Block-clause-err
 returns-in_err-decode-in-Block-clause-err c =
     let result = c.from_residual-in_err-decode-in-Block.result in
     let answer = err_from_is_err_and result c.from_residual-in_err-decode-in-Block.ensures.1 in
     rw (answer.1, answer.2) (λ frames represents.
-      decoding_error_reports c.args.self.now c.take.new.self _ frames c.in-Block.stream
-      c.in-Block.end c.in-Block.octets.items _
-      (rw c.in-Block.is at c.in_ok-take.ensures.takes)
-      (rw c.in-Block.is at c.in_ok-take.ensures.ended)
-      (rw c.deref.ensures.value at c.in_err-decode-in-Block.ensures.err) represents)
+    decoding_error_reports c.args.self.now c.take.new.self _ frames c.in-Block.stream
+    c.in-Block.end c.in-Block.octets.items _
+    (rw c.in-Block.is at c.in_ok-take.ensures.takes)
+    (rw c.in-Block.is at c.in_ok-take.ensures.ended)
+    (rw c.deref.ensures.value at c.in_err-decode-in-Block.ensures.err) represents)
 
 pub returns-in-Pass : goal.returns-in-Pass
 returns-in-Pass c =
