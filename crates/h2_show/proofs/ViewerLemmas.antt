@@ -11,7 +11,7 @@ use Rattle.h2_wire.specs.declared.fault.WireFault.{WireFault}
 use Rattle.h2_wire.specs.declared.fault.WireFault.TheVariants as faults
 use Rattle.h2_wire.specs.Streams.{Limits, Frames, WireFaultAt}
 use Rattle.h2_wire.specs.Cutter.{CutterState, CutterRepresents, CutterContinues, CutterFaults}
-use Rattle.h2_wire.specs.Cutter.{CutterFails, CutterAdvances, cut_frames}
+use Rattle.h2_wire.specs.Cutter.{CutterFails, CutterAdvances}
 use Rattle.h2_show.specs.declared.blocks.Blocks.{Blocks}
 use Rattle.h2_show.specs.declared.blocks.BlockError.{BlockError}
 use Rattle.h2_show.specs.declared.blocks.BlockError.TheVariants as errors

@@ -1,6 +1,6 @@
 //! Octets written in hexadecimal.
 
-ghost use Rattle.std.specs.Prelude.{◌≡◌, IfOk, OnErr, MatchResult, not, filter, Ok, IsErr};
+ghost use Rattle.std.specs.Prelude.{◌≡◌, IfOk, MatchResult, Ok};
 ghost use Rattle.hex.specs.Hex.{decode_of};
 ghost use Rattle.h2_show.specs.Hexadecimal.{is_blank as blank, without_blanks, HexErrorReports};
 

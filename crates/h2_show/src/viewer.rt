@@ -1,6 +1,6 @@
 //! Shows a stream of frames that comes in pieces.
 
-ghost use Rattle.std.specs.Prelude.{◌≡◌, ◌==◌, not, ◌&&◌, length, if◌then◌else◌, ℕ, Bool, List};
+ghost use Rattle.std.specs.Prelude.{◌≡◌, ◌==◌, not, ◌&&◌, length, if◌then◌else◌};
 ghost use Rattle.std.specs.Prelude.{[], ◌++◌, codes, decimal, OnOk, IfOk, IfErr};
 ghost use Rattle.std.specs.Io.KnownBytes.{Appends};
 ghost use Rattle.std.specs.Option.{is_some};

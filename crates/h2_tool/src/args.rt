@@ -1,6 +1,9 @@
 //! What the words of a command line ask for.
 
-use clap::{Arg, ArgAction, Command, Error};
+ghost use Rattle.std.specs.Prelude.{◌≡◌, Some, true, false, codes};
+ghost use Rattle.clap.specs.Words.{first_value, found_of, one_text};
+
+use clap::{Arg, ArgAction, ArgMatches, Command, Error};
 use h2_show::{ShowOptions, Side};
 use std::alloc::{AllocError, Global};
 
@@ -13,14 +16,28 @@ use std::alloc::{AllocError, Global};
 pub fn show_args(alloc: Global, words: &[String]) -> Result<ShowOptions, Error> {
     let command = show_command(alloc)?.no_binary_name(true);
     let matches = command.try_get_matches_from(words)?;
+    Ok(options_of(&matches))
+}
+
+// The options that the matches of `show` give.
+fn options_of(matches: &ArgMatches<'_>) -> ShowOptions
+    ensures hex { one_text (found_of matches.now) (codes "hex") ≡ Some (codes "true")
+        → result.hex ≡ true }
+    ensures no_hex { one_text (found_of matches.now) (codes "hex") ≡ Some (codes "false")
+        → result.hex ≡ false }
+    ensures server { first_value (found_of matches.now) (codes "from") ≡ Some (codes "server")
+        → result.from ≡ Side.Server }
+    ensures client { first_value (found_of matches.now) (codes "from") ≡ Some (codes "client")
+        → result.from ≡ Side.Client }
+{
     let from = match matches.get_str(FROM) {
         Some("server") => Side::Server,
         _ => Side::Client,
     };
-    Ok(ShowOptions {
+    ShowOptions {
         hex: matches.get_flag(HEX),
         from,
-    })
+    }
 }
 
 /// Reads words that begin with no command's name. They ask for help or the version, or are wrong.
@@ -45,25 +62,26 @@ const HEX: &str = "hex";
 
 const FROM: &str = "from";
 
-/// The lines that `show` prints, and how it ends.
+/// The lines that `show` prints, how it ends, and an example.
 const LINES_AND_STATUSES: &str =
-    r"A frame's line has its kind, stream and payload octets, then what the kind adds.
-Below the frame that ends a block are its fields. The other lines:
-  preface              the client's preface
-    name: value        a field; ! precedes a name that is never to be indexed
-                       (a sensitive one), and \x00 stands in for an octet, in
-                       hexadecimal, that is a backslash or no printable ASCII
-    list too large     the fields are above 65536 octets, 32 more counted for each
-  fault CODE at N      octet N, counted from 1, shows an error of the connection
-                       with this code (RFC 9113, section 7); nothing follows
-  rest N               the input ends inside the preface or a frame: N octets of
-                       it came
-  unfinished block     the input ends inside a field block
+    r"Each frame has a line: its kind, its stream, the length of its payload, and what
+the kind adds. The fields of a block follow the frame that ends it. Other lines:
+  preface            the client's preface
+    name: value      a header field; `!` before the name: it is never to be
+                     indexed; `\x00`: an octet that is no printable ASCII, or a
+                     backslash, in hexadecimal
+    list too large   the fields of the block have more than 65536 octets, with
+                     32 added for each field
+  fault CODE at N    octet N, counted from 1, is a connection error with this
+                     code (RFC 9113, section 7); nothing after it is shown
+  rest N             the input ends inside the preface or a frame, N octets of
+                     which came
+  unfinished block   the input ends inside a field block
 
-Exit status, and what standard error says:
-  0  complete frames and field blocks to the end
-  1  a fault, or the end inside the preface, a frame or a block
-  2  wrong words; or `bad hex`: the input is no hexadecimal text
+Exit status, with the line on standard error:
+  0  the input is complete frames and field blocks
+  1  a fault, or the end inside the preface, a frame or a field block
+  2  wrong words; or `bad hex`: the input isn't hexadecimal text
   3  `N1 Device`: a read or a write failed
   4  `N3 Memory`: out of memory
 
@@ -71,11 +89,17 @@ Example:
   $ echo 000004 08 00 00000000 0000000f | h2 show --hex --from server
   WINDOW_UPDATE 0 4 add=15";
 
+const HEX_HELP: &str = r"Read hexadecimal text, of which spaces, tabs and line ends
+are ignored";
+
+const FROM_HELP: &str = r"The end that sent the octets: client, which begins with the
+preface, or server [default: client]";
+
 fn show_command<'a>(alloc: Global) -> Result<Command<'a>, AllocError> {
     let hex = Arg::new(alloc, HEX)
         .long(HEX)
         .action(ArgAction::SetTrue)
-        .help("Read hexadecimal text, of which spaces, tabs and line ends\nare ignored");
+        .help(HEX_HELP);
     let from = Arg::new(alloc, FROM)
         .long(FROM)
         .value_name("SIDE")
@@ -83,9 +107,7 @@ fn show_command<'a>(alloc: Global) -> Result<Command<'a>, AllocError> {
         .default_value("client")
         .hide_default_value(true)
         .hide_possible_values(true)
-        .help(
-            "The end that sent the octets: client, which begins with the\npreface, or server [default: client]",
-        );
+        .help(FROM_HELP);
     Command::new(alloc, "show")
         .bin_name("h2 show")?
         .about("Prints the frames of a stream and the header fields of its blocks")

@@ -1,6 +1,5 @@
 -- Each call of the cutter, and of the blocks where it answers a frame, shows more of the piece, or
 -- fails.
-use Rattle.std.proofs.Common.{◌+◌}
 use Rattle.std.proofs.lemmas.Result.{err_from_is_err_and}
 use Rattle.h2_show.proofs.ViewerLemmas.{used_within, continues_without_frame}
 use Rattle.h2_show.proofs.ViewerLemmas.{continues_with_frame, fails_at_cut, fails_at_frame}
