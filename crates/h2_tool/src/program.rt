@@ -1,21 +1,21 @@
 //! The program as a whole.
 
-ghost use Rattle.std.specs.Prelude.{◌≡◌, ◌≢◌, IfSome};
-ghost use Rattle.h2_tool.specs.declared.order.ShowOrder.{ShowOrder as Order};
-ghost use Rattle.h2_tool.specs.Telling.{TellsInput};
-ghost use Rattle.h2_tool.specs.Statuses.{status_of};
+ghost use Rattle.std.specs.Prelude.{◌≡◌, ◌≢◌, ◌⊎◌, IfSome};
+ghost use Rattle.h2_show.specs.declared.options.ShowOptions.{ShowOptions as Options};
+ghost use Rattle.h2_show.specs.Report.{StatusReportsInput};
+ghost use Rattle.h2_show.specs.Status.{failure_status};
 
-use crate::failure::Failure;
-use crate::order::no_command;
+use crate::args::no_command;
 use crate::show::cmd_show;
-use crate::status::Status;
 use clap::Error;
 use clap::error::ErrorKind;
+use h2_show::{Failure, Hint, Status};
 use std::alloc::Global;
 use std::io::{self, Read, Write};
 
-/// Runs the program with the words behind its name, and answers the status that it ends with: that of the command, or for words
-/// without one [`Status::Good`] where they ask for help or the version and [`Status::Usage`] where they are wrong.
+/// Runs the program with the words after its name, and answers the status that it ends with: that
+/// of the command, or for words without one [`Status::Good`] where they ask for help or the version
+/// and [`Status::Usage`] where they are wrong.
 pub fn run<R: Read, W: Write, E: Write>(
     alloc: Global,
     words: &[String],
@@ -23,7 +23,11 @@ pub fn run<R: Read, W: Write, E: Write>(
     out: &mut W,
     err: &mut E,
 ) -> Status
-    ensures fault { result ≡ Status.Fault → IfSome (R.remaining input.old) (λ given. (order : Order) × TellsInput order given result) }
+    ensures fault { result ≡ Status.Fault → IfSome (R.remaining input.old)
+        (λ given. (options : Options) × StatusReportsInput options given result) }
+    ensures good { result ≡ Status.Good → IfSome (R.remaining input.old)
+        (λ given. ((options : Options) × StatusReportsInput options given result)
+        ⊎ (R.remaining input.new ≡ R.remaining input.old)) }
 {
     if let Some((name, others)) = words.split_first() {
         if name.as_str() == "show" {
@@ -31,23 +35,27 @@ pub fn run<R: Read, W: Write, E: Write>(
         }
     }
     match no_command(alloc, words) {
-        // No words are known that lead here: without a command's name they are help, the version, or wrong.
+        // Without a command's name words are help, the version, or wrong: no words lead here.
         Ok(()) => Status::Usage,
         Err(error) => answer(&error, out, err),
     }
 }
 
-/// Ends the program where its words can't be had: memory was refused, or a word isn't text.
-pub fn no_words<E: Write>(error: &io::Error, err: &mut E) -> Status {
+/// Ends the program where its words can't be had: out of memory, or a word isn't UTF-8.
+pub fn no_words<E: Write>(error: &io::Error, err: &mut E) -> Status
+    ensures { result ≢ Status.Good }
+{
     if let io::ErrorKind::OutOfMemory = error.kind() {
         return give_up(Failure::Memory, err);
     }
-    // There is no place left to tell that this write fails.
-    let _ = writeln!(err, "error: a word isn't UTF-8");
-    Status::Usage
+    match writeln!(err, "error: a word isn't UTF-8") {
+        Ok(()) => Status::Usage,
+        Err(_) => Status::Device,
+    }
 }
 
-/// Answers words that order nothing: gives the help or the version that they ask for, or says what is wrong with them.
+/// Answers words that give no options: prints the help or the version that they ask for, or what is
+/// wrong with them.
 pub(crate) fn answer<W: Write, E: Write>(error: &Error, out: &mut W, err: &mut E) -> Status
     ensures { result ≢ Status.Fault }
 {
@@ -67,11 +75,24 @@ pub(crate) fn answer<W: Write, E: Write>(error: &Error, out: &mut W, err: &mut E
     }
 }
 
-/// Tells on standard error why the command gives up.
+/// Prints on standard error why the command fails.
 pub(crate) fn give_up<E: Write>(failure: Failure, err: &mut E) -> Status
-    ensures { result ≡ status_of failure }
+    ensures { result ≡ failure_status failure }
 {
-    // There is no place left to tell that this write fails.
+    // There is no place left to report that this write fails.
     let _ = writeln!(err, "{failure}");
     failure.status()
+}
+
+/// Prints on standard error which option is likely missing.
+pub(crate) fn give_hint<E: Write>(hint: Option<Hint>, err: &mut E) {
+    let line = match hint {
+        None => return,
+        Some(Hint::Hexadecimal) => "hint: the input looks like hexadecimal text: try --hex\n",
+        Some(Hint::FromServer) => {
+            "hint: the input begins with no client's preface: try --from server\n"
+        }
+    };
+    // The status is that of the stream, whether or not this write fails.
+    let _ = err.write_all(line.as_bytes());
 }

@@ -1,255 +1,255 @@
 //! Tests of the commands, in memory.
 
-mod devices;
-mod examples;
-mod long;
-mod rows;
-
-use crate::{Status, cmd_show, from_hex, run};
-use devices::{Faulty, Memory, Pieces};
-use examples::EXAMPLES;
-use rows::{ROWS, Row};
+use crate::{cmd_show, no_words, run};
+use h2_show::Status;
 use std::alloc::Global;
-use std::io::ErrorKind;
+use std::io::{self, ErrorKind, Read, Write};
 use std::process::Abort;
 use std::test::Fail;
 
-fn words(alloc: Global, texts: &[&str]) -> Result<Vec<String>, Fail> {
+// A reader and a writer that fail.
+#[derive(Drop)]
+struct Failing;
+
+impl Read for Failing {
+    fn read(&mut self, _buf: &mut [u8]) -> io::Result<usize> {
+        Err(io::Error::from(ErrorKind::Other))
+    }
+}
+
+impl Write for Failing {
+    fn write(&mut self, _buf: &[u8]) -> io::Result<usize> {
+        Err(io::Error::from(ErrorKind::Other))
+    }
+
+    fn flush(&mut self) -> io::Result<()> {
+        Ok(())
+    }
+}
+
+// The words of a line, divided by one space.
+fn words_of(alloc: Global, line: &str) -> Result<Vec<String>, Fail> {
     let mut words = Vec::new(alloc);
-    for text in texts {
-        words.push(String::from_str(alloc, text)?)?;
+    for word in line.split(' ') {
+        if !word.is_empty() {
+            words.push(String::from_str(alloc, word)?)?;
+        }
     }
     Ok(words)
 }
 
-fn text_of(alloc: Global, parts: &[&str]) -> Result<String, Fail> {
-    let mut text = String::new(alloc);
-    for part in parts {
-        text.push_str(part)?;
-    }
-    Ok(text)
-}
-
-// Runs a row from its octets, cut in the pieces that are given.
-fn run_row(
-    rt: &(impl Abort + AllocGlobal),
-    row: &Row<'_>,
-    mut input: Pieces<'_>,
-) -> Result<(), Fail> {
-    let words = words(rt.alloc(), &["--from", row.from])?;
-    let mut out = Memory::new(rt.alloc());
-    let mut err = Memory::new(rt.alloc());
-    let status = cmd_show(rt.alloc(), words.as_slice(), &mut input, &mut out, &mut err);
-    assert_eq!(rt; out.octets.as_slice(), row.lines.as_bytes());
-    assert_eq!(rt; err.octets.as_slice(), b"".as_slice());
-    assert_eq!(rt; status, row.status);
-    Ok(())
-}
-
+// What a text begins with, and how the program ends, for words that give no options. The input
+// fails at its first read.
 #[test]
-fn rows_however_cut(rt: HostRuntime) -> Result<(), Fail> {
-    for row in ROWS.iter().chain(&EXAMPLES) {
-        let text = text_of(rt.alloc(), row.octets)?;
-        let octets = from_hex(rt.alloc(), text.as_bytes())?;
-        run_row(&rt, row, Pieces::new(&octets, usize::MAX, usize::MAX))?;
-        run_row(&rt, row, Pieces::new(&octets, 1, 1))?;
-        for place in 1..octets.len() {
-            run_row(&rt, row, Pieces::new(&octets, place, usize::MAX))?;
-        }
-    }
-    Ok(())
-}
-
-#[test]
-fn rows_in_hexadecimal(rt: HostRuntime) -> Result<(), Fail> {
-    for row in ROWS.iter().chain(&EXAMPLES) {
-        let text = text_of(rt.alloc(), row.octets)?;
-        let words = words(rt.alloc(), &["show", "--hex", "--from", row.from])?;
-        let mut out = Memory::new(rt.alloc());
-        let mut err = Memory::new(rt.alloc());
-        let mut input = Pieces::new(text.as_bytes(), 7, 11);
-        let status = run(rt.alloc(), words.as_slice(), &mut input, &mut out, &mut err);
-        assert_eq!(rt; out.octets.as_slice(), row.lines.as_bytes());
-        assert_eq!(rt; status, row.status);
-    }
-    Ok(())
-}
-
-#[test]
-fn hexadecimal_text(rt: HostRuntime) -> Result<(), Fail> {
-    let words = words(rt.alloc(), &["--hex", "--from=server"])?;
-    let rows = [
+fn words_are_checked_first(rt: HostRuntime) -> Result<(), Fail> {
+    let show = "Prints the frames of a stream and the header fields of its blocks\n\n\
+        Usage: h2 show [OPTIONS] < FILE\n";
+    let cases = [
+        ("show --help", show, "", Status::Good),
+        ("show -h", show, "", Status::Good),
+        ("help show", show, "", Status::Good),
         (
-            "000000\t42 00\r\n00000000\n",
-            "KIND66 0 0 flags=0\n",
+            "--help",
+            "Shows streams of HTTP/2 over cleartext\n",
             "",
             Status::Good,
         ),
+        ("--version", "h2 0.1.0\n", "", Status::Good),
         (
-            "0000004 2FF0 0000000",
-            "KIND66 0 0 flags=255\n",
             "",
-            Status::Good,
-        ),
-        ("0000004200000000000", "", "bad hex\n", Status::Usage),
-        ("00000042000000000g", "", "bad hex\n", Status::Usage),
-    ];
-    for (text, lines, error, status) in &rows {
-        let mut out = Memory::new(rt.alloc());
-        let mut err = Memory::new(rt.alloc());
-        let mut input = Pieces::new(text.as_bytes(), 5, usize::MAX);
-        let ended = cmd_show(rt.alloc(), words.as_slice(), &mut input, &mut out, &mut err);
-        assert_eq!(rt; out.octets.as_slice(), lines.as_bytes());
-        assert_eq!(rt; err.octets.as_slice(), error.as_bytes());
-        assert_eq!(rt; ended, *status);
-    }
-    Ok(())
-}
-
-// What a text begins with, and how the program ends, for words that order nothing. The input fails at its first read.
-#[test]
-fn words_are_judged_first(rt: HostRuntime) -> Result<(), Fail> {
-    let rows = [
-        (
-            ["show", "--help", ""],
-            "Prints the frames of standard input",
             "",
-            Status::Good,
-        ),
-        (
-            ["--help", "", ""],
-            "Shows streams of HTTP/2 over cleartext",
-            "",
-            Status::Good,
-        ),
-        (["--version", "", ""], "h2 0.1.0\n", "", Status::Good),
-        (
-            ["help", "show", ""],
-            "Prints the frames of standard input, one line each, and the header fields under each block\n\nUsage: h2 show",
-            "",
-            Status::Good,
-        ),
-        (
-            ["", "", ""],
-            "",
-            "Shows streams of HTTP/2 over cleartext",
+            "Shows streams of HTTP/2 over cleartext\n",
             Status::Usage,
         ),
         (
-            ["nonsense", "", ""],
+            "nonsense",
             "",
             "error: unrecognized subcommand 'nonsense'\n",
             Status::Usage,
         ),
         (
-            ["show", "nonsense", ""],
+            "show file.hex",
             "",
-            "error: unexpected argument 'nonsense' found\n",
+            "error: unexpected argument 'file.hex' found\n\nUsage: h2 show [OPTIONS] < FILE\n",
             Status::Usage,
         ),
         (
-            ["show", "--from", "x"],
+            "show --from x",
             "",
             "error: invalid value 'x' for '--from <SIDE>'\n",
             Status::Usage,
         ),
         (
-            ["show", "--hex", "--hex"],
+            "show --hex --hex",
             "",
             "error: the argument '--hex' cannot be used multiple times\n",
             Status::Usage,
         ),
     ];
-    for (texts, shown, error, status) in &rows {
-        let all = words(rt.alloc(), texts)?;
-        let count = texts.iter().filter(|text| !text.is_empty()).count();
-        let given = all.get(..count).ok_or("fewer words")?;
-        let mut out = Memory::new(rt.alloc());
-        let mut err = Memory::new(rt.alloc());
-        let mut input = Faulty::new(Pieces::new(b"", 1, 1), 0, ErrorKind::Other);
-        let ended = run(rt.alloc(), given, &mut input, &mut out, &mut err);
-        assert!(rt;
-            out.octets.starts_with(shown.as_bytes()) && (out.octets.is_empty() == shown.is_empty()),
-            "out at {shown}"
+    for (line, shown, error, status) in &cases {
+        let words = words_of(rt.alloc(), line)?;
+        let mut out = Vec::new(rt.alloc());
+        let mut err = Vec::new(rt.alloc());
+        let ended = run(
+            rt.alloc(),
+            words.as_slice(),
+            &mut Failing,
+            &mut out,
+            &mut err,
         );
         assert!(rt;
-            err.octets.starts_with(error.as_bytes()) && (err.octets.is_empty() == error.is_empty()),
-            "err at {error}"
+            out.starts_with(shown.as_bytes()) && (out.is_empty() == shown.is_empty()),
+            "out at {line}"
+        );
+        assert!(rt;
+            err.starts_with(error.as_bytes()) && (err.is_empty() == error.is_empty()),
+            "err at {line}"
         );
         assert_eq!(rt; ended, *status);
     }
     Ok(())
 }
 
-// Runs the first row one octet a piece with a fault of the reader or the writer, and looks at what comes of it.
-fn run_faulty(
-    rt: &(impl Abort + AllocGlobal),
-    reads: usize,
-    writes: usize,
-) -> Result<Status, Fail> {
-    let row = &ROWS[0];
-    let text = text_of(rt.alloc(), row.octets)?;
-    let octets = from_hex(rt.alloc(), text.as_bytes())?;
-    let mut input = Faulty::new(Pieces::new(&octets, 1, 1), reads, ErrorKind::Other);
-    let mut out = Faulty::new(Memory::new(rt.alloc()), writes, ErrorKind::Other);
-    let mut err = Memory::new(rt.alloc());
-    let status = cmd_show(rt.alloc(), &[], &mut input, &mut out, &mut err);
-    let printed = out.inner.octets.as_slice();
-    assert!(rt;
-        row.lines.as_bytes().starts_with(printed),
-        "reads {reads}, writes {writes}"
-    );
-    if status == Status::Good {
-        assert_eq!(rt; printed, row.lines.as_bytes());
-        assert_eq!(rt; err.octets.as_slice(), b"".as_slice());
-    } else {
-        assert_eq!(rt; err.octets.as_slice(), b"N1 Device\n".as_slice());
-    }
-    Ok(status)
-}
-
+// Each line of the help fits 80 columns, and has what the lines mean.
 #[test]
-fn devices_that_fail(rt: HostRuntime) -> Result<(), Fail> {
-    // The octets are 58, and the end is read too.
-    for reads in 0..59 {
-        assert_eq!(rt; run_faulty(&rt, reads, usize::MAX)?, Status::Device);
-    }
-    assert_eq!(rt; run_faulty(&rt, 59, usize::MAX)?, Status::Good);
-    // Three lines are written.
-    for writes in 0..3 {
-        assert_eq!(rt; run_faulty(&rt, usize::MAX, writes)?, Status::Device);
-    }
-    assert_eq!(rt; run_faulty(&rt, usize::MAX, 3)?, Status::Good);
-    Ok(())
-}
-
-#[test]
-fn interrupted_reads(rt: HostRuntime) -> Result<(), Fail> {
-    let row = &ROWS[0];
-    let text = text_of(rt.alloc(), row.octets)?;
-    let octets = from_hex(rt.alloc(), text.as_bytes())?;
-    for reads in 0..4 {
-        let pieces = Pieces::new(&octets, 20, 20);
-        let mut input = Faulty::new(pieces, reads, ErrorKind::Interrupted);
-        let mut out = Memory::new(rt.alloc());
-        let mut err = Memory::new(rt.alloc());
-        let status = cmd_show(rt.alloc(), &[], &mut input, &mut out, &mut err);
-        assert_eq!(rt; out.octets.as_slice(), row.lines.as_bytes());
-        assert_eq!(rt; status, Status::Good);
+fn help_fits_80_columns(rt: HostRuntime) -> Result<(), Fail> {
+    for line in ["show --help", "--help"] {
+        let words = words_of(rt.alloc(), line)?;
+        let mut out = Vec::new(rt.alloc());
+        let mut err = Vec::new(rt.alloc());
+        run(
+            rt.alloc(),
+            words.as_slice(),
+            &mut Failing,
+            &mut out,
+            &mut err,
+        );
+        let help = String::from_utf8(out)?;
+        for text in help.lines() {
+            assert!(rt; text.chars().count() <= 80, "{text}");
+        }
+        if line == "show --help" {
+            let parts = [
+                "!",
+                r"\x00",
+                "fault",
+                "rest",
+                "N1 Device",
+                "N3 Memory",
+                "Example:",
+            ];
+            for part in &parts {
+                assert!(rt; help.contains(*part), "{part}");
+            }
+        }
     }
     Ok(())
 }
 
+// Where the text of wrong words can't be written the status is that of a device.
 #[test]
-fn codes(rt: HostRuntime) {
-    let codes = [
-        (Status::Good, 0),
-        (Status::Fault, 1),
-        (Status::Usage, 2),
-        (Status::Device, 3),
-        (Status::Memory, 4),
+fn texts_that_cannot_be_written(rt: HostRuntime) -> Result<(), Fail> {
+    for line in [
+        "",
+        "nonsense",
+        "show file.hex",
+        "--help",
+        "show --help",
+        "--version",
+    ] {
+        let words = words_of(rt.alloc(), line)?;
+        let ended = run(
+            rt.alloc(),
+            words.as_slice(),
+            &mut Failing,
+            &mut Failing,
+            &mut Failing,
+        );
+        assert_eq!(rt; ended, Status::Device, "{line}");
+    }
+    Ok(())
+}
+
+#[test]
+fn words_that_cannot_be_had(rt: HostRuntime) -> Result<(), Fail> {
+    let cases = [
+        (
+            ErrorKind::InvalidData,
+            "error: a word isn't UTF-8\n",
+            Status::Usage,
+            Status::Device,
+        ),
+        (
+            ErrorKind::OutOfMemory,
+            "N3 Memory\n",
+            Status::Memory,
+            Status::Memory,
+        ),
     ];
-    for (status, code) in codes {
-        assert_eq!(rt; status.code(), code);
+    for (kind, text, status, unwritten) in &cases {
+        let error = io::Error::from(*kind);
+        let mut err = Vec::new(rt.alloc());
+        assert_eq!(rt; no_words(&error, &mut err), *status);
+        assert_eq!(rt; err.as_slice(), text.as_bytes());
+        assert_eq!(rt; no_words(&error, &mut Failing), *unwritten);
     }
+    Ok(())
+}
+
+// Lines, standard error and the status, where the input is one of these texts.
+#[test]
+fn shown_texts(rt: HostRuntime) -> Result<(), Fail> {
+    let hexadecimal = "hint: the input looks like hexadecimal text: try --hex\n";
+    let server = "hint: the input begins with no client's preface: try --from server\n";
+    let fault = "fault PROTOCOL_ERROR at 1\n";
+    let cases = [
+        ("show", "50", fault, hexadecimal, Status::Fault),
+        ("show --from client", "50g", fault, server, Status::Fault),
+        ("show --hex", "00", fault, server, Status::Fault),
+        ("show --hex", "50", "rest 1\n", "", Status::Fault),
+        (
+            "show --hex --from=server",
+            "50",
+            "rest 1\n",
+            "",
+            Status::Fault,
+        ),
+        ("show --from=server", "50", "rest 2\n", "", Status::Fault),
+        ("show", "", "", "", Status::Good),
+        ("show --hex", "0g", "", "bad hex\n", Status::Usage),
+    ];
+    for (line, text, lines, error, status) in &cases {
+        let words = words_of(rt.alloc(), line)?;
+        let mut out = Vec::new(rt.alloc());
+        let mut err = Vec::new(rt.alloc());
+        let mut input = text.as_bytes();
+        let ended = run(rt.alloc(), words.as_slice(), &mut input, &mut out, &mut err);
+        assert_eq!(rt; out.as_slice(), lines.as_bytes());
+        assert_eq!(rt; err.as_slice(), error.as_bytes());
+        assert_eq!(rt; ended, *status);
+        // A standard error that fails changes nothing of the rest.
+        let mut out = Vec::new(rt.alloc());
+        let mut input = text.as_bytes();
+        let ended = run(
+            rt.alloc(),
+            words.as_slice(),
+            &mut input,
+            &mut out,
+            &mut Failing,
+        );
+        assert_eq!(rt; out.as_slice(), lines.as_bytes());
+        assert_eq!(rt; ended, *status);
+    }
+    Ok(())
+}
+
+#[test]
+fn failing_input(rt: HostRuntime) -> Result<(), Fail> {
+    let mut out = Vec::new(rt.alloc());
+    let mut err = Vec::new(rt.alloc());
+    let status = cmd_show(rt.alloc(), &[], &mut Failing, &mut out, &mut err);
+    assert_eq!(rt; status, Status::Device);
+    assert_eq!(rt; err.as_slice(), b"N1 Device\n".as_slice());
+    assert_eq!(rt; out.as_slice(), b"".as_slice());
+    Ok(())
 }

@@ -1,6 +1,0 @@
--- By the lemma on blocks in their spelling.
-use Rattle.h2_log.proofs.SpellingLemmas.{takes_block_comes}
-use Rattle.h2_log.proofs.streams.block_in_its_spelling.Goals as goal
-
-pub returns : goal.returns
-returns c = takes_block_comes

@@ -1,6 +1,0 @@
--- By the lemma on frames in their spelling.
-use Rattle.h2_log.proofs.SpellingLemmas.{takes_comes}
-use Rattle.h2_log.proofs.streams.frame_in_its_spelling.Goals as goal
-
-pub returns : goal.returns
-returns c = takes_comes

@@ -1,0 +1,163 @@
+-- Frames are taken one by one: they group, and their blocks decode.
+use Rattle.std.proofs.Common.{◌≡◌, ℕ, Bool, false, List, [], ◌∷◌, ◌++◌, Option, None, MatchOption}
+use Rattle.std.proofs.Common.{refl, subst, inl, inr}
+use Rattle.h2_frame.specs.Frames.{Frame}
+use Rattle.h2_block.specs.declared.fault.BlockFault.{BlockFault}
+use Rattle.h2_block.specs.declared.fault.BlockFault.TheVariants as grouping
+use Rattle.h2_block.specs.Grouping.{Item, alone, block}
+use Rattle.h2_block.specs.Gather.{GatherState, GatherRepresents, GatherFaults, GatherFails}
+use Rattle.h2_block.specs.Gather.{block_fault_code}
+use Rattle.hpack.specs.declared.field.List.{List as FieldList}
+use Rattle.hpack.specs.Tables.{Entries}
+use Rattle.hpack.specs.Lists.{Decodes}
+use Rattle.h2_show.specs.declared.blocks.Blocks.{Blocks}
+use Rattle.h2_show.specs.declared.blocks.BlockError.{BlockError}
+use Rattle.h2_show.specs.declared.blocks.BlockError.TheVariants as errors
+use Rattle.h2_show.specs.Blocks.{ItemsDecode, EndsWithBlockError, BlocksRepresent}
+use Rattle.h2_show.specs.Blocks.{BlockErrorReports, error_of_grouping, DecodingErrorReports}
+
+-- items that decode, and others after them, decode together
+decode_append : (table mid after : Entries) (items others : List Item)
+    → ItemsDecode table items mid → ItemsDecode mid others after
+    → ItemsDecode table (items ++ others) after
+decode_append table mid after [] others first then =
+    subst (λ (from : Entries). ItemsDecode from others after) first then
+decode_append table mid after (alone frame ∷ items) others first then =
+    decode_append table mid after items others first then
+decode_append table mid after (block stream end octets ∷ items) others (fields, next, one, rest)
+    then = (fields, next, one, decode_append next mid after items others rest then)
+
+-- a frame that is passed on
+pub represent_alone : (blocks : Blocks) (gather : GatherState) (frame passed : Frame)
+    (frames : List Frame)
+    → ((so_far : List Frame) (items : List Item) → GatherRepresents blocks.gather so_far items
+    → GatherRepresents gather (so_far ++ frame ∷ []) (items ++ alone passed ∷ []))
+    → BlocksRepresent blocks frames
+    → BlocksRepresent (record { gather = gather; decoder = blocks.decoder }) (frames ++ frame ∷ [])
+represent_alone blocks gather frame passed frames continues represents =
+    let decoded = represents.decoded in
+    let after = continues frames decoded.items
+    (record { sound = represents.grouping; split = decoded.grouped }) in
+    record {
+      grouping = after.sound;
+      decoding = represents.decoding;
+      limit = represents.limit;
+      decoded = record {
+        items = decoded.items ++ alone passed ∷ [];
+        grouped = after.split;
+        decoded = decode_append _ blocks.decoder.table _ decoded.items (alone passed ∷ [])
+            decoded.decoded refl;
+      };
+    }
+
+-- a frame of a block that isn't complete
+pub represent_more : (blocks : Blocks) (gather : GatherState) (frame : Frame)
+    (frames : List Frame)
+    → ((so_far : List Frame) (items : List Item) → GatherRepresents blocks.gather so_far items
+    → GatherRepresents gather (so_far ++ frame ∷ []) (items ++ []))
+    → BlocksRepresent blocks frames
+    → BlocksRepresent (record { gather = gather; decoder = blocks.decoder }) (frames ++ frame ∷ [])
+represent_more blocks gather frame frames continues represents =
+    let decoded = represents.decoded in
+    let after = continues frames decoded.items
+    (record { sound = represents.grouping; split = decoded.grouped }) in
+    record {
+      grouping = after.sound;
+      decoding = represents.decoding;
+      limit = represents.limit;
+      decoded = record {
+        items = decoded.items ++ [];
+        grouped = after.split;
+        decoded = decode_append _ blocks.decoder.table _ decoded.items [] decoded.decoded refl;
+      };
+    }
+
+-- a frame that ends a block, which decodes
+pub represent_block : (blocks new : Blocks) (gather : GatherState) (frame : Frame)
+    (frames : List Frame) (stream : ℕ) (end : Bool) (octets : List ℕ) (list : FieldList)
+    → ((so_far : List Frame) (items : List Item) → GatherRepresents blocks.gather so_far items
+    → GatherRepresents gather (so_far ++ frame ∷ []) (items ++ block stream end octets ∷ []))
+    → new.gather ≡ gather → Decodes blocks.decoder octets 65536 list new.decoder
+    → BlocksRepresent blocks frames → BlocksRepresent new (frames ++ frame ∷ [])
+represent_block blocks new gather frame frames stream end octets list continues same decodes
+    represents =
+    let decoded = represents.decoded in
+    let after = continues frames decoded.items
+    (record { sound = represents.grouping; split = decoded.grouped }) in
+    let table : new.decoder.table ≡ decodes.after = rw decodes.state refl in
+    record {
+      grouping = rw same after.sound;
+      decoding = rw decodes.state refl;
+      limit = rw decodes.state represents.limit;
+      decoded = record {
+        items = decoded.items ++ block stream end octets ∷ [];
+        grouped = rw same after.split;
+        decoded = decode_append _ blocks.decoder.table _ decoded.items
+            (block stream end octets ∷ []) decoded.decoded
+            (decodes.fields, decodes.after, rw represents.limit at decodes.block, table);
+      };
+    }
+
+-- where the gatherer had no fault, a frame that it refuses doesn't group
+misgrouped : (blocks : Blocks) (gather : GatherState) (frame : Frame) (frames : List Frame)
+    (fault : BlockFault)
+    → MatchOption blocks.gather.fault (GatherFaults blocks.gather frame fault gather)
+    (λ known. gather ≡ blocks.gather)
+    → BlocksRepresent blocks frames
+    → EndsWithBlockError (frames ++ frame ∷ []) (block_fault_code fault)
+misgrouped blocks gather frame frames fault fails represents =
+    let decoded = represents.decoded in
+    let faults : GatherFaults blocks.gather frame fault gather =
+    subst (λ (known : Option BlockFault). MatchOption known
+    (GatherFaults blocks.gather frame fault gather) (λ known. gather ≡ blocks.gather))
+    represents.grouping fails in
+    inl (record {
+      items = decoded.items;
+      table = blocks.decoder.table;
+      fault = fault;
+      at = faults.at frames decoded.items
+          (record { sound = represents.grouping; split = decoded.grouped });
+      decoded = decoded.decoded;
+      coded = refl;
+    })
+
+-- what the gatherer's fault reports of the frames
+pub grouping_error_reports : (blocks : Blocks) (gather : GatherState) (frame : Frame)
+    (frames : List Frame) (fault : BlockFault) → GatherFails blocks.gather frame fault gather
+    → BlocksRepresent blocks frames
+    → BlockErrorReports (frames ++ frame ∷ []) (error_of_grouping fault)
+grouping_error_reports blocks gather frame frames grouping.Interrupted fails represents =
+    misgrouped blocks gather frame frames grouping.Interrupted fails represents
+grouping_error_reports blocks gather frame frames grouping.Stray fails represents =
+    misgrouped blocks gather frame frames grouping.Stray fails represents
+grouping_error_reports blocks gather frame frames grouping.TooLong fails represents =
+    misgrouped blocks gather frame frames grouping.TooLong fails represents
+grouping_error_reports blocks gather frame frames grouping.Memory fails represents = tt
+
+-- what an error of decoding a block reports of the frames
+pub decoding_error_reports : (blocks : Blocks) (gather : GatherState) (frame : Frame)
+    (frames : List Frame) (stream : ℕ) (end : Bool) (octets : List ℕ) (error : BlockError)
+    → ((so_far : List Frame) (items : List Item) → GatherRepresents blocks.gather so_far items
+    → GatherRepresents gather (so_far ++ frame ∷ []) (items ++ block stream end octets ∷ []))
+    → gather.begun ≡ None
+    → (blocks.decoder.failed ≡ false → DecodingErrorReports blocks.decoder octets error)
+    → BlocksRepresent blocks frames → BlockErrorReports (frames ++ frame ∷ []) error
+decoding_error_reports blocks gather frame frames stream end octets errors.Memory continues ended
+    undecoded represents = tt
+decoding_error_reports blocks gather frame frames stream end octets (errors.Fault code) continues
+    ended undecoded represents =
+    let decoded = represents.decoded in
+    let after = continues frames decoded.items
+    (record { sound = represents.grouping; split = decoded.grouped }) in
+    let known = undecoded represents.decoding in
+    inr (record {
+      items = decoded.items;
+      table = blocks.decoder.table;
+      stream = stream;
+      end = end;
+      octets = octets;
+      grouped = rw ended at after.split;
+      decoded = decoded.decoded;
+      none = rw represents.limit at known.0;
+      coded = known.1;
+    })

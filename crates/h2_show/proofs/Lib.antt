@@ -1,0 +1,3 @@
+pub mod BlocksLemmas
+pub mod ViewerLemmas
+pub mod ReportLemmas

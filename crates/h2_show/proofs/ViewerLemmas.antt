@@ -1,0 +1,231 @@
+-- A piece is shown frame by frame.
+use Rattle.std.proofs.Common.{◌≡◌, ℕ, ◌+◌, ◌-◌, ◌≤◌, Bool, List, [], ◌∷◌, ◌++◌, length, take, drop}
+use Rattle.std.proofs.Common.{Option, Some, None, MatchOption, refl, sym, ◌∙◌, ap, subst, arith}
+use Rattle.std.proofs.Common.{append_assoc, append-nil, length-append, length-drop, length-take}
+use Rattle.std.proofs.lemmas.List.{take_rest, take-append-drop}
+use Rattle.std.proofs.Math.Seq.{take-add, take-append_seam}
+use Rattle.h2_frame.specs.Frames.{Frame, frame_of}
+use Rattle.h2_frame.specs.declared.frame.FrameRef.{FrameRef}
+use Rattle.h2_wire.specs.declared.cut.Cut.{Cut}
+use Rattle.h2_wire.specs.declared.fault.WireFault.{WireFault}
+use Rattle.h2_wire.specs.declared.fault.WireFault.TheVariants as faults
+use Rattle.h2_wire.specs.Streams.{Limits, Frames, WireFaultAt}
+use Rattle.h2_wire.specs.Cutter.{CutterState, CutterRepresents, CutterContinues, CutterFaults}
+use Rattle.h2_wire.specs.Cutter.{CutterFails, CutterAdvances}
+use Rattle.h2_show.specs.declared.blocks.Blocks.{Blocks}
+use Rattle.h2_show.specs.declared.blocks.BlockError.{BlockError}
+use Rattle.h2_show.specs.declared.blocks.BlockError.TheVariants as errors
+use Rattle.h2_show.specs.declared.viewer.ShowError.TheVariants.{Wire, Block}
+use Rattle.h2_show.specs.Blocks.{BlocksRepresent, BlockErrorReports}
+use Rattle.h2_show.specs.Viewer.{ViewerRepresents, ViewerContinues, ViewerFails, WireFaultReports}
+
+-- no octets change nothing
+pub continues_nothing : (cutter : CutterState) (blocks : Blocks)
+    → ViewerContinues cutter blocks [] cutter blocks
+continues_nothing cutter blocks expects limits stream represents =
+    subst (λ (octets : List ℕ). ViewerRepresents cutter blocks expects limits octets)
+    (sym (append-nil stream)) represents
+
+-- pieces one after another
+pub continues_append : (cutter mid_cutter new_cutter : CutterState)
+    (blocks mid_blocks new_blocks : Blocks) (first second : List ℕ)
+    → ViewerContinues cutter blocks first mid_cutter mid_blocks
+    → ViewerContinues mid_cutter mid_blocks second new_cutter new_blocks
+    → ViewerContinues cutter blocks (first ++ second) new_cutter new_blocks
+continues_append cutter mid_cutter new_cutter blocks mid_blocks new_blocks first second one two
+    expects limits stream represents =
+    subst (λ (octets : List ℕ). ViewerRepresents new_cutter new_blocks expects limits octets)
+    (append_assoc stream first second)
+    (two expects limits (stream ++ first) (one expects limits stream represents))
+
+-- a call uses no more octets than the piece has after those used
+pub used_within : (piece : List ℕ) (done used : ℕ) → done ≤ length piece
+    → used ≤ length (take (length piece - done) (drop done piece)) → done + used ≤ length piece
+used_within piece done used within unused =
+    let unused_length : used ≤ length (drop done piece) = rw take_rest at unused in
+    omega (arith, simp length-drop at unused_length)
+
+-- a prefix of the piece, and a prefix of what follows it, are a prefix of the piece
+prefix_append : (piece : List ℕ) (done used : ℕ)
+    → take done piece ++ take used (take (length piece - done) (drop done piece))
+    ≡ take (done + used) piece
+prefix_append piece done used =
+    ap (λ (unused : List ℕ). take done piece ++ take used unused) (take_rest piece done)
+    ∙ sym (take-add done used piece)
+
+-- a call that cuts, with what the blocks make of its frames
+step_continues : (cutter new_cutter : CutterState) (blocks new_blocks : Blocks) (used : List ℕ)
+    (frames : List Frame) → CutterContinues cutter used frames new_cutter
+    → ((so_far : List Frame) → BlocksRepresent blocks so_far
+    → BlocksRepresent new_blocks (so_far ++ frames))
+    → ViewerContinues cutter blocks used new_cutter new_blocks
+step_continues cutter new_cutter blocks new_blocks used frames continues blocks_continue expects
+    limits stream represents =
+    record {
+      frames = represents.frames ++ frames;
+      cut = continues.stands expects limits stream represents.frames represents.cut;
+      blocks_represent = blocks_continue represents.frames represents.blocks_represent;
+    }
+
+-- a call that answers no frame
+pub continues_without_frame : (cutter mid_cutter new_cutter : CutterState)
+    (blocks mid_blocks : Blocks) (piece : List ℕ) (done : ℕ) (cut : Cut)
+    → ViewerContinues cutter blocks (take done piece) mid_cutter mid_blocks → cut.frame ≡ None
+    → CutterAdvances mid_cutter (take (length piece - done) (drop done piece)) cut new_cutter
+    → ViewerContinues cutter blocks (take (done + cut.used) piece) new_cutter mid_blocks
+continues_without_frame cutter mid_cutter new_cutter blocks mid_blocks piece done cut continues
+    none advances =
+    let cuts : CutterContinues mid_cutter
+    (take cut.used (take (length piece - done) (drop done piece))) [] new_cutter =
+    rw none at advances.goes_on in
+    subst (λ (octets : List ℕ). ViewerContinues cutter blocks octets new_cutter mid_blocks)
+    (prefix_append piece done cut.used)
+    (continues_append cutter mid_cutter new_cutter blocks mid_blocks mid_blocks (take done piece) _
+    continues
+    (step_continues mid_cutter new_cutter mid_blocks mid_blocks _ [] cuts
+    (λ so_far represents. subst (λ (frames : List Frame). BlocksRepresent mid_blocks frames)
+    (sym (append-nil so_far)) represents)))
+
+-- a call that answers a frame, which the blocks take
+pub continues_with_frame : (cutter mid_cutter new_cutter : CutterState)
+    (blocks mid_blocks new_blocks : Blocks) (piece : List ℕ) (done : ℕ) (cut : Cut)
+    (frame : FrameRef)
+    → ViewerContinues cutter blocks (take done piece) mid_cutter mid_blocks
+    → cut.frame ≡ Some frame
+    → CutterAdvances mid_cutter (take (length piece - done) (drop done piece)) cut new_cutter
+    → ((so_far : List Frame) → BlocksRepresent mid_blocks so_far
+    → BlocksRepresent new_blocks (so_far ++ frame_of frame ∷ []))
+    → ViewerContinues cutter blocks (take (done + cut.used) piece) new_cutter new_blocks
+continues_with_frame cutter mid_cutter new_cutter blocks mid_blocks new_blocks piece done cut frame
+    continues some advances blocks_continue =
+    let cuts : CutterContinues mid_cutter
+    (take cut.used (take (length piece - done) (drop done piece)))
+    (frame_of frame ∷ []) new_cutter =
+    rw some at advances.goes_on in
+    subst (λ (octets : List ℕ). ViewerContinues cutter blocks octets new_cutter new_blocks)
+    (prefix_append piece done cut.used)
+    (continues_append cutter mid_cutter new_cutter blocks mid_blocks new_blocks (take done piece) _
+    continues
+    (step_continues mid_cutter new_cutter mid_blocks new_blocks _ (frame_of frame ∷ []) cuts
+    blocks_continue))
+
+-- a stream, a prefix of the piece, and what follows it
+stream_and_piece : (stream piece : List ℕ) (done : ℕ)
+    → (stream ++ take done piece) ++ take (length piece - done) (drop done piece)
+    ≡ stream ++ piece
+stream_and_piece stream piece done =
+    append_assoc stream (take done piece) _
+    ∙ ap (λ (unused : List ℕ). stream ++ (take done piece ++ unused)) (take_rest piece done)
+    ∙ ap (λ (octets : List ℕ). stream ++ octets) (take-append-drop done piece)
+
+-- where the cutter had no fault, a call that fails is at fault
+faults_of_sound : (fault : WireFault) (mid new : CutterState) (unused : List ℕ)
+    → mid.fault ≡ None
+    → MatchOption mid.fault (CutterFaults mid unused fault new) (λ known. new ≡ mid)
+    → CutterFaults mid unused fault new
+faults_of_sound fault mid new unused sound fails =
+    subst (λ (known : Option WireFault).
+    MatchOption known (CutterFaults mid unused fault new) (λ known. new ≡ mid))
+    sound fails
+
+-- a fault in what follows a prefix of the piece is one of the stream with the piece
+wire_fault_reports : (fault : WireFault) (cutter mid_cutter new_cutter : CutterState)
+    (blocks mid_blocks : Blocks) (piece : List ℕ) (done : ℕ)
+    → ViewerContinues cutter blocks (take done piece) mid_cutter mid_blocks
+    → MatchOption mid_cutter.fault
+    (CutterFaults mid_cutter (take (length piece - done) (drop done piece)) fault new_cutter)
+    (λ known. new_cutter ≡ mid_cutter)
+    → (expects : Bool) (limits : Limits) (stream : List ℕ)
+    → ViewerRepresents cutter blocks expects limits stream
+    → WireFaultReports expects limits (stream ++ piece) fault new_cutter
+wire_fault_reports fault cutter mid_cutter new_cutter blocks mid_blocks piece done continues fails
+    expects limits stream represents =
+    let after = continues expects limits stream represents in
+    let faults = faults_of_sound fault mid_cutter new_cutter
+    (take (length piece - done) (drop done piece)) after.cut.sound fails in
+    let found = faults.at expects limits (stream ++ take done piece) after.frames after.cut in (
+      found.0,
+      record {
+        frames = after.frames;
+        begun = mid_blocks.gather.begun;
+        table = mid_blocks.decoder.table;
+        at = subst (λ (octets : List ℕ).
+            WireFaultAt expects limits octets after.frames found.0 fault)
+            (stream_and_piece stream piece done) found.1;
+        decoded = after.blocks_represent.decoded;
+      },
+      found.2,
+    )
+
+-- a call of the cutter that fails
+pub fails_at_cut : (fault : WireFault) (cutter mid_cutter new_cutter : CutterState)
+    (blocks mid_blocks : Blocks) (piece : List ℕ) (done : ℕ)
+    → ViewerContinues cutter blocks (take done piece) mid_cutter mid_blocks
+    → CutterFails mid_cutter (take (length piece - done) (drop done piece)) fault new_cutter
+    → ViewerFails cutter blocks piece (Wire fault) new_cutter
+fails_at_cut faults.BadPreface cutter mid_cutter new_cutter blocks mid_blocks piece done continues
+    fails =
+    wire_fault_reports faults.BadPreface cutter mid_cutter new_cutter blocks mid_blocks piece done
+    continues fails
+fails_at_cut (faults.HeadFault code) cutter mid_cutter new_cutter blocks mid_blocks piece done
+    continues fails =
+    wire_fault_reports (faults.HeadFault code) cutter mid_cutter new_cutter blocks mid_blocks piece
+    done continues fails
+fails_at_cut (faults.PayloadFault code) cutter mid_cutter new_cutter blocks mid_blocks piece done
+    continues fails =
+    wire_fault_reports (faults.PayloadFault code) cutter mid_cutter new_cutter blocks mid_blocks
+    piece done continues fails
+fails_at_cut faults.Memory cutter mid_cutter new_cutter blocks mid_blocks piece done continues
+    fails = λ expects limits stream represents. tt
+
+-- a stream and a prefix of the piece, taken from the stream and the piece
+take_prefix : (stream piece : List ℕ) (count : ℕ)
+    → take (length (stream ++ take count piece)) (stream ++ piece) ≡ stream ++ take count piece
+take_prefix stream piece count =
+    let split : stream ++ piece ≡ (stream ++ take count piece) ++ drop count piece =
+    ap (λ (octets : List ℕ). stream ++ octets) (sym (take-append-drop count piece))
+    ∙ sym (append_assoc stream (take count piece) (drop count piece)) in
+    ap (λ (octets : List ℕ). take (length (stream ++ take count piece)) octets) split
+    ∙ take-append_seam (stream ++ take count piece) (drop count piece)
+
+-- a frame that the blocks don't take
+pub fails_at_frame : (error : BlockError) (cutter mid_cutter new_cutter : CutterState)
+    (blocks mid_blocks : Blocks) (piece : List ℕ) (done : ℕ) (cut : Cut) (frame : FrameRef)
+    → ViewerContinues cutter blocks (take done piece) mid_cutter mid_blocks
+    → cut.frame ≡ Some frame
+    → CutterAdvances mid_cutter (take (length piece - done) (drop done piece)) cut new_cutter
+    → done + cut.used ≤ length piece
+    → ((so_far : List Frame) → BlocksRepresent mid_blocks so_far
+    → BlockErrorReports (so_far ++ frame_of frame ∷ []) error)
+    → ViewerFails cutter blocks piece (Block error) new_cutter
+fails_at_frame errors.Memory cutter mid_cutter new_cutter blocks mid_blocks piece done cut frame
+    continues some advances within reports = λ expects limits stream represents. tt
+fails_at_frame (errors.Fault code) cutter mid_cutter new_cutter blocks mid_blocks piece done cut
+    frame continues some advances within reports =
+    λ expects limits stream represents.
+    let after = continues expects limits stream represents in
+    let cuts : CutterContinues mid_cutter
+    (take cut.used (take (length piece - done) (drop done piece)))
+    (frame_of frame ∷ []) new_cutter =
+    rw some at advances.goes_on in
+    let prefix : List ℕ = stream ++ take (done + cut.used) piece in
+    let frames : List Frame = after.frames ++ frame_of frame ∷ [] in
+    let same : (stream ++ take done piece)
+    ++ take cut.used (take (length piece - done) (drop done piece)) ≡ prefix =
+    append_assoc stream (take done piece) _
+    ∙ ap (λ (octets : List ℕ). stream ++ octets) (prefix_append piece done cut.used) in
+    let cut_after : CutterRepresents new_cutter expects limits prefix frames =
+    subst (λ (octets : List ℕ). CutterRepresents new_cutter expects limits octets frames) same
+    (cuts.stands expects limits (stream ++ take done piece) after.frames after.cut) in
+    let nothing : new_cutter.rest ≡ [] = advances.nothing_behind_a_frame (rw some refl) in
+    let reading : Frames expects limits prefix frames [] = rw nothing at cut_after.split in (
+      length prefix,
+      record {
+        frames = frames;
+        within = simp (length-append, length-take) (omega arith);
+        reading = subst (λ (octets : List ℕ). Frames expects limits octets frames [])
+            (sym (take_prefix stream piece (done + cut.used))) reading;
+        error = reports after.frames after.blocks_represent;
+      },
+      cut_after.place,
+    )

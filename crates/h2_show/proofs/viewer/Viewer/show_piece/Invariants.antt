@@ -1,0 +1,15 @@
+-- A prefix of the piece has been shown.
+use Rattle.std.proofs.Common.{length, ◌-◌, ◌≤◌, take}
+use Rattle.h2_show.specs.Viewer.{ViewerContinues}
+use Rattle.h2_show.proofs.viewer.Viewer.show_piece.Given as goal
+
+abbrev pub invariant-loop-done : goal.invariant-loop-done
+invariant-loop-done g l =
+    record {
+      within : l.done ≤ length l.piece;
+      shown : ViewerContinues l.initial.self.cutter l.initial.self.blocks (take l.done l.piece)
+          l.self.cutter l.self.blocks;
+    }
+
+abbrev pub decreases-loop-done : goal.decreases-loop-done
+decreases-loop-done g l = length l.piece - l.done

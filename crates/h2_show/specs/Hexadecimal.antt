@@ -1,0 +1,29 @@
+-- Hexadecimal text with blanks.
+use Rattle.std.specs.Prelude.{ℕ, ◌==◌, ◌||◌, not, Bool, List, filter, IsErr}
+use Rattle.hex.specs.Hex.{decode_of}
+use Rattle.h2_show.specs.declared.failure.Failure.{Failure}
+use Rattle.h2_show.specs.declared.failure.Failure.TheVariants as failures
+use Rattle.h2_show.specs.declared.hexadecimal.HexError.{HexError}
+use Rattle.h2_show.specs.declared.hexadecimal.HexError.TheVariants.{BadHex, Memory}
+
+-- a space, a tab, a line feed or a carriage return
+abbrev pub is_blank : ℕ → Bool
+is_blank octet = octet == 0x20 || octet == 0x09 || octet == 0x0a || octet == 0x0d
+
+-- the text without its blanks
+abbrev pub without_blanks : List ℕ → List ℕ
+without_blanks text = filter (λ octet. not (is_blank octet)) text
+
+-- The text is no hexadecimal.
+abbrev pub IsBadHex : List ℕ → Type 0
+IsBadHex text = IsErr (decode_of (without_blanks text))
+
+-- what an error of reading a text says of it; out of memory says nothing
+abbrev pub HexErrorReports : List ℕ → HexError → Type 0
+HexErrorReports text BadHex = IsBadHex text
+HexErrorReports text Memory = Unit {0}
+
+-- an error of reading a text, as the failure of a command
+abbrev pub failure_of_text : HexError → Failure
+failure_of_text BadHex = failures.BadHex
+failure_of_text Memory = failures.Memory

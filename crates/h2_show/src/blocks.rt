@@ -1,0 +1,117 @@
+//! The field blocks among frames, decoded.
+
+ghost use Rattle.std.specs.Prelude.{◌≡◌, false, [], ◌∷◌, ◌++◌, List as Items, IfOk, IfErr, OnOk};
+ghost use Rattle.std.specs.Option.{is_some};
+ghost use Rattle.h2_frame.specs.Frames.{Frame, frame_of};
+ghost use Rattle.hpack.specs.Lists.{Decodes};
+ghost use Rattle.h2_show.specs.Blocks.{BlocksRepresent, BlockErrorReports, DecodingErrorReports};
+ghost use Rattle.h2_show.specs.Blocks.{error_of_grouping, error_of_decoding};
+
+use h2_block::{BlockFault, Gather, Gathered};
+use h2_frame::{Code, FrameRef};
+use hpack::{Decoder, Fault, List};
+use std::alloc::{AllocError, Global};
+
+/// The maximum of the table before the first block (RFC 9113, section 6.5.2).
+const FIRST_MAXIMUM: u32 = 4_096;
+
+/// The greatest maximum that a block may set.
+const TABLE_LIMIT: u32 = 65_536;
+
+/// The greatest size of a list that is shown.
+const LIST_LIMIT: u32 = 65_536;
+
+/// Groups the frames of one end, and decodes their field blocks.
+#[derive(Debug, Drop)]
+pub(crate) struct Blocks {
+    gather: Gather,
+    decoder: Decoder,
+}
+
+/// Why a frame isn't taken.
+#[derive(Clone, Copy, Debug, PartialEq, Eq)]
+pub(crate) enum BlockError {
+    /// The frame doesn't group, or ends a block that doesn't decode: a connection error with this
+    /// code.
+    Fault(Code),
+    /// Out of memory.
+    Memory,
+}
+
+impl From<BlockFault> for BlockError {
+    ghost from_gives = { λ fault error. error ≡ error_of_grouping fault };
+
+    fn from(fault: BlockFault) -> BlockError {
+        match fault {
+            BlockFault::Memory => BlockError::Memory,
+            other => BlockError::Fault(other.code()),
+        }
+    }
+}
+
+impl From<Fault> for BlockError {
+    ghost from_gives = { λ fault error. error ≡ error_of_decoding fault };
+
+    fn from(fault: Fault) -> BlockError {
+        match fault {
+            Fault::Memory => BlockError::Memory,
+            // A decoder that has failed isn't asked again.
+            Fault::Compression | Fault::Failed => BlockError::Fault(Code::CompressionError),
+        }
+    }
+}
+
+impl Blocks {
+    /// No frame was taken.
+    ///
+    /// # Errors
+    ///
+    /// [`AllocError`] when out of memory.
+    pub(crate) fn new(alloc: Global) -> Result<Blocks, AllocError>
+        ensures { IfOk result (λ blocks. BlocksRepresent blocks []) }
+    {
+        let mut decoder = Decoder::new(alloc, FIRST_MAXIMUM).map_err(|_| AllocError)?;
+        decoder.set_limit(TABLE_LIMIT);
+        Ok(Blocks {
+            gather: Gather::new(alloc),
+            decoder,
+        })
+    }
+
+    /// Takes the next frame, and answers the list of the block that it ends.
+    ///
+    /// # Errors
+    ///
+    /// [`BlockError::Fault`] where the frame doesn't group (RFC 9113, section 6.10), or ends a
+    /// block that doesn't decode (section 4.3); [`BlockError::Memory`] when out of memory.
+    pub(crate) fn take(&mut self, frame: FrameRef<'_>) -> Result<Option<List>, BlockError>
+        ensures ok { OnOk result ((frames : Items Frame) → BlocksRepresent self.old frames
+            → BlocksRepresent self.new (frames ++ frame_of frame.entry ∷ [])) }
+        ensures err { IfErr result (λ error. (frames : Items Frame)
+            → BlocksRepresent self.old frames
+            → BlockErrorReports (frames ++ frame_of frame.entry ∷ []) error) }
+    {
+        match self.gather.take(frame)? {
+            Gathered::Pass(_) | Gathered::More => Ok(None),
+            Gathered::Block { octets, .. } => Ok(Some(self.decode(&octets)?)),
+        }
+    }
+
+    // Decodes a block.
+    fn decode(&mut self, octets: &[u8]) -> Result<List, BlockError>
+        ensures ok { IfOk result (λ list. (self.old.decoder.failed ≡ false)
+            × Decodes self.old.decoder octets.now 65536 list self.new.decoder) }
+        ensures err { IfErr result (λ error. self.old.decoder.failed ≡ false
+            → DecodingErrorReports self.old.decoder octets.now error) }
+        ensures same { self.new.gather ≡ self.old.gather }
+    {
+        Ok(self.decoder.decode(octets, LIST_LIMIT)?)
+    }
+
+    /// Whether a block has begun and isn't complete.
+    pub(crate) fn is_inside(&self) -> bool
+        ensures { result ≡ is_some self.now.gather.begun }
+    {
+        self.gather.is_inside()
+    }
+}

@@ -1,0 +1,31 @@
+//! How an input is shown.
+
+ghost use Rattle.std.specs.Prelude.{◌≡◌};
+ghost use Rattle.h2_show.specs.Report.{begins_with_preface};
+
+/// How an input is shown.
+#[derive(Clone, Copy, Debug, PartialEq, Eq)]
+pub struct ShowOptions {
+    /// Whether the input is hexadecimal text.
+    pub hex: bool,
+    /// The end that sent the octets.
+    pub from: Side,
+}
+
+/// An end of a connection.
+#[derive(Clone, Copy, Debug, PartialEq, Eq, Hash)]
+pub enum Side {
+    /// The client, which begins with the preface (RFC 9113, section 3.4).
+    Client,
+    /// The server.
+    Server,
+}
+
+impl Side {
+    /// Whether the octets that the end sends begin with the preface.
+    pub(crate) fn begins_with_preface(self) -> bool
+        ensures { result ≡ begins_with_preface self }
+    {
+        matches!(self, Side::Client)
+    }
+}

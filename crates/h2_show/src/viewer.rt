@@ -1,0 +1,216 @@
+//! Shows a stream of frames that comes in pieces.
+
+ghost use Rattle.std.specs.Prelude.{◌≡◌, ◌==◌, not, ◌&&◌, length, if◌then◌else◌};
+ghost use Rattle.std.specs.Prelude.{[], ◌++◌, codes, decimal, OnOk, IfOk, IfErr};
+ghost use Rattle.std.specs.Io.KnownBytes.{Appends};
+ghost use Rattle.std.specs.Option.{is_some};
+ghost use Rattle.h2_frame.specs.Codes.{name_of};
+ghost use Rattle.h2_show.specs.Report.{begins_with_preface, first_limits};
+ghost use Rattle.h2_show.specs.Viewer.{ViewerRepresents, ViewerContinues, ViewerFails};
+ghost use Rattle.h2_show.specs.Viewer.{IsStreamFault};
+ghost use Rattle.h2_show.specs.declared.viewer.ShowError.TheVariants.{Wire, Block, Output};
+
+use crate::blocks::{BlockError, Blocks};
+use crate::lines::{FrameLine, write_list};
+use crate::options::Side;
+use crate::status::Status;
+use h2_frame::Code;
+use h2_wire::{Cutter, WireFault};
+use std::alloc::{AllocError, Global};
+use std::io::{self, ErrorKind, Write};
+
+/// The limit of payloads before any SETTINGS (RFC 9113, section 6.5.2).
+const LIMIT: u32 = 16_384;
+
+/// The octets of the preface (RFC 9113, section 3.4).
+const PREFACE: usize = 24;
+
+/// Shows a stream of frames.
+#[derive(Debug, Drop)]
+pub(crate) struct Viewer {
+    cutter: Cutter,
+    blocks: Blocks,
+    preface: Preface,
+}
+
+/// How much of the preface has come.
+#[derive(Clone, Copy, Debug)]
+struct Preface {
+    // How many of its octets are missing.
+    missing: usize,
+}
+
+/// Why no more of a stream is shown.
+#[derive(Debug, Drop)]
+pub(crate) enum ShowError {
+    /// An octet is at fault, or out of memory.
+    Wire(WireFault),
+    /// A frame doesn't group, or ends a block that doesn't decode, or out of memory.
+    Block(BlockError),
+    /// A line wasn't printed.
+    Output(io::Error),
+}
+
+impl From<WireFault> for ShowError {
+    ghost from_gives = { λ fault error. error ≡ Wire fault };
+
+    fn from(fault: WireFault) -> ShowError {
+        ShowError::Wire(fault)
+    }
+}
+
+impl From<BlockError> for ShowError {
+    ghost from_gives = { λ block_error error. error ≡ Block block_error };
+
+    fn from(block_error: BlockError) -> ShowError {
+        ShowError::Block(block_error)
+    }
+}
+
+impl From<io::Error> for ShowError {
+    ghost from_gives = { λ io_error error. error ≡ Output io_error };
+
+    fn from(io_error: io::Error) -> ShowError {
+        ShowError::Output(io_error)
+    }
+}
+
+impl Preface {
+    // So many octets more were used, without fault. Prints the preface's line where they complete
+    // it.
+    fn advance<W: Write>(&mut self, used: usize, out: &mut W) -> io::Result<()> {
+        if self.missing == 0 {
+            return Ok(());
+        }
+        self.missing = self.missing.saturating_sub(used);
+        if self.missing == 0 {
+            out.write_all(b"preface\n")?;
+        }
+        Ok(())
+    }
+}
+
+impl Viewer {
+    /// Begins with the first octet that the end sent.
+    ///
+    /// # Errors
+    ///
+    /// [`AllocError`] when out of memory.
+    pub(crate) fn new(alloc: Global, from: Side) -> Result<Viewer, AllocError>
+        ensures { IfOk result (λ viewer. ViewerRepresents viewer.cutter viewer.blocks
+            (begins_with_preface from) first_limits []) }
+    {
+        let expect_preface = from.begins_with_preface();
+        Ok(Viewer {
+            cutter: Cutter::new(alloc, LIMIT, expect_preface),
+            blocks: Blocks::new(alloc)?,
+            preface: Preface {
+                missing: if expect_preface { PREFACE } else { 0 },
+            },
+        })
+    }
+
+    /// Prints what the piece completes.
+    ///
+    /// By `ok` the piece was used to its end: the cutter and the blocks represent all octets so
+    /// far, however they were cut into pieces. By `err` the stream is at fault right after the
+    /// frames taken, or with the last of them. That each frame is printed, in order, is tested.
+    ///
+    /// # Errors
+    ///
+    /// [`ShowError::Wire`] and [`ShowError::Block`] with the fault of the stream, or when out of
+    /// memory; [`ShowError::Output`] where a line wasn't printed.
+    pub(crate) fn show_piece<W: Write>(
+        &mut self,
+        piece: &[u8],
+        out: &mut W,
+    ) -> Result<(), ShowError>
+        ensures ok { OnOk result (ViewerContinues self.old.cutter self.old.blocks piece.now
+            self.new.cutter self.new.blocks) }
+        ensures err { IfErr result (λ error. ViewerFails self.old.cutter self.old.blocks piece.now
+            error self.new.cutter) }
+    {
+        let mut done = 0;
+        while done < piece.len() {
+            let cut = self.cutter.cut(&piece[done..])?;
+            done += cut.used;
+            let Some(frame) = cut.frame else {
+                self.preface.advance(cut.used, out)?;
+                continue;
+            };
+            let list = self.blocks.take(frame)?;
+            self.preface.advance(cut.used, out)?;
+            writeln!(out, "{}", FrameLine(frame))?;
+            if let Some(list) = list {
+                write_list(&list, out)?;
+            }
+        }
+        Ok(())
+    }
+
+    /// Prints the line of the fault that ends the stream.
+    ///
+    /// # Errors
+    ///
+    /// Where the error isn't a fault of the stream, the same: `OutOfMemory` for that, and the
+    /// writer's error where a line wasn't printed. Those of the writer.
+    pub(crate) fn show_error<W: Write>(
+        &mut self,
+        error: ShowError,
+        out: &mut W,
+    ) -> io::Result<Status>
+        ensures { IfOk result (λ status. (status ≡ Status.Fault) × IsStreamFault error) }
+    {
+        match error {
+            ShowError::Output(error) => Err(error),
+            ShowError::Wire(WireFault::Memory) | ShowError::Block(BlockError::Memory) => {
+                Err(io::Error::from(ErrorKind::OutOfMemory))
+            }
+            ShowError::Wire(WireFault::BadPreface) => self.show_fault(Code::ProtocolError, out),
+            ShowError::Wire(WireFault::HeadFault(code) | WireFault::PayloadFault(code))
+            | ShowError::Block(BlockError::Fault(code)) => {
+                self.preface.advance(PREFACE, out)?;
+                self.show_fault(code, out)
+            }
+        }
+    }
+
+    // Prints the line of a fault with this code.
+    fn show_fault<W: Write>(&self, code: Code, out: &mut W) -> io::Result<Status>
+        ensures status { IfOk result (λ status. status ≡ Status.Fault) }
+        ensures line { IfOk result (λ status. Appends (W.contents out.old) (W.contents out.new)
+            (codes "fault " ++ name_of code ++ codes " at " ++ decimal self.now.cutter.place
+            ++ codes "\n")) }
+    {
+        writeln!(out, "fault {code} at {}", self.cutter.place())?;
+        Ok(Status::Fault)
+    }
+
+    /// Prints what the end of the input leaves unfinished: the octets left of a frame or of the
+    /// preface, or else a block.
+    ///
+    /// # Errors
+    ///
+    /// Those of the writer.
+    pub(crate) fn show_end<W: Write>(&self, out: &mut W) -> io::Result<Status>
+        ensures { IfOk result (λ status. status ≡
+            (if length self.now.cutter.rest == 0 && not (is_some self.now.blocks.gather.begun)
+            then Status.Good else Status.Fault)) }
+    {
+        let held = self.cutter.held();
+        if held != 0 {
+            writeln!(out, "rest {held}")?;
+            return Ok(Status::Fault);
+        }
+        if self.blocks.is_inside() {
+            writeln!(out, "unfinished block")?;
+            return Ok(Status::Fault);
+        }
+        Ok(Status::Good)
+    }
+
+    /// How many octets were used, or the number of the octet at fault, from 1 on.
+    pub(crate) fn place(&self) -> u64 {
+        self.cutter.place()
+    }
+}

@@ -1,3 +1,0 @@
-pub mod BlocksLemmas
-pub mod ShowingLemmas
-pub mod TellingLemmas

@@ -1,0 +1,118 @@
+//! What the words of a command line ask for.
+
+ghost use Rattle.std.specs.Prelude.{◌≡◌, Some, true, false, codes};
+ghost use Rattle.clap.specs.Words.{first_value, found_of, one_text};
+
+use clap::{Arg, ArgAction, ArgMatches, Command, Error};
+use h2_show::{ShowOptions, Side};
+use std::alloc::{AllocError, Global};
+
+/// Reads the words after `show`.
+///
+/// # Errors
+///
+/// The kind is `DisplayHelp` where help is asked for, `OutOfMemory` when out of memory, and another
+/// one where a word is wrong. The error's text is for the user.
+pub fn show_args(alloc: Global, words: &[String]) -> Result<ShowOptions, Error> {
+    let command = show_command(alloc)?.no_binary_name(true);
+    let matches = command.try_get_matches_from(words)?;
+    Ok(options_of(&matches))
+}
+
+// The options that the matches of `show` give.
+fn options_of(matches: &ArgMatches<'_>) -> ShowOptions
+    ensures hex { one_text (found_of matches.now) (codes "hex") ≡ Some (codes "true")
+        → result.hex ≡ true }
+    ensures no_hex { one_text (found_of matches.now) (codes "hex") ≡ Some (codes "false")
+        → result.hex ≡ false }
+    ensures server { first_value (found_of matches.now) (codes "from") ≡ Some (codes "server")
+        → result.from ≡ Side.Server }
+    ensures client { first_value (found_of matches.now) (codes "from") ≡ Some (codes "client")
+        → result.from ≡ Side.Client }
+{
+    let from = match matches.get_str(FROM) {
+        Some("server") => Side::Server,
+        _ => Side::Client,
+    };
+    ShowOptions {
+        hex: matches.get_flag(HEX),
+        from,
+    }
+}
+
+/// Reads words that begin with no command's name. They ask for help or the version, or are wrong.
+///
+/// # Errors
+///
+/// Those of [`show_args`], and `DisplayVersion` where the version is asked for.
+pub(crate) fn no_command(alloc: Global, words: &[String]) -> Result<(), Error> {
+    let command = Command::new(alloc, "h2")
+        .bin_name("h2")?
+        .about("Shows streams of HTTP/2 over cleartext")
+        .version("0.1.0")
+        .no_binary_name(true)
+        .subcommand_required(true)
+        .arg_required_else_help(true)
+        .subcommand(show_command(alloc)?)?;
+    command.try_get_matches_from(words)?;
+    Ok(())
+}
+
+const HEX: &str = "hex";
+
+const FROM: &str = "from";
+
+/// The lines that `show` prints, how it ends, and an example.
+const LINES_AND_STATUSES: &str =
+    r"Each frame has a line: its kind, its stream, the length of its payload, and what
+the kind adds. The fields of a block follow the frame that ends it. Other lines:
+  preface            the client's preface
+    name: value      a header field; `!` before the name: it is never to be
+                     indexed; `\x00`: an octet that is no printable ASCII, or a
+                     backslash, in hexadecimal
+    list too large   the fields of the block have more than 65536 octets, with
+                     32 added for each field
+  fault CODE at N    octet N, counted from 1, is a connection error with this
+                     code (RFC 9113, section 7); nothing after it is shown
+  rest N             the input ends inside the preface or a frame, N octets of
+                     which came
+  unfinished block   the input ends inside a field block
+
+Exit status, with the line on standard error:
+  0  the input is complete frames and field blocks
+  1  a fault, or the end inside the preface, a frame or a field block
+  2  wrong words; or `bad hex`: the input isn't hexadecimal text
+  3  `N1 Device`: a read or a write failed
+  4  `N3 Memory`: out of memory
+
+Example:
+  $ echo 000004 08 00 00000000 0000000f | h2 show --hex --from server
+  WINDOW_UPDATE 0 4 add=15";
+
+const HEX_HELP: &str = r"Read hexadecimal text, of which spaces, tabs and line ends
+are ignored";
+
+const FROM_HELP: &str = r"The end that sent the octets: client, which begins with the
+preface, or server [default: client]";
+
+fn show_command<'a>(alloc: Global) -> Result<Command<'a>, AllocError> {
+    let hex = Arg::new(alloc, HEX)
+        .long(HEX)
+        .action(ArgAction::SetTrue)
+        .help(HEX_HELP);
+    let from = Arg::new(alloc, FROM)
+        .long(FROM)
+        .value_name("SIDE")
+        .value_parser(["client", "server"].as_slice())
+        .default_value("client")
+        .hide_default_value(true)
+        .hide_possible_values(true)
+        .help(FROM_HELP);
+    Command::new(alloc, "show")
+        .bin_name("h2 show")?
+        .about("Prints the frames of a stream and the header fields of its blocks")
+        .override_usage("h2 show [OPTIONS] < FILE")
+        .after_help(LINES_AND_STATUSES)
+        .arg(hex)?
+        .arg(from)
+}
