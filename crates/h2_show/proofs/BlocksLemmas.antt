@@ -7,7 +7,7 @@ use Rattle.h2_block.specs.declared.fault.BlockFault.TheVariants as grouping
 use Rattle.h2_block.specs.Grouping.{Item, alone, block}
 use Rattle.h2_block.specs.Gather.{GatherState, GatherRepresents, GatherFaults, GatherFails}
 use Rattle.h2_block.specs.Gather.{block_fault_code}
-use Rattle.hpack.specs.declared.field.List.{List as FieldList}
+use Rattle.hpack.specs.declared.types.field.List.{List as FieldList}
 use Rattle.hpack.specs.Tables.{Entries}
 use Rattle.hpack.specs.Lists.{Decodes}
 use Rattle.h2_show.specs.declared.blocks.Blocks.{Blocks}

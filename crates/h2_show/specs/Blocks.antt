@@ -7,9 +7,9 @@ use Rattle.h2_block.specs.declared.fault.BlockFault.{BlockFault}
 use Rattle.h2_block.specs.declared.fault.BlockFault.TheVariants as grouping
 use Rattle.h2_block.specs.Grouping.{Item, alone, block, Begun, Groups, GroupingFaultAt}
 use Rattle.h2_block.specs.Gather.{block_fault_code}
-use Rattle.hpack.specs.declared.fault.Fault.{Fault as DecoderFault}
-use Rattle.hpack.specs.declared.fault.Fault.TheVariants as decoding
-use Rattle.hpack.specs.declared.field.Field.{Field}
+use Rattle.hpack.specs.declared.types.fault.Fault.{Fault as DecoderFault}
+use Rattle.hpack.specs.declared.types.fault.Fault.TheVariants as decoding
+use Rattle.hpack.specs.declared.types.field.Field.{Field}
 use Rattle.hpack.specs.Tables.{Entries}
 use Rattle.hpack.specs.Blocks.{Block}
 use Rattle.hpack.specs.Lists.{DecoderState, NoBlock, empty_table}

@@ -1,0 +1,22 @@
+-- The limits of this profile (own; RFC 9113, section 10.5).
+use Rattle.std.specs.Prelude.{ℕ}
+
+-- the greatest size of a header list that is reported or sent (section 6.5.2)
+abbrev pub max_list : ℕ
+max_list = 65536
+
+-- the waiting output from which calls are refused and no credit is returned
+abbrev pub full_output : ℕ
+full_output = 65536
+
+-- the waiting output that no reply may exceed
+abbrev pub max_output : ℕ
+max_output = 262144
+
+-- the most streams that an end resets on a connection
+abbrev pub max_resets : ℕ
+max_resets = 1000
+
+-- the most octets that one call sends of a body
+abbrev pub max_data : ℕ
+max_data = 65536

@@ -1,0 +1,128 @@
+//! Values within their bounds, and the texts of refusals.
+
+use crate::{
+    BadConfig, Config, Refusal, Role, any_body_as_far_as_windows_go, limits_to_the_octet,
+    block_in_its_encoding, body_as_far_as_windows_go, body_is_released, body_on_a_closed_stream,
+    clients_come_about, closed_by_us_body_is_given_back, faults_at_a_server, faults_of_padding,
+    faults_of_settings_at_a_client, faults_of_settings_at_a_server, first_frame_at_a_client,
+    first_frame_at_a_server, frame_in_its_encoding, frames_of_a_log, goaway_does_not_grow,
+    large_list_is_refused, last_body_is_released, active_stream_at_a_server, message_is_refused,
+    opening_of_a_client, own_window_from_the_acknowledgment_on, padding_counts,
+    padding_takes_of_both_windows, ping_at_a_server, replies_are_bounded, request_at_a_server,
+    reset_gives_back, second_goaway_is_refused, second_ping_is_refused, servers_come_about,
+    settings_of_a_client_change, settings_of_a_server_change, several_table_limits,
+    stream_after_an_own_goaway, stream_too_many_is_refused, streams_after_a_goaway,
+    table_limit_of_the_peer, window_lowered_below_zero, window_raised_too_far,
+    wrong_preface_at_a_server,
+};
+use std::test::Fail;
+
+#[test]
+fn values_within_their_bounds(rt: HostRuntime) {
+    let rules = [
+        (0, 1, 100, None),
+        (65_536, 2_147_483_647, 1_000, None),
+        (65_537, 0, 0, Some(BadConfig::TableLimit)),
+        (65_536, 0, 99, Some(BadConfig::InitialWindow)),
+        (65_536, 2_147_483_648, 1_001, Some(BadConfig::InitialWindow)),
+        (65_536, 65_535, 99, Some(BadConfig::MaxStreams)),
+        (65_536, 65_535, 1_001, Some(BadConfig::MaxStreams)),
+    ];
+    for (table_limit, initial_window, max_streams, bad) in rules {
+        match Config::new(table_limit, initial_window, max_streams) {
+            Ok(config) => {
+                assert_eq!(rt; bad, None);
+                assert_eq!(rt; config.table_limit(), table_limit);
+                assert_eq!(rt; config.initial_window(), initial_window);
+                assert_eq!(rt; config.max_streams(), max_streams);
+            }
+            Err(first) => assert_eq!(rt; Some(first), bad),
+        }
+    }
+}
+
+#[test]
+fn values_of_a_new_end(rt: HostRuntime) {
+    let config = Config::default();
+    assert_eq!(rt; config.table_limit(), 4_096);
+    assert_eq!(rt; config.initial_window(), 65_535);
+    assert_eq!(rt; config.max_streams(), 100);
+    assert_eq!(rt; Config::new(4_096, 65_535, 100), Ok(config));
+}
+
+#[test]
+fn refusals_have_their_numbers(rt: HostRuntime) -> Result<(), Fail> {
+    let rules = [
+        (Refusal::Closed, "C1 "),
+        (Refusal::NoSuchStream, "C2 "),
+        (Refusal::Ended, "C3 "),
+        (Refusal::TooManyStreams, "C4 "),
+        (Refusal::StreamsExhausted, "C5 "),
+        (Refusal::GoingAway, "C6 "),
+        (Refusal::OutputFull, "C7 "),
+        (Refusal::PingWaits, "C8 "),
+        (Refusal::TooManyResets, "C9 "),
+        (Refusal::ListTooLarge, "C10 "),
+        (Refusal::NotOwed, "C11 "),
+        (Refusal::Memory, "C12 "),
+        (Refusal::SettingsWait, "C13 "),
+    ];
+    for (refusal, number) in rules {
+        let text = format!(in rt.alloc(); "{refusal}")?;
+        assert!(rt; text.starts_with(number));
+    }
+    let bad = format!(in rt.alloc(); "{}", BadConfig::MaxStreams)?;
+    assert!(rt; bad.starts_with("K3 "));
+    Ok(())
+}
+
+#[test]
+fn roles_differ(rt: HostRuntime) {
+    assert!(rt; Role::Client != Role::Server);
+}
+
+#[test]
+fn laws_are_called() {
+    limits_to_the_octet();
+    body_on_a_closed_stream();
+    goaway_does_not_grow();
+    padding_takes_of_both_windows();
+    stream_after_an_own_goaway();
+    any_body_as_far_as_windows_go();
+    block_in_its_encoding();
+    body_as_far_as_windows_go();
+    body_is_released();
+    clients_come_about();
+    closed_by_us_body_is_given_back();
+    faults_at_a_server();
+    faults_of_padding();
+    faults_of_settings_at_a_client();
+    faults_of_settings_at_a_server();
+    first_frame_at_a_client();
+    first_frame_at_a_server();
+    frame_in_its_encoding();
+    frames_of_a_log();
+    large_list_is_refused();
+    last_body_is_released();
+    active_stream_at_a_server();
+    message_is_refused();
+    opening_of_a_client();
+    own_window_from_the_acknowledgment_on();
+    padding_counts();
+    ping_at_a_server();
+    replies_are_bounded();
+    request_at_a_server();
+    reset_gives_back();
+    second_goaway_is_refused();
+    second_ping_is_refused();
+    servers_come_about();
+    settings_of_a_client_change();
+    settings_of_a_server_change();
+    several_table_limits();
+    stream_too_many_is_refused();
+    streams_after_a_goaway();
+    table_limit_of_the_peer();
+    window_lowered_below_zero();
+    window_raised_too_far();
+    wrong_preface_at_a_server();
+}

@@ -1,0 +1,101 @@
+-- The encoder of a log: what each step makes of it and of what was read.
+use Rattle.std.proofs.Common.{◌≡◌, ℕ, ◌==◌, min, Bool, true, false, if◌then◌else◌, List, [], ◌∷◌, Option, refl, ◌∙◌, arith}
+use Rattle.hpack.specs.Lists.{EncoderState}
+use Rattle.hpack.specs.Choice.{after_block}
+use Rattle.hpack.specs.Written.{IsValidEncoder}
+use Rattle.hpack.specs.Limits.{after_limit}
+use Rattle.hpack.proofs.LimitLemmas.{limit_preserves}
+use Rattle.hpack.proofs.WrittenBlocks.{block_goes_on}
+use Rattle.h2_frame.specs.Frames.{Data, Headers, Priority, Reset, Settings, Ping, GoAway, WindowUpdate, Continuation, Unknown}
+use Rattle.h2_block.specs.Grouping.{Item, alone, block}
+use Rattle.h2_log.specs.Events.{Event}
+use Rattle.h2_log.specs.Acts.{Act, Answer, Open, SendFields, SendData, Release, ResetStream, Refuse, SendPing, SendGoAway, PutOut, ChangeSettings, Number, Count, Done, OutOfMemory, Refused}
+use Rattle.h2_log.specs.Settings.{value_read, value_after}
+use Rattle.h2_log.specs.Log.{Log}
+use Rattle.h2_log.specs.ItemRules.{Decoded}
+use Rattle.h2_log.specs.ItemEffects.{encoder_after_settings}
+use Rattle.h2_log.specs.LogSteps.{read, with_sent, with_reported}
+use Rattle.h2_log.specs.CallRules.{encoder_after_call}
+
+-- An encoder writes blocks, and its limit is the value that was read last, 4,096 at most.
+pub record IsLimited (encoder : EncoderState) (received : List Item) : Type 0 where
+  pub writing : IsValidEncoder encoder
+  pub limit : encoder.limit ≡ min (value_read 1 4096 received) 4096
+
+-- the same of a log
+abbrev pub LogIsLimited : Log → Type 0
+LogIsLimited log = IsLimited log.encoder log.received
+
+-- Items that are written change neither.
+pub wrote_limited : (log : Log) (items : List Item) → LogIsLimited log → LogIsLimited (with_sent log items)
+unfolding with_sent
+wrote_limited log [] is = is
+wrote_limited log (item ∷ items) is = is
+
+-- Nor do events.
+pub reports_limited : (log : Log) (events : List Event) → LogIsLimited log → LogIsLimited (with_reported log events)
+unfolding with_reported
+reports_limited log [] is = is
+reports_limited log (event ∷ events) is = is
+
+-- Pairs of SETTINGS set the limit, by the test whether a pair names it.
+pair_limited : (encoder : EncoderState) (before id value : ℕ) (b : Bool) → IsValidEncoder encoder → encoder.limit ≡ min before 4096
+    → IsValidEncoder (if b then after_limit encoder (min value 4096) else encoder)
+    × ((if b then after_limit encoder (min value 4096) else encoder).limit ≡ min (if b then value else before) 4096)
+pair_limited encoder before id value true writing is = (limit_preserves encoder (min value 4096) (omega arith) writing, refl)
+pair_limited encoder before id value false writing is = (writing, is)
+
+-- Pairs of SETTINGS set the limit.
+pairs_limited : (encoder : EncoderState) (before : ℕ) (pairs : List (ℕ × ℕ)) → IsValidEncoder encoder → encoder.limit ≡ min before 4096
+    → IsValidEncoder (encoder_after_settings encoder pairs) × ((encoder_after_settings encoder pairs).limit ≡ min (value_after 1 before pairs) 4096)
+unfolding encoder_after_settings value_after
+pairs_limited encoder before [] writing is = (writing, is)
+pairs_limited encoder before (pair ∷ pairs) writing is =
+    let one = pair_limited encoder before pair.0 pair.1 (pair.0 == 1) writing is in
+    pairs_limited (if pair.0 == 1 then after_limit encoder (min pair.1 4096) else encoder) (if pair.0 == 1 then pair.1 else before) pairs one.0 one.1
+
+-- An item that is read: SETTINGS set the limit, and nothing else does.
+pub read_limited : (log : Log) (decoded : Option Decoded) (item : Item) → LogIsLimited log → LogIsLimited (read log decoded item)
+unfolding value_read
+read_limited log decoded (alone (Settings false pairs)) is =
+    let both = pairs_limited log.encoder (value_read 1 4096 log.received) pairs is.writing is.limit in record { writing = both.0; limit = both.1 }
+read_limited log decoded (alone (Settings true pairs)) is = record { writing = is.writing; limit = is.limit }
+read_limited log decoded (alone (Data stream end octets pad)) is = record { writing = is.writing; limit = is.limit }
+read_limited log decoded (alone (Headers stream end whole fragment pad priority)) is = record { writing = is.writing; limit = is.limit }
+read_limited log decoded (alone (Priority stream octets)) is = record { writing = is.writing; limit = is.limit }
+read_limited log decoded (alone (Reset stream code)) is = record { writing = is.writing; limit = is.limit }
+read_limited log decoded (alone (Ping ack octets)) is = record { writing = is.writing; limit = is.limit }
+read_limited log decoded (alone (GoAway last code debug)) is = record { writing = is.writing; limit = is.limit }
+read_limited log decoded (alone (WindowUpdate stream increment)) is = record { writing = is.writing; limit = is.limit }
+read_limited log decoded (alone (Continuation stream whole fragment)) is = record { writing = is.writing; limit = is.limit }
+read_limited log decoded (alone (Unknown kind flags stream payload)) is = record { writing = is.writing; limit = is.limit }
+read_limited log decoded (block stream end octets) is = record { writing = is.writing; limit = is.limit }
+
+-- A block that is written leaves an encoder that writes blocks, with its limit.
+block_limited : (encoder : EncoderState) (act : Act) (answer : Answer) → IsValidEncoder encoder
+    → IsValidEncoder (encoder_after_call encoder act answer) × ((encoder_after_call encoder act answer).limit ≡ encoder.limit)
+unfolding encoder_after_call after_block
+block_limited encoder (Open fields end) (Number id) writing = (block_goes_on encoder fields writing, refl)
+block_limited encoder (Open fields end) (Count count) writing = (writing, refl)
+block_limited encoder (Open fields end) Done writing = (writing, refl)
+block_limited encoder (Open fields end) OutOfMemory writing = (writing, refl)
+block_limited encoder (Open fields end) (Refused refusal) writing = (writing, refl)
+block_limited encoder (SendFields i fields end) (Number id) writing = (writing, refl)
+block_limited encoder (SendFields i fields end) (Count count) writing = (writing, refl)
+block_limited encoder (SendFields i fields end) Done writing = (block_goes_on encoder fields writing, refl)
+block_limited encoder (SendFields i fields end) OutOfMemory writing = (writing, refl)
+block_limited encoder (SendFields i fields end) (Refused refusal) writing = (writing, refl)
+block_limited encoder (SendData id octets end) answer writing = (writing, refl)
+block_limited encoder (Release id count) answer writing = (writing, refl)
+block_limited encoder (ResetStream id code) answer writing = (writing, refl)
+block_limited encoder (Refuse id code) answer writing = (writing, refl)
+block_limited encoder (SendPing octets) answer writing = (writing, refl)
+block_limited encoder SendGoAway answer writing = (writing, refl)
+block_limited encoder (PutOut count) answer writing = (writing, refl)
+block_limited encoder (ChangeSettings values) answer writing = (writing, refl)
+
+-- A call, accepted or refused.
+pub call_limited : (encoder : EncoderState) (received : List Item) (act : Act) (answer : Answer) → IsLimited encoder received
+    → IsLimited (encoder_after_call encoder act answer) received
+call_limited encoder received act answer is =
+    let both = block_limited encoder act answer is.writing in record { writing = both.0; limit = both.1 ∙ is.limit }

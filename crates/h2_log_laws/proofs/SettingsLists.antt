@@ -1,0 +1,119 @@
+-- Settings that were read, and own ones that are in force.
+use Rattle.std.proofs.Common.{◌≡◌, ◌⊎◌, ℕ, ◌+◌, ◌≤◌, ◌<◌, ◌==◌, nat_le, ◌&&◌, true, false, List, [], ◌∷◌, ◌++◌, refl, ap, sym, ◌∙◌, inl, inr, arith}
+use Rattle.std.proofs.lemmas.Bool.{cases_eq, eq-eqb, ne_eqb, le-leb, lt-leb, and_left, and_right}
+use Rattle.h2_frame.specs.Frames.{Data, Headers, Priority, Reset, Settings, Ping, GoAway, WindowUpdate, Continuation, Unknown}
+use Rattle.h2_block.specs.Grouping.{Item, alone, block}
+use Rattle.h2_log.specs.Settings.{value_read, value_after, one_settings, settings_count, up_to_settings, own_value, one_ack}
+use Rattle.h2_log.specs.Items.{total}
+use Rattle.h2_log.specs.Log.{Log, acked}
+use Rattle.h2_log.specs.Allowed.{HasAcknowledged, IsReader}
+use Rattle.h2_log.specs.declared.role.Role.{Role}
+use Rattle.h2_log_laws.proofs.ItemLists.{settings_after}
+
+-- An item is SETTINGS that are no acknowledgment, or counts as none.
+pub settings_or : (item : Item) → ((pairs : List (ℕ × ℕ)) × (item ≡ alone (Settings false pairs))) ⊎ (one_settings item ≡ 0)
+unfolding one_settings
+settings_or (block stream end octets) = inr refl
+settings_or (alone (Data stream end octets pad)) = inr refl
+settings_or (alone (Headers stream end whole fragment pad priority)) = inr refl
+settings_or (alone (Priority stream octets)) = inr refl
+settings_or (alone (Reset stream code)) = inr refl
+settings_or (alone (Settings true pairs)) = inr refl
+settings_or (alone (Settings false pairs)) = inl (pairs, refl)
+settings_or (alone (Ping ack octets)) = inr refl
+settings_or (alone (GoAway last code debug)) = inr refl
+settings_or (alone (WindowUpdate stream increment)) = inr refl
+settings_or (alone (Continuation stream whole fragment)) = inr refl
+settings_or (alone (Unknown kind flags stream payload)) = inr refl
+
+-- What counts as no SETTINGS changes no value.
+pub value_kept : (id first : ℕ) (item : Item) (items : List Item) → one_settings item ≡ 0
+    → value_read id first (item ∷ items) ≡ value_read id first items
+unfolding one_settings value_read
+value_kept id first (block stream end octets) items none = refl
+value_kept id first (alone (Data stream end octets pad)) items none = refl
+value_kept id first (alone (Headers stream end whole fragment pad priority)) items none = refl
+value_kept id first (alone (Priority stream octets)) items none = refl
+value_kept id first (alone (Reset stream code)) items none = refl
+value_kept id first (alone (Settings true pairs)) items none = refl
+value_kept id first (alone (Settings false pairs)) items none = absurd (omega arith)
+value_kept id first (alone (Ping ack octets)) items none = refl
+value_kept id first (alone (GoAway last code debug)) items none = refl
+value_kept id first (alone (WindowUpdate stream increment)) items none = refl
+value_kept id first (alone (Continuation stream whole fragment)) items none = refl
+value_kept id first (alone (Unknown kind flags stream payload)) items none = refl
+
+-- SETTINGS change each value that they name.
+pub value_changed : (id first : ℕ) (pairs : List (ℕ × ℕ)) (items : List Item)
+    → value_read id first (alone (Settings false pairs) ∷ items) ≡ value_after id (value_read id first items) pairs
+unfolding value_read
+value_changed id first pairs items = refl
+
+-- SETTINGS that are no acknowledgment count as one
+pub settings_one : (pairs : List (ℕ × ℕ)) → one_settings (alone (Settings false pairs)) ≡ 1
+unfolding one_settings
+settings_one pairs = refl
+
+-- the test of an item that isn't the one that is sought
+passed_over : (one count most : ℕ) → (one ≡ 1 → most < count) → (one == 1 && nat_le count most) ≡ false
+passed_over one count most above = elim (cases_eq one 1) [
+  | inl is ↦ and_right (one == 1) (nat_le count most) (lt-leb count most (above is))
+  | inr other ↦ and_left (one == 1) (nat_le count most) (ne_eqb one 1 other)
+]
+
+-- An item that isn't the one that is sought is passed over.
+pub up_to_next : (count : ℕ) (item : Item) (items : List Item) → (one_settings item ≡ 1 → count < one_settings item + settings_count items)
+    → up_to_settings count (item ∷ items) ≡ up_to_settings count items
+unfolding up_to_settings settings_count
+up_to_next count item items above = rw (passed_over (one_settings item) (one_settings item + settings_count items) count above) refl
+
+-- The item that is sought is found.
+pub up_to_here : (count : ℕ) (item : Item) (items : List Item) → one_settings item ≡ 1 → one_settings item + settings_count items ≤ count
+    → up_to_settings count (item ∷ items) ≡ item ∷ items
+unfolding up_to_settings settings_count
+up_to_here count item items one within =
+    rw (eq-eqb (one_settings item) 1 one, le-leb (one_settings item + settings_count items) count within) refl
+
+-- The count of a list with one item more.
+pub count_next : (item : Item) (items : List Item) → settings_count (item ∷ items) ≡ one_settings item + settings_count items
+unfolding settings_count
+count_next item items = refl
+
+-- The count of no items.
+pub count_none : settings_count [] ≡ 0
+unfolding settings_count
+count_none = refl
+
+-- Items behind all those that count change nothing.
+up_to_after : (count : ℕ) (more items : List Item) → count ≡ settings_count items → up_to_settings count (more ++ items) ≡ up_to_settings count items
+up_to_after count [] items all = refl
+up_to_after count (item ∷ more) items all =
+    up_to_next count item (more ++ items) (λ one. omega (arith, settings_after more items)) ∙ up_to_after count more items all
+
+-- All SETTINGS of a list give the value that was read.
+value_of_all : (id first count : ℕ) (items : List Item) → count ≡ settings_count items
+    → value_read id first (up_to_settings count items) ≡ value_read id first items
+unfolding up_to_settings
+value_of_all id first count [] all = refl
+value_of_all id first count (item ∷ items) all = elim (settings_or item) [
+  | inl (pairs, is) ↦
+      let one : one_settings item ≡ 1 = rw is (settings_one pairs) in
+      ap (λ (line : List Item). value_read id first line) (up_to_here count item items one (omega (arith, count_next item items)))
+  | inr none ↦
+      ap (λ (line : List Item). value_read id first line) (up_to_next count item items (λ one. absurd (omega arith)))
+      ∙ value_of_all id first count items (omega (arith, count_next item items)) ∙ sym (value_kept id first item items none)
+]
+
+-- What the reader knows to be acknowledged is all that the writer has read.
+pub acked_all : (role : Role) (received sent unread : List Item) (log : Log) → HasAcknowledged received sent → IsReader role received sent unread log
+    → acked log ≡ settings_count received
+acked_all role received sent unread log returned reader = reader.awaited ∙ ap (λ (items : List Item). total one_ack items) reader.read ∙ returned
+
+-- A value that was read last is the one in force at the reader.
+pub limits_lem : (id first : ℕ) (role : Role) (received sent unread : List Item) (log : Log) → HasAcknowledged received sent → IsReader role received sent unread log
+    → own_value id first (acked log) log.sent ≡ value_read id first received
+limits_lem id first role received sent unread log returned reader =
+    let all = acked_all role received sent unread log returned reader in
+    ap (λ (items : List Item). own_value id first (acked log) items) reader.written
+    ∙ ap (λ (items : List Item). value_read id first items) (up_to_after (acked log) unread received all)
+    ∙ value_of_all id first (acked log) received all

@@ -1,0 +1,5 @@
+pub mod Accepting
+pub mod Sending
+pub mod Sums
+pub mod Tables
+pub mod Turns

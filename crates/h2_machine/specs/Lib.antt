@@ -1,0 +1,3 @@
+pub mod End
+pub mod Machine
+pub mod Represents

@@ -1,0 +1,55 @@
+-- A machine refuses a call just where the log that it represents does.
+use Rattle.std.proofs.Common.{◌≡◌, ap, sym, ◌∙◌, refl, Option, Some, None}
+use Rattle.h2_frame.specs.declared.code.Code.{Code}
+use Rattle.h2_log.specs.Acts.{Values, Act, Open, SendFields, SendData, Release, ResetStream, Refuse, SendPing, SendGoAway, PutOut, ChangeSettings}
+use Rattle.h2_log.specs.View.{View}
+use Rattle.h2_log.specs.Log.{Log}
+use Rattle.h2_log.specs.LogView.{log_view}
+use Rattle.h2_log.specs.CallRules.{first_of, conditions, refusal_of}
+use Rattle.h2_machine.specs.End.{end_view, End}
+use Rattle.h2_machine.specs.Represents.{Represents}
+use Rattle.h2_machine_laws.proofs.ViewsAgree.{waiting_agrees, view_beside, views_agree}
+
+-- No condition looks at states, at windows that would overflow, or at the greatest payload.
+beside_refuses : (e : End) (log : Log) (act : Act) → refusal_of (view_beside e log) act ≡ refusal_of (log_view log) act
+unfolding conditions first_of
+beside_refuses e log (Open fields end) = refl
+beside_refuses e log (SendFields id fields end) = refl
+beside_refuses e log (SendData id octets end) = refl
+beside_refuses e log (Release id count) = refl
+beside_refuses e log (ResetStream id code) = refl
+beside_refuses e log (Refuse id code) = refl
+beside_refuses e log (SendPing octets) = refl
+beside_refuses e log SendGoAway = refl
+beside_refuses e log (PutOut count) = refl
+beside_refuses e log (ChangeSettings values) = refl
+
+-- Any two views that have failed refuse the same.
+failed_refuses : (view other : View) (act : Act) (code : Code) → view.failed ≡ Some code → other.failed ≡ Some code
+    → refusal_of view act ≡ refusal_of other act
+unfolding conditions first_of
+failed_refuses view other (Open fields end) code is too = rw (is, too) refl
+failed_refuses view other (SendFields id fields end) code is too = rw (is, too) refl
+failed_refuses view other (SendData id octets end) code is too = rw (is, too) refl
+failed_refuses view other (Release id count) code is too = rw (is, too) refl
+failed_refuses view other (ResetStream id reset) code is too = rw (is, too) refl
+failed_refuses view other (Refuse id refuse) code is too = rw (is, too) refl
+failed_refuses view other (SendPing octets) code is too = rw (is, too) refl
+failed_refuses view other SendGoAway code is too = rw (is, too) refl
+failed_refuses view other (PutOut count) code is too = refl
+failed_refuses view other (ChangeSettings values) code is too = rw (is, too) refl
+
+-- the same, by whether the end has failed
+refusal_by : (values : Values) (e : End) (log : Log) (act : Act) (failed : Option Code) → e.failed ≡ failed
+    → Represents values e log → refusal_of (end_view e) act ≡ refusal_of (log_view log) act
+refusal_by values e log act (Some code) is represents =
+    failed_refuses (end_view e) (log_view log) act code is (sym represents.failed ∙ is)
+refusal_by values e log act None is represents =
+    let waits = waiting_agrees values e log represents in
+    let views = views_agree e log represents.role represents.failed waits (represents.running is) in
+    ap (λ (view : View). refusal_of view act) views ∙ beside_refuses e log act
+
+-- A machine refuses a call just where its log does.
+pub refusal_same : (values : Values) (e : End) (log : Log) (act : Act) → Represents values e log
+    → refusal_of (end_view e) act ≡ refusal_of (log_view log) act
+refusal_same values e log act represents = refusal_by values e log act e.failed refl represents

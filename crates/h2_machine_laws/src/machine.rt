@@ -1,0 +1,45 @@
+//! The machine, and the logs that it stands for.
+
+ghost use Rattle.std.specs.Prelude.{◌≡◌, ◌≢◌, ℕ, List, None};
+ghost use Rattle.h2_frame.specs.declared.code.Code.TheVariants.{InternalError};
+ghost use Rattle.h2_wire.specs.declared.fault.WireFault.{WireFault};
+ghost use Rattle.h2_wire.specs.Faults.{wire_fault_code};
+ghost use Rattle.h2_machine.specs.End.{end_view, End};
+ghost use Rattle.h2_log.specs.LogView.{log_view};
+ghost use Rattle.h2_log.specs.Acts.{Values, AreInRange, Act, Answer, IsTypedAct};
+ghost use Rattle.h2_log.specs.Log.{Log, next_unprocessed};
+ghost use Rattle.h2_log.specs.LogSteps.{took_part, took_fault, took_out_of_memory, took_none};
+ghost use Rattle.h2_log.specs.LogCalls.{opened, MayAnswer, with_call};
+ghost use Rattle.h2_log.specs.CallRules.{refusal_of};
+ghost use Rattle.h2_log.specs.Histories.{TakesOctets, TakesPart, TakesFault, MayRunOutOfMemory};
+ghost use Rattle.h2_machine.specs.Machine.{new_end, fail, close_unprocessed, unprocessed_of_end};
+ghost use Rattle.h2_machine.specs.Represents.{Represents};
+ghost use Rattle.h2_log.specs.declared.role.Role.{Role};
+ghost use Rattle.h2_machine_laws.specs.Machines.{end_after};
+
+/// A new machine stands for the log of a new end.
+pub fn new_end_represents()
+    ensures { (role : Role) (values : Values) → AreInRange values → Represents values (new_end role values) (opened role values) }
+{}
+
+/// A machine refuses a call just where the log that it stands for does, and behind the call it stands for the log with the call.
+pub fn calls_preserve_representation()
+    ensures refusal { (values : Values) (e : End) (log : Log) (act : Act) → Represents values e log → refusal_of (end_view e) act ≡ refusal_of (log_view log) act }
+    ensures call { (values : Values) (e : End) (log : Log) (act : Act) (answer : Answer) → Represents values e log → IsTypedAct act → MayAnswer log act answer
+        → Represents values (end_after e act answer) (with_call log act answer) }
+{}
+
+/// Behind each step in which no frame ends a machine stands for the log with it: octets that end none, octets that make a fault, want of memory,
+/// and a stream that is told as unprocessed, which is the one that the log says.
+pub fn steps_without_frames_preserve_representation()
+    ensures part { (values : Values) (e : End) (log : Log) (octets unparsed : List ℕ) → Represents values e log → TakesOctets log
+        → TakesPart e.role log octets unparsed → Represents values e (took_part log octets unparsed) }
+    ensures fault { (values : Values) (e : End) (log : Log) (octets : List ℕ) (fault : WireFault) → Represents values e log → TakesOctets log
+        → TakesFault e.role log octets fault → Represents values (fail (wire_fault_code fault) e.streams.last_processed e) (took_fault log octets fault) }
+    ensures out_of_memory { (values : Values) (e : End) (log : Log) (octets : List ℕ) → Represents values e log → log.failed ≡ None
+        → MayRunOutOfMemory e.role log octets → Represents values (fail InternalError e.streams.last_processed e) (took_out_of_memory log octets) }
+    ensures next { (values : Values) (e : End) (log : Log) → Represents values e log → log.failed ≡ None
+        → unprocessed_of_end e.role e.streams.entries e.goaway.received ≡ next_unprocessed log }
+    ensures unprocessed { (values : Values) (e : End) (log : Log) → Represents values e log → log.failed ≡ None → next_unprocessed log ≢ 0
+        → Represents values (close_unprocessed e (next_unprocessed log)) (took_none log) }
+{}

@@ -1,0 +1,19 @@
+//! The laws are called.
+
+use crate::{
+    calls_preserve_representation, connection_window_is_conserved, connection_window_is_kept,
+    connection_window_of_a_log, everything_is_bounded, new_end_represents, owed_on_all_streams,
+    steps_without_frames_preserve_representation,
+};
+
+#[test]
+fn laws_are_called() {
+    calls_preserve_representation();
+    connection_window_is_conserved();
+    connection_window_is_kept();
+    connection_window_of_a_log();
+    everything_is_bounded();
+    new_end_represents();
+    owed_on_all_streams();
+    steps_without_frames_preserve_representation();
+}
