@@ -3,6 +3,8 @@ use Rattle.std.proofs.Common.{◌≡◌, ℕ, zero, suc, ◌+◌, ◌-◌, ◌*�
 use Rattle.std.proofs.Common.{true, List, [], ◌∷◌, ◌++◌, length, get_or, take, replicate, Result}
 use Rattle.std.proofs.Common.{Ok, Err, OnErr, refl, sym, ap, ◌∙◌, subst, arith, append_assoc}
 use Rattle.std.proofs.Common.{append-nil, length-append, pow_pos}
+use Rattle.std.proofs.Common.{ap₂}
+use Rattle.std.specs.Int.{w32, to_be_bytes}
 use Rattle.std.proofs.lemmas.Grind.{flat_map-append}
 use Rattle.std.proofs.lemmas.List.{take_more, take_all}
 use Rattle.std.proofs.lemmas.Nat.{pow-add, shl_whole, shr_below, one_shl, mul-add-lt, mod_below}
@@ -10,7 +12,7 @@ use Rattle.std.specs.List.{AllByRecursion}
 use Rattle.hpack_text.specs.Bits.{IsOctet, bits_of, bits}
 use Rattle.hpack_text.specs.Huffman.{code, codes, huffman_bits}
 use Rattle.hpack_text.specs.Appended.{Appends, AppendsPadded}
-use Rattle.hpack_text.proofs.BitLemmas.{length-bits_of, length-bits, bits_of-joined, bits_of-split}
+use Rattle.hpack_text.proofs.BitLemmas.{bits_of-append, length-bits_of, length-bits, bits_of-joined, bits_of-split}
 use Rattle.hpack_text.proofs.BitLemmas.{bits_of-ones}
 use Rattle.hpack_text.proofs.CodeLemmas.{is_huffman_bits, length-huffman_bits}
 
@@ -105,6 +107,76 @@ top_octet count value least most within =
       within = mod_below value (2 ^ (count - 8)) (pow_pos (count - 8));
       same = ap (λ n. bits_of n value) (sym back) ∙ bits_of-split 8 (count - 8) value;
     })
+
+-- the word of the top 32 bits, and the bits below
+pub record IsTopWord (count value word following : ℕ) : Type 0 where
+  pub small : word < 2 ^ 32
+  pub within : following < 2 ^ (count - 32)
+  pub same : bits_of count value ≡ bits_of 32 word ++ bits_of (count - 32) following
+
+-- The top 32 bits are a word, and the others are below.
+pub top_word : (count value : ℕ) → 32 ≤ count → count < 96 → value < 2 ^ count
+    → IsTopWord count value (value / 2 ^ (count - 32)) (value % (1 * 2 ^ (count - 32) % 2 ^ 64))
+top_word count value least most within =
+    let back : 32 + (count - 32) ≡ count = omega arith in
+    subst (λ m. IsTopWord count value (value / 2 ^ (count - 32)) (value % m))
+    (sym (one_shl (count - 32) 64 (omega arith))) (record {
+      small = shr_below value 32 (count - 32) (subst (λ n. value < 2 ^ n) (sym back) within);
+      within = mod_below value (2 ^ (count - 32)) (pow_pos (count - 32));
+      same = ap (λ n. bits_of n value) (sym back) ∙ bits_of-split 32 (count - 32) value;
+    })
+
+-- the lowest eight bits of a number
+low_octet : (value : ℕ) → bits_of 8 value ≡ bits_of 8 (value % 256)
+unfolding bits_of
+low_octet value = bits_of-split 0 8 value
+
+-- The bits of a word's octets, the most significant one first, are those of the word.
+pub word_bits : (word : ℕ) → bits (to_be_bytes w32 word) ≡ bits_of 32 word
+word_bits word =
+    let third : bits_of 16 word ≡ bits_of 8 (word / 2 ^ 8 % 256) ++ bits_of 8 (word % 256) =
+    bits_of-append 8 8 word
+    ∙ ap₂ (λ (xs : List Bool) (ys : List Bool). xs ++ ys) (low_octet (word / 2 ^ 8))
+    (low_octet word) in
+    let second : bits_of 24 word ≡ bits_of 8 (word / 2 ^ 16 % 256) ++ bits_of 16 word =
+    bits_of-append 8 16 word
+    ∙ ap (λ (xs : List Bool). xs ++ bits_of 16 word) (low_octet (word / 2 ^ 16)) in
+    let first : bits_of 32 word ≡ bits_of 8 (word / 2 ^ 24 % 256) ++ bits_of 24 word =
+    bits_of-append 8 24 word
+    ∙ ap (λ (xs : List Bool). xs ++ bits_of 24 word) (low_octet (word / 2 ^ 24)) in
+    sym (first
+    ∙ ap (λ (xs : List Bool). bits_of 8 (word / 2 ^ 24 % 256) ++ xs) (second
+    ∙ ap (λ (xs : List Bool). bits_of 8 (word / 2 ^ 16 % 256) ++ xs) (third
+    ∙ ap (λ (xs : List Bool). bits_of 8 (word / 2 ^ 8 % 256) ++ xs)
+    (sym (append-nil (bits_of 8 (word % 256)))))))
+
+-- A word's octets are appended for its bits.
+pub Appends-word : (old new : List ℕ) (word : ℕ) (bit_list following : List Bool)
+    → bit_list ≡ bits_of 32 word ++ following → new ≡ old ++ to_be_bytes w32 word
+    → Appends old new bit_list following
+Appends-word old new word bit_list following split appended = record {
+  added = to_be_bytes w32 word;
+  joined = appended;
+  octets = (omega arith, (omega arith, (omega arith, (omega arith, tt))));
+  encoded = split ∙ ap (λ (xs : List Bool). xs ++ following) (sym (word_bits word));
+}
+
+-- What was appended twice was appended.
+pub Appends-join : (old mid new : List ℕ) (bit_list left following : List Bool)
+    → Appends old mid bit_list left → Appends mid new left following
+    → Appends old new bit_list following
+Appends-join old mid new bit_list left following first second = record {
+  added = first.added ++ second.added;
+  joined = second.joined
+      ∙ (ap (λ (xs : List ℕ). xs ++ second.added) first.joined
+      ∙ append_assoc old first.added second.added);
+  octets = all_octets-append first.added second.added first.octets second.octets;
+  encoded = first.encoded
+      ∙ (ap (λ (xs : List Bool). bits first.added ++ xs) second.encoded
+      ∙ (sym (append_assoc (bits first.added) (bits second.added) following)
+      ∙ ap (λ (xs : List Bool). xs ++ following)
+      (sym (flat_map-append (bits_of 8) first.added second.added))));
+}
 
 -- the octet of the bits that are left, padded with ones
 pub record IsPadded (count value octet : ℕ) : Type 0 where

@@ -14,7 +14,7 @@ mod strings;
 mod tests;
 
 pub use fault::TextFault;
-pub use huffman::{huff_len, huff_read, huff_write};
+pub use huffman::{huff_len, huff_read, huff_step, huff_write};
 pub use integers::{read_int, write_int};
 pub use laws::{
     no_code_begins_another, no_integer_begins_another, no_string_begins_another, one_coding,

@@ -1,4 +1,4 @@
-//! Writing a text in the code, an octet whenever eight bits are there.
+//! Writing a text in the code, four octets whenever their bits are there.
 
 ghost use Rattle.std.specs.Prelude.{◌≡◌, ◌+◌, ◌*◌, ◌^◌, ◌<◌, ◌≤◌, [], ◌++◌, length, IfOk, OnOk};
 ghost use Rattle.std.specs.Prelude.{OnErr, vec_len};
@@ -10,9 +10,18 @@ ghost use Rattle.hpack_text.specs.Appended.{IsExtended, Appends, AppendsPadded};
 use crate::huffman::codes::{Code, code_of};
 use std::alloc::AllocError;
 
-/// The bits that wait for an octet to be full: how many, and the number that they are.
+/// The bits that wait for four octets to be full: how many, and the number that they are.
 #[derive(Clone, Copy)]
 struct Pending {
+    count: u32,
+    value: u64,
+    ghost few: { count < 32 },
+    ghost within: { value < 2 ^ count },
+}
+
+/// The bits of the last octet, if it isn't full: how many, and the number that they are.
+#[derive(Clone, Copy)]
+struct LastBits {
     count: u32,
     value: u64,
     ghost few: { count < 8 },
@@ -31,10 +40,11 @@ pub fn append_huffman(text: &[u8], out: &mut Vec<u8>) -> Result<(), AllocError>
     for octet in text {
         pending = append_code(pending, code_of(*octet), out)?;
     }
-    append_padded(pending, out)
+    let last = append_octets(pending, out)?;
+    append_padded(last, out)
 }
 
-/// Appends the octets that the code completes, and answers the bits that are left.
+/// Appends four octets if the code completes them, and answers the bits that are left.
 #[inline]
 fn append_code(pending: Pending, code: Code, out: &mut Vec<u8>) -> Result<Pending, AllocError>
     requires count { code.count ≤ 30 }
@@ -47,28 +57,49 @@ fn append_code(pending: Pending, code: Code, out: &mut Vec<u8>) -> Result<Pendin
         (8 * vec_capacity out.old + 8 ≤ 8 * vec_len out.old + pending.count + code.count) }
     ensures capacity { vec_capacity out.old ≤ vec_capacity out.new }
 {
-    let mut count = pending.count + code.count;
-    let mut value = (pending.value << code.count) + u64::from(code.value);
+    let count = pending.count + code.count;
+    let value = (pending.value << code.count) + u64::from(code.value);
+    if count < 32 {
+        return Ok(Pending { count, value });
+    }
+    let left = count - 32;
+    let word = (value >> left) as u32;
+    out.extend_from_slice(&word.to_be_bytes())?;
+    Ok(Pending {
+        count: left,
+        value: value % (1 << left),
+    })
+}
+
+/// Appends the octets that are full, and answers the bits that are left.
+fn append_octets(pending: Pending, out: &mut Vec<u8>) -> Result<LastBits, AllocError>
+    ensures ok { IfOk result (λ last. Appends out.old.items out.new.items
+        (bits_of pending.count pending.value) (bits_of last.count last.value)) }
+    ensures extended { IsExtended out.old.items out.new.items }
+    ensures full { OnErr result (8 * vec_capacity out.old + 8 ≤ 8 * vec_len out.old + pending.count) }
+    ensures capacity { vec_capacity out.old ≤ vec_capacity out.new }
+{
+    let mut count = pending.count;
+    let mut value = pending.value;
     while count >= 8 {
         count -= 8;
         out.push((value >> count) as u8)?;
         value %= 1 << count;
     }
-    Ok(Pending { count, value })
+    Ok(LastBits { count, value })
 }
 
 /// Appends the bits that are left, if any, and ones that pad their octet.
-fn append_padded(pending: Pending, out: &mut Vec<u8>) -> Result<(), AllocError>
+fn append_padded(last: LastBits, out: &mut Vec<u8>) -> Result<(), AllocError>
     ensures ok { OnOk result
-        (AppendsPadded out.old.items out.new.items (bits_of pending.count pending.value)) }
+        (AppendsPadded out.old.items out.new.items (bits_of last.count last.value)) }
     ensures extended { IsExtended out.old.items out.new.items }
-    ensures full { OnErr result
-        (8 * vec_capacity out.old + 1 ≤ 8 * vec_len out.old + pending.count) }
+    ensures full { OnErr result (8 * vec_capacity out.old + 1 ≤ 8 * vec_len out.old + last.count) }
     ensures capacity { vec_capacity out.old ≤ vec_capacity out.new }
 {
-    if pending.count > 0 {
-        let missing = 8 - pending.count;
-        out.push(((pending.value << missing) + ((1 << missing) - 1)) as u8)?;
+    if last.count > 0 {
+        let missing = 8 - last.count;
+        out.push(((last.value << missing) + ((1 << missing) - 1)) as u8)?;
     }
     Ok(())
 }

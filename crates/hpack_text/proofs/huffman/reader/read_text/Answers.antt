@@ -52,7 +52,7 @@ returns-then-state-gt-MAX_PADDING c =
           (ap (λ (xs : List ℕ). bits xs) (sym all) ∙ sym c.loop-octet.invariant.read)
           (state_open state c.loop-octet.invariant.small)
           (λ n few. state_no_padding state n c.if-state-gt-MAX_PADDING.true
- c.loop-octet.invariant.small few);
+          c.loop-octet.invariant.small few);
     }
 
 pub returns : goal.returns

@@ -1,11 +1,11 @@
 use Rattle.std.proofs.Common.{◌≡◌, ◌+◌, ◌*◌, ◌^◌, ◌<◌, ◌≤◌, vec_len, vec_capacity}
 use Rattle.hpack_text.specs.Bits.{bits_of}
 use Rattle.hpack_text.specs.Appended.{Appends}
-use Rattle.hpack_text.proofs.huffman.writer.append_code.Given as goal
+use Rattle.hpack_text.proofs.huffman.writer.append_octets.Given as goal
 
 abbrev pub invariant-loop-count : goal.invariant-loop-count
 invariant-loop-count l = record {
-  most : l.count ≤ 37;
+  most : l.count ≤ 31;
   within : l.value < 2 ^ l.count;
   adds : Appends l.initial.out.items l.out.items (bits_of l.initial.count l.initial.value)
       (bits_of l.count l.value);
