@@ -3,3 +3,4 @@ pub mod PartialBlockLemmas
 mod Examples
 pub mod RunLemmas
 pub mod SpreadLemmas
+pub mod SpreadLengths

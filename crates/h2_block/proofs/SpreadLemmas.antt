@@ -2,12 +2,11 @@
 use Rattle.std.proofs.Common.{◌≡◌, ℕ, zero, suc, ◌+◌, ◌^◌, ◌<◌, ◌≤◌, ◌==◌, min, Bool, true, false}
 use Rattle.std.proofs.Common.{List, [], ◌∷◌, ◌++◌, length, take, drop, None, refl, ap, sym, ◌∙◌}
 use Rattle.std.proofs.Common.{inl, inr, arith, append_assoc, append-nil, length-append, length-take}
-use Rattle.std.proofs.Common.{length-drop, subst, Result, Ok, Err, OnErr}
+use Rattle.std.proofs.Common.{length-drop, subst}
 use Rattle.std.proofs.lemmas.Bool.{le-leb, lt-leb, le-ltb, lt-ltb, eq-eqb, ne_eqb, eqb-true}
 use Rattle.std.proofs.lemmas.Bool.{false≢true, cases_lt}
 use Rattle.std.proofs.lemmas.List.{take-append-drop, take_all}
 use Rattle.std.proofs.lemmas.List.Concat.{flat_map-cons}
-use Rattle.std.proofs.Math.Seq.{take-append_seam}
 use Rattle.std.specs.List.{AllByRecursion}
 use Rattle.h2_frame.specs.Heads.{fits_stream}
 use Rattle.h2_frame.specs.Frames.{Frame, Headers, Continuation}
@@ -145,12 +144,12 @@ spread_grouped stream end octets within = elim (cases_lt max_payload (length oct
   }
 ]
 
--- A frame can be written, and its payload isn't above the most octets.
+-- A frame can be written, and its payload is within the limit.
 abbrev pub IsWritable : Frame → Type 0
 IsWritable frame = (refusal frame ≡ None) × IsTyped frame
     × (length (payload_of frame) ≤ max_payload)
 
--- HEADERS that hold no more than the most octets can be written
+-- HEADERS within the limit can be written
 pub headers_writable : (stream : ℕ) (end whole : Bool) (octets : List ℕ) → 1 ≤ stream
     → stream < 2 ^ 31 → length octets ≤ max_payload
     → IsWritable (Headers stream end whole octets None None)
@@ -165,7 +164,7 @@ headers_writable stream end whole octets at_least at_most few = (
   few,
 )
 
--- a CONTINUATION that holds no more than the most octets can be written
+-- a CONTINUATION within the limit can be written
 pub continuation_writable : (stream : ℕ) (whole : Bool) (octets : List ℕ) → 1 ≤ stream
     → stream < 2 ^ 31 → length octets ≤ max_payload
     → IsWritable (Continuation stream whole octets)
@@ -384,18 +383,12 @@ so_far-all old now whole stream rest so_far none =
     (sym (left_frames-none stream rest none)) ∙ so_far.left in
     so_far.extended ∙ ap (λ (line : List ℕ). old ++ line) all
 
--- what was there is a prefix
-pub so_far-prefix : (old now whole : List ℕ) (stream : ℕ) (rest : List ℕ)
-    → IsSoFar old now whole stream rest → take (length old) now ≡ old
-so_far-prefix old now whole stream rest so_far = ap (take (length old)) so_far.extended
-    ∙ take-append_seam old so_far.added
-
--- where a frame has no capacity, all of them have none
-pub so_far-full : (old now whole : List ℕ) (stream : ℕ) (rest following : List ℕ) (frame : Frame)
+-- where all of the frames have capacity, the next one has
+pub so_far-room : (old now whole : List ℕ) (stream : ℕ) (rest following : List ℕ) (frame : Frame)
     (room : ℕ) → IsSoFar old now whole stream rest
     → left_frames stream rest ≡ frame ∷ left_frames stream following
-    → room < length now + length (encoding_of frame) → room < length old + length whole
-so_far-full old now whole stream rest following frame room so_far split full =
+    → length old + length whole ≤ room → length now + length (encoding_of frame) ≤ room
+so_far-room old now whole stream rest following frame room so_far split enough =
     let parts : length so_far.added
     + (length (encoding_of frame) + length (encoding_of_frames (left_frames stream following)))
     ≡ length whole =
@@ -408,25 +401,20 @@ so_far-full old now whole stream rest following frame room so_far split full =
     (sym (ap encoding_of_frames split
     ∙ flat_map-cons encoding_of frame (left_frames stream following)))
     ∙ ap length so_far.left in
-    omega (arith, full, parts, ap length so_far.extended ∙ length-append old so_far.added)
+    omega (arith, enough, parts, ap length so_far.extended ∙ length-append old so_far.added)
 
--- where the first frame has no capacity, all of them have none
-pub first-full : (preceding room : ℕ) (frames : List Frame) (frame : Frame) (stream : ℕ)
+-- where all of the frames have capacity, the first one has
+pub first-room : (preceding room : ℕ) (frames : List Frame) (frame : Frame) (stream : ℕ)
     (following : List ℕ) → frames ≡ frame ∷ left_frames stream following
-    → room < preceding + length (encoding_of frame)
-    → room < preceding + length (encoding_of_frames frames)
-first-full preceding room frames frame stream following split full =
+    → preceding + length (encoding_of_frames frames) ≤ room
+    → preceding + length (encoding_of frame) ≤ room
+first-room preceding room frames frame stream following split enough =
     let parts : length (encoding_of_frames frames) ≡ length (encoding_of frame)
     + length (encoding_of_frames (left_frames stream following)) =
     ap length (ap encoding_of_frames split
     ∙ flat_map-cons encoding_of frame (left_frames stream following))
     ∙ length-append (encoding_of frame) (encoding_of_frames (left_frames stream following)) in
-    omega (arith, full, parts)
-
--- what holds holds on an error
-pub OnErr-from : {T E P : Type 0} (result : Result T E) → P → OnErr result P
-OnErr-from (Ok value) holds = tt
-OnErr-from (Err error) holds = holds
+    omega (arith, enough, parts)
 
 -- octets that were split at the limit are cut
 pub cut_at : (at : ℕ) (octets piece following : List ℕ) (whole : Bool)

@@ -1,7 +1,7 @@
 //! Spreading a field block over frames.
 
-ghost use Rattle.std.specs.Prelude.{◌≡◌, ◌+◌, ◌^◌, ◌<◌, ◌≤◌, ◌++◌, length, take, vec_len, None};
-ghost use Rattle.std.specs.Prelude.{IfErr, OnOk, OnErr, IsOk};
+ghost use Rattle.std.specs.Prelude.{◌≡◌, ◌+◌, ◌-◌, ◌*◌, ◌/◌, ◌^◌, ◌<◌, ◌≤◌, ◌++◌, length, vec_len};
+ghost use Rattle.std.specs.Prelude.{None, IfErr, OnOk, IsOk};
 ghost use Rattle.std.specs.Vec.{vec_capacity};
 ghost use Rattle.h2_frame.specs.Frames.{frame_of};
 ghost use Rattle.h2_frame.specs.Encoding.{encoding_of, refusal};
@@ -12,6 +12,9 @@ use h2_frame::{FrameRef, write_ref};
 
 /// The limit of a frame's payload (RFC 9113, section 4.2).
 const MAX_PAYLOAD: usize = 16_384;
+
+/// The octets of a frame's head (RFC 9113, section 4.1).
+const HEAD: usize = 9;
 
 /// Appends the frames of a field block on a stream, from 1 to 2<sup>31</sup> - 1, of 65,552 octets
 /// at most (RFC 9113, sections 4.3, 6.2 and 6.10): HEADERS and CONTINUATIONs, each full with 16,384
@@ -35,23 +38,29 @@ pub fn spread(stream: u32, end: bool, octets: &[u8], out: &mut Vec<u8>) -> Resul
         → IsOk result }
     ensures capacity { vec_capacity out.old ≤ vec_capacity out.new }
 {
-    let start = out.len();
-    if append_block(stream, end, octets, out).is_err() {
-        out.truncate(start);
+    if out.reserve(encoded_len(octets.len())).is_err() {
         return Err(BlockFault::Memory);
     }
+    append_block(stream, end, octets, out);
     Ok(())
 }
 
-// Appends the frames. On `Err` some of them stand behind what was there.
-fn append_block(stream: u32, end: bool, octets: &[u8], out: &mut Vec<u8>) -> Result<(), BlockFault>
+// How many octets the frames of a block of so many octets have: nine more for each frame's head.
+fn encoded_len(count: usize) -> usize
+    requires { count ≤ 65552 }
+    ensures { result ≡ count + 9 * (1 + (count - 1) / 16384) }
+{
+    count + HEAD * (1 + count.saturating_sub(1) / MAX_PAYLOAD)
+}
+
+// Appends the frames, for which there is capacity.
+fn append_block(stream: u32, end: bool, octets: &[u8], out: &mut Vec<u8>)
     requires at_least { 1 ≤ stream }
     requires at_most { stream < 2 ^ 31 }
-    ensures ok { OnOk result (out.new.items ≡ out.old.items
-        ++ encoding_of_frames (spread_frames stream end octets.now)) }
-    ensures prefix { take (vec_len out.old) out.new.items ≡ out.old.items }
-    ensures full { OnErr result (vec_capacity out.old < vec_len out.old
-        + length (encoding_of_frames (spread_frames stream end octets.now))) }
+    requires room { vec_len out.old
+        + length (encoding_of_frames (spread_frames stream end octets.now)) ≤ vec_capacity out.old }
+    ensures items { out.new.items ≡ out.old.items
+        ++ encoding_of_frames (spread_frames stream end octets.now) }
     ensures capacity { vec_capacity out.old ≤ vec_capacity out.new }
 {
     let (first, mut rest) = octets.split_at(octets.len().min(MAX_PAYLOAD));
@@ -63,7 +72,7 @@ fn append_block(stream: u32, end: bool, octets: &[u8], out: &mut Vec<u8>) -> Res
         pad: None,
         priority: None,
     };
-    append(headers, out)?;
+    append(headers, out);
     while !rest.is_empty() {
         let (fragment, following) = rest.split_at(rest.len().min(MAX_PAYLOAD));
         let continuation = FrameRef::Continuation {
@@ -71,20 +80,17 @@ fn append_block(stream: u32, end: bool, octets: &[u8], out: &mut Vec<u8>) -> Res
             whole: following.is_empty(),
             fragment,
         };
-        append(continuation, out)?;
+        append(continuation, out);
         rest = following;
     }
-    Ok(())
 }
 
-// Appends a frame that can be written, or changes nothing.
-fn append(frame: FrameRef<'_>, out: &mut Vec<u8>) -> Result<(), BlockFault>
-    requires { refusal (frame_of frame) ≡ None }
-    ensures ok { OnOk result (out.new.items ≡ out.old.items ++ encoding_of (frame_of frame.entry)) }
-    ensures err { OnErr result (out.new.items ≡ out.old.items) }
-    ensures full { OnErr result (vec_capacity out.old < vec_len out.old
-        + length (encoding_of (frame_of frame.entry))) }
+// Appends a frame that can be written, and for which there is capacity.
+fn append(frame: FrameRef<'_>, out: &mut Vec<u8>)
+    requires writable { refusal (frame_of frame) ≡ None }
+    requires room { vec_len out.old + length (encoding_of (frame_of frame)) ≤ vec_capacity out.old }
+    ensures items { out.new.items ≡ out.old.items ++ encoding_of (frame_of frame.entry) }
     ensures capacity { vec_capacity out.old ≤ vec_capacity out.new }
 {
-    write_ref(frame, out).map_err(|_| BlockFault::Memory)
+    write_ref(frame, out).unwrap();
 }

@@ -1,7 +1,7 @@
 //! Streams cut: whole, one octet a piece, and in two at each place.
 
 use crate::{
-    Cutter, WireFault, no_reading_past_a_fault, nothing_in_a_rest, one_fault, one_reading,
+    Cutter, WireFault, no_reading_past_a_fault, nothing_in_a_partial_frame, one_fault, one_reading,
 };
 use h2_frame::{Code, FrameRef};
 use std::alloc::Global;
@@ -309,5 +309,5 @@ fn laws_are_called() {
     one_reading();
     one_fault();
     no_reading_past_a_fault();
-    nothing_in_a_rest();
+    nothing_in_a_partial_frame();
 }

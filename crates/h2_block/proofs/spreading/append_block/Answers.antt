@@ -3,8 +3,8 @@ use Rattle.std.proofs.Common.{None, length, arith, vec_capacity}
 use Rattle.h2_frame.specs.Frames.{Headers, Continuation}
 use Rattle.h2_block.proofs.SpreadLemmas.{cut_at, cut_few, none_left, some_left, spread_frames-cut}
 use Rattle.h2_block.proofs.SpreadLemmas.{left_frames-cut, headers_writable, continuation_writable}
-use Rattle.h2_block.proofs.SpreadLemmas.{so_far-first, so_far-more, so_far-all, so_far-full}
-use Rattle.h2_block.proofs.SpreadLemmas.{first-full, OnErr-from}
+use Rattle.h2_block.proofs.SpreadLemmas.{so_far-first, so_far-more, so_far-all, so_far-room}
+use Rattle.h2_block.proofs.SpreadLemmas.{first-room}
 use Rattle.h2_block.proofs.spreading.append_block.Goals as goal
 
 pub append-requires : goal.append-requires
@@ -12,20 +12,14 @@ append-requires c =
     let cut =
     cut_at _ _ _ _ _ c.min.ensures c.split_at.ensures.front c.split_at.ensures.back
     c.is_empty.ensures in
-    (headers_writable c.args.stream c.args.end c.is_empty.result c.split_at.result.0.now
-    c.requires.at_least c.requires.at_most (cut_few _ _ _ _ cut)).0
-
-pub returns-in_err-append-clause-full : goal.returns-in_err-append-clause-full
-returns-in_err-append-clause-full c =
-    let cut =
-    cut_at _ _ _ _ _ c.min.ensures c.split_at.ensures.front c.split_at.ensures.back
-    c.is_empty.ensures in
-    OnErr-from c.from_residual.result
-    (first-full _ _ _
-    (Headers c.args.stream c.args.end c.is_empty.result c.split_at.result.0.now None None)
-    c.args.stream c.split_at.result.1.now
-    (spread_frames-cut c.args.stream c.args.end c.args.octets.now _ _ _ cut)
-    c.in_err-append.ensures.full)
+    record {
+      writable = (headers_writable c.args.stream c.args.end c.is_empty.result
+          c.split_at.result.0.now c.requires.at_least c.requires.at_most (cut_few _ _ _ _ cut)).0;
+      room = first-room _ _ _
+          (Headers c.args.stream c.args.end c.is_empty.result c.split_at.result.0.now None None)
+          c.args.stream c.split_at.result.1.now
+          (spread_frames-cut c.args.stream c.args.end c.args.octets.now _ _ _ cut) c.requires.room;
+    }
 
 pub loop-rest-init : goal.loop-rest-init
 loop-rest-init c =
@@ -38,34 +32,31 @@ loop-rest-init c =
           (Headers c.args.stream c.args.end c.is_empty.result c.split_at.result.0.now None None)
           c.args.stream c.split_at.result.1.now
           (spread_frames-cut c.args.stream c.args.end c.args.octets.now _ _ _ cut)
-          c.in_ok-append.ensures.ok;
+          c.append.ensures.items;
       capacity = c.append.ensures.capacity;
     }
 
 pub append-requires-in-loop-rest : goal.append-requires-in-loop-rest
 append-requires-in-loop-rest c =
-    let cut =
-    cut_at _ _ _ _ _ c.min-in-loop-rest.ensures c.split_at-in-loop-rest.ensures.front
-    c.split_at-in-loop-rest.ensures.back c.is_empty-in-loop-rest-2.ensures in
-    (continuation_writable c.args.stream c.is_empty-in-loop-rest-2.result
-    c.split_at-in-loop-rest.result.0.now c.requires.at_least c.requires.at_most
-    (cut_few _ _ _ _ cut)).0
-
-pub returns-in_err-append-2-clause-full : goal.returns-in_err-append-2-clause-full
-returns-in_err-append-2-clause-full c =
     let rest = c.loop-rest.rest.now in
     let cut =
     cut_at _ _ _ _ _ c.min-in-loop-rest.ensures c.split_at-in-loop-rest.ensures.front
     c.split_at-in-loop-rest.ensures.back c.is_empty-in-loop-rest-2.ensures in
-    let split = left_frames-cut c.args.stream rest _ _ _
-    (some_left (length rest) c.loop-rest-test.ensures) cut in
-    let full = so_far-full _ _ _ c.args.stream rest _
+    let split =
+    left_frames-cut c.args.stream rest _ _ _ (some_left (length rest) c.loop-rest-test.ensures)
+    cut in
+    let enough =
+    so_far-room _ _ _ c.args.stream rest _
     (Continuation c.args.stream c.is_empty-in-loop-rest-2.result
     c.split_at-in-loop-rest.result.0.now)
     (vec_capacity c.loop-rest.out) c.loop-rest.invariant.so_far split
-    (omega (arith, c.in_err-append-2.ensures.full, c.loop-rest.out.ok.0)) in
-    OnErr-from c.from_residual-in_err-append-2.result
-    (omega (arith, full, c.loop-rest.invariant.capacity, c.args.out.now.ok.0))
+    (omega (arith, c.requires.room, c.loop-rest.invariant.capacity, c.args.out.now.ok.0)) in
+    record {
+      writable = (continuation_writable c.args.stream c.is_empty-in-loop-rest-2.result
+          c.split_at-in-loop-rest.result.0.now c.requires.at_least c.requires.at_most
+          (cut_few _ _ _ _ cut)).0;
+      room = omega (arith, enough, c.loop-rest.out.ok.0);
+    }
 
 pub loop-rest-preserved : goal.loop-rest-preserved
 loop-rest-preserved c =
@@ -73,13 +64,15 @@ loop-rest-preserved c =
     let cut =
     cut_at _ _ _ _ _ c.min-in-loop-rest.ensures c.split_at-in-loop-rest.ensures.front
     c.split_at-in-loop-rest.ensures.back c.is_empty-in-loop-rest-2.ensures in
-    let split = left_frames-cut c.args.stream rest _ _ _
-    (some_left (length rest) c.loop-rest-test.ensures) cut in
+    let split =
+    left_frames-cut c.args.stream rest _ _ _ (some_left (length rest) c.loop-rest-test.ensures)
+    cut in
     record {
-      so_far = so_far-more _ _ _ _ c.args.stream rest _
+      so_far =
+          so_far-more _ _ _ _ c.args.stream rest _
           (Continuation c.args.stream c.is_empty-in-loop-rest-2.result
           c.split_at-in-loop-rest.result.0.now)
-          c.loop-rest.invariant.so_far split c.in_ok-append-2.ensures.ok;
+          c.loop-rest.invariant.so_far split c.append-in-loop-rest.ensures.items;
       capacity = omega (
         arith,
         c.loop-rest.invariant.capacity,
@@ -87,7 +80,7 @@ loop-rest-preserved c =
       );
     }
 
-pub returns-clause-ok : goal.returns-clause-ok
-returns-clause-ok c =
+pub returns-clause-items : goal.returns-clause-items
+returns-clause-items c =
     so_far-all _ _ _ c.args.stream c.loop-rest.rest.now c.loop-rest.invariant.so_far
     (none_left (length c.loop-rest.rest.now) c.loop-rest-test.ensures)
