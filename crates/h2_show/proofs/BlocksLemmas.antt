@@ -24,8 +24,8 @@ decode_append table mid after [] others first then =
     subst (λ (from : Entries). ItemsDecode from others after) first then
 decode_append table mid after (alone frame ∷ items) others first then =
     decode_append table mid after items others first then
-decode_append table mid after (block stream end octets ∷ items) others (fields, next, one, rest)
-    then = (fields, next, one, decode_append next mid after items others rest then)
+decode_append table mid after (block stream end octets ∷ items) others (fields, next, one, more)
+    then = (fields, next, one, decode_append next mid after items others more then)
 
 -- a frame that is passed on
 pub represent_alone : (blocks : Blocks) (gather : GatherState) (frame passed : Frame)

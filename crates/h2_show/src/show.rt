@@ -56,10 +56,8 @@ pub fn show_input<R: Read, W: Write>(
 {
     let mut lines = BufWriter::with_capacity(alloc, PIECE, out)?;
     let shown = show_lines(alloc, options, input, &mut lines);
-    if let Err(Failure::Device) = shown {
-        // What a failed write has left isn't written again.
-        let _ = lines.into_parts();
-    }
+    // Only a failed write has left something, which isn't written again.
+    let _ = lines.into_parts();
     shown
 }
 
