@@ -1,5 +1,8 @@
--- What is bounded at one end stays so behind each call that isn't refused; and it is so at first.
-use Rattle.std.proofs.Common.{subst, ◌≡◌, ℕ, suc, ◌+◌, ◌-◌, ◌*◌, ◌<◌, ◌≤◌, ◌==◌, nat_lt, nat_le, not, ◌&&◌, ◌||◌, if◌then◌else◌, Bool, true, false, List, [], ◌∷◌, ◌++◌, length, take, drop, pos, ◌-ℤ◌, Option, Some, None, is_some, refl, arith, length-append, length-take, length-drop, ltb-true, ltb-false, leb-false}
+-- What is bounded at one end stays so after each call that isn't refused; and it is so at first.
+use Rattle.std.proofs.Common.{subst, ◌≡◌, ℕ, suc, ◌+◌, ◌-◌, ◌*◌, ◌<◌, ◌≤◌, ◌==◌, nat_lt, nat_le,
+    not, ◌&&◌, ◌||◌, if◌then◌else◌, Bool, true, false, List, [], ◌∷◌, ◌++◌, length, take, drop, pos,
+    ◌-ℤ◌, Option, Some, None, is_some, refl, arith, length-append, length-take, length-drop,
+    ltb-true, ltb-false, leb-false}
 use Rattle.hpack.specs.declared.types.field.Field.{Field}
 use Rattle.hpack.specs.Lists.{list_size}
 use Rattle.hpack.specs.Choice.{block_of, after_block}
@@ -9,7 +12,7 @@ use Rattle.h2_frame.specs.declared.code.Code.TheVariants.{InternalError, Enhance
 use Rattle.h2_frame.specs.Frames.{Reset, Settings, Ping, GoAway, WindowUpdate}
 use Rattle.h2_wire.specs.Streams.{expected_preface, preface}
 use Rattle.h2_block.specs.Grouping.{Item, alone, block}
-use Rattle.h2_machine.specs.End.{end_view, End, stream_at, number_after}
+use Rattle.h2_machine.specs.End.{end_view, End, stream_at}
 use Rattle.h2_log.specs.Items.{encoding_of_items}
 use Rattle.h2_log.specs.Acts.{Values, Act, Open, SendFields, SendData, Release, ResetStream, Refuse, SendPing, SendGoAway, PutOut, ChangeSettings, Number, Done, AreInRange, IsTypedAct}
 use Rattle.h2_log.specs.Settings.{is_server}
@@ -23,7 +26,8 @@ use Rattle.h2_machine_laws.specs.Bounds.{IsBounded}
 use Rattle.h2_log_laws.proofs.BlockSizes.{block_is_gathered}
 use Rattle.h2_log_laws.proofs.ItemSizes.{size_of, size-reset, size-update, size-updates, size-goaway, size-ping, size-opening, size-change, size-block, size-data}
 use Rattle.h2_log_laws.proofs.CallConditions.{AreFalse, none_holds, neither_one, neither_other}
-use Rattle.h2_machine_laws.proofs.BoundsOfSteps.{Up, is_up, is_bounded, failed_bounded, with_active, other_encoder, joined, credit_returned, reset_up, changed_up}
+use Rattle.h2_machine_laws.proofs.BoundsOfSteps.{Up, is_up, is_bounded, failed_bounded, with_active,
+    other_encoder, joined, credit_returned, reset_up, changed_up}
 
 -- A connection hasn't failed where it isn't that it has.
 is_running : (x : Option Code) → is_some x ≡ false → x ≡ None
@@ -34,7 +38,8 @@ is_running (Some code) is = cc
 not_full : (e : End) → is_full (end_view e) ≡ false → length e.output.waiting < full_output
 not_full e is = leb-false full_output (length e.output.waiting) is
 
--- A block of a list that may be sent joins the output where that isn't full, and the encoder is left as it must be.
+-- A block of a list that may be sent joins the output where that isn't full; the encoder stays
+-- valid.
 encoded_up : (e : End) (i : ℕ) (end : Bool) (fields : List Field)
     → length e.output.waiting < full_output → list_size fields ≤ max_list → Up e
     → Up (queue_output (with_encoder e (after_block e.output.encoder fields))
@@ -53,10 +58,13 @@ encoded_up e i end fields space few h =
     (after_block e.output.encoder fields)
     (block_goes_on e.output.encoder fields h.writing) h)
 
--- A stream was opened, while fewer live than are allowed.
-opened_up : (e : End) (i : ℕ) (end : Bool) → e.streams.active_count < e.peer.max_streams → Up e → Up (open_stream e i end)
+-- A stream was opened, while fewer are active than are allowed.
+opened_up : (e : End) (i : ℕ) (end : Bool) → e.streams.active_count < e.peer.max_streams → Up e
+    → Up (open_stream e i end)
 opened_up e i end few h =
-    with_active (length e.output.waiting) e.streams.resets e.streams.active_count (e.streams.active_count + 1) e.peer.max_streams e.own.in_force.max_streams e.own.awaited e.output.encoder
+    with_active (length e.output.waiting) e.streams.resets e.streams.active_count
+    (e.streams.active_count + 1) e.peer.max_streams e.own.in_force.max_streams e.own.awaited
+    e.output.encoder
     (omega (arith, few, h.few_allowed)) h
 
 -- A client may open fewer streams than are allowed, by the conditions.
@@ -65,7 +73,8 @@ client_few true full is client = cc
 client_few false full is client = is
 
 -- Fields were sent.
-fields_up : (e : End) (i : ℕ) (end : Bool) (x : Option StreamView) → Up e → Up (after_fields_sent e i end x)
+fields_up : (e : End) (i : ℕ) (end : Bool) (x : Option StreamView) → Up e
+    → Up (after_fields_sent e i end x)
 fields_up e i end None h = h
 fields_up e i end (Some stream) h = changed_up e i (record stream { ended_out = end }) h
 
@@ -74,7 +83,7 @@ either : (b : Bool) (x y : End) → Up x → Up y → Up (if b then x else y)
 either true x y this that = this
 either false x y this that = that
 
--- At most 65,536 octets of a body go.
+-- At most 65,536 octets of a body are sent.
 count_few : (e : End) (x : Option StreamView) (count : ℕ) → data_count (end_view e) x count ≤ 65536
 count_few e None count = omega arith
 count_few e (Some stream) count = omega arith
@@ -91,7 +100,8 @@ data_size_by i octets end count false =
     omega (
       arith,
       length-take count octets,
-      size-data (suc count) 16384 i (take count octets) (end && count == length octets) (omega arith),
+      size-data (suc count) 16384 i (take count octets) (end && count == length octets)
+          (omega arith),
     )
 
 -- What is written of octets of a body takes no more than nine octets and twice theirs.
@@ -109,7 +119,9 @@ data_up e i octets end count None few space h = h
 data_up e i octets end count (Some stream) few space h =
     let items : List Item = data_items 16384 i octets end count in
     let after : End =
-    record (queue_output e items) { windows = record e.windows { send = e.windows.send - count } } in
+    record (queue_output e items) {
+      windows = record e.windows { send = e.windows.send - count };
+    } in
     let next : StreamView =
     record stream {
       send_window = stream.send_window -ℤ pos count;
@@ -121,7 +133,9 @@ data_up e i octets end count (Some stream) few space h =
     (changed_up after i next (joined e items fits h))
 
 -- What a release writes, by the test whether the peer has ended the stream.
-release_size : (i count : ℕ) (b : Bool) → size_of (alone (WindowUpdate 0 count) ∷ (if b then [] else alone (WindowUpdate i count) ∷ [])) ≤ 26
+release_size : (i count : ℕ) (b : Bool)
+    → size_of (alone (WindowUpdate 0 count) ∷ (if b then [] else alone (WindowUpdate i count) ∷ []))
+    ≤ 26
 release_size i count true = omega (arith, size-update 0 count)
 release_size i count false = omega (arith, size-updates 0 count i count)
 
@@ -139,27 +153,37 @@ reset_by_call e i code fits few h =
     reset_up (queue_output e (alone (Reset i code) ∷ [])) i 0 few
     (joined e (alone (Reset i code) ∷ []) (omega (arith, fits, size-reset i code)) h)
 
--- Where refusing a stream ends no connection, neither bar holds.
-limits_by : (is_two over_limits : Bool) → (if is_two then Some InternalError else if over_limits then Some EnhanceYourCalm else None) ≡ None → over_limits ≡ false
+-- Where refusing a stream ends no connection, neither limit is reached.
+limits_by : (is_two over_limits : Bool)
+    → (if is_two then Some InternalError else if over_limits then Some EnhanceYourCalm else None)
+    ≡ None → over_limits ≡ false
 limits_by true over_limits is = cc
 limits_by false true is = cc
 limits_by false false is = refl
 
 -- A stream was refused, or the connection ended.
-refused_by : (e : End) (i code : ℕ) (x : Option Code) → refuse_fault (end_view e) code ≡ x → Up e → IsBounded (after_refuse e i code x)
+refused_by : (e : End) (i code : ℕ) (x : Option Code) → refuse_fault (end_view e) code ≡ x → Up e
+    → IsBounded (after_refuse e i code x)
 unfolding refuse_fault
 refused_by e i code None is h =
-    let none : (nat_le max_resets e.streams.resets || nat_lt max_output (length e.output.waiting + 13)) ≡ false =
-    limits_by (code == 2) (nat_le max_resets e.streams.resets || nat_lt max_output (length e.output.waiting + 13)) is in
+    let none : (nat_le max_resets e.streams.resets
+    || nat_lt max_output (length e.output.waiting + 13)) ≡ false =
+    limits_by (code == 2)
+    (nat_le max_resets e.streams.resets || nat_lt max_output (length e.output.waiting + 13)) is in
     is_bounded (reset_stream (queue_output e (alone (Reset i code) ∷ [])) i 0)
     (reset_by_call e i code
-    (ltb-false max_output (length e.output.waiting + 13) (neither_other (nat_le max_resets e.streams.resets) (nat_lt max_output (length e.output.waiting + 13)) none))
-    (leb-false max_resets e.streams.resets (neither_one (nat_le max_resets e.streams.resets) (nat_lt max_output (length e.output.waiting + 13)) none)) h)
+    (ltb-false max_output (length e.output.waiting + 13)
+    (neither_other (nat_le max_resets e.streams.resets)
+    (nat_lt max_output (length e.output.waiting + 13)) none))
+    (leb-false max_resets e.streams.resets
+    (neither_one (nat_le max_resets e.streams.resets)
+    (nat_lt max_output (length e.output.waiting + 13)) none)) h)
 refused_by e i code (Some fault) is h = failed_bounded e fault e.streams.last_processed h
 
--- What is bounded stays so where output is taken away.
-taken_away : (e : End) (count : ℕ) → IsBounded e → IsBounded (record e { output = record e.output { waiting = drop count e.output.waiting } })
-taken_away e count bounded =
+-- What is bounded stays so where output is removed.
+output_removed : (e : End) (count : ℕ) → IsBounded e
+    → IsBounded (record e { output = record e.output { waiting = drop count e.output.waiting } })
+output_removed e count bounded =
     record {
       up = λ up. omega (arith, bounded.up up, length-drop count e.output.waiting);
       output = omega (arith, bounded.output, length-drop count e.output.waiting);
@@ -172,11 +196,14 @@ taken_away e count bounded =
     }
 
 -- Values that are the same are within the same bounds.
-same_range : (values others : Values) → AreInRange values → Some values ≡ Some others → AreInRange others
-same_range values others in_range is = let same : values ≡ others = cc in subst AreInRange same in_range
+same_range : (values others : Values) → AreInRange values → Some values ≡ Some others
+    → AreInRange others
+same_range values others in_range is =
+    let same : values ≡ others = cc in subst AreInRange same in_range
 
 -- Own values that are changed await their acknowledgment.
-changed_values : (e : End) (values : Values) → AreInRange values → Up e → Up (record e { own = record e.own { awaited = Some values } })
+changed_values : (e : End) (values : Values) → AreInRange values → Up e
+    → Up (record e { own = record e.own { awaited = Some values } })
 changed_values e values in_range h =
     record {
       output = h.output;
@@ -261,7 +288,7 @@ made e SendGoAway none fair h =
     (joined e (alone (GoAway e.streams.last_processed 0 []) ∷ [])
     (omega (arith, not_full e none.1.1.0, size-goaway e.streams.last_processed 0)) h)
 made e (PutOut count) none fair h =
-    taken_away (before_put_out_at e) count (ready_bounded e (is_bounded e h))
+    output_removed (before_put_out_at e) count (ready_bounded e (is_bounded e h))
 made e (ChangeSettings values) none fair h =
     is_bounded
     (record (queue_call e (ChangeSettings values) Done) {
@@ -271,26 +298,40 @@ made e (ChangeSettings values) none fair h =
     (joined e (alone (Settings false (changed_pairs e.role values)) ∷ [])
     (omega (arith, not_full e none.1.0, size-change e.role values)) h))
 
--- The connection hasn't failed where a call isn't refused that any failure refuses: all but taking octets away.
-up_by : (e : End) (act : Act) → refusal_of (end_view e) act ≡ None → ((count : ℕ) → act ≡ PutOut count → ⊥) → e.failed ≡ None
+-- The connection hasn't failed where a call isn't refused that any failure refuses: all but putting
+-- output out.
+up_by : (e : End) (act : Act) → refusal_of (end_view e) act ≡ None
+    → ((count : ℕ) → act ≡ PutOut count → ⊥) → e.failed ≡ None
 unfolding conditions
-up_by e (Open fields end) is other = is_running e.failed (none_holds (conditions (end_view e) (Open fields end)) is).0
-up_by e (SendFields id fields end) is other = is_running e.failed (none_holds (conditions (end_view e) (SendFields id fields end)) is).0
-up_by e (SendData id octets end) is other = is_running e.failed (none_holds (conditions (end_view e) (SendData id octets end)) is).0
-up_by e (Release id count) is other = is_running e.failed (none_holds (conditions (end_view e) (Release id count)) is).0
-up_by e (ResetStream id code) is other = is_running e.failed (none_holds (conditions (end_view e) (ResetStream id code)) is).0
-up_by e (Refuse id code) is other = is_running e.failed (none_holds (conditions (end_view e) (Refuse id code)) is).0
-up_by e (SendPing octets) is other = is_running e.failed (none_holds (conditions (end_view e) (SendPing octets)) is).0
-up_by e SendGoAway is other = is_running e.failed (none_holds (conditions (end_view e) SendGoAway) is).0
+up_by e (Open fields end) is other =
+    is_running e.failed (none_holds (conditions (end_view e) (Open fields end)) is).0
+up_by e (SendFields id fields end) is other =
+    is_running e.failed (none_holds (conditions (end_view e) (SendFields id fields end)) is).0
+up_by e (SendData id octets end) is other =
+    is_running e.failed (none_holds (conditions (end_view e) (SendData id octets end)) is).0
+up_by e (Release id count) is other =
+    is_running e.failed (none_holds (conditions (end_view e) (Release id count)) is).0
+up_by e (ResetStream id code) is other =
+    is_running e.failed (none_holds (conditions (end_view e) (ResetStream id code)) is).0
+up_by e (Refuse id code) is other =
+    is_running e.failed (none_holds (conditions (end_view e) (Refuse id code)) is).0
+up_by e (SendPing octets) is other =
+    is_running e.failed (none_holds (conditions (end_view e) (SendPing octets)) is).0
+up_by e SendGoAway is other =
+    is_running e.failed (none_holds (conditions (end_view e) SendGoAway) is).0
 up_by e (PutOut count) is other = absurd (other count refl)
-up_by e (ChangeSettings values) is other = is_running e.failed (none_holds (conditions (end_view e) (ChangeSettings values)) is).0
+up_by e (ChangeSettings values) is other =
+    is_running e.failed (none_holds (conditions (end_view e) (ChangeSettings values)) is).0
 
 -- A call that isn't refused was made.
-pub call_bounded : (e : End) (act : Act) → refusal_of (end_view e) act ≡ None → IsTypedAct act → IsBounded e → IsBounded (after_call e act)
+pub call_bounded : (e : End) (act : Act) → refusal_of (end_view e) act ≡ None → IsTypedAct act
+    → IsBounded e → IsBounded (after_call e act)
 unfolding after_call
-call_bounded e (PutOut count) is fair bounded = taken_away (before_put_out_at e) count (ready_bounded e bounded)
+call_bounded e (PutOut count) is fair bounded =
+    output_removed (before_put_out_at e) count (ready_bounded e bounded)
 call_bounded e act is fair bounded =
-    made e act (none_holds (conditions (end_view e) act) is) fair (is_up e (up_by e act is (λ count same. cc)) bounded)
+    made e act (none_holds (conditions (end_view e) act) is) fair
+    (is_up e (up_by e act is (λ count same. cc)) bounded)
 
 -- The opening takes few octets.
 opening_few : (expects : Bool) → length (expected_preface expects) ≤ 24
@@ -299,15 +340,19 @@ opening_few true = omega arith
 opening_few false = omega arith
 
 -- A new end is bounded.
-pub new_bounded : (role : Role) (values : Values) → AreInRange values → IsBounded (new_end role values)
+pub new_bounded : (role : Role) (values : Values) → AreInRange values
+    → IsBounded (new_end role values)
 unfolding new_end
 new_bounded role values in_range =
-    let output : length (expected_preface (not (is_server role)) ++ encoding_of_items (alone (Settings false (opening_pairs role values)) ∷ [])) ≤ 57 =
+    let output :
+    length (expected_preface (not (is_server role))
+    ++ encoding_of_items (alone (Settings false (opening_pairs role values)) ∷ [])) ≤ 57 =
     omega (
       arith,
       opening_few (not (is_server role)),
       size-opening role values,
-      length-append (expected_preface (not (is_server role))) (encoding_of_items (alone (Settings false (opening_pairs role values)) ∷ [])),
+      length-append (expected_preface (not (is_server role)))
+          (encoding_of_items (alone (Settings false (opening_pairs role values)) ∷ [])),
     ) in
     is_bounded (new_end role values)
     (record {
@@ -317,5 +362,11 @@ new_bounded role values in_range =
       few_allowed = omega arith;
       few_streams = in_range.max_streams;
       in_range = λ others is. same_range values others in_range is;
-      writing = record { least = omega arith; limit = omega arith; maximum = omega arith; within = omega arith };
+      writing =
+          record {
+            least = omega arith;
+            limit = omega arith;
+            maximum = omega arith;
+            within = omega arith;
+          };
     })

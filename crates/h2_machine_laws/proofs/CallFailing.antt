@@ -1,5 +1,7 @@
--- A call that is refused, and one by which the connection fails, keep an end standing for its log.
-use Rattle.std.proofs.Common.{◌≡◌, ℕ, ◌+◌, ◌==◌, not, ◌&&◌, Bool, true, false, if◌then◌else◌, [], ◌∷◌, Option, Some, None, refl, sym, ap, subst, ◌∙◌}
+-- A call that is refused, and one by which the connection fails, preserve that an end represents
+-- its log.
+use Rattle.std.proofs.Common.{◌≡◌, ℕ, ◌+◌, ◌==◌, not, ◌&&◌, Bool, true, false, if◌then◌else◌, []}
+use Rattle.std.proofs.Common.{◌∷◌, Option, Some, None, refl, sym, ap, subst, ◌∙◌}
 use Rattle.h2_frame.specs.declared.code.Code.{Code}
 use Rattle.h2_frame.specs.declared.code.Code.TheVariants.{InternalError, EnhanceYourCalm}
 use Rattle.h2_frame.specs.Frames.{GoAway, Reset}
@@ -7,12 +9,15 @@ use Rattle.h2_block.specs.Grouping.{alone}
 use Rattle.h2_machine.specs.End.{end_view, End}
 use Rattle.h2_log.specs.LogView.{log_view}
 use Rattle.h2_log.specs.View.{View}
-use Rattle.h2_log.specs.Acts.{Values, Act, Answer, IsTypedAct, Open, SendFields, SendData, Release, ResetStream, Refuse, SendPing, SendGoAway, PutOut, ChangeSettings, Done, OutOfMemory, Refused}
+use Rattle.h2_log.specs.Acts.{Values, Act, Answer, IsTypedAct, Open, SendFields, SendData, Release}
+use Rattle.h2_log.specs.Acts.{ResetStream, Refuse, SendPing, SendGoAway, PutOut, ChangeSettings}
+use Rattle.h2_log.specs.Acts.{Done, OutOfMemory, Refused}
 use Rattle.h2_log.specs.Log.{Log, active, last_processed, output, released}
-use Rattle.h2_log.specs.Verdicts.{code_number}
+use Rattle.h2_frame.specs.Codes.{code_number}
 use Rattle.h2_log.specs.LogSteps.{with_sent, with_failure}
 use Rattle.h2_log.specs.LogCalls.{called, with_call, refused_with, with_items, MayAnswer}
-use Rattle.h2_log.specs.CallRules.{refuse_fault, items_of, stream_of_act, encoder_after_call, refusal_of, conditions}
+use Rattle.h2_log.specs.CallRules.{refuse_fault, items_of, stream_of_act, encoder_after_call}
+use Rattle.h2_log.specs.CallRules.{refusal_of, conditions}
 use Rattle.h2_log.specs.Histories.{IsLog, called_one}
 use Rattle.h2_machine.specs.Machine.{queue_output, fail, after_refuse, after_call, reset_stream}
 use Rattle.h2_machine.specs.Represents.{Represents}
@@ -20,22 +25,28 @@ use Rattle.h2_log.specs.declared.refusal.Refusal.{Refusal}
 use Rattle.h2_log_laws.proofs.InvariantCalls.{released_refused, first_none}
 use Rattle.h2_log_laws.proofs.LogViewLemmas.{stream_is_active}
 use Rattle.h2_machine_laws.proofs.SentQuietItems.{called_runs}
-use Rattle.h2_machine_laws.proofs.RepresentedSteps.{Up, Waits, up_of, views_of_up, represents_after, wrote_waits, called_waits, called_up}
+use Rattle.h2_machine_laws.proofs.RepresentedSteps.{Up, Waits, up_of, views_of_up, represents_after}
+use Rattle.h2_machine_laws.proofs.RepresentedSteps.{wrote_waits, called_waits, called_up}
 use Rattle.h2_machine_laws.proofs.CallReset.{reset_up}
 
 -- Failing is no part of what waits.
-failed_waits : (e : End) (log : Log) (here there : Option Code) → Waits e log → Waits (record e { failed = here }) (record log { failed = there })
+failed_waits : (e : End) (log : Log) (here there : Option Code) → Waits e log
+    → Waits (record e { failed = here }) (record log { failed = there })
 unfolding output
 failed_waits e log here there w = record { waiting = w.waiting; given = w.given }
 
--- What waits behind a failure.
-fails_waits : (e : End) (log : Log) (code : Code) → e.streams.last_processed ≡ last_processed log → Waits e log
-    → (act : Act) (answer : Answer) → Waits (fail code e.streams.last_processed e) (with_failure code (last_processed log) (called log act answer))
+-- What waits after a failure.
+fails_waits : (e : End) (log : Log) (code : Code) → e.streams.last_processed ≡ last_processed log
+    → Waits e log
+    → (act : Act) (answer : Answer)
+    → Waits (fail code e.streams.last_processed e)
+    (with_failure code (last_processed log) (called log act answer))
 fails_waits e log code is w act answer =
     let base = called log act answer in
     let items = λ (n : ℕ). alone (GoAway n (code_number code) []) ∷ [] in
     subst (λ (n : ℕ). Waits (fail code n e) (with_failure code (last_processed log) base)) (sym is)
-    (failed_waits (queue_output e (items (last_processed log))) (with_sent base (items (last_processed log))) (Some code) (Some code)
+    (failed_waits (queue_output e (items (last_processed log)))
+    (with_sent base (items (last_processed log))) (Some code) (Some code)
     (wrote_waits e base (items (last_processed log)) (called_waits e log act answer w)))
 
 -- A role is no part of a failure.
@@ -43,12 +54,15 @@ fails_role : (code : Code) (last : ℕ) (log : Log) → (with_failure code last 
 unfolding with_sent
 fails_role code last log = refl
 
--- An end whose connection fails by a call stands for its log.
-pub fails_represent : (values : Values) (e : End) (log : Log) (act : Act) (answer : Answer) (code : Code) → Represents values e log → e.failed ≡ None
+-- An end whose connection fails by a call represents its log.
+pub fails_represent : (values : Values) (e : End) (log : Log) (act : Act) (answer : Answer)
+    (code : Code) → Represents values e log → e.failed ≡ None
     → IsLog e.role values (with_failure code (last_processed log) (called log act answer))
-    → Represents values (fail code e.streams.last_processed e) (with_failure code (last_processed log) (called log act answer))
+    → Represents values (fail code e.streams.last_processed e)
+    (with_failure code (last_processed log) (called log act answer))
 fails_represent values e log act answer code represents up came =
-    let waits = fails_waits e log code (represents.running up).last_processed (record { waiting = represents.waiting; given = represents.given }) act answer in
+    let waits = fails_waits e log code (represents.running up).last_processed
+    (record { waiting = represents.waiting; given = represents.given }) act answer in
     record {
       came = came;
       role = represents.role ∙ sym (fails_role code (last_processed log) (called log act answer));
@@ -61,7 +75,8 @@ fails_represent values e log act answer code represents up came =
     }
 
 -- A call that is refused leaves the encoder as it is.
-refused_encoder : (log : Log) (act : Act) (refusal : Refusal) → log.encoder ≡ encoder_after_call log.encoder act (Refused refusal)
+refused_encoder : (log : Log) (act : Act) (refusal : Refusal)
+    → log.encoder ≡ encoder_after_call log.encoder act (Refused refusal)
 unfolding encoder_after_call
 refused_encoder log (Open fields end) refusal = refl
 refused_encoder log (SendFields id fields end) refusal = refl
@@ -74,12 +89,15 @@ refused_encoder log SendGoAway refusal = refl
 refused_encoder log (PutOut count) refusal = refl
 refused_encoder log (ChangeSettings values) refusal = refl
 
--- An end that refuses a call stands for its log with the call.
-pub refused_represents : (values : Values) (e : End) (log : Log) (act : Act) (refusal : Refusal) → Represents values e log → IsTypedAct act
-    → MayAnswer log act (Refused refusal) → Represents values e (with_call log act (Refused refusal))
+-- An end that refuses a call represents its log with the call.
+pub refused_represents : (values : Values) (e : End) (log : Log) (act : Act) (refusal : Refusal)
+    → Represents values e log → IsTypedAct act
+    → MayAnswer log act (Refused refusal)
+    → Represents values e (with_call log act (Refused refusal))
 unfolding with_call
 refused_represents values e log act refusal represents typed may =
-    let waits = called_waits e log act (Refused refusal) (record { waiting = represents.waiting; given = represents.given }) in
+    let waits = called_waits e log act (Refused refusal)
+    (record { waiting = represents.waiting; given = represents.given }) in
     record {
       came = called_one represents.came act (Refused refusal) typed may;
       role = represents.role;
@@ -88,28 +106,35 @@ refused_represents values e log act refusal represents typed may =
       given = waits.given;
       running = λ up.
           let run = represents.running up in
-          called_runs e log act (Refused refusal) e.output.encoder (run.encoder ∙ refused_encoder log act refusal)
+          called_runs e log act (Refused refusal) e.output.encoder (run.encoder
+          ∙ refused_encoder log act refusal)
           (λ i. released_refused i act refusal log.calls) run;
       whole = represents.whole;
       used = represents.used;
     }
 
--- An end that starves stands for its log.
-pub out_of_memory_represents : (values : Values) (e : End) (log : Log) (act : Act) → Represents values e log → IsTypedAct act → MayAnswer log act OutOfMemory
-    → e.failed ≡ None → Represents values (fail InternalError e.streams.last_processed e) (with_call log act OutOfMemory)
+-- An end that is out of memory represents its log.
+pub out_of_memory_represents : (values : Values) (e : End) (log : Log) (act : Act)
+    → Represents values e log → IsTypedAct act → MayAnswer log act OutOfMemory
+    → e.failed ≡ None → Represents values (fail InternalError e.streams.last_processed e)
+    (with_call log act OutOfMemory)
 unfolding with_call
 out_of_memory_represents values e log act represents typed may up =
-    fails_represent values e log act OutOfMemory InternalError represents up (called_one represents.came act OutOfMemory typed may)
+    fails_represent values e log act OutOfMemory InternalError represents up
+    (called_one represents.came act OutOfMemory typed may)
 
 -- Refusing a stream makes the connection fail where the log's does.
-fault_same : (values : Values) (e : End) (log : Log) (code : ℕ) → Represents values e log → e.failed ≡ None
+fault_same : (values : Values) (e : End) (log : Log) (code : ℕ) → Represents values e log
+    → e.failed ≡ None
     → refuse_fault (end_view e) code ≡ refuse_fault (log_view log) code
 unfolding refuse_fault
 fault_same values e log code represents up =
-    ap (λ (view : View). refuse_fault view code) (views_of_up e log (up_of values e log represents up))
+    ap (λ (view : View). refuse_fault view code)
+    (views_of_up e log (up_of values e log represents up))
 
 -- Where a code ends no connection, it isn't 2.
-no_fault : (b other : Bool) → (if b then Some InternalError else if other then Some EnhanceYourCalm else None) ≡ None → b ≡ false
+no_fault : (b other : Bool) → (if b then Some InternalError else if other then Some EnhanceYourCalm
+    else None) ≡ None → b ≡ false
 no_fault true other none = cc
 no_fault false other none = refl
 
@@ -129,30 +154,48 @@ refused_active log id code none is =
     stream_is_active log id (and_other (code == code_number InternalError) _ c2.0 other)
 
 -- A stream is refused, by what that makes of the connection.
-refuse_by : (values : Values) (e : End) (log : Log) (id code : ℕ) (x : Option Code) → refuse_fault (log_view log) code ≡ x → Represents values e log
-    → IsTypedAct (Refuse id code) → MayAnswer log (Refuse id code) Done → refusal_of (end_view e) (Refuse id code) ≡ None → refusal_of (log_view log) (Refuse id code) ≡ None
-    → e.failed ≡ None → Represents values (after_call e (Refuse id code)) (with_call log (Refuse id code) Done)
-unfolding after_call with_call refused_with with_items items_of stream_of_act encoder_after_call released
+refuse_by : (values : Values) (e : End) (log : Log) (id code : ℕ) (x : Option Code)
+    → refuse_fault (log_view log) code ≡ x → Represents values e log
+    → IsTypedAct (Refuse id code) → MayAnswer log (Refuse id code) Done
+    → refusal_of (end_view e) (Refuse id code) ≡ None
+    → refusal_of (log_view log) (Refuse id code) ≡ None
+    → e.failed ≡ None → Represents values (after_call e (Refuse id code))
+    (with_call log (Refuse id code) Done)
+unfolding after_call with_call refused_with with_items items_of stream_of_act encoder_after_call
+    released
 refuse_by values e log id code (Some fault) is represents typed may accepted none up =
     let came = called_one represents.came (Refuse id code) Done typed may in
     let made = fails_represent values e log (Refuse id code) Done fault represents up
-    (subst (λ (x : Option Code). IsLog e.role values (refused_with log (Refuse id code) Done x)) is came) in
-    subst (λ (x : Option Code). Represents values (after_refuse e id code x) (refused_with log (Refuse id code) Done (refuse_fault (log_view log) code)))
+    (subst (λ (x : Option Code). IsLog e.role values (refused_with log (Refuse id code) Done x)) is
+    came) in
+    subst (λ (x : Option Code). Represents values (after_refuse e id code x)
+    (refused_with log (Refuse id code) Done (refuse_fault (log_view log) code)))
     (sym (fault_same values e log code represents up ∙ is))
-    (subst (λ (x : Option Code). Represents values (fail fault e.streams.last_processed e) (refused_with log (Refuse id code) Done x)) (sym is) made)
+    (subst (λ (x : Option Code). Represents values (fail fault e.streams.last_processed e)
+    (refused_with log (Refuse id code) Done x)) (sym is) made)
 refuse_by values e log id code None is represents typed may accepted none up =
-    let alive = refused_active log id code none is in
+    let active_is = refused_active log id code none is in
     let base = called log (Refuse id code) Done in
-    let made = reset_up e log base id code alive alive (called_up e log (Refuse id code) Done refl (λ i. refl) (up_of values e log represents up)) in
-    let all : Up (after_refuse e id code (refuse_fault (end_view e) code)) (refused_with log (Refuse id code) Done (refuse_fault (log_view log) code)) =
-    subst (λ (x : Option Code). Up (after_refuse e id code x) (refused_with log (Refuse id code) Done (refuse_fault (log_view log) code)))
+    let made = reset_up e log base id code active_is active_is
+    (called_up e log (Refuse id code) Done refl (λ i. refl)
+    (up_of values e log represents up)) in
+    let all : Up (after_refuse e id code (refuse_fault (end_view e) code))
+    (refused_with log (Refuse id code) Done (refuse_fault (log_view log) code)) =
+    subst (λ (x : Option Code). Up (after_refuse e id code x)
+    (refused_with log (Refuse id code) Done (refuse_fault (log_view log) code)))
     (sym (fault_same values e log code represents up ∙ is))
-    (subst (λ (x : Option Code). Up (reset_stream (queue_output e (alone (Reset id code) ∷ [])) id 0) (refused_with log (Refuse id code) Done x)) (sym is) made) in
+    (subst (λ (x : Option Code). Up (reset_stream (queue_output e (alone (Reset id code) ∷ [])) id
+    0) (refused_with log (Refuse id code) Done x)) (sym is) made) in
     represents_after values e log (Refuse id code) Done represents typed may accepted all
 
 -- A stream is refused.
-pub refuse_represents : (values : Values) (e : End) (log : Log) (id code : ℕ) → Represents values e log
-    → IsTypedAct (Refuse id code) → MayAnswer log (Refuse id code) Done → refusal_of (end_view e) (Refuse id code) ≡ None → refusal_of (log_view log) (Refuse id code) ≡ None
-    → e.failed ≡ None → Represents values (after_call e (Refuse id code)) (with_call log (Refuse id code) Done)
+pub refuse_represents : (values : Values) (e : End) (log : Log) (id code : ℕ)
+    → Represents values e log
+    → IsTypedAct (Refuse id code) → MayAnswer log (Refuse id code) Done
+    → refusal_of (end_view e) (Refuse id code) ≡ None
+    → refusal_of (log_view log) (Refuse id code) ≡ None
+    → e.failed ≡ None → Represents values (after_call e (Refuse id code))
+    (with_call log (Refuse id code) Done)
 refuse_represents values e log id code represents typed may accepted none up =
-    refuse_by values e log id code (refuse_fault (log_view log) code) refl represents typed may accepted none up
+    refuse_by values e log id code (refuse_fault (log_view log) code) refl represents typed may
+    accepted none up

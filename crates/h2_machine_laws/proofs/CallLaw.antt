@@ -1,12 +1,15 @@
--- Behind each call an end stands for its log.
-use Rattle.std.proofs.Common.{◌≡◌, ℕ, ◌%◌, ◌≤◌, ◌<◌, Bool, true, false, if◌then◌else◌, List, None, refl, sym, ap, subst, ◌∙◌}
+-- After each call an end represents its log.
+use Rattle.std.proofs.Common.{◌≡◌, ℕ, ◌%◌, ◌≤◌, ◌<◌, Bool, true, false, if◌then◌else◌, List, None}
+use Rattle.std.proofs.Common.{refl, sym, ap, subst, ◌∙◌}
 use Rattle.hpack.specs.declared.types.field.Field.{Field}
 use Rattle.std.specs.List.{list_any}
 use Rattle.std.proofs.lemmas.Bool.{both_ways, or_parts}
 use Rattle.h2_log.specs.LogView.{log_view}
 use Rattle.h2_log.specs.Items.{is_goaway, one_ping, total, greatest_block}
 use Rattle.h2_log.specs.Events.{one_pong, reported_total}
-use Rattle.h2_log.specs.Acts.{Values, Act, Answer, IsTypedAct, Open, SendFields, SendData, Release, ResetStream, Refuse, SendPing, SendGoAway, PutOut, ChangeSettings, Number, OutOfMemory, Refused}
+use Rattle.h2_log.specs.Acts.{Values, Act, Answer, IsTypedAct, Open, SendFields, SendData, Release}
+use Rattle.h2_log.specs.Acts.{ResetStream, Refuse, SendPing, SendGoAway, PutOut, ChangeSettings}
+use Rattle.h2_log.specs.Acts.{Number, OutOfMemory, Refused}
 use Rattle.h2_log.specs.Settings.{is_server, settings_count}
 use Rattle.h2_log.specs.Log.{Log, acked, active, last_processed, next_number, max_payload_sent}
 use Rattle.h2_log.specs.CallRules.{conditions, refusal_of, answer_of, may_lack_memory}
@@ -26,10 +29,12 @@ use Rattle.h2_log_laws.proofs.InvariantCalls.{first_none, none_since}
 use Rattle.h2_log_laws.proofs.LogViewLemmas.{stream_is_active, open_out}
 use Rattle.h2_machine_laws.proofs.CallRefusals.{refusal_same}
 use Rattle.h2_machine_laws.proofs.RepresentedSteps.{Up, up_of, represents_after}
-use Rattle.h2_machine_laws.proofs.CallWithoutStream.{ping_up, leave_up, change_up, put_represents}
+use Rattle.h2_machine_laws.proofs.CallWithoutStream.{ping_up, goaway_up, settings_up}
+use Rattle.h2_machine_laws.proofs.CallWithoutStream.{put_out_represents}
 use Rattle.h2_machine_laws.proofs.CallSend.{fields_up, data_up}
 use Rattle.h2_machine_laws.proofs.CallReset.{reset_call_up}
-use Rattle.h2_machine_laws.proofs.CallFailing.{refused_represents, out_of_memory_represents, refuse_represents}
+use Rattle.h2_machine_laws.proofs.CallFailing.{refused_represents, out_of_memory_represents}
+use Rattle.h2_machine_laws.proofs.CallFailing.{refuse_represents}
 use Rattle.h2_machine_laws.proofs.CallRelease.{release_up}
 use Rattle.h2_machine_laws.proofs.CallOpen.{IsClear, open_up}
 
@@ -38,7 +43,8 @@ pub record IsSound (log : Log) : Type 0 where
   pub acks : acked log ≤ settings_count log.sent
   pub pongs : reported_total one_pong log.reported ≤ total one_ping log.sent
   pub size : max_payload_sent log ≡ 16384
-  pub took : is_server log.role ≡ true → list_any is_goaway log.sent ≡ false → (i : ℕ) → active log i ≡ true → i ≤ last_processed log
+  pub processed : is_server log.role ≡ true → list_any is_goaway log.sent ≡ false → (i : ℕ)
+      → active log i ≡ true → i ≤ last_processed log
   pub clear : log.role ≡ Client → (i : ℕ) → greatest_block log.sent < i → IsClear log i
 
 -- the role of an end that isn't a server
@@ -46,8 +52,9 @@ client_since : (role : Role) → is_server role ≡ false → role ≡ Client
 client_since Client is = refl
 client_since Server is = absurd (both_ways true is refl)
 
--- A log that refuses a call other than to take output away for nothing hasn't failed.
-up_since : (log : Log) (act : Act) → ((count : ℕ) → act ≡ PutOut count → ⊥) → refusal_of (log_view log) act ≡ None → log.failed ≡ None
+-- A log that refuses no call, other than one that puts output out, hasn't failed.
+up_since : (log : Log) (act : Act) → ((count : ℕ) → act ≡ PutOut count → ⊥)
+    → refusal_of (log_view log) act ≡ None → log.failed ≡ None
 unfolding conditions
 up_since log (Open fields end) other none = none_since log.failed (first_none _ _ _ none).0
 up_since log (SendFields id fields end) other none = none_since log.failed (first_none _ _ _ none).0
@@ -66,19 +73,24 @@ next_of_client Client n is = refl
 next_of_client Server n is = cc
 
 -- A stream is opened by a client, with a number that has nothing yet.
-opened_up : (values : Values) (e : End) (log : Log) (fields : List Field) (end : Bool) → Represents values e log
+opened_up : (values : Values) (e : End) (log : Log) (fields : List Field) (end : Bool)
+    → Represents values e log
     → log.role ≡ Client → IsSound log → Up e log
-    → Up (after_call e (Open fields end)) (with_call log (Open fields end) (Number (log_view log).next_number))
+    → Up (after_call e (Open fields end))
+    (with_call log (Open fields end) (Number (log_view log).next_number))
 opened_up values e log fields end represents client sound up =
     let written = (log_represents e.role values log represents.came).with_sent in
     let next = next_odd log written in
-    let same : (log_view log).next_number ≡ next_number log = next_of_client log.role (next_number log) client in
+    let same : (log_view log).next_number ≡ next_number log =
+    next_of_client log.role (next_number log) client in
     let odd : (log_view log).next_number % 2 ≡ 1 = subst (λ (n : ℕ). n % 2 ≡ 1) (sym same) next.0 in
     let above : greatest_block log.sent < (log_view log).next_number =
     subst (λ (n : ℕ). greatest_block log.sent < n) (sym same) next.1 in
-    open_up e log fields end client odd above (sound.clear client (log_view log).next_number above) up
+    open_up e log fields end client odd above (sound.clear client (log_view log).next_number above)
+    up
 
--- After a call that is accepted, and that neither puts out output nor refuses a stream, an end that is up represents its log.
+-- After a call that is accepted, and that neither puts out output nor refuses a stream, an end that
+-- is up represents its log.
 call_up : (values : Values) (e : End) (log : Log) (act : Act) → Represents values e log
     → refusal_of (log_view log) act ≡ None → IsSound log → ((count : ℕ) → act ≡ PutOut count → ⊥)
     → ((id code : ℕ) → act ≡ Refuse id code → ⊥) → Up e log
@@ -110,77 +122,102 @@ call_up values e log (ResetStream id code) represents none sound no_put no_refus
     let c1 = first_none _ _ _ none in
     let c2 = first_none _ _ _ c1.1 in
     reset_call_up e log id code (stream_is_active log id c2.0) up
-call_up values e log (Refuse id code) represents none sound no_put no_refuse up = absurd (no_refuse id code refl)
-call_up values e log (SendPing octets) represents none sound no_put no_refuse up = ping_up e log octets sound.pongs up
+call_up values e log (Refuse id code) represents none sound no_put no_refuse up =
+    absurd (no_refuse id code refl)
+call_up values e log (SendPing octets) represents none sound no_put no_refuse up =
+    ping_up e log octets sound.pongs up
 call_up values e log SendGoAway represents none sound no_put no_refuse up =
     let c1 = first_none _ _ _ none in
     let c2 = first_none _ _ _ c1.1 in
-    leave_up e log (λ server. sound.took server c2.0) up
-call_up values e log (PutOut count) represents none sound no_put no_refuse up = absurd (no_put count refl)
+    goaway_up e log (λ server. sound.processed server c2.0) up
+call_up values e log (PutOut count) represents none sound no_put no_refuse up =
+    absurd (no_put count refl)
 call_up values e log (ChangeSettings others) represents none sound no_put no_refuse up =
     let written = (log_represents e.role values log represents.came).with_sent in
-    change_up e log others sound.acks (wrote_settings log.role log.received log.sent written) up
+    settings_up e log others sound.acks (wrote_settings log.role log.received log.sent written) up
 
 -- the answer of the rules to a call
 abbrev answer_by : Log → Act → Answer
 answer_by log act = answer_of (log_view log) act
 
 -- After such a call an end represents its log.
-plain_law : (values : Values) (e : End) (log : Log) (act : Act) → Represents values e log → IsTypedAct act
-    → MayAnswer log act (answer_by log act) → refusal_of (log_view log) act ≡ None → (log.failed ≡ None → IsSound log)
+plain_law : (values : Values) (e : End) (log : Log) (act : Act) → Represents values e log
+    → IsTypedAct act
+    → MayAnswer log act (answer_by log act) → refusal_of (log_view log) act ≡ None
+    → (log.failed ≡ None → IsSound log)
     → ((count : ℕ) → act ≡ PutOut count → ⊥) → ((id code : ℕ) → act ≡ Refuse id code → ⊥)
     → Represents values (after_call e act) (with_call log act (answer_by log act))
 plain_law values e log act represents typed may none sound no_put no_refuse =
     let log_up = up_since log act no_put none in
     let up = up_of values e log represents (represents.failed ∙ log_up) in
-    represents_after values e log act (answer_by log act) represents typed may (refusal_same values e log act represents ∙ none)
+    represents_after values e log act (answer_by log act) represents typed may
+    (refusal_same values e log act represents ∙ none)
     (call_up values e log act represents none (sound log_up) no_put no_refuse up)
 
 -- After each call that is accepted it does.
-accepted_law : (values : Values) (e : End) (log : Log) (act : Act) → Represents values e log → IsTypedAct act
-    → MayAnswer log act (answer_by log act) → refusal_of (log_view log) act ≡ None → (log.failed ≡ None → IsSound log)
-    → Represents values (end_after e act (answer_by log act)) (with_call log act (answer_by log act))
+accepted_law : (values : Values) (e : End) (log : Log) (act : Act) → Represents values e log
+    → IsTypedAct act
+    → MayAnswer log act (answer_by log act) → refusal_of (log_view log) act ≡ None
+    → (log.failed ≡ None → IsSound log)
+    → Represents values (end_after e act (answer_by log act))
+    (with_call log act (answer_by log act))
 unfolding end_after
 accepted_law values e log (Open fields end) represents typed may none sound =
-    plain_law values e log (Open fields end) represents typed may none sound (λ count same. cc) (λ id code same. cc)
+    plain_law values e log (Open fields end) represents typed may none sound (λ count same. cc)
+    (λ id code same. cc)
 accepted_law values e log (SendFields id fields end) represents typed may none sound =
-    plain_law values e log (SendFields id fields end) represents typed may none sound (λ count same. cc) (λ other code same. cc)
+    plain_law values e log (SendFields id fields end) represents typed may none sound
+    (λ count same. cc) (λ other code same. cc)
 accepted_law values e log (SendData id octets end) represents typed may none sound =
-    plain_law values e log (SendData id octets end) represents typed may none sound (λ count same. cc) (λ other code same. cc)
+    plain_law values e log (SendData id octets end) represents typed may none sound
+    (λ count same. cc) (λ other code same. cc)
 accepted_law values e log (Release id count) represents typed may none sound =
-    plain_law values e log (Release id count) represents typed may none sound (λ other same. cc) (λ other code same. cc)
+    plain_law values e log (Release id count) represents typed may none sound (λ other same. cc)
+    (λ other code same. cc)
 accepted_law values e log (ResetStream id code) represents typed may none sound =
-    plain_law values e log (ResetStream id code) represents typed may none sound (λ count same. cc) (λ other refuse same. cc)
+    plain_law values e log (ResetStream id code) represents typed may none sound (λ count same. cc)
+    (λ other refuse same. cc)
 accepted_law values e log (Refuse id code) represents typed may none sound =
     let log_up = up_since log (Refuse id code) (λ count same. cc) none in
-    refuse_represents values e log id code represents typed may (refusal_same values e log (Refuse id code) represents ∙ none)
+    refuse_represents values e log id code represents typed may
+    (refusal_same values e log (Refuse id code) represents ∙ none)
     none (represents.failed ∙ log_up)
 accepted_law values e log (SendPing octets) represents typed may none sound =
-    plain_law values e log (SendPing octets) represents typed may none sound (λ count same. cc) (λ id code same. cc)
+    plain_law values e log (SendPing octets) represents typed may none sound (λ count same. cc)
+    (λ id code same. cc)
 accepted_law values e log SendGoAway represents typed may none sound =
-    plain_law values e log SendGoAway represents typed may none sound (λ count same. cc) (λ id code same. cc)
-accepted_law values e log (PutOut count) represents typed may none sound = put_represents values e log count represents may
+    plain_law values e log SendGoAway represents typed may none sound (λ count same. cc)
+    (λ id code same. cc)
+accepted_law values e log (PutOut count) represents typed may none sound = put_out_represents values
+    e log count represents may
 accepted_law values e log (ChangeSettings others) represents typed may none sound =
-    plain_law values e log (ChangeSettings others) represents typed may none sound (λ count same. cc) (λ id code same. cc)
+    plain_law values e log (ChangeSettings others) represents typed may none sound
+    (λ count same. cc) (λ id code same. cc)
 
 -- After a call that is refused it does.
-refused_law : (values : Values) (e : End) (log : Log) (act : Act) (refusal : Refusal) → Represents values e log → IsTypedAct act
+refused_law : (values : Values) (e : End) (log : Log) (act : Act) (refusal : Refusal)
+    → Represents values e log → IsTypedAct act
     → MayAnswer log act (Refused refusal)
     → Represents values (end_after e act (Refused refusal)) (with_call log act (Refused refusal))
 unfolding end_after
-refused_law values e log act refusal represents typed may = refused_represents values e log act refusal represents typed may
+refused_law values e log act refusal represents typed may = refused_represents values e log act
+    refusal represents typed may
 
 -- After a call in which an allocation was refused, and by which the connection fails, it does.
-failing_law : (values : Values) (e : End) (log : Log) (act : Act) → Represents values e log → IsTypedAct act
-    → MayAnswer log act OutOfMemory → refusal_of (log_view log) act ≡ None → may_lack_memory act ≡ false
+failing_law : (values : Values) (e : End) (log : Log) (act : Act) → Represents values e log
+    → IsTypedAct act
+    → MayAnswer log act OutOfMemory → refusal_of (log_view log) act ≡ None
+    → may_lack_memory act ≡ false
     → Represents values (end_after e act OutOfMemory) (with_call log act OutOfMemory)
 unfolding end_after may_lack_memory
 failing_law values e log act represents typed may none fails_so =
-    let log_up = up_since log act (λ count same. both_ways (may_lack_memory act) fails_so (ap may_lack_memory same)) none in
+    let log_up = up_since log act (λ count same. both_ways (may_lack_memory act) fails_so
+    (ap may_lack_memory same)) none in
     out_of_memory_represents values e log act represents typed may (represents.failed ∙ log_up)
 
 -- After each call an end represents its log, if that is sound.
-pub call_law : (values : Values) (e : End) (log : Log) (act : Act) (answer : Answer) → (log.failed ≡ None → IsSound log)
+pub call_law : (values : Values) (e : End) (log : Log) (act : Act) (answer : Answer)
+    → (log.failed ≡ None → IsSound log)
     → Represents values e log → IsTypedAct act → MayAnswer log act answer
     → Represents values (end_after e act answer) (with_call log act answer)
 call_law values e log act answer sound represents typed (accepts none is) =

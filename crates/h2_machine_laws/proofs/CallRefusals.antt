@@ -1,7 +1,8 @@
 -- A machine refuses a call just where the log that it represents does.
 use Rattle.std.proofs.Common.{◌≡◌, ap, sym, ◌∙◌, refl, Option, Some, None}
 use Rattle.h2_frame.specs.declared.code.Code.{Code}
-use Rattle.h2_log.specs.Acts.{Values, Act, Open, SendFields, SendData, Release, ResetStream, Refuse, SendPing, SendGoAway, PutOut, ChangeSettings}
+use Rattle.h2_log.specs.Acts.{Values, Act, Open, SendFields, SendData, Release, ResetStream, Refuse}
+use Rattle.h2_log.specs.Acts.{SendPing, SendGoAway, PutOut, ChangeSettings}
 use Rattle.h2_log.specs.View.{View}
 use Rattle.h2_log.specs.Log.{Log}
 use Rattle.h2_log.specs.LogView.{log_view}
@@ -11,7 +12,8 @@ use Rattle.h2_machine.specs.Represents.{Represents}
 use Rattle.h2_machine_laws.proofs.ViewsAgree.{waiting_agrees, view_beside, views_agree}
 
 -- No condition looks at states, at windows that would overflow, or at the greatest payload.
-beside_refuses : (e : End) (log : Log) (act : Act) → refusal_of (view_beside e log) act ≡ refusal_of (log_view log) act
+beside_refuses : (e : End) (log : Log) (act : Act)
+    → refusal_of (view_beside e log) act ≡ refusal_of (log_view log) act
 unfolding conditions first_of
 beside_refuses e log (Open fields end) = refl
 beside_refuses e log (SendFields id fields end) = refl
@@ -25,7 +27,8 @@ beside_refuses e log (PutOut count) = refl
 beside_refuses e log (ChangeSettings values) = refl
 
 -- Any two views that have failed refuse the same.
-failed_refuses : (view other : View) (act : Act) (code : Code) → view.failed ≡ Some code → other.failed ≡ Some code
+failed_refuses : (view other : View) (act : Act) (code : Code) → view.failed ≡ Some code
+    → other.failed ≡ Some code
     → refusal_of view act ≡ refusal_of other act
 unfolding conditions first_of
 failed_refuses view other (Open fields end) code is too = rw (is, too) refl
@@ -40,7 +43,8 @@ failed_refuses view other (PutOut count) code is too = refl
 failed_refuses view other (ChangeSettings values) code is too = rw (is, too) refl
 
 -- the same, by whether the end has failed
-refusal_by : (values : Values) (e : End) (log : Log) (act : Act) (failed : Option Code) → e.failed ≡ failed
+refusal_by : (values : Values) (e : End) (log : Log) (act : Act) (failed : Option Code)
+    → e.failed ≡ failed
     → Represents values e log → refusal_of (end_view e) act ≡ refusal_of (log_view log) act
 refusal_by values e log act (Some code) is represents =
     failed_refuses (end_view e) (log_view log) act code is (sym represents.failed ∙ is)

@@ -1,5 +1,7 @@
--- The calls that concern no stream keep an end standing for its log.
-use Rattle.std.proofs.Common.{◌≡◌, ℕ, ◌+◌, ◌-◌, ◌≤◌, min, Bool, true, false, if◌then◌else◌, List, [], ◌∷◌, length, drop, Option, Some, None, refl, sym, ap, subst, ◌∙◌, arith, length-append}
+-- The calls that concern no stream preserve that an end represents its log.
+use Rattle.std.proofs.Common.{◌≡◌, ℕ, ◌+◌, ◌-◌, ◌≤◌, min, Bool, true, false, if◌then◌else◌, List}
+use Rattle.std.proofs.Common.{[], ◌∷◌, length, drop, Option, Some, None, refl, sym, ap, subst, ◌∙◌}
+use Rattle.std.proofs.Common.{arith, length-append}
 use Rattle.std.proofs.lemmas.List.{drop-drop, drop_min, length-drop}
 use Rattle.h2_frame.specs.declared.code.Code.{Code}
 use Rattle.h2_frame.specs.Frames.{Settings, Ping, GoAway, WindowUpdate}
@@ -7,114 +9,158 @@ use Rattle.h2_block.specs.Grouping.{alone}
 use Rattle.h2_machine.specs.End.{end_view, End}
 use Rattle.h2_log.specs.Items.{one_ping, total, encoding_of_items}
 use Rattle.h2_log.specs.Events.{one_pong, reported_total}
-use Rattle.h2_log.specs.Acts.{Values, Act, Answer, IsTypedAct, SendPing, SendGoAway, PutOut, ChangeSettings, Count, Done}
+use Rattle.h2_log.specs.Acts.{Values, Act, Answer, IsTypedAct, SendPing, SendGoAway, PutOut}
+use Rattle.h2_log.specs.Acts.{ChangeSettings, Count, Done}
+use Rattle.h2_log.specs.declared.role.Role.{Role}
 use Rattle.h2_log.specs.Settings.{is_server, settings_count}
 use Rattle.h2_log.specs.Log.{Log, acked, active, last_processed, waiting, output, released}
 use Rattle.h2_log.specs.LogSteps.{with_sent, with_credit_returned}
 use Rattle.h2_log.specs.LogCalls.{called, before_put_out, MayAnswer, with_items, with_call}
-use Rattle.h2_log.specs.CallRules.{first_of, items_of, answer_of, stream_of_act, encoder_after_call, changed_pairs, conditions, refusal_of, update_size, returns_before_put_out}
+use Rattle.h2_log.specs.CallRules.{first_of, items_of, answer_of, stream_of_act, encoder_after_call}
+use Rattle.h2_log.specs.CallRules.{changed_pairs, conditions, refusal_of, update_size}
+use Rattle.h2_log.specs.CallRules.{returns_before_put_out}
 use Rattle.h2_log.specs.LogView.{log_view}
 use Rattle.h2_machine.specs.Machine.{queue_output, before_put_out_at, after_call}
 use Rattle.h2_machine.specs.Represents.{Represents}
 use Rattle.h2_log_laws.proofs.ItemSizes.{size-update}
 use Rattle.h2_machine_laws.proofs.SentQuietItems.{called_runs, given_runs}
-use Rattle.h2_machine_laws.proofs.SentConnectionItems.{ping_runs, left_runs, changed_runs}
-use Rattle.h2_machine_laws.proofs.RepresentedSteps.{Up, Waits, up_of, represents_made, wrote_up, called_waits, called_up, ready_up, nothing_unreturned, owes_none}
+use Rattle.h2_machine_laws.proofs.SentConnectionItems.{ping_runs, goaway_runs, settings_runs}
+use Rattle.h2_machine_laws.proofs.RepresentedSteps.{Up, Waits, up_of, represents_made, wrote_up}
+use Rattle.h2_machine_laws.proofs.RepresentedSteps.{called_waits, called_up, ready_up}
+use Rattle.h2_machine_laws.proofs.RepresentedSteps.{nothing_unreturned, owes_none}
 
 -- A PING is sent.
-pub ping_up : (e : End) (log : Log) (octets : List ℕ) → reported_total one_pong log.reported ≤ total one_ping log.sent → Up e log
+pub ping_up : (e : End) (log : Log) (octets : List ℕ)
+    → reported_total one_pong log.reported ≤ total one_ping log.sent → Up e log
     → Up (after_call e (SendPing octets)) (with_call log (SendPing octets) Done)
 unfolding after_call with_call with_items items_of stream_of_act encoder_after_call released
-ping_up e log octets least_last is =
+ping_up e log octets enough is =
     let base = called log (SendPing octets) Done in
-    let called_run = called_runs e log (SendPing octets) Done e.output.encoder is.running.encoder (λ i. refl) is.running in
+    let called_run = called_runs e log (SendPing octets) Done e.output.encoder is.running.encoder
+    (λ i. refl) is.running in
     nothing_unreturned _ log _ 0 (owes_none log _)
-    (wrote_up e (record e { ping = Some octets }) base (alone (Ping false octets) ∷ []) is.role is.up is.same
-    (called_waits e log (SendPing octets) Done is.waits) (ping_runs e base octets least_last called_run))
+    (wrote_up e (record e { ping = Some octets }) base (alone (Ping false octets) ∷ []) is.role
+    is.up is.same
+    (called_waits e log (SendPing octets) Done is.waits)
+    (ping_runs e base octets enough called_run))
 
 -- GOAWAY is sent.
-pub leave_up : (e : End) (log : Log) → (is_server log.role ≡ true → (i : ℕ) → active log i ≡ true → i ≤ last_processed log) → Up e log
+pub goaway_up : (e : End) (log : Log) → (is_server log.role ≡ true → (i : ℕ) → active log i ≡ true
+    → i ≤ last_processed log) → Up e log
     → Up (after_call e SendGoAway) (with_call log SendGoAway Done)
 unfolding after_call with_call with_items items_of stream_of_act encoder_after_call released
-leave_up e log low is =
+goaway_up e log low is =
     let base = called log SendGoAway Done in
-    let called_run = called_runs e log SendGoAway Done e.output.encoder is.running.encoder (λ i. refl) is.running in
-    let all : Up (record (queue_output e (alone (GoAway (last_processed log) 0 []) ∷ [])) { goaway = record (queue_output e (alone (GoAway (last_processed log) 0 []) ∷ [])).goaway { sent = Some (last_processed log) } }) (with_sent base (alone (GoAway (last_processed log) 0 []) ∷ [])) =
-    wrote_up e (record e { goaway = record e.goaway { sent = Some (last_processed log) } }) base (alone (GoAway (last_processed log) 0 []) ∷ []) is.role is.up is.same
-    (called_waits e log SendGoAway Done is.waits) (left_runs e base (last_processed log) 0 low called_run) in
+    let called_run = called_runs e log SendGoAway Done e.output.encoder is.running.encoder
+    (λ i. refl) is.running in
+    let all : Up (record (queue_output e (alone (GoAway (last_processed log) 0 []) ∷ []))
+    { goaway = record e.goaway { sent = Some (last_processed log) } })
+    (with_sent base (alone (GoAway (last_processed log) 0 []) ∷ [])) =
+    wrote_up e (record e { goaway = record e.goaway { sent = Some (last_processed log) } }) base
+    (alone (GoAway (last_processed log) 0 []) ∷ []) is.role is.up is.same
+    (called_waits e log SendGoAway Done is.waits)
+    (goaway_runs e base (last_processed log) 0 low called_run) in
     nothing_unreturned _ log _ 0 (owes_none log _)
-    (subst (λ (n : ℕ). Up (record (queue_output e (alone (GoAway n 0 []) ∷ [])) { goaway = record (queue_output e (alone (GoAway n 0 []) ∷ [])).goaway { sent = Some n } }) (with_sent base (alone (GoAway (last_processed log) 0 []) ∷ [])))
+    (subst (λ (n : ℕ). Up (record (queue_output e (alone (GoAway n 0 []) ∷ []))
+    { goaway = record e.goaway { sent = Some n } })
+    (with_sent base (alone (GoAway (last_processed log) 0 []) ∷ [])))
     (sym is.running.last_processed) all)
 
 -- Settings are changed.
-pub change_up : (e : End) (log : Log) (values : Values) → acked log ≤ settings_count log.sent → 1 ≤ settings_count log.sent → Up e log
+pub settings_up : (e : End) (log : Log) (values : Values) → acked log ≤ settings_count log.sent
+    → 1 ≤ settings_count log.sent → Up e log
     → Up (after_call e (ChangeSettings values)) (with_call log (ChangeSettings values) Done)
 unfolding after_call with_call with_items items_of stream_of_act encoder_after_call released
-change_up e log values least_last some is =
+settings_up e log values enough some is =
     let base = called log (ChangeSettings values) Done in
-    let called_run = called_runs e log (ChangeSettings values) Done e.output.encoder is.running.encoder (λ i. refl) is.running in
+    let called_run = called_runs e log (ChangeSettings values) Done e.output.encoder
+    is.running.encoder (λ i. refl) is.running in
     let item = alone (Settings false (changed_pairs log.role values)) in
-    let all : Up (record (queue_output e (item ∷ [])) { own = record (queue_output e (item ∷ [])).own { awaited = Some values } }) (with_sent base (item ∷ [])) =
-    wrote_up e (record e { own = record e.own { awaited = Some values } }) base (item ∷ []) is.role is.up is.same
-    (called_waits e log (ChangeSettings values) Done is.waits) (changed_runs e base values least_last some called_run) in
+    let all : Up (record (queue_output e (item ∷ []))
+    { own = record e.own { awaited = Some values } }) (with_sent base (item ∷ [])) =
+    wrote_up e (record e { own = record e.own { awaited = Some values } }) base (item ∷ []) is.role
+    is.up is.same
+    (called_waits e log (ChangeSettings values) Done is.waits)
+    (settings_runs e base values enough some called_run) in
     nothing_unreturned _ log _ 0 (owes_none log _)
-    (subst (λ r. Up (record (queue_output e (alone (Settings false (changed_pairs r values)) ∷ [])) { own = record (queue_output e (alone (Settings false (changed_pairs r values)) ∷ [])).own { awaited = Some values } }) (with_sent base (item ∷ [])))
-    (sym is.role) all)
+    (subst (λ (role : Role). Up
+    (record (queue_output e (alone (Settings false (changed_pairs role values)) ∷ []))
+    { own = record e.own { awaited = Some values } }) (with_sent base (item ∷ []))) (sym is.role)
+    all)
 
--- Octets are taken away from the output.
-put_waits : (e : End) (log : Log) (count n : ℕ) → n ≡ min count (waiting log) → Waits e log
-    → Waits (record e { output = record e.output { waiting = drop count e.output.waiting } }) (record log { given = log.given + n })
+-- Octets are put out of what waits.
+put_out_waits : (e : End) (log : Log) (count n : ℕ) → n ≡ min count (waiting log) → Waits e log
+    → Waits (record e { output = record e.output { waiting = drop count e.output.waiting } })
+    (record log { given = log.given + n })
 unfolding waiting output
-put_waits e log count n is w =
-    let size : length (drop log.given log.written) ≡ length log.written - log.given = length-drop log.given log.written in
+put_out_waits e log count n is w =
+    let size : length (drop log.given log.written) ≡ length log.written - log.given =
+    length-drop log.given log.written in
     let most : min count (length (drop log.given log.written)) ≡ n = rw size (sym is) in
     let within = w.given in
     record {
       waiting =
           ap (drop count) w.waiting ∙ sym (drop_min count (drop log.given log.written))
-          ∙ ap (λ (k : ℕ). drop k (drop log.given log.written)) most ∙ drop-drop n log.given log.written;
+          ∙ ap (λ (k : ℕ). drop k (drop log.given log.written)) most
+          ∙ drop-drop n log.given log.written;
       given = omega arith;
     }
 
--- Making ready gives nothing out, by the test.
-ready_given_by : (log : Log) (b : Bool) → (if b then with_credit_returned log else log).given ≡ log.given
+-- Making ready puts nothing out, by the test.
+ready_given_by : (log : Log) (b : Bool) → (if b then with_credit_returned log else log).given
+    ≡ log.given
 unfolding with_sent
 ready_given_by log true = refl
 ready_given_by log false = refl
 
--- Making ready gives nothing out.
+-- Making ready puts nothing out.
 ready_given : (log : Log) → (before_put_out log).given ≡ log.given
 unfolding before_put_out
 ready_given log = ready_given_by log _
 
--- As much waits once a call is put down, by the test.
+-- As much waits once a call is recorded, by the test.
 ready_waits_by : (log : Log) (act : Act) (answer : Answer) (b : Bool)
-    → waiting (if b then with_credit_returned (called log act answer) else called log act answer) ≡ waiting (if b then with_credit_returned log else log)
+    → waiting (if b then with_credit_returned (called log act answer) else called log act answer)
+    ≡ waiting (if b then with_credit_returned log else log)
 unfolding waiting output with_sent
 ready_waits_by log act answer true = refl
 ready_waits_by log act answer false = refl
 
--- As much waits once a call is put down.
-ready_waits : (log : Log) (act : Act) (answer : Answer) → waiting (before_put_out (called log act answer)) ≡ waiting (before_put_out log)
+-- As much waits once a call is recorded.
+ready_waits : (log : Log) (act : Act) (answer : Answer)
+    → waiting (before_put_out (called log act answer)) ≡ waiting (before_put_out log)
 unfolding before_put_out waiting output
 ready_waits log act answer = ready_waits_by log act answer _
 
--- Octets are taken away from an end that hasn't failed.
-put_up : (e : End) (log : Log) (count n : ℕ) → n ≡ min count (waiting (before_put_out log)) → Up e log
+-- An end that hasn't failed puts octets out.
+put_out_up : (e : End) (log : Log) (count n : ℕ) → n ≡ min count (waiting (before_put_out log))
+    → Up e log
     → Up (after_call e (PutOut count)) (with_call log (PutOut count) (Count n))
 unfolding after_call with_call encoder_after_call released
-put_up e log count n is up =
+put_out_up e log count n is up =
     let base = called log (PutOut count) (Count n) in
     let made = ready_up e base (called_up e log (PutOut count) (Count n) refl (λ i. refl) up) in
-    let waits = put_waits (before_put_out_at e) (before_put_out base) count n (is ∙ ap (min count) (sym (ready_waits log (PutOut count) (Count n)))) made.waits in
-    let run = given_runs (before_put_out_at e) (before_put_out base) (drop count (before_put_out_at e).output.waiting) ((before_put_out base).given + n) made.running in
-    let all : Up (record (before_put_out_at e) { output = record (before_put_out_at e).output { waiting = drop count (before_put_out_at e).output.waiting } }) (record (before_put_out base) { given = (before_put_out base).given + n }) =
+    let waits = put_out_waits (before_put_out_at e) (before_put_out base) count n (is
+    ∙ ap (min count) (sym (ready_waits log (PutOut count) (Count n)))) made.waits in
+    let run = given_runs (before_put_out_at e) (before_put_out base)
+    (drop count (before_put_out_at e).output.waiting) ((before_put_out base).given + n)
+    made.running in
+    let all : Up (record (before_put_out_at e) {
+      output = record (before_put_out_at e).output
+          { waiting = drop count (before_put_out_at e).output.waiting };
+    })
+    (record (before_put_out base) { given = (before_put_out base).given + n }) =
     record { role = made.role; up = made.up; same = made.same; waits = waits; running = run } in
-    subst (λ (k : ℕ). Up (record (before_put_out_at e) { output = record (before_put_out_at e).output { waiting = drop count (before_put_out_at e).output.waiting } }) (record (before_put_out base) { given = k + n })) (ready_given base) all
+    subst (λ (k : ℕ). Up (record (before_put_out_at e) {
+      output = record (before_put_out_at e).output
+          { waiting = drop count (before_put_out_at e).output.waiting };
+    })
+    (record (before_put_out base) { given = k + n })) (ready_given base) all
 
--- As much waits behind output that was returned for, by the test.
+-- As much waits after credit was returned, by the test.
 ready_size_by : (log : Log) (b : Bool) → log.given ≤ length (output log)
-    → waiting (if b then with_credit_returned log else log) ≡ waiting log + (if b then update_size else 0)
+    → waiting (if b then with_credit_returned log else log) ≡ waiting log +
+    (if b then update_size else 0)
 unfolding waiting output with_sent
 ready_size_by log true given =
     let update = alone (WindowUpdate 0 log.unreturned) ∷ [] in
@@ -124,7 +170,8 @@ ready_size_by log false given = omega arith
 
 -- As much waits once an end is ready as the rules say.
 ready_size : (log : Log) → log.given ≤ length (output log)
-    → waiting (before_put_out log) ≡ waiting log + (if returns_before_put_out (log_view log) then update_size else 0)
+    → waiting (before_put_out log) ≡ waiting log +
+    (if returns_before_put_out (log_view log) then update_size else 0)
 unfolding before_put_out
 ready_size log given = ready_size_by log (returns_before_put_out (log_view log)) given
 
@@ -138,37 +185,47 @@ ready_failed : (log : Log) (code : Code) → log.failed ≡ Some code → before
 unfolding before_put_out
 ready_failed log code is = rw is refl
 
--- A call that takes octets away is never refused.
+-- A call that puts octets out is never refused.
 never_refused : (e : End) (count : ℕ) → refusal_of (end_view e) (PutOut count) ≡ None
 unfolding conditions first_of
 never_refused e count = refl
 
--- Octets are taken away, by whether the end has failed.
-put_by : (values : Values) (e : End) (log : Log) (count n : ℕ) (x : Option Code) → e.failed ≡ x → n ≡ min count (waiting (before_put_out log))
+-- Octets are put out, by whether the end has failed.
+put_out_by : (values : Values) (e : End) (log : Log) (count n : ℕ) (x : Option Code) → e.failed ≡ x
+    → n ≡ min count (waiting (before_put_out log))
     → Represents values e log → MayAnswer log (PutOut count) (Count n)
     → Represents values (after_call e (PutOut count)) (with_call log (PutOut count) (Count n))
 unfolding after_call with_call IsTypedAct
-put_by values e log count n None up is represents may =
-    let made = put_up e log count n is (up_of values e log represents up) in
-    represents_made values e log (PutOut count) (Count n) represents tt may (never_refused e count) made.role (made.up ∙ sym made.same) made.waits (λ up. made.running)
-put_by values e log count n (Some code) failed is represents may =
+put_out_by values e log count n None up is represents may =
+    let made = put_out_up e log count n is (up_of values e log represents up) in
+    represents_made values e log (PutOut count) (Count n) represents tt may (never_refused e count)
+    made.role (made.up ∙ sym made.same) made.waits (λ up. made.running)
+put_out_by values e log count n (Some code) failed is represents may =
     let base = called log (PutOut count) (Count n) in
     let here = ready_failed_at e code failed in
     let with_failure : log.failed ≡ Some code = sym represents.failed ∙ failed in
     let there = ready_failed base code with_failure in
-    let same : waiting base ≡ waiting (before_put_out log) = ap waiting (sym there) ∙ ready_waits log (PutOut count) (Count n) in
-    let waits : Waits (record e { output = record e.output { waiting = drop count e.output.waiting } }) (record base { given = log.given + n }) =
-    put_waits e base count n (is ∙ ap (min count) (sym same))
-    (called_waits e log (PutOut count) (Count n) (record { waiting = represents.waiting; given = represents.given })) in
+    let same : waiting base ≡ waiting (before_put_out log) = ap waiting (sym there)
+    ∙ ready_waits log (PutOut count) (Count n) in
+    let waits : Waits (record e {
+      output = record e.output { waiting = drop count e.output.waiting };
+    }) (record base { given = log.given + n }) =
+    put_out_waits e base count n (is ∙ ap (min count) (sym same))
+    (called_waits e log (PutOut count) (Count n)
+    (record { waiting = represents.waiting; given = represents.given })) in
     represents_made values e log (PutOut count) (Count n) represents tt may (never_refused e count)
     (ap (λ (x : End). x.role) here ∙ represents.role ∙ sym (ap (λ (x : Log). x.role) there))
     (ap (λ (x : End). x.failed) here ∙ represents.failed ∙ sym (ap (λ (x : Log). x.failed) there))
     (rw (here, there) waits)
-    (λ up. let wrong : Some code ≡ None = sym failed ∙ sym (ap (λ (x : End). x.failed) here) ∙ up in absurd (cc))
+    (λ up. let wrong : Some code ≡ None = sym failed ∙ sym (ap (λ (x : End). x.failed) here)
+    ∙ up in absurd (cc))
 
 -- Octets are put out, as many as the rules say.
-pub put_represents : (values : Values) (e : End) (log : Log) (count : ℕ) → Represents values e log
+pub put_out_represents : (values : Values) (e : End) (log : Log) (count : ℕ)
+    → Represents values e log
     → MayAnswer log (PutOut count) (answer_of (log_view log) (PutOut count))
-    → Represents values (after_call e (PutOut count)) (with_call log (PutOut count) (answer_of (log_view log) (PutOut count)))
-put_represents values e log count represents may =
-    put_by values e log count _ e.failed refl (ap (min count) (sym (ready_size log represents.given))) represents may
+    → Represents values (after_call e (PutOut count))
+    (with_call log (PutOut count) (answer_of (log_view log) (PutOut count)))
+put_out_represents values e log count represents may =
+    put_out_by values e log count _ e.failed refl
+    (ap (min count) (sym (ready_size log represents.given))) represents may

@@ -1,5 +1,8 @@
--- The connection's window stays whole behind each call that isn't refused; and it is whole at first.
-use Rattle.std.proofs.Common.{suc, ◌≡◌, ℕ, ◌+◌, ◌-◌, ◌<◌, ◌≤◌, ◌==◌, nat_lt, nat_le, not, ◌&&◌, ◌||◌, if◌then◌else◌, Bool, true, false, List, [], ◌∷◌, length, take, pos, ◌+ℤ◌, ◌-ℤ◌, Option, Some, None, is_some, refl, arith, ltb-false, eqb-true}
+-- The connection's receive window is conserved by each call that isn't refused; and it is so at
+-- first.
+use Rattle.std.proofs.Common.{◌≡◌, ℕ, ◌+◌, ◌-◌, ◌<◌, ◌≤◌, ◌==◌, nat_lt, not, ◌&&◌, ◌||◌,
+    if◌then◌else◌, Bool, true, false, List, [], ◌∷◌, length, pos, ◌+ℤ◌, ◌-ℤ◌, Option, Some, None,
+    is_some, refl, arith, ltb-false, eqb-true}
 use Rattle.std.specs.Ordering.{nat_cmp}
 use Rattle.std.specs.FinMap as map
 use Rattle.h2_frame.specs.declared.code.Code.{Code}
@@ -16,17 +19,21 @@ use Rattle.h2_machine.specs.Machine.{reset_stream, return_credit, queue_output, 
 use Rattle.h2_log.specs.View.{StreamView, owed_on}
 use Rattle.h2_log.specs.declared.role.Role.{Role}
 use Rattle.h2_machine_laws.proofs.OwedSums.{total-empty}
-use Rattle.h2_machine_laws.proofs.ConservedBySteps.{Holds, lacks_none, was_reset, put, changed, active_is_kept, active_set, active_used}
+use Rattle.h2_machine_laws.proofs.ConservedBySteps.{Holds, lacks_none, was_reset, stream_set,
+    changed, active_is_kept, active_set, active_used}
 use Rattle.h2_log_laws.proofs.CallConditions.{AreFalse, none_holds, neither_one, neither_other}
 
--- A stream is live where it isn't that none is.
-is_active_by : (x : Option StreamView) → not (is_some x) ≡ false → (stream : StreamView) × (x ≡ Some stream)
+-- A stream is active where it isn't that none is.
+is_active_by : (x : Option StreamView) → not (is_some x) ≡ false
+    → (stream : StreamView) × (x ≡ Some stream)
 is_active_by None is = cc
 is_active_by (Some stream) is = (stream, refl)
 
--- A stream that is live, by the condition of a call, was used.
-active_by_condition : (e : End) (i : ℕ) → is_no_stream (end_view e) i ≡ false → Holds e → i ≤ e.streams.highest
-active_by_condition e i is h = let active = is_active_by (stream_at e i) is in active_used e i active.0 h active.1
+-- A stream that is active, by the condition of a call, was used.
+active_by_condition : (e : End) (i : ℕ) → is_no_stream (end_view e) i ≡ false → Holds e
+    → i ≤ e.streams.highest
+active_by_condition e i is h =
+    let active = is_active_by (stream_at e i) is in active_used e i active.0 h active.1
 
 -- The next number is above those that were used, by the test whether none was.
 next_by : (used : ℕ) (b : Bool) → (used == 0) ≡ b → used < (if b then 1 else used + 2)
@@ -40,18 +47,20 @@ next_above true used client = cc
 next_above false used client = next_by used (used == 0) refl
 
 -- A stream was opened, with a number above those that were used.
-opened : (e : End) (i : ℕ) (end : Bool) → e.streams.highest < i → Holds e
+stream_opened : (e : End) (i : ℕ) (end : Bool) → e.streams.highest < i → Holds e
     → Holds (open_stream e i end)
-opened e i end above h =
-    put e.windows.recv e.windows.unreturned e.streams.highest i e.streams.entries i
+stream_opened e i end above h =
+    stream_set e.windows.recv e.windows.unreturned e.streams.highest i e.streams.entries i
     e.windows.recv e.windows.unreturned (new_stream e false end) None (h.clear i above)
     (omega (arith, above)) (omega arith) refl h
 
 -- Fields were sent.
-fields_sent : (e : End) (i : ℕ) (end : Bool) (x : Option StreamView) → stream_at e i ≡ x → Holds e → Holds (after_fields_sent e i end x)
+fields_sent : (e : End) (i : ℕ) (end : Bool) (x : Option StreamView) → stream_at e i ≡ x → Holds e
+    → Holds (after_fields_sent e i end x)
 fields_sent e i end None active h = h
 fields_sent e i end (Some stream) active h =
-    changed e i (record stream { ended_out = end }) (active_set e i stream (record stream { ended_out = end }) active refl h)
+    changed e i (record stream { ended_out = end })
+    (active_set e i stream (record stream { ended_out = end }) active refl h)
 
 -- One of two ends, by a test.
 either : (b : Bool) (x y : End) → Holds x → Holds y → Holds (if b then x else y)
@@ -59,7 +68,8 @@ either true x y this that = this
 either false x y this that = that
 
 -- Octets of a body were sent.
-data_sent : (e : End) (i : ℕ) (octets : List ℕ) (end : Bool) (count : ℕ) (x : Option StreamView) → stream_at e i ≡ x → Holds e
+data_sent : (e : End) (i : ℕ) (octets : List ℕ) (end : Bool) (count : ℕ) (x : Option StreamView)
+    → stream_at e i ≡ x → Holds e
     → Holds (after_data e i octets end count x)
 data_sent e i octets end count None active h = h
 data_sent e i octets end count (Some stream) active h =
@@ -67,17 +77,28 @@ data_sent e i octets end count (Some stream) active h =
     record (queue_output e (data_items 16384 i octets end count)) {
       windows = record e.windows { send = e.windows.send - count };
     } in
-    let next : StreamView = record stream { send_window = stream.send_window -ℤ pos count; ended_out = end && count == length octets } in
+    let next : StreamView =
+    record stream {
+      send_window = stream.send_window -ℤ pos count;
+      ended_out = end && count == length octets;
+    } in
     either (count == 0 && not (length octets == 0 && end)) e (update_stream after i next) h
     (changed after i next (active_set after i stream next active refl h))
 
 -- Octets were released.
-released : (e : End) (i count : ℕ) (x : Option StreamView) → stream_at e i ≡ x → count ≤ owed_on x → Holds e → Holds (after_release e i count x)
+released : (e : End) (i count : ℕ) (x : Option StreamView) → stream_at e i ≡ x → count ≤ owed_on x
+    → Holds e → Holds (after_release e i count x)
 released e i count None active most h = h
 released e i count (Some stream) active most h =
-    put e.windows.recv e.windows.unreturned e.streams.highest e.streams.highest e.streams.entries i (e.windows.recv + count) e.windows.unreturned
-    (record stream { owed = stream.owed - count; recv_window = if stream.ended_in then stream.recv_window else stream.recv_window +ℤ pos count }) (Some (active_entry stream))
-    (active_is_kept (map.get e.streams.entries i) stream active) (omega arith) (active_used e i stream h active) (omega (arith, most)) h
+    stream_set e.windows.recv e.windows.unreturned e.streams.highest e.streams.highest
+    e.streams.entries i (e.windows.recv + count) e.windows.unreturned
+    (record stream {
+      owed = stream.owed - count;
+      recv_window = if stream.ended_in then stream.recv_window else stream.recv_window +ℤ pos count;
+    })
+    (Some (active_entry stream))
+    (active_is_kept (map.get e.streams.entries i) stream active) (omega arith)
+    (active_used e i stream h active) (omega (arith, most)) h
 
 -- A call that resets a stream.
 reset_by_call : (e : End) (i : ℕ) → is_no_stream (end_view e) i ≡ false → Holds e
@@ -87,22 +108,25 @@ reset_by_call e i active h =
     (lacks_none e.windows.recv e.windows.unreturned e.streams.highest e.streams.entries h)
 
 -- A stream was refused, or the connection ended.
-refused_by : (e : End) (i code : ℕ) (x : Option Code) → (x ≡ None → is_no_stream (end_view e) i ≡ false) → Holds e → Holds (after_refuse e i code x)
+refused_by : (e : End) (i code : ℕ) (x : Option Code)
+    → (x ≡ None → is_no_stream (end_view e) i ≡ false) → Holds e → Holds (after_refuse e i code x)
 refused_by e i code None active h =
     reset_by_call (queue_output e (alone (Reset i code) ∷ [])) i (active refl) h
 refused_by e i code (Some fault) active h = h
 
 -- A code that ends no connection isn't 2, by the tests.
-code_by : (is_two few : Bool) → (if is_two then Some InternalError else if few then Some EnhanceYourCalm else None) ≡ None → is_two ≡ false
+code_by : (is_two few : Bool)
+    → (if is_two then Some InternalError else if few then Some EnhanceYourCalm else None) ≡ None
+    → is_two ≡ false
 code_by true few is = cc
 code_by false few is = refl
 
--- Where a stream must be live unless the code is 2, and it isn't 2, the stream is live.
+-- Where a stream must be active unless the code is 2, and it isn't 2, the stream is active.
 active_unless : (is_two none : Bool) → (not is_two && none) ≡ false → is_two ≡ false → none ≡ false
 active_unless true none is two = cc
 active_unless false none is two = is
 
--- The end is ready to give octets out.
+-- The end is ready to put output out.
 made_ready : (e : End) → Holds e → Holds (before_put_out_at e)
 unfolding before_put_out_at
 made_ready e h =
@@ -117,7 +141,7 @@ call_holds e (Open fields end) is h =
     let none : AreFalse (conditions (end_view e) (Open fields end)) =
     none_holds (conditions (end_view e) (Open fields end)) is in
     let answer : Answer = answer_of (end_view e) (Open fields end) in
-    opened (queue_call e (Open fields end) answer) (end_view e).next_number end
+    stream_opened (queue_call e (Open fields end) answer) (end_view e).next_number end
     (next_above (is_server e.role) e.streams.highest
     (neither_one (is_server e.role) (nat_lt greatest_number (end_view e).next_number)
     none.1.1.0)) h
@@ -152,7 +176,8 @@ call_holds e SendGoAway is h = h
 call_holds e (PutOut count) is h = made_ready e h
 call_holds e (ChangeSettings values) is h = h
 
--- A new end is whole.
+-- The window of a new end is conserved.
 pub new_holds : (role : Role) (values : Values) → Holds (new_end role values)
 unfolding new_end
-new_holds role values = record { sum = omega (arith, total-empty); clear = λ i above. map.get-empty nat_cmp i }
+new_holds role values =
+    record { sum = omega (arith, total-empty); clear = λ i above. map.get-empty nat_cmp i }

@@ -1,8 +1,10 @@
 -- What a log says of numbers that no stream had yet; and the law of calls.
-use Rattle.std.proofs.Common.{◌≡◌, ◌≢◌, ℕ, ◌≤◌, ◌<◌, true, false, List, [], ◌∷◌, None, refl, subst, ◌∙◌, arith}
+use Rattle.std.proofs.Common.{◌≡◌, ◌≢◌, ℕ, ◌≤◌, ◌<◌, true, false, List, [], ◌∷◌, None, refl, subst}
+use Rattle.std.proofs.Common.{◌∙◌, arith}
 use Rattle.std.specs.List.{list_any}
 use Rattle.std.proofs.lemmas.Bool.{both_ways, ne_eqb, false_from_ne_true}
-use Rattle.h2_frame.specs.Frames.{Data, Headers, Priority, Reset, Settings, Ping, GoAway, WindowUpdate, Continuation, Unknown}
+use Rattle.h2_frame.specs.Frames.{Data, Headers, Priority, Reset, Settings, Ping, GoAway}
+use Rattle.h2_frame.specs.Frames.{WindowUpdate, Continuation, Unknown}
 use Rattle.h2_block.specs.Grouping.{Item, alone, block}
 use Rattle.h2_log.specs.declared.role.Role.{Role}
 use Rattle.h2_log.specs.declared.role.Role.TheVariants.{Client, Server}
@@ -26,19 +28,24 @@ use Rattle.h2_log_laws.proofs.InvariantLogs.{log_represents}
 use Rattle.h2_machine_laws.proofs.SentQuietItems.{any_quiet, total_one}
 use Rattle.h2_machine_laws.proofs.CallOpen.{IsClear}
 use Rattle.h2_machine_laws.proofs.UpInvariant.{idle_above, greatest_after}
-use Rattle.h2_machine_laws.proofs.UpInvariantLogs.{fair_of}
+use Rattle.h2_machine_laws.proofs.UpInvariantLogs.{up_log_of}
 use Rattle.h2_machine_laws.proofs.CallLaw.{IsSound, call_law}
 
--- an item that a client may write ends and takes nothing of a number above all before it
-item_low : (received sent : List Item) (item : Item) (i : ℕ) → Allowed Client received sent item → greatest_block (item ∷ sent) < i
+-- an item that a client may write neither ends nor consumes anything of a number above all before
+-- it
+item_low : (received sent : List Item) (item : Item) (i : ℕ) → Allowed Client received sent item
+    → greatest_block (item ∷ sent) < i
     → (ends i item ≡ false) × (data_on i item ≡ 0)
 unfolding ends data_on greatest_block
-item_low received sent (block stream end octets) i allowed above = (rw (ne_eqb stream i (λ same. omega arith)) refl, refl)
+item_low received sent (block stream end octets) i allowed above =
+    (rw (ne_eqb stream i (λ same. omega arith)) refl, refl)
 item_low received sent (alone (Data stream end octets pad)) i allowed above =
-    let low = block_below stream sent (active_parts Client stream received sent [] (allowed.1).goes_on.active).opened in
+    let low = block_below stream sent
+    (active_parts Client stream received sent [] (allowed.1).goes_on.active).opened in
     let other : stream ≢ i = λ same. omega arith in
     (rw (ne_eqb stream i other) refl, rw (ne_eqb stream i other) refl)
-item_low received sent (alone (Headers stream end last fragment pad priority)) i allowed above = (refl, refl)
+item_low received sent (alone (Headers stream end last fragment pad priority)) i allowed above =
+    (refl, refl)
 item_low received sent (alone (Priority stream octets)) i allowed above = (refl, refl)
 item_low received sent (alone (Reset stream code)) i allowed above = (refl, refl)
 item_low received sent (alone (Settings ack pairs)) i allowed above = (refl, refl)
@@ -49,75 +56,95 @@ item_low received sent (alone (Continuation stream last fragment)) i allowed abo
 item_low received sent (alone (Unknown kind flags stream payload)) i allowed above = (refl, refl)
 
 -- A client has ended nothing, and sent nothing, of a number above all that it used.
-sent_low : (received sent : List Item) (i : ℕ) → AllowedHistory Client received sent → greatest_block sent < i → (list_any (ends i) sent ≡ false) × (total (data_on i) sent ≡ 0)
+sent_low : (received sent : List Item) (i : ℕ) → AllowedHistory Client received sent
+    → greatest_block sent < i → (list_any (ends i) sent ≡ false) × (total (data_on i) sent ≡ 0)
 unfolding ends data_on total
 sent_low _ _ i (starts values ok) above = (refl, refl)
-sent_low _ sent i (reads {received = received} item with_sent) above = sent_low received sent i with_sent above
+sent_low _ sent i (reads {received = received} item with_sent) above =
+    sent_low received sent i with_sent above
 sent_low received _ i (writes {sent = sent} item with_sent allowed) above =
     let here = item_low received sent item i allowed above in
-    let before = sent_low received sent i with_sent (let low = greatest_after (item ∷ []) sent in omega arith) in
-    (any_quiet (ends i) item sent here.0 ∙ before.0, omega (arith, total_one (data_on i) item sent, here.1, before.1))
+    let before = sent_low received sent i with_sent
+    (let low = greatest_after (item ∷ []) sent in omega arith) in (
+      any_quiet (ends i) item sent here.0
+          ∙ before.0,
+      omega (arith, total_one (data_on i) item sent, here.1, before.1),
+    )
 
--- nothing is left of nothing
-left_none : (log : Log) (i : ℕ) → reported_total (flow_on i) log.reported ≡ 0 → unreleased log i ≡ 0
+-- nothing is unreleased of nothing
+unreleased_none : (log : Log) (i : ℕ) → reported_total (flow_on i) log.reported ≡ 0
+    → unreleased log i ≡ 0
 unfolding unreleased
-left_none log i none = omega (arith, none)
+unreleased_none log i none = omega (arith, none)
 
 -- no block on a number above all that a client used
-unopened : (role : Role) (received sent : List Item) (i : ℕ) → role ≡ Client → greatest_block sent < i → list_any (is_block_on i) (openings role received sent) ≡ false
-unopened Client received sent i is above = false_from_ne_true _ (λ some. let low = block_below i sent some in omega arith)
+unopened : (role : Role) (received sent : List Item) (i : ℕ) → role ≡ Client
+    → greatest_block sent < i → list_any (is_block_on i) (openings role received sent) ≡ false
+unopened Client received sent i is above =
+    false_from_ne_true _ (λ some. let low = block_below i sent some in omega arith)
 unopened Server received sent i is above = cc
 
 -- Numbers above all that a client used are clear.
-clear_of : (role : Role) (values : Values) (log : Log) → IsLog role values log → log.failed ≡ None → log.role ≡ Client → (i : ℕ) → greatest_block log.sent < i
+clear_of : (role : Role) (values : Values) (log : Log) → IsLog role values log → log.failed ≡ None
+    → log.role ≡ Client → (i : ℕ) → greatest_block log.sent < i
     → IsClear log i
 clear_of role values log came up client i above =
     let represents = log_represents role values log came in
-    let fair = fair_of role values log came up in
-    let unseen = fair.clear client i above in
-    let with_sent : AllowedHistory Client log.received log.sent = subst (λ (r : Role). AllowedHistory r log.received log.sent) client represents.with_sent in
+    let up_log = up_log_of role values log came up in
+    let unseen = up_log.clear client i above in
+    let with_sent : AllowedHistory Client log.received log.sent =
+    subst (λ (r : Role). AllowedHistory r log.received log.sent) client represents.with_sent in
     let sent = sent_low log.received log.sent i with_sent above in
     let unused = idle_above log.role i log.received log.sent client above in
     let nonzero : i ≢ 0 = λ none. omega arith in
     let gave = increments_read log.role i nonzero log.received log.sent represents.with_sent in
-    let taken_none = unseen.last_processed in
+    let taken_none = unseen.no_data in
     record {
       ended_in = unseen.ended;
       reset_in = unseen.reset;
       given = unseen.given;
-      taken_in = unseen.last_processed;
+      taken_in = unseen.no_data;
       ended_out = sent.0;
-      reset_out = false_from_ne_true _ (λ some. both_ways _ unused (resets_used log.role i log.received log.sent represents.with_sent some));
+      reset_out = false_from_ne_true _
+          (λ some. both_ways _ unused
+          (resets_used log.role i log.received log.sent represents.with_sent some));
       granted = omega arith;
       taken_out = sent.1;
       unnamed = unseen.unnamed;
-      owed = left_none log i ((represents.good up).opened i (unopened log.role log.received log.sent i client above));
+      owed = unreleased_none log i
+          ((represents.good up).opened i (unopened log.role log.received log.sent i client above));
     }
 
--- the greatest stream that a server took
-taken_server : (log : Log) → is_server log.role ≡ true → last_processed log ≡ greatest_processed log.reported
+-- the greatest stream that a server processed
+processed_at_server : (log : Log) → is_server log.role ≡ true
+    → last_processed log ≡ greatest_processed log.reported
 unfolding last_processed
-taken_server log is = rw is refl
+processed_at_server log is = rw is refl
 
 -- as much is sent in a frame as this end sends at most
-most_of : (received : List Item) → 16384 ≤ value_read 5 16384 received → max_payload_sent_by received ≡ 16384
+most_of : (received : List Item) → 16384 ≤ value_read 5 16384 received
+    → max_payload_sent_by received ≡ 16384
 unfolding max_payload_sent_by
-most_of received least_last = omega arith
+most_of received enough = omega arith
 
 -- Every log that hasn't failed is sound.
-pub sound_of : (role : Role) (values : Values) (log : Log) → IsLog role values log → log.failed ≡ None → IsSound log
+pub sound_of : (role : Role) (values : Values) (log : Log) → IsLog role values log
+    → log.failed ≡ None → IsSound log
 sound_of role values log came up =
-    let fair = fair_of role values log came up in
+    let up_log = up_log_of role values log came up in
     record {
-      acks = fair.acks;
-      pongs = fair.pongs;
-      size = most_of log.received fair.size;
-      took = λ server none i alive. let low = fair.took server none i alive in omega (arith, taken_server log server);
+      acks = up_log.acks;
+      pongs = up_log.pongs;
+      size = most_of log.received up_log.size;
+      processed = λ server none i active_is. let low = up_log.processed server none i active_is in
+          omega (arith, processed_at_server log server);
       clear = clear_of role values log came up;
     }
 
--- Behind each call, an end stands for its log.
-pub calls_keep : (values : Values) (e : End) (log : Log) (act : Act) (answer : Answer) → Represents values e log → IsTypedAct act → MayAnswer log act answer
+-- After each call an end represents its log.
+pub calls_represent : (values : Values) (e : End) (log : Log) (act : Act) (answer : Answer)
+    → Represents values e log → IsTypedAct act → MayAnswer log act answer
     → Represents values (end_after e act answer) (with_call log act answer)
-calls_keep values e log act answer represents typed may =
-    call_law values e log act answer (sound_of e.role values log represents.came) represents typed may
+calls_represent values e log act answer represents typed may =
+    call_law values e log act answer (sound_of e.role values log represents.came) represents typed
+    may

@@ -1,4 +1,4 @@
--- A new machine stands for the log of a new end.
+-- A new machine represents the log of a new end.
 use Rattle.std.proofs.Common.{◌≡◌, ℕ, ◌%◌, ◌==◌, true, false, [], ◌∷◌, Some, refl, sym, arith}
 use Rattle.std.specs.FinMap.{get-empty}
 use Rattle.std.specs.Ordering.{nat_cmp}
@@ -26,51 +26,63 @@ use Rattle.h2_machine_laws.proofs.ConservedByCalls.{new_holds}
 
 -- opens what computes
 unfoldable pub computing : Unit {0}
-unfolding data_on data_of increment_on is_block_on ends resets is_goaway one_ping one_reset total greatest_block one_acked one_pong reported_total greatest_processed value_read one_settings settings_count up_to_settings is_active count_below given_on_connection granted_on_connection active_count last_processed max_streams allowed_by output with_sent opening_pairs opened new_end owed_sum goaway_sent_last
+unfolding data_on data_of increment_on is_block_on ends resets is_goaway one_ping one_reset total
+    greatest_block one_acked one_pong reported_total greatest_processed value_read one_settings
+    settings_count up_to_settings is_active count_below given_on_connection granted_on_connection
+    active_count last_processed max_streams allowed_by output with_sent opening_pairs opened new_end
+    owed_sum goaway_sent_last
 computing = tt
 
--- No stream is live where there is none.
+-- No stream is active where there is none.
 new_is_active : (role : Role) (values : Values) (i : ℕ) → active (opened role values) i ≡ false
 unfolding computing
-new_is_active Client values i = and_left _ _ (and_left _ _ (and_left _ _ (and_right (i % 2 == 1) _ refl)))
-new_is_active Server values i = and_left _ _ (and_left _ _ (and_left _ _ (and_right (i % 2 == 1) _ refl)))
+new_is_active Client values i =
+    and_left _ _ (and_left _ _ (and_left _ _ (and_right (i % 2 == 1) _ refl)))
+new_is_active Server values i =
+    and_left _ _ (and_left _ _ (and_left _ _ (and_right (i % 2 == 1) _ refl)))
 
 -- No stream is counted.
-new_living : (role : Role) (values : Values) → active_count (opened role values) ≡ 0
+new_active_count : (role : Role) (values : Values) → active_count (opened role values) ≡ 0
 unfolding active_count count_below greatest_block opened with_sent
-new_living Client values = rw (new_is_active Client values 0) refl
-new_living Server values = rw (new_is_active Server values 0) refl
+new_active_count Client values = rw (new_is_active Client values 0) refl
+new_active_count Server values = rw (new_is_active Server values 0) refl
 
 -- No number was used.
-new_used : (role : Role) (values : Values) → greatest_block (openings role [] (alone (Settings false (opening_pairs role values)) ∷ [])) ≡ 0
+new_used : (role : Role) (values : Values)
+    → greatest_block (openings role [] (alone (Settings false (opening_pairs role values)) ∷ []))
+    ≡ 0
 unfolding computing
 new_used Client values = refl
 new_used Server values = refl
 
--- A server takes as many streams as its opening says.
-new_streams : (role : Role) (values : Values) → is_server role ≡ true → values.max_streams ≡ max_streams (opened role values)
+-- A server allows as many streams as its opening says.
+new_streams : (role : Role) (values : Values) → is_server role ≡ true
+    → values.max_streams ≡ max_streams (opened role values)
 unfolding computing value_after
 new_streams Client values server = cc
 new_streams Server values server = refl
 
--- No stream was taken.
-new_taken : (role : Role) (values : Values) → 0 ≡ last_processed (opened role values)
+-- No stream was processed.
+new_last_processed : (role : Role) (values : Values) → 0 ≡ last_processed (opened role values)
 unfolding computing
-new_taken Client values = refl
-new_taken Server values = refl
+new_last_processed Client values = refl
+new_last_processed Server values = refl
 
 -- What will be in force is what the opening says.
-new_awaited : (role : Role) (values others : Values) → Some values ≡ Some others → AwaitsValues (opened role values) others
+new_awaited : (role : Role) (values others : Values) → Some values ≡ Some others
+    → AwaitsValues (opened role values) others
 unfolding computing value_after
 new_awaited Client values others same =
     let equal : values ≡ others = cc in
     rw (← equal) (record { table_limit = refl; initial_window = refl; max_streams = λ server. cc })
 new_awaited Server values others same =
     let equal : values ≡ others = cc in
-    rw (← equal) (record { table_limit = refl; initial_window = refl; max_streams = λ server. refl })
+    rw (← equal)
+    (record { table_limit = refl; initial_window = refl; max_streams = λ server. refl })
 
 -- The values of a new machine are those of a new log.
-new_running : (role : Role) (values : Values) → RepresentsWhileUp (new_end role values) (opened role values)
+new_running : (role : Role) (values : Values)
+    → RepresentsWhileUp (new_end role values) (opened role values)
 unfolding computing
 new_running role values =
     record {
@@ -79,9 +91,9 @@ new_running role values =
       table = refl;
       encoder = refl;
       streams = λ i. rw (new_is_active role values i) (get-empty nat_cmp i);
-      active_count = sym (new_living role values);
+      active_count = sym (new_active_count role values);
       highest = sym (new_used role values);
-      last_processed = new_taken role values;
+      last_processed = new_last_processed role values;
       goaway_sent = refl;
       goaway_received = refl;
       send_window = refl;
@@ -98,8 +110,9 @@ new_running role values =
       resets = refl;
     }
 
--- A new machine stands for a new log.
-pub new_represents : (role : Role) (values : Values) → AreInRange values → Represents values (new_end role values) (opened role values)
+-- A new machine represents a new log.
+pub new_represents : (role : Role) (values : Values) → AreInRange values
+    → Represents values (new_end role values) (opened role values)
 unfolding computing
 new_represents role values in_range =
     record {

@@ -1,5 +1,8 @@
--- An end that is up stands for its log: what is written joins what waits, and what is due is settled.
-use Rattle.std.proofs.Common.{◌≡◌, ℕ, ◌+◌, ◌≤◌, nat_lt, ◌&&◌, Bool, true, false, if◌then◌else◌, List, [], ◌∷◌, ◌++◌, length, drop, None, refl, sym, ap, subst, ◌∙◌, arith, append-nil, length-append, length-drop}
+-- An end that is up represents its log: what is written joins what waits, and what is unreturned is
+-- returned.
+use Rattle.std.proofs.Common.{◌≡◌, ℕ, ◌+◌, ◌≤◌, nat_lt, ◌&&◌, Bool, true, false, if◌then◌else◌}
+use Rattle.std.proofs.Common.{List, [], ◌∷◌, ◌++◌, length, drop, None, refl, sym, ap, subst, ◌∙◌}
+use Rattle.std.proofs.Common.{arith, append-nil, length-append, length-drop}
 use Rattle.std.proofs.lemmas.List.{drop-append-le}
 use Rattle.h2_frame.specs.Frames.{WindowUpdate}
 use Rattle.h2_block.specs.Grouping.{Item, alone}
@@ -13,15 +16,17 @@ use Rattle.h2_log.specs.States.{is_active}
 use Rattle.h2_log.specs.Limits.{full_output}
 use Rattle.h2_log.specs.LogSteps.{with_sent, with_unreturned, with_credit_returned, owed_at_close}
 use Rattle.h2_log.specs.LogCalls.{called, before_put_out, MayAnswer, with_call}
-use Rattle.h2_log.specs.CallRules.{encoder_after_call, refusal_of, answer_of, items_of, returns_before_put_out}
+use Rattle.h2_log.specs.CallRules.{encoder_after_call, refusal_of, answer_of, items_of}
+use Rattle.h2_log.specs.CallRules.{returns_before_put_out}
 use Rattle.h2_log.specs.Histories.{called_one}
-use Rattle.h2_machine.specs.Machine.{queue_output, with_encoder, return_credit, add_unreturned, after_call, before_put_out_at}
+use Rattle.h2_machine.specs.Machine.{queue_output, with_encoder, return_credit, add_unreturned}
+use Rattle.h2_machine.specs.Machine.{after_call, before_put_out_at}
 use Rattle.h2_machine.specs.Represents.{Represents, RepresentsWhileUp}
 use Rattle.h2_log_laws.proofs.InvariantLogs.{log_represents}
 use Rattle.h2_machine_laws.proofs.ConservedBySteps.{holds, is_whole}
 use Rattle.h2_machine_laws.proofs.ConservedByCalls.{call_holds}
 use Rattle.h2_machine_laws.proofs.ViewsAgree.{view_beside, views_agree}
-use Rattle.h2_machine_laws.proofs.SentQuietItems.{rewaited, called_runs, unreturned_runs}
+use Rattle.h2_machine_laws.proofs.SentQuietItems.{waiting_runs, called_runs, unreturned_runs}
 use Rattle.h2_machine_laws.proofs.SentConnectionItems.{widened_runs}
 
 -- What waits at an end is what its log says.
@@ -29,7 +34,8 @@ pub record Waits (e : End) (log : Log) : Type 0 where
   pub waiting : e.output.waiting ≡ drop log.given (output log)
   pub given : log.given ≤ length (output log)
 
--- An end that hasn't failed stands for a log, but for what the log's history and the connection's window add.
+-- An end that hasn't failed represents a log, but for what the log's history and the connection's
+-- window add.
 pub record Up (e : End) (log : Log) : Type 0 where
   pub role : e.role ≡ log.role
   pub up : e.failed ≡ None
@@ -37,8 +43,9 @@ pub record Up (e : End) (log : Log) : Type 0 where
   pub waits : Waits e log
   pub running : RepresentsWhileUp e log
 
--- An end that stands for a log and hasn't failed is such a one.
-pub up_of : (values : Values) (e : End) (log : Log) → Represents values e log → e.failed ≡ None → Up e log
+-- An end that represents a log and hasn't failed is such a one.
+pub up_of : (values : Values) (e : End) (log : Log) → Represents values e log → e.failed ≡ None
+    → Up e log
 up_of values e log represents up =
     record {
       role = represents.role;
@@ -48,16 +55,22 @@ up_of values e log represents up =
       running = represents.running up;
     }
 
--- Behind a call that is accepted, an end stands for its log where what they keep is the same.
-pub represents_made : (values : Values) (e : End) (log : Log) (act : Act) (answer : Answer) → Represents values e log → IsTypedAct act → MayAnswer log act answer
+-- After a call that is accepted, an end represents its log where what they keep is the same.
+pub represents_made : (values : Values) (e : End) (log : Log) (act : Act) (answer : Answer)
+    → Represents values e log → IsTypedAct act → MayAnswer log act answer
     → refusal_of (end_view e) act ≡ None → (after_call e act).role ≡ (with_call log act answer).role
-    → (after_call e act).failed ≡ (with_call log act answer).failed → Waits (after_call e act) (with_call log act answer)
-    → ((after_call e act).failed ≡ None → RepresentsWhileUp (after_call e act) (with_call log act answer))
+    → (after_call e act).failed ≡ (with_call log act answer).failed
+    → Waits (after_call e act) (with_call log act answer)
+    → ((after_call e act).failed ≡ None
+    → RepresentsWhileUp (after_call e act) (with_call log act answer))
     → Represents values (after_call e act) (with_call log act answer)
 represents_made values e log act answer represents typed may accepted role failed waits run =
     let came = called_one represents.came act answer typed may in
-    let same : (after_call e act).role ≡ e.role = role ∙ (log_represents e.role values _ came).own in
-    let whole = is_whole (after_call e act) (call_holds e act accepted (holds e (record { whole = represents.whole; used = represents.used }))) in
+    let same : (after_call e act).role ≡ e.role = role
+    ∙ (log_represents e.role values _ came).own in
+    let whole = is_whole (after_call e act)
+    (call_holds e act accepted
+    (holds e (record { whole = represents.whole; used = represents.used }))) in
     record {
       came = rw same came;
       role = role;
@@ -69,77 +82,112 @@ represents_made values e log act answer represents typed may accepted role faile
       used = whole.used;
     }
 
--- Where it hasn't failed, it stands for its log.
-pub represents_after : (values : Values) (e : End) (log : Log) (act : Act) (answer : Answer) → Represents values e log → IsTypedAct act → MayAnswer log act answer
-    → refusal_of (end_view e) act ≡ None → Up (after_call e act) (with_call log act answer) → Represents values (after_call e act) (with_call log act answer)
+-- Where it hasn't failed, it represents its log.
+pub represents_after : (values : Values) (e : End) (log : Log) (act : Act) (answer : Answer)
+    → Represents values e log → IsTypedAct act → MayAnswer log act answer
+    → refusal_of (end_view e) act ≡ None → Up (after_call e act) (with_call log act answer)
+    → Represents values (after_call e act) (with_call log act answer)
 represents_after values e log act answer represents typed may accepted is =
-    represents_made values e log act answer represents typed may accepted is.role (is.up ∙ sym is.same) is.waits (λ up. is.running)
+    represents_made values e log act answer represents typed may accepted is.role (is.up
+    ∙ sym is.same) is.waits (λ up. is.running)
 
 -- What is written joins what waits.
-joined : (given : ℕ) (waits written octets : List ℕ) → waits ≡ drop given written → given ≤ length written
+joined : (given : ℕ) (waits written octets : List ℕ) → waits ≡ drop given written
+    → given ≤ length written
     → waits ++ octets ≡ drop given (written ++ octets)
-joined given waits written octets is within = ap (λ (xs : List ℕ). xs ++ octets) is ∙ sym (drop-append-le given written octets within)
+joined given waits written octets is within = ap (λ (xs : List ℕ). xs ++ octets) is
+    ∙ sym (drop-append-le given written octets within)
 
--- What was given out stays within the output.
-still : (given : ℕ) (written octets : List ℕ) → given ≤ length written → given ≤ length (written ++ octets)
+-- What was put out stays within the output.
+still : (given : ℕ) (written octets : List ℕ) → given ≤ length written
+    → given ≤ length (written ++ octets)
 still given written octets within = omega (arith, length-append written octets)
 
 -- Items that are written join what waits.
-pub wrote_waits : (e : End) (log : Log) (items : List Item) → Waits e log → Waits (queue_output e items) (with_sent log items)
+pub wrote_waits : (e : End) (log : Log) (items : List Item) → Waits e log
+    → Waits (queue_output e items) (with_sent log items)
 unfolding with_sent output encoding_of_items
-wrote_waits e log [] is = record { waiting = append-nil e.output.waiting ∙ is.waiting; given = is.given }
+wrote_waits e log [] is = record {
+  waiting = append-nil e.output.waiting
+      ∙ is.waiting;
+  given = is.given;
+}
 wrote_waits e log (item ∷ items) is =
     record {
-      waiting = joined log.given e.output.waiting log.written (encoding_of_items (item ∷ items)) is.waiting is.given;
+      waiting = joined log.given e.output.waiting log.written (encoding_of_items (item ∷ items))
+          is.waiting is.given;
       given = still log.given log.written (encoding_of_items (item ∷ items)) is.given;
     }
 
--- Items are written, where an end without what waits runs with them.
-pub wrote_up : (e f : End) (log : Log) (items : List Item) → f.role ≡ log.role → f.failed ≡ None → log.failed ≡ None
+-- Items are written, where the end represents the log with them but for what waits.
+pub wrote_up : (e f : End) (log : Log) (items : List Item) → f.role ≡ log.role → f.failed ≡ None
+    → log.failed ≡ None
     → Waits e log → RepresentsWhileUp f (record log { sent = items ++ log.sent })
-    → Up (record f { output = record f.output { waiting = (queue_output e items).output.waiting } }) (with_sent log items)
+    → Up (record f { output = record f.output { waiting = (queue_output e items).output.waiting } })
+    (with_sent log items)
 unfolding with_sent output
 wrote_up e f log [] role up same waits run =
     record {
       role = role;
       up = up;
       same = same;
-      waits = (let w = wrote_waits e log [] waits in record { waiting = w.waiting; given = w.given });
-      running = rewaited f log _ log.written log.turns run;
+      waits = (let w = wrote_waits e log [] waits in record {
+        waiting = w.waiting;
+        given =
+            w.given;
+      });
+      running = waiting_runs f log _ log.written log.turns run;
     }
 wrote_up e f log (item ∷ items) role up same waits run =
     record {
       role = role;
       up = up;
       same = same;
-      waits = (let w = wrote_waits e log (item ∷ items) waits in record { waiting = w.waiting; given = w.given });
-      running = rewaited f (record log { sent = item ∷ items ++ log.sent }) _ _ _ run;
+      waits = (let w = wrote_waits e log (item ∷ items) waits in record
+          { waiting = w.waiting; given = w.given });
+      running = waiting_runs f (record log { sent = item ∷ items ++ log.sent }) _ _ _ run;
     }
 
--- What is due is no part of what waits.
-pub waits_unreturned : (e : End) (log : Log) (here there : ℕ) → Waits e log → Waits (record e { windows = record e.windows { unreturned = here } }) (record log { unreturned = there })
+-- What is unreturned is no part of what waits.
+pub waits_unreturned : (e : End) (log : Log) (here there : ℕ) → Waits e log
+    → Waits (record e { windows = record e.windows { unreturned = here } })
+    (record log { unreturned = there })
 unfolding output
 waits_unreturned e log here there w = record { waiting = w.waiting; given = w.given }
 
--- All that is due is given back.
-pub return_credit_up : (e : End) (log : Log) → Up e log → Up (return_credit e) (with_credit_returned log)
+-- All that is unreturned is returned.
+pub return_credit_up : (e : End) (log : Log) → Up e log
+    → Up (return_credit e) (with_credit_returned log)
 unfolding with_sent
 return_credit_up e log is =
     let run = is.running in
-    let unreturned : RepresentsWhileUp (record e { windows = record e.windows { unreturned = 0 } }) (record log { unreturned = 0 }) = unreturned_runs e log 0 0 refl run in
-    let wide = widened_runs (record e { windows = record e.windows { unreturned = 0 } }) (record log { unreturned = 0 }) e.windows.unreturned unreturned in
-    let all : Up (return_credit e) (with_sent (record log { unreturned = 0 }) (alone (WindowUpdate 0 e.windows.unreturned) ∷ [])) =
-    wrote_up e (record e { windows = record e.windows { unreturned = 0; recv = e.windows.recv + e.windows.unreturned } }) (record log { unreturned = 0 }) (alone (WindowUpdate 0 e.windows.unreturned) ∷ []) is.role is.up is.same
+    let unreturned : RepresentsWhileUp (record e { windows = record e.windows { unreturned = 0 } })
+    (record log { unreturned = 0 }) = unreturned_runs e log 0 0 refl run in
+    let wide = widened_runs (record e { windows = record e.windows { unreturned = 0 } })
+    (record log { unreturned = 0 }) e.windows.unreturned unreturned in
+    let all : Up (return_credit e)
+    (with_sent (record log { unreturned = 0 })
+    (alone (WindowUpdate 0 e.windows.unreturned) ∷ [])) =
+    wrote_up e (record e {
+      windows =
+          record e.windows { unreturned = 0; recv = e.windows.recv + e.windows.unreturned };
+    })
+    (record log { unreturned = 0 }) (alone (WindowUpdate 0 e.windows.unreturned) ∷ [])
+    is.role is.up is.same
     (waits_unreturned e log e.windows.unreturned 0 is.waits) wide in
-    subst (λ (n : ℕ). Up (return_credit e) (with_sent (record log { unreturned = 0 }) (alone (WindowUpdate 0 n) ∷ []))) run.unreturned all
+    subst (λ (n : ℕ). Up (return_credit e)
+    (with_sent (record log { unreturned = 0 }) (alone (WindowUpdate 0 n) ∷ []))) run.unreturned
+    all
 
 -- As much waits as the log says.
 pub waits_much : (e : End) (log : Log) → Waits e log → length e.output.waiting ≡ waiting log
 unfolding waiting
 waits_much e log w = ap length w.waiting ∙ length-drop log.given (output log)
 
--- More is due.
-unreturned_up : (e : End) (log : Log) (more : ℕ) → Up e log → Up (record e { windows = record e.windows { unreturned = e.windows.unreturned + more } }) (record log { unreturned = log.unreturned + more })
+-- More is unreturned.
+unreturned_up : (e : End) (log : Log) (more : ℕ) → Up e log
+    → Up (record e { windows = record e.windows { unreturned = e.windows.unreturned + more } })
+    (record log { unreturned = log.unreturned + more })
 unreturned_up e log more is =
     let unreturned = is.running.unreturned in
     record {
@@ -147,38 +195,46 @@ unreturned_up e log more is =
       up = is.up;
       same = is.same;
       waits = waits_unreturned e log (e.windows.unreturned + more) (log.unreturned + more) is.waits;
-      running = unreturned_runs e log (e.windows.unreturned + more) (log.unreturned + more) (ap (λ (n : ℕ). n + more) unreturned) is.running;
+      running = unreturned_runs e log (e.windows.unreturned + more) (log.unreturned + more)
+          (ap (λ (n : ℕ). n + more) unreturned) is.running;
     }
 
--- More is due, by the test whether all is given back.
+-- More is unreturned, by the test whether all is returned.
 with_unreturned_by : (e : End) (log : Log) (more : ℕ) (b : Bool) → Up e log
-    → Up (if b then return_credit (record e { windows = record e.windows { unreturned = e.windows.unreturned + more } }) else record e { windows = record e.windows { unreturned = e.windows.unreturned + more } })
-    (if b then with_credit_returned (record log { unreturned = log.unreturned + more }) else record log { unreturned = log.unreturned + more })
+    → Up (if b then return_credit
+    (record e { windows = record e.windows { unreturned = e.windows.unreturned + more } }) else
+    record e { windows = record e.windows { unreturned = e.windows.unreturned + more } })
+    (if b then with_credit_returned (record log { unreturned = log.unreturned + more }) else record
+    log { unreturned = log.unreturned + more })
 with_unreturned_by e log more true is = return_credit_up _ _ (unreturned_up e log more is)
 with_unreturned_by e log more false is = unreturned_up e log more is
 
--- What is due is settled.
-pub with_unreturned_up : (e : End) (log : Log) (here there : ℕ) → here ≡ there → Up e log → Up (add_unreturned here e) (with_unreturned there log)
+-- What is unreturned is added.
+pub with_unreturned_up : (e : End) (log : Log) (here there : ℕ) → here ≡ there → Up e log
+    → Up (add_unreturned here e) (with_unreturned there log)
 unfolding add_unreturned with_unreturned
 with_unreturned_up e log here there same is =
-    rw (← same, ← (waits_much e log is.waits)) (with_unreturned_by e log here (nat_lt 0 here && nat_lt (length e.output.waiting) full_output) is)
+    rw (← same, ← (waits_much e log is.waits))
+    (with_unreturned_by e log here (nat_lt 0 here && nat_lt (length e.output.waiting)
+    full_output) is)
 
--- Nothing more is due.
+-- Nothing more is unreturned.
 pub with_unreturned_none : (log : Log) → with_unreturned 0 log ≡ log
 unfolding with_unreturned
-with_unreturned_none log = let none : log.unreturned + 0 ≡ log.unreturned = omega arith in ap (λ (n : ℕ). record log { unreturned = n }) none
+with_unreturned_none log = let none : log.unreturned + 0 ≡ log.unreturned =
+    omega arith in ap (λ (n : ℕ). record log { unreturned = n }) none
 
--- The connection is never live as a stream.
-zero_dead : (log : Log) → active log 0 ≡ false
+-- The connection is never active as a stream.
+zero_inactive : (log : Log) → active log 0 ≡ false
 unfolding is_active
-zero_dead log = refl
+zero_inactive log = refl
 
 -- What closes no stream leaves nothing owing.
 pub owes_none : (log after : Log) → owed_at_close log after 0 ≡ 0
 unfolding owed_at_close
-owes_none log after = rw (zero_dead log) refl
+owes_none log after = rw (zero_inactive log) refl
 
--- what is left owing by a stream that stays live
+-- what is left owing by a stream that stays active
 pub owes_active : (log after : Log) (i : ℕ) → active after i ≡ true → owed_at_close log after i ≡ 0
 unfolding owed_at_close
 owes_active log after i is = rw is (neither (active log i))
@@ -188,28 +244,34 @@ owes_active log after i is = rw is (neither (active log i))
     neither false = refl
 
 -- A call that closes no stream leaves a log as it is.
-pub nothing_unreturned : (e : End) (log after : Log) (i : ℕ) → owed_at_close log after i ≡ 0 → Up e after → Up e (with_unreturned (owed_at_close log after i) after)
+pub nothing_unreturned : (e : End) (log after : Log) (i : ℕ) → owed_at_close log after i ≡ 0
+    → Up e after → Up e (with_unreturned (owed_at_close log after i) after)
 nothing_unreturned e log after i none is = rw (none, with_unreturned_none after) is
 
--- The call is put down, where what is kept changes with it.
-pub called_waits : (e : End) (log : Log) (act : Act) (answer : Answer) → Waits e log → Waits e (called log act answer)
+-- The call is recorded, where what is kept changes with it.
+pub called_waits : (e : End) (log : Log) (act : Act) (answer : Answer) → Waits e log
+    → Waits e (called log act answer)
 unfolding output
 called_waits e log act answer w = record { waiting = w.waiting; given = w.given }
 
--- The call is put down.
-pub called_up : (e : End) (log : Log) (act : Act) (answer : Answer) → log.encoder ≡ encoder_after_call log.encoder act answer
-    → ((i : ℕ) → released i ((act, answer) ∷ log.calls) ≡ released i log.calls) → Up e log → Up e (called log act answer)
+-- The call is recorded.
+pub called_up : (e : End) (log : Log) (act : Act) (answer : Answer)
+    → log.encoder ≡ encoder_after_call log.encoder act answer
+    → ((i : ℕ) → released i ((act, answer) ∷ log.calls) ≡ released i log.calls) → Up e log
+    → Up e (called log act answer)
 called_up e log act answer keeps same is =
     record {
       role = is.role;
       up = is.up;
       same = is.same;
       waits = called_waits e log act answer is.waits;
-      running = called_runs e log act answer e.output.encoder (is.running.encoder ∙ keeps) same is.running;
+      running = called_runs e log act answer e.output.encoder (is.running.encoder
+          ∙ keeps) same is.running;
     }
 
--- An end makes ready to give octets out, by the test.
-ready_by : (e : End) (log : Log) (b : Bool) → Up e log → Up (if b then return_credit e else e) (if b then with_credit_returned log else log)
+-- An end makes ready to put octets out, by the test.
+ready_by : (e : End) (log : Log) (b : Bool) → Up e log
+    → Up (if b then return_credit e else e) (if b then with_credit_returned log else log)
 ready_by e log true is = return_credit_up e log is
 ready_by e log false is = is
 
@@ -221,30 +283,36 @@ views_of_up e log is =
 -- the end with what a call writes, by a view
 abbrev pub queue_by : End → View → Act → End
 queue_by e view act =
-    queue_output (with_encoder e (encoder_after_call view.encoder act (answer_of view act))) (items_of view act (answer_of view act))
+    queue_output (with_encoder e (encoder_after_call view.encoder act (answer_of view act)))
+    (items_of view act (answer_of view act))
 
--- An end makes ready to give octets out.
+-- An end makes ready to put octets out.
 pub ready_up : (e : End) (log : Log) → Up e log → Up (before_put_out_at e) (before_put_out log)
 unfolding before_put_out_at before_put_out
 ready_up e log is =
     let test : returns_before_put_out (end_view e) ≡ returns_before_put_out (log_view log) =
     ap (λ (view : View). returns_before_put_out view) (views_of_up e log is) in
-    subst (λ (b : Bool). Up (before_put_out_at e) (if b then with_credit_returned log else log)) test
+    subst (λ (b : Bool). Up (before_put_out_at e) (if b then with_credit_returned log else log))
+    test
     (ready_by e log (returns_before_put_out (end_view e)) is)
 
--- A stream that is over leaves owing what it owes.
-pub owes_all : (log after : Log) (i : ℕ) → active log i ≡ true → active after i ≡ false → owed_at_close log after i ≡ unreleased after i
+-- A stream that is closed leaves what it owes to be returned.
+pub owes_all : (log after : Log) (i : ℕ) → active log i ≡ true → active after i ≡ false
+    → owed_at_close log after i ≡ unreleased after i
 unfolding owed_at_close
 owes_all log after i was is = rw (was, is) refl
 
--- What is live behind items that are written.
-pub wrote_active : (log : Log) (items : List Item) (i : ℕ) → active (with_sent log items) i ≡ is_active log.role i log.received (items ++ log.sent) log.reported
+-- What is active after items that are written.
+pub wrote_active : (log : Log) (items : List Item) (i : ℕ)
+    → active (with_sent log items) i ≡ is_active log.role i log.received (items ++ log.sent)
+    log.reported
 unfolding with_sent
 wrote_active log [] i = refl
 wrote_active log (item ∷ items) i = refl
 
 -- Writing releases nothing.
-pub wrote_owes : (log : Log) (items : List Item) (i : ℕ) → unreleased (with_sent log items) i ≡ unreleased log i
+pub wrote_owes : (log : Log) (items : List Item) (i : ℕ)
+    → unreleased (with_sent log items) i ≡ unreleased log i
 unfolding with_sent unreleased
 wrote_owes log [] i = refl
 wrote_owes log (item ∷ items) i = refl

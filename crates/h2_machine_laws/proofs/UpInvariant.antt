@@ -1,13 +1,19 @@
--- What every log that hasn't failed has: no more is acknowledged and answered than was sent, and so on; and what keeps it.
-use Rattle.std.proofs.Common.{◌≡◌, ℕ, ◌+◌, ◌≤◌, ◌<◌, ◌==◌, ◌%◌, nat_lt, nat_le, ◌&&◌, ◌||◌, Bool, true, false, if◌then◌else◌, List, [], ◌∷◌, ◌++◌, Option, Some, None, refl, sym, ap, ◌∙◌, inl, inr, arith}
+-- What every log that hasn't failed has: no more is acknowledged and answered than was sent, and so
+-- on; and what keeps it.
+use Rattle.std.proofs.Common.{◌≡◌, ℕ, ◌+◌, ◌≤◌, ◌<◌, ◌==◌, ◌%◌, nat_lt, nat_le, ◌&&◌, ◌||◌, Bool}
+use Rattle.std.proofs.Common.{true, false, if◌then◌else◌, List, [], ◌∷◌, ◌++◌, Option, Some, None}
+use Rattle.std.proofs.Common.{refl, sym, ap, ◌∙◌, inl, inr, arith}
 use Rattle.std.specs.List.{list_any}
-use Rattle.std.proofs.lemmas.Bool.{both_ways, or_cases, or_from, or_parts, ltb-false, and_parts, and_right, leb-true, false_from_ne_true}
+use Rattle.std.proofs.lemmas.Bool.{both_ways, or_cases, or_from, or_parts, ltb-false, and_parts}
+use Rattle.std.proofs.lemmas.Bool.{and_right, leb-true, false_from_ne_true}
 use Rattle.h2_frame.specs.declared.code.Code.{Code}
 use Rattle.h2_frame.specs.declared.code.Code.TheVariants.{ProtocolError, FlowControlError}
 use Rattle.h2_block.specs.Grouping.{Item, alone, block}
 use Rattle.h2_log.specs.LogView.{log_view}
-use Rattle.h2_log.specs.Items.{data_on, increment_on, is_block_on, opens_from, ends, resets, is_goaway, one_ping, total, greatest_block}
-use Rattle.h2_log.specs.Events.{Event, one_acked, one_pong, reported_total, greatest_processed, reports_unprocessed}
+use Rattle.h2_log.specs.Items.{data_on, increment_on, is_block_on, opens_from, ends, resets}
+use Rattle.h2_log.specs.Items.{is_goaway, one_ping, total, greatest_block}
+use Rattle.h2_log.specs.Events.{Event, one_acked, one_pong, reported_total, greatest_processed}
+use Rattle.h2_log.specs.Events.{reports_unprocessed}
 use Rattle.h2_log.specs.Settings.{is_server, settings_count, value_read, value_after, value_fault}
 use Rattle.h2_log.specs.States.{openings, is_active, is_used}
 use Rattle.h2_log.specs.Log.{Log}
@@ -21,71 +27,86 @@ use Rattle.h2_log_laws.proofs.LogHistory.{reported_append}
 use Rattle.h2_log_laws.proofs.LogGrowth.{Grows}
 use Rattle.h2_machine_laws.proofs.SentQuietItems.{any_quiet, total_quiet}
 
--- Nothing was read or told of a number.
+-- Nothing was read or reported of a number.
 pub record IsUnseen (received : List Item) (reported : List Event) (i : ℕ) : Type 0 where
   pub ended : list_any (ends i) received ≡ false
   pub reset : list_any (resets i) received ≡ false
   pub given : total (increment_on i) received ≡ 0
-  pub last_processed : total (data_on i) received ≡ 0
+  pub no_data : total (data_on i) received ≡ 0
   pub unnamed : list_any (reports_unprocessed i) reported ≡ false
 
 -- What every log has that hasn't failed.
-pub record IsFairBy (role : Role) (received sent : List Item) (reported : List Event) : Type 0 where
-  pub acks : reported_total one_acked reported ≤ settings_count sent
-  pub pongs : reported_total one_pong reported ≤ total one_ping sent
-  pub size : 16384 ≤ value_read 5 16384 received
-  pub took : is_server role ≡ true → list_any is_goaway sent ≡ false → (i : ℕ) → is_active role i received sent reported ≡ true → i ≤ greatest_processed reported
-  pub clear : role ≡ Client → (i : ℕ) → greatest_block sent < i → IsUnseen received reported i
+pub record IsUpLogBy (role : Role) (received sent : List Item) (reported : List Event) : Type 0
+  where
+    pub acks : reported_total one_acked reported ≤ settings_count sent
+    pub pongs : reported_total one_pong reported ≤ total one_ping sent
+    pub size : 16384 ≤ value_read 5 16384 received
+    pub processed : is_server role ≡ true → list_any is_goaway sent ≡ false → (i : ℕ)
+        → is_active role i received sent reported ≡ true → i ≤ greatest_processed reported
+    pub clear : role ≡ Client → (i : ℕ) → greatest_block sent < i → IsUnseen received reported i
 
 -- the same of a log
-abbrev pub IsDecodable : Log → Type 0
-IsDecodable log = IsFairBy log.role log.received log.sent log.reported
+abbrev pub IsUpLog : Log → Type 0
+IsUpLog log = IsUpLogBy log.role log.received log.sent log.reported
 
 -- a server's openings are what it reads
-pub openings_server : (role : Role) (received sent : List Item) → is_server role ≡ true → openings role received sent ≡ received
+pub openings_server : (role : Role) (received sent : List Item) → is_server role ≡ true
+    → openings role received sent ≡ received
 openings_server Client received sent is = absurd (both_ways false refl is)
 openings_server Server received sent is = refl
 
 -- More items have no lesser greatest number.
-pub greatest_after : (more items : List Item) → greatest_block items ≤ greatest_block (more ++ items)
+pub greatest_after : (more items : List Item)
+    → greatest_block items ≤ greatest_block (more ++ items)
 unfolding greatest_block
 greatest_after [] items = omega arith
 greatest_after (alone frame ∷ more) items = greatest_after more items
 greatest_after (block stream end octets ∷ more) items = omega (arith, greatest_after more items)
 
 -- More that was written keeps this.
-fair_more : (role : Role) (received items sent : List Item) (reported : List Event) → IsFairBy role received sent reported → IsFairBy role received (items ++ sent) reported
-fair_more role received items sent reported f =
+up_log_more : (role : Role) (received items sent : List Item) (reported : List Event)
+    → IsUpLogBy role received sent reported → IsUpLogBy role received (items ++ sent) reported
+up_log_more role received items sent reported f =
     record {
       acks = omega (arith, f.acks, settings_after items sent);
       pongs = omega (arith, f.pongs, total_after one_ping items sent);
       size = f.size;
-      took = λ server none i alive.
-          let parts = active_parts role i received (items ++ sent) reported alive in
+      processed = λ server none i active_is.
+          let parts = active_parts role i received (items ++ sent) reported active_is in
           let opened : list_any (is_block_on i) (openings role received sent) ≡ true =
-          ap (list_any (is_block_on i)) (openings_server role received sent server ∙ sym (openings_server role received (items ++ sent) server)) ∙ parts.opened in
-          f.took server (none_after is_goaway items sent none) i (active_before role i [] items received sent [] reported alive opened);
-      clear = λ client i above. let low = greatest_after items sent in f.clear client i (omega arith);
+          ap (list_any (is_block_on i)) (openings_server role received sent server
+          ∙ sym (openings_server role received (items ++ sent) server)) ∙ parts.opened in
+          f.processed server (none_after is_goaway items sent none) i
+          (active_before role i [] items received sent [] reported active_is opened);
+      clear = λ client i above. let low = greatest_after items sent in f.clear client i
+          (omega arith);
     }
 
 -- A log that grows keeps this.
-pub fair_grown : (old new : Log) → Grows old new → IsDecodable old → IsDecodable new
-fair_grown old new g f = rw (g.role, g.received, g.reported, g.sent) (fair_more old.role old.received g.items old.sent old.reported f)
+pub up_log_grown : (old new : Log) → Grows old new → IsUpLog old → IsUpLog new
+up_log_grown old new g f = rw (g.role, g.received, g.reported, g.sent)
+    (up_log_more old.role old.received g.items old.sent old.reported f)
 
--- What an item that is read, and what is told of it, must keep to.
-pub record Reads (role : Role) (received sent news : List Item) (reported events : List Event) (item : Item) : Type 0 where
-  pub acks : reported_total one_acked events + reported_total one_acked reported ≤ settings_count sent
-  pub pongs : reported_total one_pong events + reported_total one_pong reported ≤ total one_ping sent
+-- What an item that is read, and what is reported of it, must keep to.
+pub record Reads (role : Role) (received sent news : List Item) (reported events : List Event)
+    (item : Item) : Type 0 where
+  pub acks : reported_total one_acked events + reported_total one_acked reported ≤ settings_count
+      sent
+  pub pongs : reported_total one_pong events + reported_total one_pong reported ≤ total one_ping
+      sent
   pub size : 16384 ≤ value_read 5 16384 (item ∷ received)
-  pub took : (i : ℕ) → is_block_on i item ≡ true → is_server role ≡ true → list_any is_goaway sent ≡ false → list_any (resets i) news ≡ false
-      → is_active role i (item ∷ received) news (events ++ reported) ≡ true → i ≤ greatest_processed (events ++ reported)
+  pub processed : (i : ℕ) → is_block_on i item ≡ true → is_server role ≡ true
+      → list_any is_goaway sent ≡ false → list_any (resets i) news ≡ false
+      → is_active role i (item ∷ received) news (events ++ reported) ≡ true
+      → i ≤ greatest_processed (events ++ reported)
   pub clear : role ≡ Client → (i : ℕ) → greatest_block sent < i → IsUnseen (item ∷ []) events i
 
 -- More events have no lesser greatest number.
-taken_after : (events reported : List Event) → greatest_processed reported ≤ greatest_processed (events ++ reported)
+processed_after : (events reported : List Event)
+    → greatest_processed reported ≤ greatest_processed (events ++ reported)
 unfolding greatest_processed
-taken_after [] reported = omega arith
-taken_after (event ∷ events) reported = omega (arith, taken_after events reported)
+processed_after [] reported = omega arith
+processed_after (event ∷ events) reported = omega (arith, processed_after events reported)
 
 -- A test that one item doesn't pass.
 pub one_none : {X : Type 0} (p : X → Bool) (x : X) → list_any p (x ∷ []) ≡ false → p x ≡ false
@@ -101,104 +122,148 @@ unfolding total
 one_total f item none = omega (arith, none)
 
 -- What no event of two lists passes.
-none_both : {X : Type 0} (p : X → Bool) (xs ys : List X) → list_any p xs ≡ false → list_any p ys ≡ false → list_any p (xs ++ ys) ≡ false
+none_both : {X : Type 0} (p : X → Bool) (xs ys : List X) → list_any p xs ≡ false
+    → list_any p ys ≡ false → list_any p (xs ++ ys) ≡ false
 none_both p [] ys here there = there
 none_both p (x ∷ xs) ys here there =
-    let parts = or_split (p x) (list_any p xs) here in or_from _ _ parts.0 (none_both p xs ys parts.1 there)
+    let parts = or_split (p x) (list_any p xs) here in or_from _ _ parts.0
+    (none_both p xs ys parts.1 there)
   where
     or_split : (a b : Bool) → (a || b) ≡ false → (a ≡ false) × (b ≡ false)
     or_split true b is = absurd (both_ways true is refl)
     or_split false b is = (refl, is)
 
--- what is live behind an item was, or it is the item's stream, by the item
-took_by : (role : Role) (received items sent news : List Item) (reported events : List Event) (item : Item) (i : ℕ) (b : Bool)
+-- what is active after an item was, or it is the item's stream, by the item
+active_processed_by : (role : Role) (received items sent news : List Item)
+    (reported events : List Event) (item : Item) (i : ℕ) (b : Bool)
     → news ≡ items ++ sent → is_block_on i item ≡ b
-    → IsFairBy role received sent reported → Reads role received sent news reported events item → is_server role ≡ true → list_any is_goaway news ≡ false
+    → IsUpLogBy role received sent reported → Reads role received sent news reported events item
+    → is_server role ≡ true → list_any is_goaway news ≡ false
     → list_any (resets i) news ≡ false
-    → is_active role i (item ∷ received) news (events ++ reported) ≡ true → i ≤ greatest_processed (events ++ reported)
-took_by role received items sent news reported events item i true is test f r server none kept alive =
-    r.took i test server (none_after is_goaway items sent (ap (list_any is_goaway) (sym is) ∙ none)) kept alive
-took_by role received items sent news reported events item i false is test f r server none kept alive =
+    → is_active role i (item ∷ received) news (events ++ reported) ≡ true
+    → i ≤ greatest_processed (events ++ reported)
+active_processed_by role received items sent news reported events item i true is test f r server
+    none kept active_is =
+    r.processed i test server (none_after is_goaway items sent (ap (list_any is_goaway) (sym is)
+    ∙ none)) kept active_is
+active_processed_by role received items sent news reported events item i false is test f r server
+    none kept active_is =
     let before : is_active role i (item ∷ received) (items ++ sent) (events ++ reported) ≡ true =
-    ap (λ (line : List Item). is_active role i (item ∷ received) line (events ++ reported)) (sym is) ∙ alive in
+    ap (λ (line : List Item). is_active role i (item ∷ received) line (events ++ reported)) (sym is)
+    ∙ active_is in
     let parts = active_parts role i (item ∷ received) (items ++ sent) (events ++ reported) before in
     let opened : list_any (is_block_on i) (openings role received sent) ≡ true =
-    ap (list_any (is_block_on i)) (openings_server role received sent server) ∙ sym (any_quiet (is_block_on i) item received test)
-    ∙ ap (list_any (is_block_on i)) (sym (openings_server role (item ∷ received) (items ++ sent) server)) ∙ parts.opened in
-    let was = f.took server (none_after is_goaway items sent (ap (list_any is_goaway) (sym is) ∙ none)) i
+    ap (list_any (is_block_on i)) (openings_server role received sent server)
+    ∙ sym (any_quiet (is_block_on i) item received test)
+    ∙ ap (list_any (is_block_on i))
+    (sym (openings_server role (item ∷ received) (items ++ sent) server)) ∙ parts.opened in
+    let was = f.processed server (none_after is_goaway items sent (ap (list_any is_goaway) (sym is)
+    ∙ none)) i
     (active_before role i (item ∷ []) items received sent events reported before opened) in
-    omega (arith, was, taken_after events reported)
+    omega (arith, was, processed_after events reported)
 
--- What is live wasn't reset.
-active_unreset : (role : Role) (i : ℕ) (received sent : List Item) (reported : List Event) → is_active role i received sent reported ≡ true → list_any (resets i) sent ≡ false
-active_unreset role i received sent reported alive = (lasts_parts i received sent (active_parts role i received sent reported alive).lasts).kept
+-- What is active wasn't reset.
+active_unreset : (role : Role) (i : ℕ) (received sent : List Item) (reported : List Event)
+    → is_active role i received sent reported ≡ true → list_any (resets i) sent ≡ false
+active_unreset role i received sent reported active_is =
+    (lasts_parts i received sent (active_parts role i received sent reported active_is).lasts).kept
 
 -- An item that is read keeps this.
-pub fair_read : (role : Role) (received items sent news : List Item) (reported events : List Event) (item : Item) → news ≡ items ++ sent
-    → IsFairBy role received sent reported → Reads role received sent news reported events item → IsFairBy role (item ∷ received) news (events ++ reported)
-fair_read role received items sent news reported events item is f r =
+pub up_log_read : (role : Role) (received items sent news : List Item)
+    (reported events : List Event) (item : Item) → news ≡ items ++ sent
+    → IsUpLogBy role received sent reported → Reads role received sent news reported events item
+    → IsUpLogBy role (item ∷ received) news (events ++ reported)
+up_log_read role received items sent news reported events item is f r =
     record {
-      acks = omega (arith, r.acks, reported_append one_acked events reported, settings_after items sent, ap settings_count is);
-      pongs = omega (arith, r.pongs, reported_append one_pong events reported, total_after one_ping items sent, ap (total one_ping) is);
+      acks = omega (
+        arith,
+        r.acks,
+        reported_append one_acked events reported,
+        settings_after items
+            sent,
+        ap settings_count is,
+      );
+      pongs = omega (
+        arith,
+        r.pongs,
+        reported_append one_pong events reported,
+        total_after one_ping
+            items sent,
+        ap (total one_ping) is,
+      );
       size = r.size;
-      took = λ server none i alive.
-          let lasts = active_unreset role i (item ∷ received) news (events ++ reported) alive in
-          took_by role received items sent news reported events item i (is_block_on i item) is refl f r server none lasts alive;
+      processed = λ server none i active_is.
+          let lasts = active_unreset role i (item ∷ received) news (events ++ reported) active_is in
+          active_processed_by role received items sent news reported events item i
+          (is_block_on i item) is refl f r server none lasts active_is;
       clear = λ client i above.
           let low = greatest_after items sent in
           let same = ap greatest_block is in
           let before = f.clear client i (omega arith) in
           let here = r.clear client i (omega arith) in
           record {
-            ended = any_quiet (ends i) item received (one_none (ends i) item here.ended) ∙ before.ended;
-            reset = any_quiet (resets i) item received (one_none (resets i) item here.reset) ∙ before.reset;
-            given = total_quiet (increment_on i) item received (one_total (increment_on i) item here.given) ∙ before.given;
-            last_processed = total_quiet (data_on i) item received (one_total (data_on i) item here.last_processed) ∙ before.last_processed;
+            ended = any_quiet (ends i) item received (one_none (ends i) item here.ended)
+                ∙ before.ended;
+            reset = any_quiet (resets i) item received (one_none (resets i) item here.reset)
+                ∙ before.reset;
+            given = total_quiet (increment_on i) item received
+                (one_total (increment_on i) item here.given) ∙ before.given;
+            no_data = total_quiet (data_on i) item received
+                (one_total (data_on i) item here.no_data) ∙ before.no_data;
             unnamed = none_both (reports_unprocessed i) events reported here.unnamed before.unnamed;
           };
     }
 
 -- A number from which a block opens is no greater than the greatest.
-opens_low : (i : ℕ) (items : List Item) → list_any (opens_from i) items ≡ true → i ≤ greatest_block items
+opens_low : (i : ℕ) (items : List Item) → list_any (opens_from i) items ≡ true
+    → i ≤ greatest_block items
 unfolding opens_from greatest_block
 opens_low i [] some = absurd (both_ways false refl some)
 opens_low i (alone frame ∷ items) some = opens_low i items some
-opens_low i (block stream end octets ∷ items) some = elim (or_cases (stream % 2 == 1 && nat_le i stream) (list_any (opens_from i) items) some) [
-  | inl here ↦ omega (arith, leb-true i stream (and_parts _ _ here).1)
-  | inr after ↦ omega (arith, opens_low i items after)
-]
+opens_low i (block stream end octets ∷ items) some =
+    elim (or_cases (stream % 2 == 1 && nat_le i stream) (list_any (opens_from i) items) some) [
+      | inl here ↦ omega (arith, leb-true i stream (and_parts _ _ here).1)
+      | inr after ↦ omega (arith, opens_low i items after)
+    ]
 
 -- At a client a number above all that were used is idle.
-pub idle_above : (role : Role) (i : ℕ) (received sent : List Item) → role ≡ Client → greatest_block sent < i → is_used role i received sent ≡ false
+pub idle_above : (role : Role) (i : ℕ) (received sent : List Item) → role ≡ Client
+    → greatest_block sent < i → is_used role i received sent ≡ false
 unfolding is_used
 idle_above Client i received sent is above =
-    and_right (i % 2 == 1) _ (false_from_ne_true (list_any (opens_from i) sent) (λ some. let low = opens_low i sent some in omega arith))
+    and_right (i % 2 == 1) _ (false_from_ne_true (list_any (opens_from i) sent)
+    (λ some. let low = opens_low i sent some in omega arith))
 idle_above Server i received sent is above = cc
 
 -- Where the first fault is none, none has one.
-first_none_of : (x : Option Code) (above : Bool) (after : Option Code) → first_fault x above after ≡ None → (x ≡ None) × (after ≡ None)
+first_none_of : (x : Option Code) (above : Bool) (after : Option Code)
+    → first_fault x above after ≡ None → (x ≡ None) × (after ≡ None)
 first_none_of (Some code) above after is = cc
 first_none_of None true after is = cc
 first_none_of None false after is = (refl, is)
 
 -- A value without a fault isn't one of these.
-third_false : (a b c : Bool) → (if a then Some ProtocolError else if b then Some FlowControlError else if c then Some ProtocolError else None) ≡ None → c ≡ false
+third_false : (a b c : Bool) → (if a then Some ProtocolError else if b then Some FlowControlError
+    else if c then Some ProtocolError else None) ≡ None → c ≡ false
 third_false true b c is = cc
 third_false false true c is = cc
 third_false false false true is = cc
 third_false false false false is = refl
 
 -- A frame size that isn't at fault is at least 16,384, by the tests.
-size_by : (value before : ℕ) (is five : Bool) → is ≡ five → (is && (nat_lt value 16384 || nat_lt 16777215 value)) ≡ false → 16384 ≤ before
+size_by : (value before : ℕ) (is five : Bool) → is ≡ five
+    → (is && (nat_lt value 16384 || nat_lt 16777215 value)) ≡ false → 16384 ≤ before
     → 16384 ≤ (if is then value else before)
-size_by value before true five same fault least_last = ltb-false value 16384 (or_parts _ _ fault).0
-size_by value before false five same fault least_last = least_last
+size_by value before true five same fault enough = ltb-false value 16384 (or_parts _ _ fault).0
+size_by value before false five same fault enough = enough
 
 -- Pairs without a fault set no lesser frame size.
-pub pairs_size : (log : Log) (before : ℕ) (pairs : List (ℕ × ℕ)) → settings_fault (log_view log) pairs ≡ None → 16384 ≤ before → 16384 ≤ value_after 5 before pairs
+pub pairs_size : (log : Log) (before : ℕ) (pairs : List (ℕ × ℕ))
+    → settings_fault (log_view log) pairs ≡ None → 16384 ≤ before
+    → 16384 ≤ value_after 5 before pairs
 unfolding settings_fault value_after value_fault
-pairs_size log before [] none least_last = least_last
-pairs_size log before (pair ∷ pairs) none least_last =
+pairs_size log before [] none enough = enough
+pairs_size log before (pair ∷ pairs) none enough =
     let both = first_none_of _ _ _ none in
     pairs_size log (if pair.0 == 5 then pair.1 else before) pairs both.1
-    (size_by pair.1 before (pair.0 == 5) _ refl (third_false _ _ _ both.0) least_last)
+    (size_by pair.1 before (pair.0 == 5) _ refl (third_false _ _ _ both.0) enough)

@@ -1,5 +1,7 @@
--- Every log that hasn't failed has what is asked of it; so each call keeps an end standing for its log.
-use Rattle.std.proofs.Common.{◌≡◌, ◌≢◌, ℕ, ◌≤◌, ◌==◌, max, nat_lt, not, ◌&&◌, ◌||◌, Bool, true, false, if◌then◌else◌, List, [], ◌∷◌, ◌++◌, length, Option, Some, None, refl, sym, ap, ◌∙◌, arith}
+-- Every log that hasn't failed has what is asked of it; and what each step keeps.
+use Rattle.std.proofs.Common.{◌≡◌, ◌≢◌, ℕ, ◌≤◌, ◌==◌, max, nat_lt, not, ◌&&◌, ◌||◌, Bool, true}
+use Rattle.std.proofs.Common.{false, if◌then◌else◌, List, [], ◌∷◌, ◌++◌, length, Option, Some, None}
+use Rattle.std.proofs.Common.{refl, sym, ap, ◌∙◌, arith}
 use Rattle.std.specs.List.{list_any}
 use Rattle.std.proofs.lemmas.Bool.{both_ways, or_left, eq-eqb, ne_eqb}
 use Rattle.h2_frame.specs.declared.code.Code.{Code}
@@ -9,89 +11,121 @@ use Rattle.h2_wire.specs.Faults.{wire_fault_code}
 use Rattle.h2_block.specs.Grouping.{Item, alone, block}
 use Rattle.h2_log.specs.LogView.{log_view}
 use Rattle.h2_log.specs.Items.{resets, stream_of_item, total, greatest_block, is_block_on}
-use Rattle.h2_log.specs.Events.{Event, UnprocessedEvent, one_acked, one_pong, reported_total, greatest_processed, processed_by, reports_unprocessed}
+use Rattle.h2_log.specs.Events.{Event, UnprocessedEvent, one_acked, one_pong, reported_total}
+use Rattle.h2_log.specs.Events.{greatest_processed, processed_by, reports_unprocessed}
 use Rattle.h2_log.specs.Acts.{Values}
 use Rattle.h2_log.specs.Settings.{is_server, settings_count, value_read}
 use Rattle.h2_log.specs.States.{least_block}
 use Rattle.h2_log.specs.Log.{Log, last_processed, next_unprocessed}
 use Rattle.h2_log.specs.Verdicts.{Verdict, ConnectionFault, StreamFault, NoEvent, Reported}
-use Rattle.h2_log.specs.ItemRules.{Decoded, FrameStep, fails_with, begins_block, completes, frame_step, over_limits, replies_to, verdict_by_rules, verdict_of}
-use Rattle.h2_log.specs.LogSteps.{read, with_sent, with_reported, with_unreturned, with_failure, owed_at_close, with_verdict, with_step, with_frame, used, took_none}
+use Rattle.h2_log.specs.ItemRules.{Decoded, FrameStep, fails_with, begins_block, completes}
+use Rattle.h2_log.specs.ItemRules.{frame_step, over_limits, replies_to, verdict_by_rules}
+use Rattle.h2_log.specs.ItemRules.{verdict_of}
+use Rattle.h2_log.specs.LogSteps.{read, with_sent, with_reported, with_unreturned, with_failure}
+use Rattle.h2_log.specs.LogSteps.{owed_at_close, with_verdict, with_step, with_frame, used}
+use Rattle.h2_log.specs.LogSteps.{took_none}
 use Rattle.h2_log.specs.ItemEffects.{events_of}
 use Rattle.h2_log.specs.LogCalls.{opened, with_call}
-use Rattle.h2_log.specs.Histories.{IsLog, begins, took_some, took_one, met_fault, ran_out_of_memory, reported_one, called_one}
+use Rattle.h2_log.specs.Histories.{IsLog, begins, took_some, took_one, met_fault, ran_out_of_memory}
+use Rattle.h2_log.specs.Histories.{reported_one, called_one}
 use Rattle.h2_log.specs.declared.role.Role.{Role}
 use Rattle.h2_log.specs.declared.role.Role.TheVariants.{Client, Server}
 use Rattle.h2_log_laws.proofs.ItemLists.{any_after}
 use Rattle.h2_log_laws.proofs.ReaderStates.{active_parts}
 use Rattle.h2_log_laws.proofs.LogInvariant.{active_before}
-use Rattle.h2_log_laws.proofs.LogGrowth.{grows_twice, grows_wrote, grows_with_unreturned, grows_call}
-use Rattle.h2_machine_laws.proofs.UpInvariant.{IsDecodable, IsFairBy, fair_grown, fair_read, openings_server, greatest_after}
+use Rattle.h2_log_laws.proofs.LogGrowth.{grows_twice, grows_wrote, grows_with_unreturned}
+use Rattle.h2_log_laws.proofs.LogGrowth.{grows_call}
+use Rattle.h2_machine_laws.proofs.UpInvariant.{IsUpLog, IsUpLogBy, up_log_grown, up_log_read}
+use Rattle.h2_machine_laws.proofs.UpInvariant.{openings_server, greatest_after}
 use Rattle.h2_machine_laws.proofs.UpInvariantReads.{item_reads}
 
--- A verdict behind the bars that is no fault of the connection is that before them, by the test.
-over_limits_by : (b : Bool) (v x : Verdict) → (if b then ConnectionFault EnhanceYourCalm else v) ≡ x → ((code : Code) → x ≡ ConnectionFault code → ⊥) → v ≡ x
+-- A verdict after the limits that is no fault of the connection is that before them, by the test.
+over_limits_by : (b : Bool) (v x : Verdict) → (if b then ConnectionFault EnhanceYourCalm else v) ≡ x
+    → ((code : Code) → x ≡ ConnectionFault code → ⊥) → v ≡ x
 over_limits_by true v x is none = absurd (none EnhanceYourCalm (sym is))
 over_limits_by false v x is none = is
 
--- A verdict behind the bars that is no fault of the connection is that before them.
-rules_is : (log : Log) (decoded : Option Decoded) (item : Item) (v : Verdict) → verdict_of (log_view log) decoded item ≡ v → ((code : Code) → v ≡ ConnectionFault code → ⊥)
+-- A verdict after the limits that is no fault of the connection is that before them.
+rules_is : (log : Log) (decoded : Option Decoded) (item : Item) (v : Verdict)
+    → verdict_of (log_view log) decoded item ≡ v → ((code : Code) → v ≡ ConnectionFault code → ⊥)
     → verdict_by_rules (log_view log) decoded item ≡ v
 unfolding verdict_of over_limits
 rules_is log decoded item v is none = over_limits_by _ _ v is none
 
--- Events that are told stand in front.
-reports_fair : (log : Log) (events : List Event) → IsFairBy log.role log.received log.sent (events ++ log.reported) → IsDecodable (with_reported log events)
+-- Events that are reported are newer.
+reports_up_log : (log : Log) (events : List Event)
+    → IsUpLogBy log.role log.received log.sent (events ++ log.reported)
+    → IsUpLog (with_reported log events)
 unfolding with_reported
-reports_fair log [] f = f
-reports_fair log (event ∷ events) f = f
+reports_up_log log [] f = f
+reports_up_log log (event ∷ events) f = f
 
 -- A stream that is reset in reply was reset.
-reply_resets : (log : Log) (decoded : Option Decoded) (item : Item) (v : Verdict) (code : Code) → v ≡ StreamFault code
-    → list_any (resets (stream_of_item item)) (with_sent (read log decoded item) (replies_to v item)).sent ≡ true
+reply_resets : (log : Log) (decoded : Option Decoded) (item : Item) (v : Verdict) (code : Code)
+    → v ≡ StreamFault code
+    → list_any (resets (stream_of_item item))
+    (with_sent (read log decoded item) (replies_to v item)).sent ≡ true
 unfolding replies_to with_sent resets
-reply_resets log decoded item (StreamFault other) code is = or_left _ _ (eq-eqb (stream_of_item item) (stream_of_item item) refl)
+reply_resets log decoded item (StreamFault other) code is =
+    or_left _ _ (eq-eqb (stream_of_item item) (stream_of_item item) refl)
 reply_resets log decoded item (ConnectionFault other) code is = cc
 reply_resets log decoded item NoEvent code is = cc
 reply_resets log decoded item Reported code is = cc
 
 -- An item that is read, with a verdict that is no fault of the connection, keeps this.
-reported_fair : (log : Log) (decoded : Option Decoded) (item : Item) (v : Verdict) (more : ℕ) → verdict_of (log_view log) decoded item ≡ v
-    → ((code : Code) → v ≡ ConnectionFault code → ⊥) → IsDecodable log
-    → IsDecodable (with_reported (with_unreturned more (with_sent (read log decoded item) (replies_to v item))) (events_of (log_view log) decoded v item))
-reported_fair log decoded item v more is none f =
+reported_up_log : (log : Log) (decoded : Option Decoded) (item : Item) (v : Verdict) (more : ℕ)
+    → verdict_of (log_view log) decoded item ≡ v
+    → ((code : Code) → v ≡ ConnectionFault code → ⊥) → IsUpLog log
+    → IsUpLog (with_reported (with_unreturned more
+    (with_sent (read log decoded item) (replies_to v item)))
+    (events_of (log_view log) decoded v item))
+reported_up_log log decoded item v more is none f =
     let first = with_sent (read log decoded item) (replies_to v item) in
     let returned = grows_with_unreturned more first in
-    let g = grows_twice (read log decoded item) first (with_unreturned more first) (grows_wrote (read log decoded item) (replies_to v item)) returned in
-    let reset = λ (code : Code) (fault : v ≡ StreamFault code). ap (list_any (resets (stream_of_item item))) returned.sent
-    ∙ any_after (resets (stream_of_item item)) returned.items first.sent (reply_resets log decoded item v code fault) in
-    let reads = item_reads log decoded v item g.items (with_unreturned more first).sent (rules_is log decoded item v is none) g.sent none reset f in
-    let fair = fair_read log.role log.received g.items log.sent (with_unreturned more first).sent log.reported (events_of (log_view log) decoded v item) item g.sent f reads in
-    reports_fair (with_unreturned more first) (events_of (log_view log) decoded v item) (rw (g.role, g.received, g.reported) fair)
+    let g = grows_twice (read log decoded item) first (with_unreturned more first)
+    (grows_wrote (read log decoded item) (replies_to v item)) returned in
+    let reset = λ (code : Code) (fault : v ≡ StreamFault code). ap
+    (list_any (resets (stream_of_item item))) returned.sent
+    ∙ any_after (resets (stream_of_item item)) returned.items first.sent
+    (reply_resets log decoded item v code fault) in
+    let reads = item_reads log decoded v item g.items (with_unreturned more first).sent
+    (rules_is log decoded item v is none) g.sent none reset f in
+    let up_log = up_log_read log.role log.received g.items log.sent
+    (with_unreturned more first).sent log.reported (events_of (log_view log) decoded v item)
+    item g.sent f reads in
+    reports_up_log (with_unreturned more first) (events_of (log_view log) decoded v item)
+    (rw (g.role, g.received, g.reported) up_log)
 
 -- An item keeps this, by its verdict.
-verdict_fair : (log : Log) (decoded : Option Decoded) (item : Item) (v : Verdict) → verdict_of (log_view log) decoded item ≡ v → IsDecodable log
-    → (with_verdict log decoded item v).failed ≡ None → IsDecodable (with_verdict log decoded item v)
+verdict_up_log : (log : Log) (decoded : Option Decoded) (item : Item) (v : Verdict)
+    → verdict_of (log_view log) decoded item ≡ v → IsUpLog log
+    → (with_verdict log decoded item v).failed ≡ None → IsUpLog (with_verdict log decoded item v)
 unfolding with_verdict
-verdict_fair log decoded item (ConnectionFault code) is f up = let wrong : Some code ≡ None = up in cc
-verdict_fair log decoded item (StreamFault code) is f up = reported_fair log decoded item (StreamFault code) _ is (λ other same. cc) f
-verdict_fair log decoded item NoEvent is f up = reported_fair log decoded item NoEvent _ is (λ other same. cc) f
-verdict_fair log decoded item Reported is f up = reported_fair log decoded item Reported _ is (λ other same. cc) f
+verdict_up_log log decoded item (ConnectionFault code) is f up = let wrong : Some code ≡ None =
+    up in cc
+verdict_up_log log decoded item (StreamFault code) is f up = reported_up_log log decoded item
+    (StreamFault code) _ is (λ other same. cc) f
+verdict_up_log log decoded item NoEvent is f up = reported_up_log log decoded item NoEvent _ is
+    (λ other same. cc) f
+verdict_up_log log decoded item Reported is f up = reported_up_log log decoded item Reported _ is
+    (λ other same. cc) f
 
 -- What a frame makes of the block that has begun keeps this.
-step_fair : (log : Log) (decoded : Option Decoded) (step : FrameStep) → IsDecodable log
-    → (with_step log decoded step).failed ≡ None → IsDecodable (with_step log decoded step)
+step_up_log : (log : Log) (decoded : Option Decoded) (step : FrameStep) → IsUpLog log
+    → (with_step log decoded step).failed ≡ None → IsUpLog (with_step log decoded step)
 unfolding with_step
-step_fair log decoded (fails_with code) f up = let wrong : Some code ≡ None = up in cc
-step_fair log decoded (begins_block begun) f up = f
-step_fair log decoded (completes item) f up = verdict_fair (record log { begun = None }) decoded item _ refl f up
+step_up_log log decoded (fails_with code) f up = let wrong : Some code ≡ None = up in cc
+step_up_log log decoded (begins_block begun) f up = f
+step_up_log log decoded (completes item) f up = verdict_up_log (record log { begun = None }) decoded
+    item _ refl f up
 
 -- A frame keeps this.
-frame_fair : (log : Log) (decoded : Option Decoded) (frame : Frame) → IsDecodable log
-    → (with_frame log decoded frame).failed ≡ None → IsDecodable (with_frame log decoded frame)
+frame_up_log : (log : Log) (decoded : Option Decoded) (frame : Frame) → IsUpLog log
+    → (with_frame log decoded frame).failed ≡ None → IsUpLog (with_frame log decoded frame)
 unfolding with_frame
-frame_fair log decoded frame f up =
-    step_fair (record log { frames = log.frames ++ frame ∷ [] }) decoded (frame_step (log_view log) frame) f up
+frame_up_log log decoded frame f up =
+    step_up_log (record log { frames = log.frames ++ frame ∷ [] }) decoded
+    (frame_step (log_view log) frame) f up
 
 -- The least number that passes is no greater than the greatest.
 least_low : (test : ℕ → Bool) (items : List Item) → least_block test items ≤ greatest_block items
@@ -99,34 +133,39 @@ unfolding least_block greatest_block
 least_low test [] = omega arith
 least_low test (alone frame ∷ items) = least_low test items
 least_low test (block stream end octets ∷ items) =
-    by (test stream && (least_block test items == 0 || nat_lt stream (least_block test items))) (least_low test items)
+    by (test stream && (least_block test items == 0 || nat_lt stream (least_block test items)))
+    (least_low test items)
   where
-    by : (b : Bool) → least_block test items ≤ greatest_block items → (if b then stream else least_block test items) ≤ max stream (greatest_block items)
+    by : (b : Bool) → least_block test items ≤ greatest_block items
+        → (if b then stream else least_block test items) ≤ max stream (greatest_block items)
     by true low = omega arith
     by false low = omega arith
 
--- A stream that is told as unprocessed was used, at a client.
-unprocessed_low : (role : Role) (test : ℕ → Bool) (sent : List Item) → (if is_server role then 0 else least_block test sent) ≤ greatest_block sent
+-- A stream that is reported as unprocessed was used, at a client.
+unprocessed_low : (role : Role) (test : ℕ → Bool) (sent : List Item)
+    → (if is_server role then 0 else least_block test sent) ≤ greatest_block sent
 unprocessed_low Client test sent = least_low test sent
 unprocessed_low Server test sent = omega arith
 
--- The next stream to be told as unprocessed was used.
+-- The next stream to be reported as unprocessed was used.
 next_low : (log : Log) → next_unprocessed log ≤ greatest_block log.sent
 unfolding next_unprocessed
 next_low log = unprocessed_low log.role _ log.sent
 
--- A stream that is told as unprocessed keeps this.
-unprocessed_fair : (role : Role) (received sent : List Item) (reported : List Event) (n : ℕ) → n ≤ greatest_block sent → IsFairBy role received sent reported
-    → IsFairBy role received sent (UnprocessedEvent n ∷ reported)
+-- A stream that is reported as unprocessed keeps this.
+unprocessed_up_log : (role : Role) (received sent : List Item) (reported : List Event) (n : ℕ)
+    → n ≤ greatest_block sent → IsUpLogBy role received sent reported
+    → IsUpLogBy role received sent (UnprocessedEvent n ∷ reported)
 unfolding reported_total one_acked one_pong greatest_processed processed_by reports_unprocessed
-unprocessed_fair role received sent reported n low f =
+unprocessed_up_log role received sent reported n low f =
     record {
       acks = omega (arith, f.acks);
       pongs = omega (arith, f.pongs);
       size = f.size;
-      took = λ server none i alive.
-          let was = f.took server none i (active_before role i [] [] received sent (UnprocessedEvent n ∷ []) reported alive
-          (active_parts role i received sent (UnprocessedEvent n ∷ reported) alive).opened) in
+      processed = λ server none i active_is.
+          let was = f.processed server none i
+          (active_before role i [] [] received sent (UnprocessedEvent n ∷ []) reported active_is
+          (active_parts role i received sent (UnprocessedEvent n ∷ reported) active_is).opened) in
           omega (arith, was);
       clear = λ client i above.
           let before = f.clear client i above in
@@ -135,49 +174,71 @@ unprocessed_fair role received sent reported n low f =
             ended = before.ended;
             reset = before.reset;
             given = before.given;
-            last_processed = before.last_processed;
+            no_data = before.no_data;
             unnamed = rw (ne_eqb n i apart) before.unnamed;
           };
     }
 
--- Telling it keeps this.
-none_fair : (log : Log) → IsDecodable log → IsDecodable (took_none log)
-none_fair log f =
-    let g = grows_with_unreturned (owed_at_close log (with_reported log (UnprocessedEvent (next_unprocessed log) ∷ [])) (next_unprocessed log)) log in
-    let after = with_unreturned (owed_at_close log (with_reported log (UnprocessedEvent (next_unprocessed log) ∷ [])) (next_unprocessed log)) log in
-    let fair = fair_grown log after g f in
+-- Reporting it keeps this.
+none_up_log : (log : Log) → IsUpLog log → IsUpLog (took_none log)
+none_up_log log f =
+    let g = grows_with_unreturned
+    (owed_at_close log (with_reported log (UnprocessedEvent (next_unprocessed log) ∷ []))
+    (next_unprocessed log)) log in
+    let after = with_unreturned
+    (owed_at_close log (with_reported log (UnprocessedEvent (next_unprocessed log) ∷ []))
+    (next_unprocessed log)) log in
+    let up_log = up_log_grown log after g f in
     let low = next_low log in
     let same = ap greatest_block g.sent in
-    reports_fair after (UnprocessedEvent (next_unprocessed log) ∷ [])
-    (unprocessed_fair after.role after.received after.sent after.reported (next_unprocessed log) (omega (arith, greatest_after g.items log.sent)) fair)
+    reports_up_log after (UnprocessedEvent (next_unprocessed log) ∷ [])
+    (unprocessed_up_log after.role after.received after.sent after.reported (next_unprocessed log)
+    (omega (arith, greatest_after g.items log.sent)) up_log)
 
 -- A new end's log has it.
-begins_fair : (role : Role) (values : Values) → IsDecodable (opened role values)
-unfolding opened with_sent reported_total value_read total settings_count resets greatest_block reports_unprocessed
-begins_fair role values =
+begins_up_log : (role : Role) (values : Values) → IsUpLog (opened role values)
+unfolding opened with_sent reported_total value_read total settings_count resets greatest_block
+    reports_unprocessed
+begins_up_log role values =
     record {
       acks = omega arith;
       pongs = omega arith;
       size = omega arith;
-      took = λ server none i alive. absurd (both_ways false refl ((ap (list_any (is_block_on i)) (sym (openings_server role [] _ server)))
-          ∙ (active_parts role i [] _ [] alive).opened));
-      clear = λ client i above. record { ended = refl; reset = refl; given = refl; last_processed = refl; unnamed = refl };
+      processed = λ server none i active_is. absurd
+          (both_ways false refl
+          ((ap (list_any (is_block_on i)) (sym (openings_server role [] _ server)))
+          ∙ (active_parts role i [] _ [] active_is).opened));
+      clear = λ client i above. record {
+        ended = refl;
+        reset = refl;
+        given = refl;
+        no_data = refl;
+        unnamed = refl;
+      };
     }
 
 -- Octets that were used change nothing of this.
-used_fair : (log : Log) (octets unparsed : List ℕ) → IsDecodable log → IsDecodable (used log octets unparsed)
+used_up_log : (log : Log) (octets unparsed : List ℕ) → IsUpLog log
+    → IsUpLog (used log octets unparsed)
 unfolding used
-used_fair log octets unparsed f = f
+used_up_log log octets unparsed f = f
 
--- A log up behind a call was up before it.
-pub fair_of : (role : Role) (values : Values) (log : Log) → IsLog role values log → log.failed ≡ None → IsDecodable log
+-- A log that hasn't failed is such a log: what hasn't failed after a call hadn't before it.
+pub up_log_of : (role : Role) (values : Values) (log : Log) → IsLog role values log
+    → log.failed ≡ None → IsUpLog log
 unfolding used
-fair_of role values _ (begins in_range) up = begins_fair role values
-fair_of role values _ (took_some {log = log} is takes octets unparsed read) up = used_fair log octets unparsed (fair_of role values log is takes.up)
-fair_of role values _ (took_one {log = log} is takes octets frame decoded read sees) up =
-    frame_fair (used log octets []) decoded frame (used_fair log octets [] (fair_of role values log is takes.up)) up
-fair_of role values _ (met_fault {log = log} is takes octets fault at) up = let wrong : Some (wire_fault_code fault) ≡ None = up in cc
-fair_of role values _ (ran_out_of_memory {log = log} is was octets may) up = let wrong : Some InternalError ≡ None = up in cc
-fair_of role values _ (reported_one {log = log} is was some) up = none_fair log (fair_of role values log is was)
-fair_of role values _ (called_one {log = log} is act answer typed may) up =
-    let g = grows_call log act answer in fair_grown log (with_call log act answer) g (fair_of role values log is (g.up up))
+up_log_of role values _ (begins in_range) up = begins_up_log role values
+up_log_of role values _ (took_some {log = log} is takes octets unparsed read) up =
+    used_up_log log octets unparsed (up_log_of role values log is takes.up)
+up_log_of role values _ (took_one {log = log} is takes octets frame decoded read sees) up =
+    frame_up_log (used log octets []) decoded frame
+    (used_up_log log octets [] (up_log_of role values log is takes.up)) up
+up_log_of role values _ (met_fault {log = log} is takes octets fault at) up =
+    let wrong : Some (wire_fault_code fault) ≡ None = up in cc
+up_log_of role values _ (ran_out_of_memory {log = log} is was octets may) up =
+    let wrong : Some InternalError ≡ None = up in cc
+up_log_of role values _ (reported_one {log = log} is was some) up =
+    none_up_log log (up_log_of role values log is was)
+up_log_of role values _ (called_one {log = log} is act answer typed may) up =
+    let g = grows_call log act answer in up_log_grown log (with_call log act answer) g
+    (up_log_of role values log is (g.up up))

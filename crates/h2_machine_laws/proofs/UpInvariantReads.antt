@@ -1,29 +1,40 @@
 -- What an item that is read keeps of what every log has, by its verdict.
-use Rattle.std.proofs.Common.{◌≡◌, ℕ, ◌+◌, ◌≤◌, ◌<◌, Bool, true, false, if◌then◌else◌, List, [], ◌∷◌, ◌++◌, Option, Some, None, refl, sym, ap, subst, ◌∙◌, inl, inr, arith}
+use Rattle.std.proofs.Common.{◌≡◌, ℕ, ◌+◌, ◌≤◌, ◌<◌, Bool, true, false, if◌then◌else◌, List, []}
+use Rattle.std.proofs.Common.{◌∷◌, ◌++◌, Option, Some, None, refl, sym, ap, subst, ◌∙◌, inl, inr}
+use Rattle.std.proofs.Common.{arith}
 use Rattle.std.specs.List.{list_any}
-use Rattle.std.proofs.lemmas.Bool.{both_ways, or_from, or_cases, false_from_ne_true, ltb-true, eqb-true, ne_eqb, cases_eq}
+use Rattle.std.proofs.lemmas.Bool.{both_ways, or_from, or_cases, false_from_ne_true, ltb-true}
+use Rattle.std.proofs.lemmas.Bool.{eqb-true, ne_eqb, cases_eq}
 use Rattle.h2_frame.specs.declared.code.Code.{Code}
 use Rattle.h2_frame.specs.declared.code.Code.TheVariants.{ProtocolError}
-use Rattle.h2_frame.specs.Frames.{Data, Headers, Priority, Reset, Settings, Ping, GoAway, WindowUpdate, Continuation, Unknown}
+use Rattle.h2_frame.specs.Frames.{Data, Headers, Priority, Reset, Settings, Ping, GoAway}
+use Rattle.h2_frame.specs.Frames.{WindowUpdate, Continuation, Unknown}
 use Rattle.h2_block.specs.Grouping.{Item, alone, block}
 use Rattle.h2_log.specs.LogView.{log_view}
-use Rattle.h2_log.specs.Items.{data_on, increment_on, is_block_on, ends, resets, is_goaway, is_goaway_below, one_ping, total, greatest_block, stream_of_item}
-use Rattle.h2_log.specs.Events.{one_acked, one_pong, reported_total, greatest_processed, processed_by, reports_unprocessed}
+use Rattle.h2_log.specs.Items.{data_on, increment_on, is_block_on, ends, resets, is_goaway}
+use Rattle.h2_log.specs.Items.{is_goaway_below, one_ping, total, greatest_block, stream_of_item}
+use Rattle.h2_log.specs.Events.{one_acked, one_pong, reported_total, greatest_processed}
+use Rattle.h2_log.specs.Events.{processed_by, reports_unprocessed}
 use Rattle.h2_log.specs.Settings.{settings_count, value_read}
-use Rattle.h2_log.specs.States.{State, Idle, Active, ClosedByUs, Closed, is_above, is_closed_by_us, state_by, when}
+use Rattle.h2_log.specs.States.{State, Idle, Active, ClosedByUs, Closed, is_above, is_closed_by_us}
+use Rattle.h2_log.specs.States.{state_by, when}
 use Rattle.h2_log.specs.Log.{Log, acked, state, ping_waits, newest_ping}
-use Rattle.h2_log.specs.Verdicts.{Verdict, ConnectionFault, StreamFault, NoEvent, Reported, data_verdict, reset_verdict, update_verdict, block_verdict, opening_verdict}
-use Rattle.h2_log.specs.ItemRules.{Decoded, is_awaited_ping, verdict_by_rules, verdict_of_block, verdict_of_fault}
+use Rattle.h2_log.specs.Verdicts.{Verdict, ConnectionFault, StreamFault, NoEvent, Reported}
+use Rattle.h2_log.specs.Verdicts.{data_verdict, reset_verdict, update_verdict, block_verdict}
+use Rattle.h2_log.specs.Verdicts.{opening_verdict}
+use Rattle.h2_log.specs.ItemRules.{Decoded, is_awaited_ping, verdict_by_rules, verdict_of_block}
+use Rattle.h2_log.specs.ItemRules.{verdict_of_fault}
 use Rattle.h2_log.specs.ItemEffects.{events_of}
 use Rattle.h2_log.specs.declared.role.Role.{Role}
 use Rattle.h2_log.specs.declared.role.Role.TheVariants.{Client, Server}
 use Rattle.h2_log_laws.proofs.ItemLists.{any_after}
 use Rattle.h2_log_laws.proofs.ReaderStates.{state_idle}
 use Rattle.h2_machine_laws.proofs.SentQuietItems.{total_one}
-use Rattle.h2_machine_laws.proofs.UpInvariant.{IsDecodable, Reads, idle_above, pairs_size}
+use Rattle.h2_machine_laws.proofs.UpInvariant.{IsUpLog, Reads, idle_above, pairs_size}
 
--- The events of an item name no stream unprocessed.
-events_unnamed : (log : Log) (decoded : Option Decoded) (v : Verdict) (item : Item) (i : ℕ) → list_any (reports_unprocessed i) (events_of (log_view log) decoded v item) ≡ false
+-- The events of an item report no stream as unprocessed.
+events_unnamed : (log : Log) (decoded : Option Decoded) (v : Verdict) (item : Item) (i : ℕ)
+    → list_any (reports_unprocessed i) (events_of (log_view log) decoded v item) ≡ false
 unfolding events_of reports_unprocessed
 events_unnamed log decoded (ConnectionFault code) item i = refl
 events_unnamed log decoded (StreamFault code) item i = refl
@@ -41,49 +52,69 @@ events_unnamed log decoded Reported (alone (Continuation stream last fragment)) 
 events_unnamed log decoded Reported (alone (Unknown kind flags stream payload)) i = refl
 
 -- Where a number is idle, at a client, a block on it is a fault of the connection.
-block_fault : (log : Log) (decoded : Option Decoded) (i : ℕ) → log.role ≡ Client → state log i ≡ Idle → (code : Code) × (verdict_of_block (log_view log) i decoded ≡ ConnectionFault code)
+block_fault : (log : Log) (decoded : Option Decoded) (i : ℕ) → log.role ≡ Client
+    → state log i ≡ Idle → (code : Code)
+    × (verdict_of_block (log_view log) i decoded ≡ ConnectionFault code)
 unfolding block_verdict
 block_fault log None i client idle = (_, refl)
 block_fault log (Some decoded) i client idle = (ProtocolError, rw (idle, client) refl)
 
 -- an item that isn't a fault of the connection concerns no idle number, at a client
-unseen_item : (log : Log) (decoded : Option Decoded) (item : Item) (i : ℕ) → log.role ≡ Client → greatest_block log.sent < i
+unseen_item : (log : Log) (decoded : Option Decoded) (item : Item) (i : ℕ) → log.role ≡ Client
+    → greatest_block log.sent < i
     → ((code : Code) → verdict_by_rules (log_view log) decoded item ≡ ConnectionFault code → ⊥)
-    → (ends i item ≡ false) × (resets i item ≡ false) × (increment_on i item ≡ 0) × (data_on i item ≡ 0)
-unfolding verdict_by_rules ends resets increment_on data_on data_verdict reset_verdict update_verdict
+    → (ends i item ≡ false) × (resets i item ≡ false) × (increment_on i item ≡ 0)
+    × (data_on i item ≡ 0)
+unfolding verdict_by_rules ends resets increment_on data_on data_verdict reset_verdict
+    update_verdict
 unseen_item log decoded (block stream end octets) i client above none = elim (cases_eq stream i) [
   | inl same ↦
-      let idle : state log stream ≡ Idle = state_idle _ _ _ (idle_above log.role stream log.received log.sent client (omega arith)) in
+      let idle : state log stream ≡ Idle =
+      state_idle _ _ _ (idle_above log.role stream log.received log.sent client
+      (omega arith)) in
       let fault = block_fault log decoded stream client idle in absurd (none fault.0 fault.1)
   | inr other ↦ (rw (ne_eqb stream i other) refl, refl, refl, refl)
 ]
-unseen_item log decoded (alone (Data stream end octets pad)) i client above none = elim (cases_eq stream i) [
-  | inl same ↦
-      let idle : state log stream ≡ Idle = state_idle _ _ _ (idle_above log.role stream log.received log.sent client (omega arith)) in
-      absurd (none ProtocolError (rw idle refl))
-  | inr other ↦ (rw (ne_eqb stream i other) refl, refl, refl, rw (ne_eqb stream i other) refl)
-]
-unseen_item log decoded (alone (Headers stream end last fragment pad priority)) i client above none = (refl, refl, refl, refl)
-unseen_item log decoded (alone (Priority stream octets)) i client above none = (refl, refl, refl, refl)
+unseen_item log decoded (alone (Data stream end octets pad)) i client above none =
+    elim (cases_eq stream i) [
+      | inl same ↦
+          let idle : state log stream ≡ Idle =
+          state_idle _ _ _ (idle_above log.role stream log.received log.sent client
+          (omega arith)) in
+          absurd (none ProtocolError (rw idle refl))
+      | inr other ↦ (rw (ne_eqb stream i other) refl, refl, refl, rw (ne_eqb stream i other) refl)
+    ]
+unseen_item log decoded (alone (Headers stream end last fragment pad priority)) i client above
+    none = (refl, refl, refl, refl)
+unseen_item log decoded (alone (Priority stream octets)) i client above none =
+    (refl, refl, refl, refl)
 unseen_item log decoded (alone (Reset stream code)) i client above none = elim (cases_eq stream i) [
   | inl same ↦
-      let idle : state log stream ≡ Idle = state_idle _ _ _ (idle_above log.role stream log.received log.sent client (omega arith)) in
+      let idle : state log stream ≡ Idle =
+      state_idle _ _ _ (idle_above log.role stream log.received log.sent client
+      (omega arith)) in
       absurd (none ProtocolError (rw idle refl))
   | inr other ↦ (refl, ne_eqb stream i other, refl, refl)
 ]
 unseen_item log decoded (alone (Settings ack pairs)) i client above none = (refl, refl, refl, refl)
 unseen_item log decoded (alone (Ping ack octets)) i client above none = (refl, refl, refl, refl)
-unseen_item log decoded (alone (GoAway last code debug)) i client above none = (refl, refl, refl, refl)
-unseen_item log decoded (alone (WindowUpdate stream increment)) i client above none = elim (cases_eq stream i) [
-  | inl same ↦
-      let idle : state log stream ≡ Idle = state_idle _ _ _ (idle_above log.role stream log.received log.sent client (omega arith)) in
-      absurd (none ProtocolError (rw (ne_eqb stream 0 (λ zero_stream. omega arith), idle) refl))
-  | inr other ↦ (refl, refl, rw (ne_eqb stream i other) refl, refl)
-]
-unseen_item log decoded (alone (Continuation stream last fragment)) i client above none = (refl, refl, refl, refl)
-unseen_item log decoded (alone (Unknown kind flags stream payload)) i client above none = (refl, refl, refl, refl)
+unseen_item log decoded (alone (GoAway last code debug)) i client above none =
+    (refl, refl, refl, refl)
+unseen_item log decoded (alone (WindowUpdate stream increment)) i client above none =
+    elim (cases_eq stream i) [
+      | inl same ↦
+          let idle : state log stream ≡ Idle =
+          state_idle _ _ _ (idle_above log.role stream log.received log.sent client
+          (omega arith)) in
+          absurd (none ProtocolError (rw (ne_eqb stream 0 (λ zero_stream. omega arith), idle) refl))
+      | inr other ↦ (refl, refl, rw (ne_eqb stream i other) refl, refl)
+    ]
+unseen_item log decoded (alone (Continuation stream last fragment)) i client above none =
+    (refl, refl, refl, refl)
+unseen_item log decoded (alone (Unknown kind flags stream payload)) i client above none =
+    (refl, refl, refl, refl)
 
--- A verdict of pairs tells nothing.
+-- A verdict of pairs reports nothing.
 fault_reported : (x : Option Code) → verdict_of_fault x ≡ Reported → ⊥
 fault_reported None is = cc
 fault_reported (Some code) is = cc
@@ -93,76 +124,96 @@ fault_resets : (x : Option Code) (code : Code) → verdict_of_fault x ≡ Stream
 fault_resets None code is = cc
 fault_resets (Some other) code is = cc
 
--- Where it is silent, there is no fault.
+-- Where it gives no event, there is no fault.
 fault_no_event : (x : Option Code) → verdict_of_fault x ≡ NoEvent → x ≡ None
 fault_no_event None is = refl
 fault_no_event (Some code) is = cc
 
--- What is told by a test passes it.
+-- What is reported by a test passes it.
 reported_by : (b : Bool) → (if b then Reported else NoEvent) ≡ Reported → b ≡ true
 reported_by true is = refl
 reported_by false is = cc
 
--- Acknowledgments that are told were awaited.
-acks_of : (log : Log) (decoded : Option Decoded) (v : Verdict) (item : Item) → verdict_by_rules (log_view log) decoded item ≡ v → IsDecodable log
-    → reported_total one_acked (events_of (log_view log) decoded v item) + reported_total one_acked log.reported ≤ settings_count log.sent
+-- Acknowledgments that are reported were awaited.
+acks_of : (log : Log) (decoded : Option Decoded) (v : Verdict) (item : Item)
+    → verdict_by_rules (log_view log) decoded item ≡ v → IsUpLog log
+    → reported_total one_acked (events_of (log_view log) decoded v item) + reported_total one_acked
+    log.reported ≤ settings_count log.sent
 unfolding events_of reported_total one_acked verdict_by_rules
 acks_of log decoded (ConnectionFault code) item is f = omega (arith, f.acks)
 acks_of log decoded (StreamFault code) item is f = omega (arith, f.acks)
 acks_of log decoded NoEvent item is f = omega (arith, f.acks)
 acks_of log decoded Reported (block stream end octets) is f = omega (arith, f.acks)
 acks_of log decoded Reported (alone (Data stream end octets pad)) is f = omega (arith, f.acks)
-acks_of log decoded Reported (alone (Headers stream end last fragment pad priority)) is f = omega (arith, f.acks)
+acks_of log decoded Reported (alone (Headers stream end last fragment pad priority)) is f =
+    omega (arith, f.acks)
 acks_of log decoded Reported (alone (Priority stream octets)) is f = omega (arith, f.acks)
 acks_of log decoded Reported (alone (Reset stream code)) is f = omega (arith, f.acks)
 acks_of log decoded Reported (alone (Settings false pairs)) is f = absurd (fault_reported _ is)
-acks_of log decoded Reported (alone (Settings true pairs)) is f = omega (arith, ltb-true (acked log) (settings_count log.sent) (reported_by _ is))
+acks_of log decoded Reported (alone (Settings true pairs)) is f =
+    omega (arith, ltb-true (acked log) (settings_count log.sent) (reported_by _ is))
 acks_of log decoded Reported (alone (Ping ack octets)) is f = omega (arith, f.acks)
 acks_of log decoded Reported (alone (GoAway last code debug)) is f = omega (arith, f.acks)
 acks_of log decoded Reported (alone (WindowUpdate stream increment)) is f = omega (arith, f.acks)
-acks_of log decoded Reported (alone (Continuation stream last fragment)) is f = omega (arith, f.acks)
-acks_of log decoded Reported (alone (Unknown kind flags stream payload)) is f = omega (arith, f.acks)
+acks_of log decoded Reported (alone (Continuation stream last fragment)) is f =
+    omega (arith, f.acks)
+acks_of log decoded Reported (alone (Unknown kind flags stream payload)) is f =
+    omega (arith, f.acks)
 
 -- A PING's answer that is awaited is one where there is a PING that waits.
-awaited_waits : (octets newest : List ℕ) (waits : Bool) → is_awaited_ping octets (when waits newest) ≡ true → waits ≡ true
+awaited_waits : (octets newest : List ℕ) (waits : Bool)
+    → is_awaited_ping octets (when waits newest) ≡ true → waits ≡ true
 awaited_waits octets newest true is = refl
 awaited_waits octets newest false is = absurd (both_ways false refl is)
 
--- Answers that are told were awaited.
-pongs_of : (log : Log) (decoded : Option Decoded) (v : Verdict) (item : Item) → verdict_by_rules (log_view log) decoded item ≡ v → IsDecodable log
-    → reported_total one_pong (events_of (log_view log) decoded v item) + reported_total one_pong log.reported ≤ total one_ping log.sent
+-- Answers that are reported were awaited.
+pongs_of : (log : Log) (decoded : Option Decoded) (v : Verdict) (item : Item)
+    → verdict_by_rules (log_view log) decoded item ≡ v → IsUpLog log
+    → reported_total one_pong (events_of (log_view log) decoded v item) + reported_total one_pong
+    log.reported ≤ total one_ping log.sent
 unfolding events_of reported_total one_pong verdict_by_rules
 pongs_of log decoded (ConnectionFault code) item is f = omega (arith, f.pongs)
 pongs_of log decoded (StreamFault code) item is f = omega (arith, f.pongs)
 pongs_of log decoded NoEvent item is f = omega (arith, f.pongs)
 pongs_of log decoded Reported (block stream end octets) is f = omega (arith, f.pongs)
 pongs_of log decoded Reported (alone (Data stream end octets pad)) is f = omega (arith, f.pongs)
-pongs_of log decoded Reported (alone (Headers stream end last fragment pad priority)) is f = omega (arith, f.pongs)
+pongs_of log decoded Reported (alone (Headers stream end last fragment pad priority)) is f =
+    omega (arith, f.pongs)
 pongs_of log decoded Reported (alone (Priority stream octets)) is f = omega (arith, f.pongs)
 pongs_of log decoded Reported (alone (Reset stream code)) is f = omega (arith, f.pongs)
 pongs_of log decoded Reported (alone (Settings ack pairs)) is f = omega (arith, f.pongs)
 pongs_of log decoded Reported (alone (Ping false octets)) is f = cc
 pongs_of log decoded Reported (alone (Ping true octets)) is f =
-    omega (arith, ltb-true (reported_total one_pong log.reported) (total one_ping log.sent) 
-    (awaited_waits octets (newest_ping log.sent) (ping_waits log) (reported_by _ is)))
+    omega (
+      arith,
+      ltb-true (reported_total one_pong log.reported) (total one_ping log.sent)
+          (awaited_waits octets (newest_ping log.sent) (ping_waits log) (reported_by _ is)),
+    )
 pongs_of log decoded Reported (alone (GoAway last code debug)) is f = omega (arith, f.pongs)
 pongs_of log decoded Reported (alone (WindowUpdate stream increment)) is f = omega (arith, f.pongs)
-pongs_of log decoded Reported (alone (Continuation stream last fragment)) is f = omega (arith, f.pongs)
-pongs_of log decoded Reported (alone (Unknown kind flags stream payload)) is f = omega (arith, f.pongs)
+pongs_of log decoded Reported (alone (Continuation stream last fragment)) is f =
+    omega (arith, f.pongs)
+pongs_of log decoded Reported (alone (Unknown kind flags stream payload)) is f =
+    omega (arith, f.pongs)
 
 -- Frame sizes that are read aren't below 16,384.
-size_of : (log : Log) (decoded : Option Decoded) (v : Verdict) (item : Item) → verdict_by_rules (log_view log) decoded item ≡ v → ((code : Code) → v ≡ ConnectionFault code → ⊥)
-    → IsDecodable log → 16384 ≤ value_read 5 16384 (item ∷ log.received)
+size_of : (log : Log) (decoded : Option Decoded) (v : Verdict) (item : Item)
+    → verdict_by_rules (log_view log) decoded item ≡ v
+    → ((code : Code) → v ≡ ConnectionFault code → ⊥)
+    → IsUpLog log → 16384 ≤ value_read 5 16384 (item ∷ log.received)
 unfolding value_read verdict_by_rules
 size_of log decoded v (block stream end octets) is none f = f.size
 size_of log decoded v (alone (Data stream end octets pad)) is none f = f.size
 size_of log decoded v (alone (Headers stream end last fragment pad priority)) is none f = f.size
 size_of log decoded v (alone (Priority stream octets)) is none f = f.size
 size_of log decoded v (alone (Reset stream code)) is none f = f.size
-size_of log decoded (ConnectionFault code) (alone (Settings false pairs)) is none f = absurd (none code refl)
-size_of log decoded (StreamFault code) (alone (Settings false pairs)) is none f = absurd (fault_resets _ code is)
+size_of log decoded (ConnectionFault code) (alone (Settings false pairs)) is none f =
+    absurd (none code refl)
+size_of log decoded (StreamFault code) (alone (Settings false pairs)) is none f =
+    absurd (fault_resets _ code is)
 size_of log decoded Reported (alone (Settings false pairs)) is none f = absurd (fault_reported _ is)
-size_of log decoded NoEvent (alone (Settings false pairs)) is none f = pairs_size log _ pairs (fault_no_event _ is) f.size
+size_of log decoded NoEvent (alone (Settings false pairs)) is none f =
+    pairs_size log _ pairs (fault_no_event _ is) f.size
 size_of log decoded v (alone (Settings true pairs)) is none f = f.size
 size_of log decoded v (alone (Ping ack octets)) is none f = f.size
 size_of log decoded v (alone (GoAway last code debug)) is none f = f.size
@@ -171,12 +222,14 @@ size_of log decoded v (alone (Continuation stream last fragment)) is none f = f.
 size_of log decoded v (alone (Unknown kind flags stream payload)) is none f = f.size
 
 -- GOAWAY below a number is GOAWAY.
-below_goaway : (i : ℕ) (sent : List Item) → list_any (is_goaway_below i) sent ≡ true → list_any is_goaway sent ≡ true
+below_goaway : (i : ℕ) (sent : List Item) → list_any (is_goaway_below i) sent ≡ true
+    → list_any is_goaway sent ≡ true
 unfolding is_goaway_below is_goaway
 below_goaway i [] some = absurd (both_ways false refl some)
 below_goaway i (block stream end octets ∷ sent) some = below_goaway i sent some
 below_goaway i (alone (Data stream end octets pad) ∷ sent) some = below_goaway i sent some
-below_goaway i (alone (Headers stream end last fragment pad priority) ∷ sent) some = below_goaway i sent some
+below_goaway i (alone (Headers stream end last fragment pad priority) ∷ sent) some =
+    below_goaway i sent some
 below_goaway i (alone (Priority stream octets) ∷ sent) some = below_goaway i sent some
 below_goaway i (alone (Reset stream code) ∷ sent) some = below_goaway i sent some
 below_goaway i (alone (Settings ack pairs) ∷ sent) some = below_goaway i sent some
@@ -187,61 +240,79 @@ below_goaway i (alone (Continuation stream last fragment) ∷ sent) some = below
 below_goaway i (alone (Unknown kind flags stream payload) ∷ sent) some = below_goaway i sent some
 
 -- Nothing is above where no GOAWAY was written.
-above_none : (role : Role) (i : ℕ) (sent : List Item) → list_any is_goaway sent ≡ false → is_above role i sent ≡ false
+above_none : (role : Role) (i : ℕ) (sent : List Item) → list_any is_goaway sent ≡ false
+    → is_above role i sent ≡ false
 unfolding is_above
 above_none Client i sent none = refl
-above_none Server i sent none = false_from_ne_true _ (λ some. both_ways _ none (below_goaway i sent some))
+above_none Server i sent none =
+    false_from_ne_true _ (λ some. both_ways _ none (below_goaway i sent some))
 
--- A dropped stream is.
-closed_by_us_is : (used active closed_by_us : Bool) → state_by used active closed_by_us ≡ ClosedByUs → closed_by_us ≡ true
+-- A stream in the state ClosedByUs is.
+closed_by_us_is : (used active closed_by_us : Bool) → state_by used active closed_by_us ≡ ClosedByUs
+    → closed_by_us ≡ true
 closed_by_us_is true false true is = refl
 closed_by_us_is true true closed_by_us is = cc
 closed_by_us_is true false false is = cc
 closed_by_us_is false active closed_by_us is = cc
 
--- A block that is ignored is on a dropped stream, where no GOAWAY was written, by its state.
-no_event_by : (s : State) (opens full ended large : Bool) → block_verdict s opens false full ended large ≡ NoEvent → s ≡ ClosedByUs
+-- A block that is ignored is on a stream that this end has closed, where no GOAWAY was written, by
+-- its state.
+ignored_by : (s : State) (opens full ended large : Bool)
+    → block_verdict s opens false full ended large ≡ NoEvent → s ≡ ClosedByUs
 unfolding block_verdict opening_verdict
-no_event_by Idle true true ended large is = cc
-no_event_by Idle true false ended true is = cc
-no_event_by Idle true false ended false is = cc
-no_event_by Idle false full ended large is = cc
-no_event_by Closed opens full ended large is = cc
-no_event_by ClosedByUs opens full ended large is = refl
-no_event_by Active opens full true large is = cc
-no_event_by Active opens full false true is = cc
-no_event_by Active opens full false false is = cc
+ignored_by Idle true true ended large is = cc
+ignored_by Idle true false ended true is = cc
+ignored_by Idle true false ended false is = cc
+ignored_by Idle false full ended large is = cc
+ignored_by Closed opens full ended large is = cc
+ignored_by ClosedByUs opens full ended large is = refl
+ignored_by Active opens full true large is = cc
+ignored_by Active opens full false true is = cc
+ignored_by Active opens full false false is = cc
 
 -- A block that is ignored is on a stream that was reset, where no GOAWAY was written.
-no_event_reset : (log : Log) (decoded : Option Decoded) (i : ℕ) → verdict_of_block (log_view log) i decoded ≡ NoEvent → list_any is_goaway log.sent ≡ false
+ignored_reset : (log : Log) (decoded : Option Decoded) (i : ℕ)
+    → verdict_of_block (log_view log) i decoded ≡ NoEvent → list_any is_goaway log.sent ≡ false
     → list_any (resets i) log.sent ≡ true
 unfolding is_closed_by_us
-no_event_reset log None i is none = cc
-no_event_reset log (Some decoded) i is none =
-    let state : state log i ≡ ClosedByUs = no_event_by (state log i) _ _ _ _ (rw none at is) in
-    elim (or_cases (list_any (resets i) log.sent) (is_above log.role i log.sent) (closed_by_us_is _ _ _ state)) [
+ignored_reset log None i is none = cc
+ignored_reset log (Some decoded) i is none =
+    let state : state log i ≡ ClosedByUs = ignored_by (state log i) _ _ _ _ (rw none at is) in
+    elim (or_cases (list_any (resets i) log.sent) (is_above log.role i log.sent)
+    (closed_by_us_is _ _ _ state)) [
       | inl reset ↦ reset
       | inr above ↦ absurd (both_ways _ (above_none log.role i log.sent none) above)
     ]
 
--- A stream that is live behind its block was taken.
-took_of : (log : Log) (decoded : Option Decoded) (v : Verdict) (item : Item) (items news : List Item) (i : ℕ) → verdict_by_rules (log_view log) decoded item ≡ v
+-- A stream that is active after its block was processed.
+active_processed : (log : Log) (decoded : Option Decoded) (v : Verdict) (item : Item)
+    (items news : List Item) (i : ℕ) → verdict_by_rules (log_view log) decoded item ≡ v
     → news ≡ items ++ log.sent
-    → ((code : Code) → v ≡ ConnectionFault code → ⊥) → ((code : Code) → v ≡ StreamFault code → list_any (resets (stream_of_item item)) news ≡ true)
-    → is_block_on i item ≡ true → list_any is_goaway log.sent ≡ false → list_any (resets i) news ≡ false
+    → ((code : Code) → v ≡ ConnectionFault code → ⊥)
+    → ((code : Code) → v ≡ StreamFault code → list_any (resets (stream_of_item item)) news ≡ true)
+    → is_block_on i item ≡ true → list_any is_goaway log.sent ≡ false
+    → list_any (resets i) news ≡ false
     → i ≤ greatest_processed (events_of (log_view log) decoded v item ++ log.reported)
 unfolding verdict_by_rules is_block_on events_of greatest_processed processed_by stream_of_item
-took_of log decoded (ConnectionFault code) (block stream end octets) items news i is line none reset here stays kept = absurd (none code refl)
-took_of log decoded (StreamFault code) (block stream end octets) items news i is line none reset here stays kept =
+active_processed log decoded (ConnectionFault code) (block stream end octets) items news i is line
+    none reset here stays kept = absurd (none code refl)
+active_processed log decoded (StreamFault code) (block stream end octets) items news i is line none
+    reset here stays kept =
     let same : stream ≡ i = eqb-true stream i here in
-    absurd (both_ways _ kept (subst (λ (j : ℕ). list_any (resets j) news ≡ true) same (reset code refl)))
-took_of log decoded NoEvent (block stream end octets) items news i is line none reset here stays kept =
+    absurd (both_ways _ kept (subst (λ (j : ℕ). list_any (resets j) news ≡ true) same
+    (reset code refl)))
+active_processed log decoded NoEvent (block stream end octets) items news i is line none reset here
+    stays kept =
     let same : stream ≡ i = eqb-true stream i here in
     let before : list_any (resets i) log.sent ≡ true =
-    subst (λ (j : ℕ). list_any (resets j) log.sent ≡ true) same (no_event_reset log decoded stream is stays) in
-    absurd (both_ways _ kept (ap (list_any (resets i)) line ∙ any_after (resets i) items log.sent before))
-took_of log decoded Reported (block stream end octets) items news i is line none reset here stays kept = omega (arith, eqb-true stream i here)
-took_of log decoded v (alone frame) items news i is line none reset here stays kept = absurd (both_ways false refl here)
+    subst (λ (j : ℕ). list_any (resets j) log.sent ≡ true) same
+    (ignored_reset log decoded stream is stays) in
+    absurd (both_ways _ kept (ap (list_any (resets i)) line
+    ∙ any_after (resets i) items log.sent before))
+active_processed log decoded Reported (block stream end octets) items news i is line none reset here
+    stays kept = omega (arith, eqb-true stream i here)
+active_processed log decoded v (alone frame) items news i is line none reset here stays kept =
+    absurd (both_ways false refl here)
 
 -- a sum over nothing
 total_none : (f : Item → ℕ) → total f [] ≡ 0
@@ -249,23 +320,29 @@ unfolding total
 total_none f = refl
 
 -- An item that isn't a fault of the connection keeps to what is asked of it.
-pub item_reads : (log : Log) (decoded : Option Decoded) (v : Verdict) (item : Item) (items news : List Item) → verdict_by_rules (log_view log) decoded item ≡ v
+pub item_reads : (log : Log) (decoded : Option Decoded) (v : Verdict) (item : Item)
+    (items news : List Item) → verdict_by_rules (log_view log) decoded item ≡ v
     → news ≡ items ++ log.sent
-    → ((code : Code) → v ≡ ConnectionFault code → ⊥) → ((code : Code) → v ≡ StreamFault code → list_any (resets (stream_of_item item)) news ≡ true)
-    → IsDecodable log → Reads log.role log.received log.sent news log.reported (events_of (log_view log) decoded v item) item
+    → ((code : Code) → v ≡ ConnectionFault code → ⊥)
+    → ((code : Code) → v ≡ StreamFault code → list_any (resets (stream_of_item item)) news ≡ true)
+    → IsUpLog log → Reads log.role log.received log.sent news log.reported
+    (events_of (log_view log) decoded v item) item
 item_reads log decoded v item items news is line none reset f =
     record {
       acks = acks_of log decoded v item is f;
       pongs = pongs_of log decoded v item is f;
       size = size_of log decoded v item is none f;
-      took = λ i here server stays kept alive. took_of log decoded v item items news i is line none reset here stays kept;
+      processed = λ i here server stays kept active_is. active_processed log decoded v item items
+          news i is line none reset here stays kept;
       clear = λ client i above.
-          let parts = unseen_item log decoded item i client above (λ code fault. none code (sym is ∙ fault)) in
+          let parts = unseen_item log decoded item i client above
+          (λ code fault. none code (sym is ∙ fault)) in
           record {
             ended = or_from (ends i item) false parts.0 refl;
             reset = or_from (resets i item) false parts.1 refl;
-            given = total_one (increment_on i) item [] ∙ rw (parts.2, total_none (increment_on i)) refl;
-            last_processed = total_one (data_on i) item [] ∙ rw (parts.3, total_none (data_on i)) refl;
+            given = total_one (increment_on i) item []
+                ∙ rw (parts.2, total_none (increment_on i)) refl;
+            no_data = total_one (data_on i) item [] ∙ rw (parts.3, total_none (data_on i)) refl;
             unnamed = events_unnamed log decoded v item i;
           };
     }

@@ -1,6 +1,7 @@
 -- An end that represents a log and hasn't failed is viewed as the log is: every observation agrees.
-use Rattle.std.proofs.Common.{◌≡◌, ℕ, ◌+◌, ◌==◌, Bool, true, false, if◌then◌else◌, List, length, pos, ◌-ℤ◌, Option, Some,
-    None, is_some, refl, sym, ap, ◌∙◌, arith, length-drop}
+use Rattle.std.proofs.Common.{◌≡◌, ℕ, ◌+◌, ◌==◌, Bool, true, false, if◌then◌else◌, List, length}
+use Rattle.std.proofs.Common.{pos, ◌-ℤ◌, Option, Some, None, is_some, refl, sym, ap, ◌∙◌, arith}
+use Rattle.std.proofs.Common.{length-drop}
 use Rattle.std.proofs.Math.Path.{fun_ext}
 use Rattle.std.proofs.lemmas.Int.{ints}
 use Rattle.std.specs.List.{list_any}
@@ -12,19 +13,23 @@ use Rattle.h2_log.specs.Acts.{Values}
 use Rattle.h2_log.specs.Settings.{is_server}
 use Rattle.h2_log.specs.States.{openings, when}
 use Rattle.h2_log.specs.Windows.{window, given_on_connection, granted_on_connection}
-use Rattle.h2_log.specs.Log.{Log, active, waiting, output, next_number, max_streams, goaway_written, max_payload_sent}
+use Rattle.h2_log.specs.Log.{Log, active, waiting, output, next_number, max_streams, goaway_written}
+use Rattle.h2_log.specs.Log.{max_payload_sent}
 use Rattle.h2_log.specs.LogView.{log_view, stream_of_log}
 use Rattle.h2_log.specs.View.{StreamView, View}
 use Rattle.h2_machine.specs.End.{End, end_view, stream_in, stream_at, number_after}
 use Rattle.h2_machine.specs.Represents.{Represents, RepresentsWhileUp, entry_by}
 
 -- As much output waits as the log says.
-pub waiting_agrees : (values : Values) (e : End) (log : Log) → Represents values e log → length e.output.waiting ≡ waiting log
+pub waiting_agrees : (values : Values) (e : End) (log : Log) → Represents values e log
+    → length e.output.waiting ≡ waiting log
 unfolding waiting
-waiting_agrees values e log represents = ap length represents.waiting ∙ length-drop log.given (output log)
+waiting_agrees values e log represents = ap length represents.waiting
+    ∙ length-drop log.given (output log)
 
 -- An entry has a stream where it is active.
-entry_stream : (active was_reset : Bool) (s : StreamView) → stream_in (entry_by active was_reset s) ≡ when active s
+entry_stream : (active was_reset : Bool) (s : StreamView)
+    → stream_in (entry_by active was_reset s) ≡ when active s
 entry_stream true was_reset s = refl
 entry_stream false true s = refl
 entry_stream false false s = refl
@@ -33,7 +38,8 @@ entry_stream false false s = refl
 pub stream_agrees : (e : End) (log : Log) (i : ℕ) → RepresentsWhileUp e log
     → stream_at e i ≡ when (active log i) (stream_of_log log i)
 stream_agrees e log i run =
-    ap stream_in (run.streams i) ∙ entry_stream (active log i) (list_any (resets i) log.sent) (stream_of_log log i)
+    ap stream_in (run.streams i)
+    ∙ entry_stream (active log i) (list_any (resets i) log.sent) (stream_of_log log i)
 
 -- There is something where the test holds.
 when_some : {A : Type 0} (b : Bool) (x : A) → is_some (when b x) ≡ b
@@ -41,7 +47,8 @@ when_some true x = refl
 when_some false x = refl
 
 -- A stream is active at the end just where the log says so.
-pub active_agrees : (e : End) (log : Log) (i : ℕ) → RepresentsWhileUp e log → is_some (stream_at e i) ≡ active log i
+pub active_agrees : (e : End) (log : Log) (i : ℕ) → RepresentsWhileUp e log
+    → is_some (stream_at e i) ≡ active log i
 active_agrees e log i run = ap is_some (stream_agrees e log i run) ∙ when_some _ _
 
 -- The number of streams that a server allows is the log's.
@@ -51,57 +58,71 @@ max_streams_agree Client ours logs same = refl
 max_streams_agree Server ours logs same = same refl
 
 -- The next number is the log's.
-next_agrees : (role : Role) (highest : ℕ) (received sent : List Item) → highest ≡ greatest_block (openings role received sent)
+next_agrees : (role : Role) (highest : ℕ) (received sent : List Item)
+    → highest ≡ greatest_block (openings role received sent)
     → (if is_server role then 0 else number_after highest)
     ≡ (if is_server role then 0 else number_after (greatest_block sent))
 next_agrees Client highest received sent is = ap number_after is
 next_agrees Server highest received sent is = refl
 
 -- A window is what was given, less what was taken.
-window_agrees : (window_left taken given : ℕ) → window_left + taken ≡ given → pos window_left ≡ window given taken
+window_agrees : (window_left taken given : ℕ) → window_left + taken ≡ given
+    → pos window_left ≡ window given taken
 window_agrees window_left taken given is = omega (arith, ints)
 
--- The log's view, with the end's own looks at states and at windows that would overflow, and with the payloads that it sends.
+-- The log's view, with the end's own looks at states and at windows that would overflow, and with
+-- the payloads that it sends.
 abbrev pub view_beside : End → Log → View
 view_beside e log =
-    record (log_view log) { state = (end_view e).state; overflows = (end_view e).overflows; max_payload = 16384 }
+    record (log_view log) {
+      state = (end_view e).state;
+      overflows = (end_view e).overflows;
+      max_payload = 16384;
+    }
 
 -- The two views are the same.
-pub views_agree : (e : End) (log : Log) → e.role ≡ log.role → e.failed ≡ log.failed → length e.output.waiting ≡ waiting log
+pub views_agree : (e : End) (log : Log) → e.role ≡ log.role → e.failed ≡ log.failed
+    → length e.output.waiting ≡ waiting log
     → RepresentsWhileUp e log → end_view e ≡ view_beside e log
 unfolding next_number
 views_agree e log role failed waits run =
     let stream = λ (k : ℕ). stream_agrees e log k run in
-    let max_streams : (if is_server e.role then e.own.in_force.max_streams else 0) ≡ (log_view log).max_streams =
-    rw role (max_streams_agree log.role e.own.in_force.max_streams (max_streams log) run.max_streams) in
-    let next : (if is_server e.role then 0 else number_after e.streams.highest) ≡ (log_view log).next_number =
+    let max_streams : (if is_server e.role then e.own.in_force.max_streams else 0)
+    ≡ (log_view log).max_streams =
+    rw role (max_streams_agree log.role e.own.in_force.max_streams (max_streams log)
+    run.max_streams) in
+    let next : (if is_server e.role then 0 else number_after e.streams.highest)
+    ≡ (log_view log).next_number =
     rw role (next_agrees log.role e.streams.highest log.received log.sent run.highest) in
-    let send = window_agrees e.windows.send (total data_of log.sent) (given_on_connection log.received) run.send_window in
-    let recv = window_agrees e.windows.recv (total data_of log.received) (granted_on_connection log.sent) run.recv_window in
-    let goaway : is_some e.goaway.sent ≡ goaway_written log = ap is_some run.goaway_sent ∙ when_some _ _ in
+    let send = window_agrees e.windows.send (total data_of log.sent)
+    (given_on_connection log.received) run.send_window in
+    let recv = window_agrees e.windows.recv (total data_of log.received)
+    (granted_on_connection log.sent) run.recv_window in
+    let goaway : is_some e.goaway.sent ≡ goaway_written log = ap is_some run.goaway_sent
+    ∙ when_some _ _ in
     λ i.
-        record {
-          role = role i;
-          failed = failed i;
-          started = run.started i;
-          begun = run.begun i;
-          state = (end_view e).state;
-          stream = λ k. stream k i;
-          overflows = (end_view e).overflows;
-          active_count = run.active_count i;
-          max_streams = max_streams i;
-          streams_allowed = run.streams_allowed i;
-          next_number = next i;
-          last_processed = run.last_processed i;
-          send_window = send i;
-          recv_window = recv i;
-          unreturned = run.unreturned i;
-          goaway_sent = goaway i;
-          goaway_received = run.goaway_received i;
-          settings_wait = run.awaits i;
-          ping = run.ping i;
-          resets = run.resets i;
-          waiting = waits i;
-          max_payload = 16384;
-          encoder = run.encoder i;
-        }
+    record {
+      role = role i;
+      failed = failed i;
+      started = run.started i;
+      begun = run.begun i;
+      state = (end_view e).state;
+      stream = λ k. stream k i;
+      overflows = (end_view e).overflows;
+      active_count = run.active_count i;
+      max_streams = max_streams i;
+      streams_allowed = run.streams_allowed i;
+      next_number = next i;
+      last_processed = run.last_processed i;
+      send_window = send i;
+      recv_window = recv i;
+      unreturned = run.unreturned i;
+      goaway_sent = goaway i;
+      goaway_received = run.goaway_received i;
+      settings_wait = run.awaits i;
+      ping = run.ping i;
+      resets = run.resets i;
+      waiting = waits i;
+      max_payload = 16384;
+      encoder = run.encoder i;
+    }

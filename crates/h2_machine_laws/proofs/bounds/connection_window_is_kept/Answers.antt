@@ -9,8 +9,12 @@ pub returns : goal.returns
 returns c =
     record {
       begins = λ role values. is_whole (new_end role values) (new_holds role values);
-      frame = λ e decoded frame whole. is_whole (after_frame e decoded frame) (frame_holds e decoded frame (holds e whole));
+      frame = λ e decoded frame whole. is_whole (after_frame e decoded frame)
+          (frame_holds e decoded frame (holds e whole));
       fault = λ e code whole. is_whole (fail code e.streams.last_processed e) (holds e whole);
-      unprocessed = λ e i whole. is_whole (close_unprocessed e i) (ended e i 0 (lacks_none e.windows.recv e.windows.unreturned e.streams.highest e.streams.entries (holds e whole)));
-      call = λ e act accepted whole. is_whole (after_call e act) (call_holds e act accepted (holds e whole));
+      unprocessed = λ e i whole. is_whole (close_unprocessed e i)
+          (ended e i 0 (lacks_none e.windows.recv e.windows.unreturned e.streams.highest
+          e.streams.entries (holds e whole)));
+      call = λ e act accepted whole. is_whole (after_call e act)
+          (call_holds e act accepted (holds e whole));
     }

@@ -10,7 +10,9 @@ returns c =
     record {
       begins = new_bounded;
       frame = frame_bounded;
-      fault = λ e code up bounded. failed_bounded e code e.streams.last_processed (is_up e up bounded);
-      unprocessed = λ e i up bounded. is_bounded (close_unprocessed e i) (ended_up e i 0 (is_up e up bounded));
+      fault = λ e code up bounded. failed_bounded e code e.streams.last_processed
+          (is_up e up bounded);
+      unprocessed = λ e i up bounded. is_bounded (close_unprocessed e i)
+          (ended_up e i 0 (is_up e up bounded));
       call = call_bounded;
     }
