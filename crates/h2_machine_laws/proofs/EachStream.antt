@@ -33,13 +33,13 @@ get_each change m q =
     map.get-entries (each_entry change m) q ∙ ap (map.find nat_cmp q) (entries_changed change m) ∙ found_each change q (map.entries m)
     ∙ ap (changed_entry change) (sym (map.get-entries m q))
 
--- What is kept of a number, changed, by whether it is live and was reset.
+-- What is kept of a number, changed, by whether it is active and was reset.
 pub each_by : (change : Entry → Entry) (active was : Bool) (s t : StreamView) → change reset_entry ≡ reset_entry → change (active_entry s) ≡ active_entry t
     → changed_entry change (entry_by active was s) ≡ entry_by active was t
 each_by change true was s t kept moved = ap (λ (x : Entry). Some x) moved
 each_by change false true s t kept moved = ap (λ (x : Entry). Some x) kept
 each_by change false false s t kept moved = refl
 
--- A credit that is shifted from one initial window to another, by signed numbers.
+-- A receive window that is shifted from one initial window to another, by signed numbers.
 pub shifted : (old new more last_processed : ℕ) → ((pos (old + more) -ℤ pos last_processed) +ℤ pos new) -ℤ pos old ≡ pos (new + more) -ℤ pos last_processed
 shifted old new more last_processed = omega (arith, ints)

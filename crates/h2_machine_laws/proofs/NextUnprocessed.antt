@@ -1,4 +1,4 @@
--- The next stream that is to be told as unprocessed is the same at an end as at its log: the least live number above the last one.
+-- The next stream that is to be reported as unprocessed is the same at an end as at its log: the least active number above the last one.
 use Rattle.std.proofs.Common.{◌≡◌, ◌≢◌, ℕ, zero, suc, ◌≤◌, ◌<◌, Bool, true, false, nat_lt, ◌&&◌, cond, T, if◌then◌else◌, List, [], ◌∷◌, Some, None, Less, Equal, Greater, Ordering, refl, sym, ◌∙◌, arith}
 use Rattle.std.specs.List.{list_any}
 use Rattle.std.specs.FinMap as map
@@ -28,14 +28,14 @@ use Rattle.h2_machine_laws.proofs.RecvWithoutFrame.{said, core, Going, going}
 use Rattle.h2_machine_laws.proofs.RecvVerdict.{active_said}
 use Rattle.h2_machine_laws.proofs.RecvVerdictLimits.{found_after, found_first}
 
--- A number that is found, is live, and is above another.
+-- A number that is found, is active, and is above another.
 record Found (above n : ℕ) (es : List (ℕ × Entry)) : Type 0 where
   pub x : Entry
   pub found : map.find nat_cmp n es ≡ Some x
   pub active_by_items : is_active_entry x ≡ true
   pub higher : nat_lt above n ≡ true
 
--- The first live number is found, by the test of the first entry.
+-- The first active number is found, by the test of the first entry.
 first_by : (above : ℕ) (e : ℕ × Entry) (es : List (ℕ × Entry)) (b : Bool) → (is_active_entry e.1 && nat_lt above e.0) ≡ b → T (below_all nat_cmp e.0 es)
     → (first_active above es ≢ 0 → Found above (first_active above es) es) → (if b then e.0 else first_active above es) ≢ 0
     → Found above (if b then e.0 else first_active above es) (e ∷ es)
@@ -46,7 +46,7 @@ first_by above e es false is h after some =
     let unparsed = after some in
     record { x = unparsed.x; found = found_after (first_active above es) e es unparsed.x h unparsed.found; active_by_items = unparsed.active_by_items; higher = unparsed.higher }
 
--- The first live number is found.
+-- The first active number is found.
 first_found : (above : ℕ) (es : List (ℕ × Entry)) → T (map.is_sorted nat_cmp es) → first_active above es ≢ 0 → Found above (first_active above es) es
 unfolding first_active
 first_found above [] h some = absurd (some refl)
@@ -54,7 +54,7 @@ first_found above (e ∷ es) h some =
     first_by above e es (is_active_entry e.1 && nat_lt above e.0) refl (first (below_all nat_cmp e.0 es) (map.is_sorted nat_cmp es) h)
     (first_found above es (second (below_all nat_cmp e.0 es) (map.is_sorted nat_cmp es) h)) some
 
--- A number behind the first entry: the first live one is there, or no greater.
+-- A number after the first entry: the first active one is there, or no greater.
 least_by : (above i : ℕ) (e : ℕ × Entry) (es : List (ℕ × Entry)) (b : Bool) → (is_active_entry e.1 && nat_lt above e.0) ≡ b → e.0 < i
     → (first_active above es ≢ 0) × (first_active above es ≤ i)
     → ((if b then e.0 else first_active above es) ≢ 0) × ((if b then e.0 else first_active above es) ≤ i)
@@ -62,7 +62,7 @@ least_by above i e es true is below unparsed =
     let higher : above < e.0 = ltb-true above e.0 (and_parts (is_active_entry e.1) (nat_lt above e.0) is).1 in (omega arith, omega arith)
 least_by above i e es false is below unparsed = unparsed
 
--- A live number above another: the first live one is there and no greater, by how it compares with the first entry.
+-- An active number above another: the first active one is there and no greater, by how it compares with the first entry.
 least_at : (above i : ℕ) (e : ℕ × Entry) (es : List (ℕ × Entry)) (x : Entry) (r : Ordering) → nat_cmp i e.0 ≡ r → T (below_all nat_cmp e.0 es)
     → (map.find nat_cmp i es ≡ Some x → (first_active above es ≢ 0) × (first_active above es ≤ i))
     → cond (is_eq r) (Some e.1) (map.find nat_cmp i es) ≡ Some x → is_active_entry x ≡ true → above < i
@@ -78,7 +78,7 @@ least_at above i e es x Equal is h after found alive higher =
     let here : above < e.0 = omega (arith, at, higher) in
     rw (same, alive, lt-ltb above e.0 here) (omega (arith, here), omega (arith, at))
 
--- A live number above another: the first live one is there and no greater.
+-- An active number above another: the first active one is there and no greater.
 first_least : (above i : ℕ) (es : List (ℕ × Entry)) (x : Entry) → T (map.is_sorted nat_cmp es) → map.find nat_cmp i es ≡ Some x → is_active_entry x ≡ true → above < i
     → (first_active above es ≢ 0) × (first_active above es ≤ i)
 unfolding first_active
@@ -87,7 +87,7 @@ first_least above i (e ∷ es) x h found alive higher =
     least_at above i e es x (nat_cmp i e.0) refl (first (below_all nat_cmp e.0 es) (map.is_sorted nat_cmp es) h)
     (λ after. first_least above i es x (second (below_all nat_cmp e.0 es) (map.is_sorted nat_cmp es) h) after alive higher) found alive higher
 
--- what is kept and living is a live stream
+-- what is kept and living is an active stream
 living_is_active : (active was : Bool) (s : StreamView) (x : Entry) → entry_by active was s ≡ Some x → is_active_entry x ≡ true → active ≡ true
 living_is_active true was s x is alive = refl
 living_is_active false true s x is alive = let same : reset_entry ≡ x = cc in absurd (both_ways false refl (rw (← same) at alive))
@@ -100,18 +100,18 @@ two_least (suc m) zero one two = absurd ((one (λ is. absurd (omega (arith, is))
 two_least zero (suc n) one two = absurd ((two (λ is. absurd (omega (arith, is)))).0 refl)
 two_least (suc m) (suc n) one two = omega (arith, (one (λ is. absurd (omega (arith, is)))).1, (two (λ is. absurd (omega (arith, is)))).1)
 
--- a live stream's block is among those that a client wrote
+-- an active stream's block is among those that a client wrote
 client_block_of : (role : Role) (n : ℕ) (received sent : List Item) → role ≡ Client → list_any (is_block_on n) (openings role received sent) ≡ true
     → list_any (is_block_on n) sent ≡ true
 client_block_of Client n received sent client here = here
 client_block_of Server n received sent client here = absurd (cc)
 
--- A live stream's block is among those that a client wrote.
+-- An active stream's block is among those that a client wrote.
 client_block : (log : Log) (n : ℕ) → log.role ≡ Client → active log n ≡ true → list_any (is_block_on n) log.sent ≡ true
 client_block log n client alive =
     client_block_of log.role n log.received log.sent client (active_parts log.role n log.received log.sent log.reported alive).opened
 
--- The first live number above the last one is the least one.
+-- The first active number above the last one is the least one.
 least_same : (e : End) (log : Log) (last : ℕ) → log.role ≡ Client → Going e (core log)
     → first_active last (map.entries e.streams.entries) ≡ least_block (λ j. active log j && nat_lt last j) log.sent
 least_same e log last client g =
@@ -145,7 +145,7 @@ next_by e log Client false same is goaway with_sent g =
     and_right (active log j) (nat_lt (least_goaway log.received) j)
     (le-ltb (least_goaway log.received) j (omega (arith, last_none log.received goaway, client_low log.received log.sent client, below)))))
 
--- The next stream that is to be told as unprocessed is the same.
+-- The next stream that is to be reported as unprocessed is the same.
 pub next_same : (values : Values) (e : End) (log : Log) → Represents values e log → log.failed ≡ None
     → unprocessed_of_end e.role e.streams.entries e.goaway.received ≡ next_unprocessed log
 unfolding next_unprocessed

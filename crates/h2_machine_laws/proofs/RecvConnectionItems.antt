@@ -54,18 +54,18 @@ plain_quiet frame is =
       gives = λ i. refl;
     }
 
--- A stream that is as live as before leaves nothing owing, by the tests.
+-- A stream that is as active as before leaves nothing owing, by the tests.
 none_owing_by : (before after : Bool) (n : ℕ) → after ≡ before → (if before && not after then n else 0) ≡ 0
 none_owing_by true true n same = refl
 none_owing_by false after n same = refl
 none_owing_by true false n same = absurd (cc)
 
--- A stream that is as live as before leaves nothing owing.
+-- A stream that is as active as before leaves nothing owing.
 pub none_owing : (log after : Log) (i : ℕ) → active after i ≡ active log i → owed_at_close log after i ≡ 0
 unfolding owed_at_close
 none_owing log after i same = none_owing_by (active log i) (active after i) (unreleased after i) same
 
--- A stream that wasn't live leaves nothing owing.
+-- A stream that wasn't active leaves nothing owing.
 pub dead_owing : (log after : Log) (i : ℕ) → active log i ≡ false → owed_at_close log after i ≡ 0
 unfolding owed_at_close
 dead_owing log after i dead = rw dead refl

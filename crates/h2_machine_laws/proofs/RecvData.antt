@@ -1,4 +1,4 @@
--- What DATA that is told makes of an end and of its log.
+-- What DATA that is reported makes of an end and of its log.
 use Rattle.std.proofs.Common.{◌≡◌, ◌≢◌, ℕ, ◌≤◌, ◌+◌, ◌-◌, Bool, true, false, ◌&&◌, ◌||◌, if◌then◌else◌, pos, ◌-ℤ◌, List, [], ◌∷◌, length, Option, refl, ap, sym, ◌∙◌, inl, inr, arith, zero-add}
 use Rattle.std.specs.List.{list_any}
 use Rattle.std.specs.FinMap as map
@@ -34,7 +34,7 @@ use Rattle.h2_machine_laws.proofs.RecvConnectionItems.{none_owing}
 use Rattle.h2_machine_laws.proofs.RecvUnprocessed.{full_owing}
 use Rattle.h2_machine_laws.proofs.RecvReset.{one_less, data_common, data_apart, data_used, data_gives, data_takes}
 
--- A stream is set and removed at once: it isn't live and wasn't reset, and others are as they were.
+-- A stream is set and removed at once: it isn't active and wasn't reset, and others are as they were.
 pub said_over : (streams : StreamMap) (i : ℕ) (x : Entry) (c d : Core) → AreSaid streams c → ((j : ℕ) → j ≢ i → SameAt j c d)
     → active_by_items d i ≡ false → list_any (resets i) d.sent ≡ false → AreSaid (map.remove (map.insert streams i x) i) d
 said_over streams i x c d are same dead kept j = elim (cases_eq j i) [
@@ -43,7 +43,7 @@ said_over streams i x c d are same dead kept j = elim (cases_eq j i) [
       get_removed_other (map.insert streams i x) i j other ∙ get_set_other streams i x j other ∙ kept_at streams j c d (same j other) (are j)
 ]
 
--- the event of DATA is mild, and shows nothing taken
+-- the event of DATA is harmless, and shows nothing taken
 reported_harmless : (i : ℕ) (octets : List ℕ) (n : ℕ) (end : Bool) → ChangesNoStream (DataEvent i octets n end)
 unfolding one_acked one_pong reports_unprocessed
 reported_harmless i octets n end = record { acks = refl; pongs = refl; names = λ j. refl }
@@ -78,11 +78,11 @@ data_unreset : (i : ℕ) (end : Bool) (octets : List ℕ) (pad : Option ℕ) (j 
 unfolding resets
 data_unreset i end octets pad j = refl
 
--- the core with DATA that was read and told
+-- the core with DATA that was read and reported
 abbrev after_data : Core → ℕ → Bool → List ℕ → Option ℕ → Core
 after_data c i end octets pad = reads (report c (DataEvent i octets (length (payload_of (Data i end octets pad))) end)) (alone (Data i end octets pad))
 
--- a credit that is used, by signed numbers
+-- a receive window that is used, by signed numbers
 used_recv_window : (g t n : ℕ) → (pos g -ℤ pos t) -ℤ pos n ≡ pos g -ℤ pos (n + t)
 used_recv_window g t n = omega (arith, ints)
 
@@ -93,7 +93,7 @@ or_swapped true false = refl
 or_swapped false true = refl
 or_swapped false false = refl
 
--- what is kept back where more is told
+-- what is kept back where more is reported
 more_kept : (n reported rel : ℕ) → rel ≤ reported → (reported - rel) + n ≡ (n + reported) - rel
 more_kept n reported rel within = omega (arith, within)
 
@@ -125,7 +125,7 @@ opened_more : (role : Role) (i : ℕ) (item : Item) (received sent : List Item) 
 opened_more Client i item received sent here = here
 opened_more Server i item received sent here = or_right (is_block_on i item) (list_any (is_block_on i) received) here
 
--- DATA that comes behind its sender's or before the receiver's end leaves its stream live, by the flags behind it.
+-- DATA that comes after its sender's or before the receiver's end leaves its stream active, by the flags after it.
 data_is_active : (c : Core) (i : ℕ) (end : Bool) (octets : List ℕ) (pad : Option ℕ) → active_by_items c i ≡ true
     → ((list_any (ends i) c.received || end) && list_any (ends i) c.sent) ≡ false → active_by_items (after_data c i end octets pad) i ≡ true
 data_is_active c i end octets pad alive goes =
@@ -146,7 +146,7 @@ data_is_active c i end octets pad alive goes =
       unnamed = parts.unnamed;
     })
 
--- DATA behind which both sides have ended its stream ends it, by the flags behind it.
+-- DATA after which both sides have ended its stream ends it, by the flags after it.
 data_dead : (c : Core) (i : ℕ) (end : Bool) (octets : List ℕ) (pad : Option ℕ)
     → ((list_any (ends i) c.received || end) && list_any (ends i) c.sent) ≡ true → active_by_items (after_data c i end octets pad) i ≡ false
 data_dead c i end octets pad over =
@@ -156,7 +156,7 @@ data_dead c i end octets pad over =
     (lasts_parts i d.received d.sent (active_parts d.role i d.received d.sent d.reported alive).lasts).ended
     (rw (data_ends i end octets pad, or_swapped end (list_any (ends i) c.received)) over))
 
--- What an end keeps where DATA is told on a live stream, by what it makes of the streams and their count.
+-- What an end keeps where DATA is reported on an active stream, by what it makes of the streams and their count.
 data_advances : (h : CoreFacts) (c : Core) (i : ℕ) (end : Bool) (octets : List ℕ) (pad : Option ℕ) (streams : StreamMap) (count : ℕ)
     → active_by_items c i ≡ true → length (payload_of (Data i end octets pad)) ≤ h.windows.recv → AreSaid streams (after_data c i end octets pad)
     → count ≡ count_below (greatest_used c + 1) (active_by_items (after_data c i end octets pad)) → Advances h c
@@ -180,7 +180,7 @@ still_waits : (e : End) (log : Log) (decoded : Option Decoded) (item : Item) (st
 still_waits e log decoded item streams count recv_window w =
     record { same_role = w.same_role; same_failed = w.same_failed; waiting = w.waiting; given = w.given }
 
--- What DATA on a live stream makes of an end, by the test whether the stream is over.
+-- What DATA on an active stream makes of an end, by the test whether the stream is over.
 data_reported_by : (e : End) (log : Log) (decoded : Option Decoded) (i : ℕ) (end : Bool) (octets : List ℕ) (pad : Option ℕ) (b : Bool)
     → ((list_any (ends i) log.received || end) && list_any (ends i) log.sent) ≡ b
     → active_by_items (core log) i ≡ true → length (payload_of (Data i end octets pad)) ≤ e.windows.recv
@@ -228,7 +228,7 @@ data_reported_by e log decoded i end octets pad false goes alive within rel w g 
       | inr other ↦ (data_same c i end octets pad j other).active
     ]))) g)
 
--- What DATA on a live stream makes of an end.
+-- What DATA on an active stream makes of an end.
 pub data_reported : (e : End) (log : Log) (decoded : Option Decoded) (i : ℕ) (end : Bool) (octets : List ℕ) (pad : Option ℕ) → active_by_items (core log) i ≡ true
     → length (payload_of (Data i end octets pad)) ≤ e.windows.recv → released i log.calls ≤ reported_total (flow_on i) log.reported → Waits e log → Going e (core log)
     → After (after_reported e decoded (alone (Data i end octets pad))) (with_verdict log decoded (alone (Data i end octets pad)) Reported)

@@ -1,4 +1,4 @@
--- What an event that is told makes of what an end keeps, by what it makes of the streams.
+-- What an event that is reported makes of what an end keeps, by what it makes of the streams.
 use Rattle.std.proofs.Common.{◌≡◌, ℕ, ◌+◌, Bool, true, false, if◌then◌else◌, List, ◌∷◌, refl, sym, ◌∙◌, arith}
 use Rattle.h2_block.specs.Grouping.{Item}
 use Rattle.h2_log.specs.declared.role.Role.{Role}
@@ -9,7 +9,7 @@ use Rattle.h2_machine.specs.End.{StreamMap}
 use Rattle.h2_machine_laws.proofs.RecvWithoutFrame.{Core, CoreFacts, Advances, AreSaid, active_by_items, greatest_used}
 use Rattle.h2_machine_laws.proofs.RecvLittleChanges.{SameAt, kept_at, count_same}
 
--- the core with an event that was told
+-- the core with an event that was reported
 abbrev pub report : Core → Event → Core
 report c event = record c { reported = event ∷ c.reported }
 
@@ -24,13 +24,13 @@ pub record ChangesNoStream (event : Event) : Type 0 where
   pub pongs : one_pong event ≡ 0
   pub names : (i : ℕ) → reports_unprocessed i event ≡ false
 
--- Streams are live as before behind such an event.
+-- Streams are active as before after such an event.
 pub active_reported : (role : Role) (i : ℕ) (received sent : List Item) (event : Event) (reported : List Event) → reports_unprocessed i event ≡ false
     → is_active role i received sent (event ∷ reported) ≡ is_active role i received sent reported
 unfolding is_active
 active_reported role i received sent event reported none = rw none refl
 
--- What an end keeps where an event is told that neither acknowledges nor answers, by what it makes of the streams, of their count, and of the
+-- What an end keeps where an event is reported that neither acknowledges nor answers, by what it makes of the streams, of their count, and of the
 -- greatest stream that was taken.
 pub reported_by : (h : CoreFacts) (c : Core) (event : Event) (streams : StreamMap) (count last_processed : ℕ) → one_acked event ≡ 0 → one_pong event ≡ 0
     → AreSaid streams (report c event) → count ≡ count_below (greatest_used c + 1) (active_by_items (report c event))
@@ -61,7 +61,7 @@ reported_by h c event streams count last_processed quiet none are counts takes g
       resets = g.resets;
     }
 
--- What an end keeps where a mild event is told.
+-- What an end keeps where a harmless event is reported.
 pub reported_step : (h : CoreFacts) (c : Core) (event : Event) (streams : StreamMap) (last_processed : ℕ) → ChangesNoStream event → AreSaid streams (report c event)
     → last_processed ≡ (if is_server c.role then greatest_processed (event ∷ c.reported) else 0) → Advances h c
     → Advances (record h { streams = record h.streams { entries = streams; last_processed = last_processed } }) (report c event)
@@ -69,7 +69,7 @@ reported_step h c event streams last_processed q are takes g =
     reported_by h c event streams h.streams.active_count last_processed q.acks q.pongs are
     (g.active_count ∙ sym (count_same _ _ _ (λ i. active_reported c.role i c.received c.sent event c.reported (q.names i)))) takes g
 
--- The log says the same of a number behind an event that tells of no flow on it.
+-- The log says the same of a number after an event that reports no flow on it.
 pub same_reported : (j : ℕ) (c : Core) (event : Event) → ChangesNoStream event → flow_on j event ≡ 0 → SameAt j c (report c event)
 same_reported j c event q none =
     let acks : reported_total one_acked (event ∷ c.reported) ≡ reported_total one_acked c.reported = reported_kept one_acked event c.reported q.acks in
@@ -89,7 +89,7 @@ same_both j c d f one two =
       stream = λ alive. two.stream (one.active ∙ alive) ∙ one.stream alive;
     }
 
--- The greatest stream that was taken is as before behind an event that shows none.
+-- The greatest stream that was taken is as before after an event that shows none.
 pub taken_kept : (b : Bool) (event : Event) (reported : List Event) → processed_by event ≡ 0
     → (if b then greatest_processed (event ∷ reported) else 0) ≡ (if b then greatest_processed reported else 0)
 unfolding greatest_processed

@@ -64,7 +64,7 @@ unfolding count_below
 count_same zero f g same = refl
 count_same (suc n) f g same = rw (same n, count_same n f g same) refl
 
--- Streams are live as before, where an item is read that is no block, no end and no reset of them.
+-- Streams are active as before, where an item is read that is no block, no end and no reset of them.
 pub active_read : (role : Role) (i : ℕ) (item : Item) (received sent : List Item) (reported : List Event) → is_block_on i item ≡ false → ends i item ≡ false
     → resets i item ≡ false → is_active role i (item ∷ received) sent reported ≡ is_active role i received sent reported
 unfolding is_active is_over
@@ -138,7 +138,7 @@ quiet_read h c item q g =
       resets = g.resets;
     }
 
--- An item that changes nothing of what an end keeps, but perhaps credits, where it is written.
+-- An item that changes nothing of what an end keeps, but perhaps receive windows, where it is written.
 pub record IsQuietOut (item : Item) : Type 0 where
   pub blocks : (i : ℕ) → is_block_on i item ≡ false
   pub greatest : (items : List Item) → greatest_block (item ∷ items) ≡ greatest_block items
@@ -155,7 +155,7 @@ pub record IsQuietOut (item : Item) : Type 0 where
   pub reset : one_reset item ≡ 0
   pub gives : (i : ℕ) → i ≢ 0 → increment_on i item ≡ 0
 
--- a live stream's number isn't 0
+-- an active stream's number isn't 0
 pub active_some : (c : Core) (i : ℕ) → active_by_items c i ≡ true → i ≢ 0
 active_some c i alive none =
     let odd : i % 2 ≡ 1 = eqb-true (i % 2) 1 (active_parts c.role i c.received c.sent c.reported alive).odd in absurd (omega (arith, odd, none))
@@ -165,7 +165,7 @@ own_kept : (id first count : ℕ) (item : Item) (sent : List Item) → one_setti
 own_kept id first count item sent none =
     ap (λ (items : List Item). value_read id first items) (up_to_next count item sent (λ one. absurd (omega arith)))
 
--- What an end keeps is as before, where a quiet item is written, but for the credit.
+-- What an end keeps is as before, where a quiet item is written, but for the receive window.
 pub quiet_wrote : (h : CoreFacts) (c : Core) (item : Item) (recv_window unreturned given : ℕ) → IsQuietOut item → recv_window ≡ h.windows.recv + increment_on 0 item → unreturned ≡ given
     → Advances h c → Advances (record h { windows = record h.windows { recv = recv_window; unreturned = unreturned } }) (record c { sent = item ∷ c.sent; unreturned = given })
 unfolding total granted_on granted_on_connection settings_count

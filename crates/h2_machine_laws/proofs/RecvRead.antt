@@ -62,7 +62,7 @@ read_step h c item streams count used send_window recv_window q are counts great
       resets = g.resets;
     }
 
--- A stream is set: it is live, and others are as they were.
+-- A stream is set: it is active, and others are as they were.
 pub said_set : (streams : StreamMap) (i : ℕ) (stream : StreamView) (c d : Core) → AreSaid streams c → ((j : ℕ) → j ≢ i → SameAt j c d)
     → active_by_items d i ≡ true → stream ≡ said d i → AreSaid (map.insert streams i (active_entry stream)) d
 said_set streams i stream c d are same active is j = elim (cases_eq j i) [
@@ -70,7 +70,7 @@ said_set streams i stream c d are same active is j = elim (cases_eq j i) [
   | inr other ↦ get_set_other streams i (active_entry stream) j other ∙ kept_at streams j c d (same j other) (are j)
 ]
 
--- A stream is removed: it isn't live and wasn't reset, and others are as they were.
+-- A stream is removed: it isn't active and wasn't reset, and others are as they were.
 pub said_removed : (streams : StreamMap) (i : ℕ) (c d : Core) → AreSaid streams c → ((j : ℕ) → j ≢ i → SameAt j c d)
     → active_by_items d i ≡ false → list_any (resets i) d.sent ≡ false → AreSaid (map.remove streams i) d
 said_removed streams i c d are same dead kept j = elim (cases_eq j i) [
@@ -78,7 +78,7 @@ said_removed streams i c d are same dead kept j = elim (cases_eq j i) [
   | inr other ↦ get_removed_other streams i j other ∙ kept_at streams j c d (same j other) (are j)
 ]
 
--- A stream is reset: it isn't live, and others are as they were.
+-- A stream is reset: it isn't active, and others are as they were.
 pub said_reset : (streams : StreamMap) (i : ℕ) (c d : Core) → AreSaid streams c → ((j : ℕ) → j ≢ i → SameAt j c d)
     → active_by_items d i ≡ false → list_any (resets i) d.sent ≡ true → AreSaid (map.insert streams i reset_entry) d
 said_reset streams i c d are same dead was j = elim (cases_eq j i) [
@@ -115,7 +115,7 @@ pub record IsApart (j : ℕ) (item : Item) : Type 0 where
   pub flow : data_on j item ≡ 0
   pub gives : increment_on j item ≡ 0
 
--- The log says the same of a number behind an item that is read and touches nothing of it.
+-- The log says the same of a number after an item that is read and touches nothing of it.
 pub same_read : (j : ℕ) (c : Core) (item : Item) → one_settings item ≡ 0 → IsApart j item → SameAt j c (reads c item)
 unfolding total given_on
 same_read j c item none a =
@@ -128,7 +128,7 @@ same_read j c item none a =
       stream = λ alive. rw (value4, gave, came, a.ended) refl;
     }
 
--- The log says the same of a number that isn't live, before and behind.
+-- The log says the same of a number that isn't active, before and after.
 pub same_dead : (j : ℕ) (c : Core) (item : Item) → active_by_items c j ≡ false → active_by_items (reads c item) j ≡ false → SameAt j c (reads c item)
 same_dead j c item dead still =
     record { active = still ∙ sym dead; was_reset = refl; stream = λ alive. absurd (both_ways (active_by_items c j) dead alive) }
@@ -139,7 +139,7 @@ opened_before : (role : Role) (j : ℕ) (item : Item) (received sent : List Item
 opened_before Client j item received sent none here = here
 opened_before Server j item received sent none here = rw none at here
 
--- A stream that isn't live isn't live behind an item that is read and is no block of it.
+-- A stream that isn't active isn't active after an item that is read and is no block of it.
 pub stays_dead : (c : Core) (j : ℕ) (item : Item) → is_block_on j item ≡ false → active_by_items c j ≡ false → active_by_items (reads c item) j ≡ false
 stays_dead c j item none dead =
     false_from_ne_true (active_by_items (reads c item) j) (λ alive. both_ways (active_by_items c j) dead

@@ -1,4 +1,4 @@
--- What RST_STREAM, and DATA that is dropped, make of an end and of its log.
+-- What RST_STREAM, and DATA that is ignored, make of an end and of its log.
 use Rattle.std.proofs.Common.{◌≡◌, ◌≢◌, ℕ, ◌≤◌, ◌+◌, ◌-◌, Bool, true, false, ◌==◌, List, [], ◌∷◌, length, Option, refl, ap, sym, ◌∙◌, inl, inr, arith, zero-add}
 use Rattle.std.specs.List.{list_any}
 use Rattle.std.specs.FinMap as map
@@ -28,7 +28,7 @@ use Rattle.h2_machine_laws.proofs.RecvEvents.{ChangesNoStream, quiet_reported, a
 use Rattle.h2_machine_laws.proofs.RecvConnectionItems.{dead_owing, read_waits}
 use Rattle.h2_machine_laws.proofs.RecvUnprocessed.{full_owing}
 
--- What an end keeps where an item on a stream that isn't live is read, which gives nothing and may take of the connection's window.
+-- What an end keeps where an item on a stream that isn't active is read, which gives nothing and may take of the connection's window.
 pub dead_read : (h : CoreFacts) (c : Core) (item : Item) (i recv_window : ℕ) → IsCommon item → ((j : ℕ) → j ≢ i → IsApart j item) → is_block_on i item ≡ false
     → greatest_used (reads c item) ≡ greatest_used c → increment_on 0 item ≡ 0 → recv_window + data_of item ≡ h.windows.recv → active_by_items c i ≡ false → Advances h c
     → Advances (record h { windows = record h.windows { recv = recv_window } }) (reads c item)
@@ -69,7 +69,7 @@ reset_takes : (i code : ℕ) → data_of (alone (Reset i code)) ≡ 0
 unfolding data_of
 reset_takes i code = refl
 
--- What RST_STREAM on a stream that isn't live makes of an end.
+-- What RST_STREAM on a stream that isn't active makes of an end.
 pub reset_ignored : (e : End) (log : Log) (decoded : Option Decoded) (i code : ℕ) → active_by_items (core log) i ≡ false → Waits e log → Going e (core log)
     → After (after_ignored e decoded (alone (Reset i code))) (with_verdict log decoded (alone (Reset i code)) NoEvent)
 unfolding with_verdict after_ignored replies_to events_of discarded_flow data_of stream_of_item stream_of with_sent with_reported
@@ -80,7 +80,7 @@ reset_ignored e log decoded i code dead w g =
     (λ up. dead_read (core_facts e) (core log) item i e.windows.recv (reset_common i code) (reset_apart i code) (reset_opens i code i) (reset_used (core log) i code)
     (reset_gives i code) (omega (arith, reset_takes i code)) dead g)
 
--- A stream on which RST_STREAM was read isn't live.
+-- A stream on which RST_STREAM was read isn't active.
 reset_dead : (c : Core) (i code : ℕ) → active_by_items (reads c (alone (Reset i code))) i ≡ false
 unfolding resets
 reset_dead c i code =
@@ -89,7 +89,7 @@ reset_dead c i code =
     (lasts_parts i (alone (Reset i code) ∷ c.received) c.sent (active_parts c.role i (alone (Reset i code) ∷ c.received) c.sent c.reported alive).lasts).unreset
     (or_left _ _ (eq-eqb i i refl)))
 
--- the event of an RST_STREAM that was read is mild, tells no flow and shows nothing taken
+-- the event of an RST_STREAM that was read is harmless, reports no flow and shows nothing taken
 reset_harmless : (i code : ℕ) → ChangesNoStream (ResetEvent i code false)
 unfolding one_acked one_pong reports_unprocessed
 reset_harmless i code = record { acks = refl; pongs = refl; names = λ j. refl }
@@ -102,7 +102,7 @@ reset_shows : (i code : ℕ) → processed_by (ResetEvent i code false) ≡ 0
 unfolding processed_by
 reset_shows i code = refl
 
--- Where a stream was live and isn't, the count is one less.
+-- Where a stream was active and isn't, the count is one less.
 pub one_less : (c d : Core) (i n : ℕ) → greatest_used d ≡ greatest_used c → ((j : ℕ) → j ≢ i → SameAt j c d) → active_by_items c i ≡ true → active_by_items d i ≡ false
     → n ≡ count_below (greatest_used c + 1) (active_by_items c) → n - 1 ≡ count_below (greatest_used d + 1) (active_by_items d)
 one_less c d i n greatest same alive dead is =
@@ -112,7 +112,7 @@ one_less c d i n greatest same alive dead is =
     (λ j other. (same j other).active) alive dead in
     rw greatest (omega (arith, less, is))
 
--- What an end keeps where RST_STREAM on a live stream is read.
+-- What an end keeps where RST_STREAM on an active stream is read.
 reset_active_read : (h : CoreFacts) (c : Core) (i code : ℕ) → active_by_items c i ≡ true → Advances h c
     → Advances (record h { streams = record h.streams { entries = map.remove h.streams.entries i; active_count = h.streams.active_count - 1 } }) (reads c (alone (Reset i code)))
 reset_active_read h c i code alive g =
@@ -124,7 +124,7 @@ reset_active_read h c i code alive g =
     (one_less c (reads c item) i h.streams.active_count (reset_used c i code) same alive (reset_dead c i code) g.active_count)
     (g.highest ∙ sym (reset_used c i code)) (omega (arith, reset_gives i code)) (omega (arith, reset_takes i code)) g
 
--- The stream isn't live then, once that was told.
+-- The stream isn't active then, once that was reported.
 reset_reported_dead : (log : Log) (decoded : Option Decoded) (i code : ℕ)
     → active (with_reported (read log decoded (alone (Reset i code))) (ResetEvent i code false ∷ [])) i ≡ false
 unfolding with_reported
@@ -141,7 +141,7 @@ reset_owing e log decoded i code alive g =
     let owing = full_owing log (with_reported (read log decoded (alone (Reset i code))) (ResetEvent i code false ∷ [])) i alive (reset_reported_dead log decoded i code) in
     ap (λ (n : ℕ). 0 + n) (owed ∙ sym (owing ∙ ap (λ (x : ℕ). x - released i log.calls) (zero-add _)))
 
--- What RST_STREAM on a live stream makes of an end.
+-- What RST_STREAM on an active stream makes of an end.
 pub reset_reported : (e : End) (log : Log) (decoded : Option Decoded) (i code : ℕ) → active_by_items (core log) i ≡ true → Waits e log → Going e (core log)
     → After (after_reported e decoded (alone (Reset i code))) (with_verdict log decoded (alone (Reset i code)) Reported)
 unfolding with_verdict after_reported replies_to events_of discarded_flow stream_of_item stream_of with_sent
@@ -182,7 +182,7 @@ pub data_takes : (i : ℕ) (end : Bool) (octets : List ℕ) (pad : Option ℕ) �
 unfolding data_of
 data_takes i end octets pad = refl
 
--- What DATA on a stream that isn't live makes of an end.
+-- What DATA on a stream that isn't active makes of an end.
 pub data_ignored : (e : End) (log : Log) (decoded : Option Decoded) (i : ℕ) (end : Bool) (octets : List ℕ) (pad : Option ℕ) → active_by_items (core log) i ≡ false
     → length (payload_of (Data i end octets pad)) ≤ e.windows.recv → Waits e log → Going e (core log)
     → After (after_ignored e decoded (alone (Data i end octets pad))) (with_verdict log decoded (alone (Data i end octets pad)) NoEvent)

@@ -1,4 +1,4 @@
--- What is due is settled at an end as at its log, and events are told that change little of what an end keeps.
+-- What is unreturned is added, and perhaps returned at an end as at its log, and events are reported that change little of what an end keeps.
 use Rattle.std.proofs.Common.{◌≡◌, ℕ, ◌+◌, Bool, true, false, nat_lt, ◌&&◌, if◌then◌else◌, List, [], ◌∷◌, ◌++◌, None, refl, sym, arith}
 use Rattle.std.proofs.lemmas.Bool.{ne_eqb}
 use Rattle.h2_frame.specs.Frames.{WindowUpdate}
@@ -46,14 +46,14 @@ pub record After (e : End) (log : Log) : Type 0 where
   pub waits : Waits e log
   pub going : e.failed ≡ None → Going e (core log)
 
--- Events behind which what an end keeps is what another log says, so much being due.
+-- Events after which what an end keeps is what another log says, so much being due.
 paid : (h : CoreFacts) (c : Core) (more : ℕ) → Advances h c
     → Advances (record h { windows = record h.windows { recv = h.windows.recv + (h.windows.unreturned + more); unreturned = 0 } }) (record c { sent = alone (WindowUpdate 0 (c.unreturned + more)) ∷ c.sent; unreturned = 0 })
 paid h c more g =
     quiet_wrote h c (alone (WindowUpdate 0 (c.unreturned + more))) (h.windows.recv + (h.windows.unreturned + more)) 0 0 (gift_quiet (c.unreturned + more))
     (omega (arith, gift_all (c.unreturned + more), g.unreturned)) refl g
 
--- More is due.
+-- More is unreturned.
 more_unreturned : (h : CoreFacts) (c : Core) (unreturned given : ℕ) → unreturned ≡ given → Advances h c → Advances (record h { windows = record h.windows { unreturned = unreturned } }) (record c { unreturned = given })
 more_unreturned h c unreturned given same g =
     record {
@@ -78,13 +78,13 @@ more_unreturned h c unreturned given same g =
       resets = g.resets;
     }
 
--- the core of a log with events that were told
+-- the core of a log with events that were reported
 reports_core : (log : Log) (events : List Event) → core (with_reported log events) ≡ record (core log) { reported = events ++ log.reported }
 unfolding with_reported
 reports_core log [] = refl
 reports_core log (event ∷ events) = refl
 
--- What is due is settled, by the test whether it is given back, and events are told.
+-- What is unreturned is added, and perhaps returned, by the test whether it is returned, and events are reported.
 returned_by : (e : End) (log : Log) (events : List Event) (more : ℕ) (b : Bool) → Waits e log → e.windows.unreturned ≡ log.unreturned → (e.failed ≡ None → Advances (core_facts e) (record (core log) { reported = events ++ log.reported }))
     → After (if b then return_credit (record e { windows = record e.windows { unreturned = e.windows.unreturned + more } }) else record e { windows = record e.windows { unreturned = e.windows.unreturned + more } })
     (with_reported (if b then with_credit_returned (record log { unreturned = log.unreturned + more }) else record log { unreturned = log.unreturned + more }) events)
@@ -101,7 +101,7 @@ returned_by e log events more false waits same g =
       going = λ up. rw (reports_core (record log { unreturned = log.unreturned + more }) events) (more_unreturned (core_facts e) (record (core log) { reported = events ++ log.reported }) (e.windows.unreturned + more) (log.unreturned + more) (omega (arith, same)) (g up));
     }
 
--- What is due is settled at an end as at its log, and events are told.
+-- What is unreturned is added, and perhaps returned at an end as at its log, and events are reported.
 pub returned : (e : End) (log : Log) (events : List Event) (n more : ℕ) → n ≡ more → Waits e log → e.windows.unreturned ≡ log.unreturned
     → (e.failed ≡ None → Advances (core_facts e) (record (core log) { reported = events ++ log.reported })) → After (add_unreturned n e) (with_reported (with_unreturned more log) events)
 unfolding add_unreturned with_unreturned
@@ -109,7 +109,7 @@ returned e log events n more same waits unreturned g =
     rw (same, same_length e.role e.failed e.output.waiting log waits)
     (returned_by e log events more (nat_lt 0 more && nat_lt (waiting log) full_output) waits unreturned g)
 
--- nothing more is due, and events are told
+-- nothing more is unreturned, and events are reported
 unsettled_none : (e : End) (log : Log) (events : List Event) → Waits e log → e.windows.unreturned ≡ log.unreturned
     → (e.failed ≡ None → Advances (core_facts e) (record (core log) { reported = events ++ log.reported })) → After e (with_reported (with_unreturned 0 log) events)
 unfolding with_unreturned
@@ -120,7 +120,7 @@ unsettled_none e log events waits unreturned g =
       going = λ up. rw (reports_core (record log { unreturned = log.unreturned + 0 }) events) (more_unreturned (core_facts e) (record (core log) { reported = events ++ log.reported }) e.windows.unreturned (log.unreturned + 0) (omega (arith, unreturned)) (g up));
     }
 
--- Where nothing more is due, events are told.
+-- Where nothing more is unreturned, events are reported.
 pub unsettled : (e : End) (log : Log) (events : List Event) (more : ℕ) → more ≡ 0 → Waits e log → e.windows.unreturned ≡ log.unreturned
     → (e.failed ≡ None → Advances (core_facts e) (record (core log) { reported = events ++ log.reported })) → After e (with_reported (with_unreturned more log) events)
 unsettled e log events more none waits unreturned g = rw none (unsettled_none e log events waits unreturned g)

@@ -33,7 +33,7 @@ ack_one : (reported : List Event) → reported_total one_acked (AckedEvent ∷ r
 unfolding reported_total one_acked
 ack_one reported = refl
 
--- It answers no PING, tells no flow, names none and shows nothing taken.
+-- It answers no PING, reports no flow, names none and shows nothing taken.
 ack_pong : one_pong AckedEvent ≡ 0
 unfolding one_pong
 ack_pong = refl
@@ -50,7 +50,7 @@ ack_shows : processed_by AckedEvent ≡ 0
 unfolding processed_by
 ack_shows = refl
 
--- The stream with its shifted credit is what the log says.
+-- The stream with its shifted receive window is what the log says.
 ack_said : (c : Core) (i old new count : ℕ) → old ≡ own_value 4 first_window (confirmed c) c.sent → new ≡ own_value 4 first_window count c.sent
     → confirmed (report c AckedEvent) ≡ count
     → record (said c i) { recv_window = ((said c i).recv_window +ℤ pos new) -ℤ pos old } ≡ said (report c AckedEvent) i

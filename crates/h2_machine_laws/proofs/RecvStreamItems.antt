@@ -76,12 +76,12 @@ goaway_read h c last code debug low g =
       resets = g.resets;
     }
 
--- the event of a GOAWAY is mild
+-- the event of a GOAWAY is harmless
 goaway_harmless : (last code : ℕ) → ChangesNoStream (GoAwayEvent last code)
 unfolding one_acked one_pong reports_unprocessed
 goaway_harmless last code = record { acks = refl; pongs = refl; names = λ i. refl }
 
--- it tells no flow, and shows nothing taken
+-- it reports no flow, and shows nothing taken
 goaway_flow : (last code j : ℕ) → flow_on j (GoAwayEvent last code) ≡ 0
 unfolding flow_on
 goaway_flow last code j = refl
@@ -133,12 +133,12 @@ update_used : (c : Core) (i n : ℕ) → greatest_used (reads c (alone (WindowUp
 unfolding greatest_block
 update_used c i n = used_read c.role (alone (WindowUpdate i n)) c.received c.sent (λ items. refl)
 
--- streams are as live as before
+-- streams are as active as before
 update_active : (c : Core) (i n j : ℕ) → active_by_items (reads c (alone (WindowUpdate i n))) j ≡ active_by_items c j
 unfolding is_block_on ends resets
 update_active c i n j = active_read c.role j (alone (WindowUpdate i n)) c.received c.sent c.reported refl refl refl
 
--- a room that is widened, by signed numbers
+-- a send window that is widened, by signed numbers
 wider : (v n t s : ℕ) → (pos (v + t) -ℤ pos s) +ℤ pos n ≡ pos (v + (n + t)) -ℤ pos s
 wider v n t s = omega (arith, ints)
 
@@ -151,7 +151,7 @@ update_said c i n =
     ∙ sym (ap (λ (k : ℕ). pos (value_read 4 first_window c.received + (k + total (increment_on i) c.received)) -ℤ pos (total (data_on i) c.sent)) (update_here i n)))
     (rw zero-add refl) refl refl refl
 
--- What an end keeps where a WINDOW_UPDATE of a live stream is read.
+-- What an end keeps where a WINDOW_UPDATE of an active stream is read.
 update_active_read : (h : CoreFacts) (c : Core) (i n : ℕ) → active_by_items c i ≡ true → Advances h c
     → Advances (record h { streams = record h.streams { entries = map.insert h.streams.entries i (active_entry (record (said c i) { send_window = (said c i).send_window +ℤ pos n })) } }) (reads c (alone (WindowUpdate i n)))
 unfolding one_settings
@@ -164,7 +164,7 @@ update_active_read h c i n alive g =
     (rw (update_used c i n) (g.active_count ∙ sym (count_same _ _ _ (update_active c i n)))) (g.highest ∙ sym (update_used c i n))
     (omega (arith, zero_i)) (omega (arith, update_none i n)) g
 
--- What an end keeps where a WINDOW_UPDATE of no live stream is read.
+-- What an end keeps where a WINDOW_UPDATE of no active stream is read.
 update_dead_read : (h : CoreFacts) (c : Core) (i n send_window : ℕ) → active_by_items c i ≡ false → send_window ≡ h.windows.send + (if i == 0 then n else 0) → Advances h c
     → Advances (record h { windows = record h.windows { send = send_window } }) (reads c (alone (WindowUpdate i n)))
 unfolding one_settings
@@ -178,7 +178,7 @@ update_dead_read h c i n send_window dead wide g =
     (rw (update_used c i n) (g.active_count ∙ sym (count_same _ _ _ (update_active c i n)))) (g.highest ∙ sym (update_used c i n))
     (omega (arith, wide, update_all i n)) (omega (arith, update_none i n)) g
 
--- A room is widened by the test whether it is the connection's.
+-- A send window is widened by the test whether it is the connection's.
 widened_by : (e : End) (log : Log) (i n : ℕ) (b : Bool) → i == 0 ≡ b → active_by_items (core log) i ≡ false → Going e (core log)
     → Going (if b then record e { windows = record e.windows { send = e.windows.send + n } } else e) (reads (core log) (alone (WindowUpdate i n)))
 widened_by e log i n true is dead g =
@@ -186,7 +186,7 @@ widened_by e log i n true is dead g =
 widened_by e log i n false is dead g =
     update_dead_read (core_facts e) (core log) i n e.windows.send dead (rw is (omega arith)) g
 
--- what waits and is due doesn't change, by the test
+-- what waits and is unreturned doesn't change, by the test
 widened_waits : (e : End) (log : Log) (decoded : Option Decoded) (item : Item) (n : ℕ) (b : Bool) → Waits e log
     → Waits (if b then record e { windows = record e.windows { send = e.windows.send + n } } else e) (read log decoded item)
 widened_waits e log decoded item n true w = record { same_role = w.same_role; same_failed = w.same_failed; waiting = w.waiting; given = w.given }

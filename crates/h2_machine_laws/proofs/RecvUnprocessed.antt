@@ -1,4 +1,4 @@
--- A stream that the peer doesn't process is told at an end as at its log.
+-- A stream that the peer doesn't process is reported at an end as at its log.
 use Rattle.std.proofs.Common.{◌≡◌, ◌≢◌, ℕ, ◌+◌, ◌-◌, Bool, true, false, not, ◌==◌, nat_lt, ◌&&◌, if◌then◌else◌, List, [], ◌∷◌, length, None, refl, ap, sym, ◌∙◌, arith, zero-add}
 use Rattle.std.specs.List.{list_any}
 use Rattle.std.specs.FinMap as map
@@ -37,7 +37,7 @@ names_other : (n j : ℕ) → j ≢ n → reports_unprocessed j (UnprocessedEven
 unfolding reports_unprocessed
 names_other n j other = ne_eqb n j (λ is. other (sym is))
 
--- The event neither acknowledges nor answers, tells no flow, and shows nothing taken.
+-- The event neither acknowledges nor answers, reports no flow, and shows nothing taken.
 no_ack : (n : ℕ) → one_acked (UnprocessedEvent n) ≡ 0
 unfolding one_acked
 no_ack n = refl
@@ -54,7 +54,7 @@ not_taken : (n : ℕ) → processed_by (UnprocessedEvent n) ≡ 0
 unfolding processed_by
 not_taken n = refl
 
--- A stream that is named unprocessed isn't live.
+-- A stream that is named unprocessed isn't active.
 named_dead : (c : Core) (n : ℕ) → active_by_items (report c (UnprocessedEvent n)) n ≡ false
 named_dead c n =
     false_from_ne_true (active_by_items (report c (UnprocessedEvent n)) n) (λ alive.
@@ -72,7 +72,7 @@ others_same c n j other =
       stream = λ alive. rw (acks, flow) refl;
     }
 
--- What an end keeps, once a live stream was named unprocessed.
+-- What an end keeps, once an active stream was named unprocessed.
 unprocessed_advances : (h : CoreFacts) (c : Core) (n : ℕ) → active_by_items c n ≡ true → Advances h c
     → Advances (record h { streams = record h.streams { entries = map.remove h.streams.entries n; active_count = h.streams.active_count - 1 } }) (report c (UnprocessedEvent n))
 unprocessed_advances h c n alive g =
@@ -85,13 +85,13 @@ unprocessed_advances h c n alive g =
     (said_removed h.streams.entries n c (report c (UnprocessedEvent n)) g.streams (others_same c n) (named_dead c n) (lasts_parts n c.received c.sent parts.lasts).kept)
     (omega (arith, less, g.active_count)) (g.last_processed ∙ sym (taken_kept (is_server c.role) (UnprocessedEvent n) c.reported (not_taken n))) g
 
--- Whether an end has begun doesn't hang on what is due, by the test whether it is given back.
+-- Whether an end has begun doesn't hang on what is unreturned, by the test whether it is returned.
 returned_started_by : (e : End) (more : ℕ) (b : Bool)
     → (if b then return_credit (record e { windows = record e.windows { unreturned = e.windows.unreturned + more } }) else record e { windows = record e.windows { unreturned = e.windows.unreturned + more } }).reading.started ≡ e.reading.started
 returned_started_by e more true = refl
 returned_started_by e more false = refl
 
--- Whether an end has begun doesn't hang on what is due.
+-- Whether an end has begun doesn't hang on what is unreturned.
 pub returned_started : (e : End) (more : ℕ) → (add_unreturned more e).reading.started ≡ e.reading.started
 unfolding add_unreturned
 returned_started e more = returned_started_by e more (returns_credit more (length e.output.waiting))
@@ -125,13 +125,13 @@ unfolding with_reported
 reported_frames log [] = refl
 reported_frames log (event ∷ events) = refl
 
--- what a stream leaves owing that is live before and not behind, by the tests
+-- what a stream leaves owing that is active before and not after, by the tests
 owing_by : (before after : Bool) (n : ℕ) → before ≡ true → after ≡ false → (if before && not after then n else 0) ≡ n
 owing_by true false n was is = refl
 owing_by false after n was is = absurd (both_ways false refl was)
 owing_by true true n was is = absurd (both_ways true is refl)
 
--- What a stream leaves owing that is live before and not behind.
+-- What a stream leaves owing that is active before and not after.
 pub full_owing : (log after : Log) (i : ℕ) → active log i ≡ true → active after i ≡ false → owed_at_close log after i ≡ unreleased after i
 unfolding owed_at_close
 full_owing log after i was is = owing_by (active log i) (active after i) (unreleased after i) was is
@@ -145,12 +145,12 @@ named_owing e log n alive g =
     let owing = full_owing log (with_reported log (UnprocessedEvent n ∷ [])) n alive (named_dead (core log) n) in
     zero-add _ ∙ owed ∙ sym (owing ∙ ap (λ (x : ℕ). x - released n log.calls) (zero-add _))
 
--- the next stream that is told is live, by the role
+-- the next stream that is reported is active, by the role
 next_is_active_by : (b : Bool) (least_last : ℕ) (test : ℕ → Bool) → (if b then 0 else least_last) ≢ 0 → (least_last ≢ 0 → test least_last ≡ true) → test (if b then 0 else least_last) ≡ true
 next_is_active_by true least_last test some passes = absurd (some refl)
 next_is_active_by false least_last test some passes = passes some
 
--- The next stream that is told is live.
+-- The next stream that is reported is active.
 next_is_active : (log : Log) → next_unprocessed log ≢ 0 → active log (next_unprocessed log) ≡ true
 unfolding next_unprocessed
 next_is_active log some =
@@ -158,7 +158,7 @@ next_is_active log some =
     (λ j. active log j && nat_lt (least_goaway log.received) j) some
     (least_passes (λ j. active log j && nat_lt (least_goaway log.received) j) log.sent))).0
 
--- A machine that tells a stream as unprocessed stands for the log with it.
+-- A machine that reports a stream as unprocessed represents the log with it.
 pub unprocessed_represents : (values : Values) (e : End) (log : Log) → Represents values e log → log.failed ≡ None → next_unprocessed log ≢ 0
     → Represents values (close_unprocessed e (next_unprocessed log)) (took_none log)
 unprocessed_represents values e log s up some =

@@ -43,7 +43,7 @@ pub record Sound (c : Core) : Type 0 where
   -- what comes on an idle stream is a fault
   pub unread : (i : ℕ) → i ≢ 0 → is_used c.role i c.received c.sent ≡ false → IsUnread i c
   pub unnamed : is_server c.role ≡ true → (i : ℕ) → list_any (reports_unprocessed i) c.reported ≡ false
-  -- at a server: the last stream of the GOAWAY was used, and so was each that was taken; each live one was taken
+  -- at a server: the last stream of the GOAWAY was used, and so was each that was taken; each active one was taken
   pub last : is_server c.role ≡ true → list_any is_goaway c.sent ≡ true → goaway_sent_last c.sent ≤ greatest_used c
   pub last_processed : is_server c.role ≡ true → greatest_processed c.reported ≤ greatest_used c
   pub active_taken : is_server c.role ≡ true → (i : ℕ) → active_by_items c i ≡ true → i ≤ greatest_processed c.reported
@@ -53,7 +53,7 @@ pub record Sound (c : Core) : Type 0 where
   pub released : (i : ℕ) → released i c.calls ≤ reported_total (flow_on i) c.reported
   pub unopened : (i : ℕ) → list_any (is_block_on i) (openings c.role c.received c.sent) ≡ false → reported_total (flow_on i) c.reported ≡ 0
 
--- What is kept of a live stream is what the log says of it.
+-- What is kept of an active stream is what the log says of it.
 pub active_said : (e : End) (c : Core) (i : ℕ) → Going e c → active_by_items c i ≡ true → map.get e.streams.entries i ≡ Some (active_entry (said c i))
 active_said e c i g active = g.streams i ∙ ap (λ (b : Bool). entry_by b (list_any (resets i) c.sent) (said c i)) active
 
@@ -61,12 +61,12 @@ active_said e c i g active = g.streams i ∙ ap (λ (b : Bool). entry_by b (list
 pub stream_said : (e : End) (c : Core) (i : ℕ) → Going e c → active_by_items c i ≡ true → stream_at e i ≡ Some (said c i)
 stream_said e c i g active = ap stream_in (active_said e c i g active)
 
--- where no stream is live, no stream is kept
+-- where no stream is active, no stream is kept
 none_in : (w : Bool) (s : StreamView) → stream_in (entry_by false w s) ≡ None
 none_in true s = refl
 none_in false s = refl
 
--- Where a stream isn't live, none is kept.
+-- Where a stream isn't active, none is kept.
 pub none_said : (e : End) (c : Core) (i : ℕ) → Going e c → active_by_items c i ≡ false → stream_at e i ≡ None
 none_said e c i g dead =
     ap stream_in (g.streams i ∙ ap (λ (b : Bool). entry_by b (list_any (resets i) c.sent) (said c i)) dead)

@@ -1,4 +1,4 @@
--- The verdict of an item behind the bars, and the number that it opens, are the same at an end as at its log.
+-- The verdict of an item after the limits, and the number that it opens, are the same at an end as at its log.
 use Rattle.std.proofs.Common.{ℤ, ◌∙◌, ◌≡◌, ℕ, ◌+◌, Bool, true, false, ◌==◌, nat_lt, ◌||◌, cond, T, if◌then◌else◌, List, [], ◌∷◌, length, Option, Some, None, Less, Equal, Greater, Ordering, refl, ap, ap₂, sym, ◌∙◌, inl, inr, arith}
 use Rattle.std.specs.List.{list_any}
 use Rattle.std.specs.FinMap as map
@@ -39,7 +39,7 @@ not_itself x (e ∷ es) h =
     ap (λ (r : Ordering). cond (is_eq r) (Some e.1) (map.find nat_cmp x es)) (less (nat_cmp x e.0) (first (is_lt (nat_cmp x e.0)) (below_all nat_cmp x es) h))
     ∙ not_itself x es (second (is_lt (nat_cmp x e.0)) (below_all nat_cmp x es) h)
 
--- What is found behind an entry is found with it, by how its key compares.
+-- What is found after an entry is found with it, by how its key compares.
 found_by : (i : ℕ) (e : ℕ × Entry) (es : List (ℕ × Entry)) (x : Entry) (r : Ordering) → nat_cmp i e.0 ≡ r → T (below_all nat_cmp e.0 es)
     → map.find nat_cmp i es ≡ Some x → cond (is_eq r) (Some e.1) (map.find nat_cmp i es) ≡ Some x
 found_by i e es x Less is h found = found
@@ -49,7 +49,7 @@ found_by i e es x Equal is h found =
     let none : map.find nat_cmp i es ≡ None = rw same (not_itself e.0 es h) in
     cc
 
--- What is found behind an entry is found with it.
+-- What is found after an entry is found with it.
 pub found_after : (i : ℕ) (e : ℕ × Entry) (es : List (ℕ × Entry)) (x : Entry) → T (below_all nat_cmp e.0 es)
     → map.find nat_cmp i es ≡ Some x → map.find nat_cmp i (e ∷ es) ≡ Some x
 found_after i e es x h found = found_by i e es x (nat_cmp i e.0) refl h found
@@ -124,11 +124,11 @@ passing_block test i (block stream end octets ∷ items) here passes = elim (or_
   | inr after ↦ or_right (test stream) (any_block test items) (passing_block test i items after passes)
 ]
 
--- A room is brought above the greatest window by another initial window just where what is given then is above it.
+-- A send window is brought above the greatest window by another initial window just where what is given then is above it.
 shift_above : (old new more sent_data : ℕ) → nat_lt ((greatest_window + old) + sent_data) ((old + more) + new) ≡ nat_lt (greatest_window + sent_data) (new + more)
 shift_above old new more sent_data = grind (arith, nat_tests)
 
--- A live stream is brought above the greatest window just where the log says so.
+-- An active stream is brought above the greatest window just where the log says so.
 said_above : (c : Core) (i new : ℕ) → above_by_shift (value_read 4 first_window c.received) new (active_entry (said c i))
     ≡ is_above_greatest (new + total (increment_on i) c.received) (total (data_on i) c.sent)
 unfolding given_on
@@ -136,7 +136,7 @@ said_above c i new =
     int_above (greatest_window + value_read 4 first_window c.received) (given_on i c.received) (total (data_on i) c.sent) new
     ∙ shift_above (value_read 4 first_window c.received) new (total (increment_on i) c.received) (total (data_on i) c.sent)
 
--- what is kept and above the greatest window is a live stream's
+-- what is kept and above the greatest window is an active stream's
 kept_is_active : (active was : Bool) (s : StreamView) (x : Entry) (old new : ℕ) → entry_by active was s ≡ Some x → above_by_shift old new x ≡ true
     → (active ≡ true) × (x ≡ active_entry s)
 kept_is_active true was s x old new is above = (refl, cc)
@@ -203,7 +203,7 @@ verdict_same e log decoded (alone (WindowUpdate stream increment)) role sound g 
 verdict_same e log decoded (alone (Continuation stream last fragment)) role sound g = refl
 verdict_same e log decoded (alone (Unknown kind flags stream payload)) role sound g = refl
 
--- The verdict of an item is the same behind the bars.
+-- The verdict of an item is the same after the limits.
 pub over_limits_same : (e : End) (log : Log) (decoded : Option Decoded) (item : Item) → Waits e log → Sound (core log) → Going e (core log)
     → verdict_of (end_view e) decoded item ≡ verdict_of (log_view log) decoded item
 unfolding verdict_of

@@ -1,4 +1,4 @@
--- Behind octets that end no frame, or that make the connection fail, a machine stands for the log with them.
+-- After octets that end no frame, or that make the connection fail, a machine represents the log with them.
 use Rattle.std.proofs.Common.{◌≡◌, ℕ, ◌≤◌, ◌+◌, ◌-◌, Bool, true, false, not, ◌==◌, nat_lt, max, if◌then◌else◌, List, [], ◌∷◌, ◌++◌, length, drop, Option, Some, None, is_some, refl, ap, sym, ◌∙◌, arith, length-append, length-drop}
 use Rattle.std.proofs.lemmas.List.{drop-append-le}
 use Rattle.std.specs.List.{list_any}
@@ -58,11 +58,11 @@ core log =
 abbrev pub confirmed : Core → ℕ
 confirmed c = reported_total one_acked c.reported
 
--- whether a stream is live
+-- whether a stream is active
 abbrev pub active_by_items : Core → ℕ → Bool
 active_by_items c i = is_active c.role i c.received c.sent c.reported
 
--- what was told of a stream's flow and wasn't released
+-- what was reported of a stream's flow and wasn't released
 abbrev pub kept_back : Core → ℕ → ℕ
 kept_back c i = reported_total (flow_on i) c.reported - released i c.calls
 
@@ -205,7 +205,7 @@ runs e log begins r =
       resets = r.resets;
     }
 
--- What waits of an end is what of its log's output wasn't given out.
+-- What waits of an end is what of its log's output wasn't put out.
 pub record ConnectionFacts (role : Role) (failed : Option Code) (waits : List ℕ) (log : Log) : Type 0 where
   pub same_role : role ≡ log.role
   pub same_failed : failed ≡ log.failed
@@ -216,7 +216,7 @@ pub record ConnectionFacts (role : Role) (failed : Option Code) (waits : List �
 abbrev pub Waits : End → Log → Type 0
 Waits e log = ConnectionFacts e.role e.failed e.output.waiting log
 
--- A machine stands for a log that comes about, by its parts.
+-- A machine represents a log that comes about, by its parts.
 pub represents_by : (values : Values) (e : End) (log : Log) → IsLog e.role values log → Waits e log → (e.failed ≡ None → RepresentsWhileUp e log)
     → KeepsConnectionWindow e → Represents values e log
 unfolding output
@@ -282,7 +282,7 @@ pub same_length : (role : Role) (failed : Option Code) (waits : List ℕ) (log :
 unfolding waiting output
 same_length role failed waits log s = rw (s.waiting) (length-drop log.given log.written)
 
--- What is due, by the test whether it is given back.
+-- What is unreturned, by the test whether it is returned.
 pub with_unreturned_connection_by : (role : Role) (failed : Option Code) (waits : List ℕ) (log : Log) (more unreturned : ℕ) (b : Bool) → unreturned ≡ log.unreturned → ConnectionFacts role failed waits log
     → ConnectionFacts role failed (if b then waits ++ encoding_of_items (alone (WindowUpdate 0 (unreturned + more)) ∷ []) else waits)
     (if b then with_credit_returned (record log { unreturned = log.unreturned + more }) else record log { unreturned = log.unreturned + more })
@@ -301,7 +301,7 @@ unfolding used
 used_awaited log octets unparsed values awaited =
     record { table_limit = awaited.table_limit; initial_window = awaited.initial_window; max_streams = awaited.max_streams }
 
--- An end that keeps what the log says keeps what it says behind octets that are used.
+-- An end that keeps what the log says keeps what it says after octets that are used.
 pub used_running : (e : End) (log : Log) (octets unparsed : List ℕ) → RepresentsWhileUp e log → RepresentsWhileUp e (used log octets unparsed)
 unfolding used active_count last_processed max_streams unreleased
 used_running e log octets unparsed r =
@@ -330,7 +330,7 @@ used_running e log octets unparsed r =
       resets = r.resets;
     }
 
--- A machine stands for the log behind octets that end no frame.
+-- A machine represents the log after octets that end no frame.
 pub part_represents : (values : Values) (e : End) (log : Log) (octets unparsed : List ℕ) → Represents values e log → TakesOctets log
     → TakesPart e.role log octets unparsed → Represents values e (took_part log octets unparsed)
 part_represents values e log octets unparsed s takes part =
@@ -338,14 +338,14 @@ part_represents values e log octets unparsed s takes part =
     (used_connection e.role e.failed e.output.waiting log octets unparsed (waits_of values e log s)) (λ up. used_running e log octets unparsed (s.running up))
     (record { whole = s.whole; used = s.used })
 
--- A machine that makes the connection fail stands for a log that fails with the same code and the same last stream.
+-- A machine that makes the connection fail represents a log that fails with the same code and the same last stream.
 pub failing_represents : (values : Values) (e : End) (log : Log) (code : Code) (last other : ℕ) → IsLog e.role values (with_failure code other log)
     → last ≡ other → Waits e log → KeepsConnectionWindow e → Represents values (fail code last e) (with_failure code other log)
 failing_represents values e log code last other came same connection_facts whole =
     represents_by values (fail code last e) (with_failure code other log) came (fails_connection e.role e.failed e.output.waiting log code last other same connection_facts)
     (λ up. absurd (cc)) (record { whole = whole.whole; used = whole.used })
 
--- A machine stands for the log behind octets that make a fault.
+-- A machine represents the log after octets that make a fault.
 pub fault_represents : (values : Values) (e : End) (log : Log) (octets : List ℕ) (fault : WireFault) → Represents values e log → TakesOctets log
     → TakesFault e.role log octets fault → Represents values (fail (wire_fault_code fault) e.streams.last_processed e) (took_fault log octets fault)
 fault_represents values e log octets fault s takes at =
@@ -353,7 +353,7 @@ fault_represents values e log octets fault s takes at =
     (s.running (s.failed ∙ takes.up)).last_processed (used_connection e.role e.failed e.output.waiting log octets [] (waits_of values e log s))
     (record { whole = s.whole; used = s.used })
 
--- A machine stands for the log behind octets at which memory lacks.
+-- A machine represents the log after octets at which memory runs out.
 pub out_of_memory_represents : (values : Values) (e : End) (log : Log) (octets : List ℕ) → Represents values e log → log.failed ≡ None → MayRunOutOfMemory e.role log octets
     → Represents values (fail InternalError e.streams.last_processed e) (took_out_of_memory log octets)
 out_of_memory_represents values e log octets s up may =

@@ -10,11 +10,11 @@ use Rattle.h2_machine.specs.Represents.{ConservesConnectionWindow, NoneAboveHigh
 abbrev pub goaway_size : ℕ
 goaway_size = 17
 
--- the most live streams (own)
+-- the most active streams (own)
 abbrev pub max_active : ℕ
 max_active = 1000
 
--- Output waits within its bound, which only the GOAWAY of a connection error passes; no more streams were reset, and no more are live, than
+-- Output waits within its bound, which only the GOAWAY of a connection error passes; no more streams were reset, and no more are active, than
 -- may be; and what is in force keeps to that.
 pub record IsBounded (e : End) : Type 0 where
   pub up : e.failed ≡ None → length e.output.waiting ≤ max_output

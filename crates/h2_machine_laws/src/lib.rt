@@ -1,4 +1,4 @@
-//! Laws of the machine: what is bounded, that credit is conserved, and that it represents the logs of the calls that are made. Each is
+//! Laws of the machine: what is bounded, that receive window is conserved, and that it represents the logs of the calls that are made. Each is
 //! the contract of a function that does nothing.
 #![tactic(auto)]
 

@@ -1,4 +1,4 @@
-//! The machine, and the logs that it stands for.
+//! The machine, and the logs that it represents.
 
 ghost use Rattle.std.specs.Prelude.{◌≡◌, ◌≢◌, ℕ, List, None};
 ghost use Rattle.h2_frame.specs.declared.code.Code.TheVariants.{InternalError};
@@ -17,20 +17,20 @@ ghost use Rattle.h2_machine.specs.Represents.{Represents};
 ghost use Rattle.h2_log.specs.declared.role.Role.{Role};
 ghost use Rattle.h2_machine_laws.specs.Machines.{end_after};
 
-/// A new machine stands for the log of a new end.
+/// A new machine represents the log of a new end.
 pub fn new_end_represents()
     ensures { (role : Role) (values : Values) → AreInRange values → Represents values (new_end role values) (opened role values) }
 {}
 
-/// A machine refuses a call just where the log that it stands for does, and behind the call it stands for the log with the call.
+/// A machine refuses a call just where the log that it represents does, and after the call it represents the log with the call.
 pub fn calls_preserve_representation()
     ensures refusal { (values : Values) (e : End) (log : Log) (act : Act) → Represents values e log → refusal_of (end_view e) act ≡ refusal_of (log_view log) act }
     ensures call { (values : Values) (e : End) (log : Log) (act : Act) (answer : Answer) → Represents values e log → IsTypedAct act → MayAnswer log act answer
         → Represents values (end_after e act answer) (with_call log act answer) }
 {}
 
-/// Behind each step in which no frame ends a machine stands for the log with it: octets that end none, octets that make a fault, want of memory,
-/// and a stream that is told as unprocessed, which is the one that the log says.
+/// After each step in which no frame ends a machine represents the log with it: octets that end none, octets that make a fault, being out of memory,
+/// and a stream that is reported as unprocessed, which is the one that the log says.
 pub fn steps_without_frames_preserve_representation()
     ensures part { (values : Values) (e : End) (log : Log) (octets unparsed : List ℕ) → Represents values e log → TakesOctets log
         → TakesPart e.role log octets unparsed → Represents values e (took_part log octets unparsed) }
