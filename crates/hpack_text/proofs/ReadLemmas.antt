@@ -1,7 +1,8 @@
 -- Reading half octets as a text: what was read so far, and what EOS means for all octets.
 use Rattle.std.proofs.Common.{◌≡◌, ℕ, suc, ◌+◌, ◌*◌, ◌/◌, ◌%◌, ◌<◌, ◌≤◌, Fits, w8, Bool, List, []}
 use Rattle.std.proofs.Common.{◌∷◌, ◌++◌, length, get_or, take, drop, refl, sym, ap, ◌∙◌, subst}
-use Rattle.std.proofs.Common.{Option, Some, None, MatchOption, arith, append_assoc, append-nil, length-append}
+use Rattle.std.proofs.Common.{Option, Some, None, MatchOption, arith, append_assoc, append-nil}
+use Rattle.std.proofs.Common.{length-append}
 use Rattle.std.proofs.lemmas.Grind.{flat_map-append}
 use Rattle.std.proofs.lemmas.List.{take_more, take-append-drop}
 use Rattle.std.specs.List.{AllByRecursion}
@@ -51,7 +52,8 @@ room_for_symbol text state half symbol next capacity all small e room =
     let longer = text ++ symbol ∷ [] in
     let five = five_bits longer (all_octets-append text (symbol ∷ []) all (small, tt)) in
     let counted : length longer ≡ length text + 1 = length-append text (symbol ∷ []) in
-    let bits_counted : length (bits_read longer next) ≡ length (bits_read text state ++ bits_of 4 half) =
+    let bits_counted :
+    length (bits_read longer next) ≡ length (bits_read text state ++ bits_of 4 half) =
     ap (λ (xs : List Bool). length xs) (read_symbol text state half symbol next e) in
     omega (
       arith,

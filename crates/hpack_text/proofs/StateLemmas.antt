@@ -1,7 +1,8 @@
 -- The states and the table of steps are those of the code.
 use Rattle.std.proofs.Common.{◌≡◌, ℕ, zero, suc, ◌+◌, ◌*◌, ◌/◌, ◌%◌, ◌<◌, ◌≤◌, if◌then◌else◌}
 use Rattle.std.proofs.Common.{Bool, true, false, ◌&&◌, nat_lt, nat_le, List, [], ◌∷◌, ◌++◌, length}
-use Rattle.std.proofs.Common.{Option, Some, None, get_or, drop, replicate, refl, sym, ap, ◌∙◌, subst}
+use Rattle.std.proofs.Common.{Option, Some, None, get_or, drop, replicate, refl, sym, ap, ◌∙◌}
+use Rattle.std.proofs.Common.{subst}
 use Rattle.std.proofs.Common.{arith, le-leb, leb-true, ltb-true, length-append}
 use Rattle.std.proofs.lemmas.Bool.{and_parts, lt-leb, false≢true}
 use Rattle.std.proofs.lemmas.List.{get_or-drop}
@@ -93,7 +94,8 @@ rows_hold-at steps (path ∷ paths) h zero half lt few =
 rows_hold-at steps (path ∷ paths) h (suc state) half lt few =
     let place : 16 + (16 * state + half) ≡ 16 * suc state + half = omega arith in
     let parts = and_parts (row_holds 16 0 steps path) (rows_hold (drop 16 steps) paths) h in
-    let same : get_or (drop 16 steps) (16 * state + half) 0 ≡ get_or steps (16 * suc state + half) 0 =
+    let same :
+    get_or (drop 16 steps) (16 * state + half) 0 ≡ get_or steps (16 * suc state + half) 0 =
     get_or-drop 16 steps (16 * state + half) 0 ∙ ap (λ (m : ℕ). get_or steps m 0) place in
     subst (λ step. step_holds step (get_or paths state [] ++ bits_of 4 half) ≡ true) same
     (rows_hold-at (drop 16 steps) paths parts.1 state half (omega arith) few)

@@ -188,7 +188,7 @@ raw_head value more =
       | inr long ↦ ap (λ (xs : List ℕ). has_bit_h (xs ++ more)) (integer-long 7 0 value long)
     ]
 
--- what is written for a text that isn't longer coded
+-- what is written for a text that isn't longer Huffman-encoded
 pub string-huffman_bits : (text : List ℕ) → length (huffman_bits text) ≤ length text
     → string text ≡ integer 7 128 (length (huffman_bits text)) ++ huffman_bits text
 unfolding string
@@ -234,7 +234,7 @@ string_encodes text all lt =
       }
     ]
 
--- A string is written coded exactly where that isn't longer.
+-- A string is written Huffman-encoded exactly where that isn't longer.
 pub string_huffman_where : (text : List ℕ)
     → has_bit_h (string text) ≡ nat_le (length (huffman_bits text)) (length text)
 string_huffman_where text =
@@ -399,7 +399,7 @@ are_parts text head body e = record {
       ∙ (append_assoc old head body ∙ ap (λ (xs : List ℕ). old ++ xs) (sym e)));
 }
 
--- the parts of a text that is written coded
+-- the parts of a text that is written Huffman-encoded
 pub huffman_parts : (text : List ℕ) (count : ℕ) → count ≡ length (huffman_bits text)
     → count ≤ length text → AreParts text (integer 7 128 count) (huffman_bits text)
 huffman_parts text count same le =

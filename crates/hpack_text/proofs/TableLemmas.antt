@@ -14,7 +14,8 @@ all_below test zero = true
 all_below test (suc n) = test n && all_below test n
 
 -- A test of all numbers below n holds of each.
-pub all_below-at : (test : ℕ → Bool) (n : ℕ) → all_below test n ≡ true → (k : ℕ) → k < n → test k ≡ true
+pub all_below-at : (test : ℕ → Bool) (n : ℕ) → all_below test n ≡ true → (k : ℕ) → k < n
+    → test k ≡ true
 unfolding all_below
 all_below-at test zero h k lt = absurd (omega arith)
 all_below-at test (suc n) h k lt =

@@ -12,7 +12,8 @@ use Rattle.std.specs.List.{AllByRecursion}
 use Rattle.hpack_text.specs.Bits.{IsOctet, bits_of, bits}
 use Rattle.hpack_text.specs.Huffman.{code, codes, huffman_bits}
 use Rattle.hpack_text.specs.Appended.{Appends, AppendsPadded}
-use Rattle.hpack_text.proofs.BitLemmas.{bits_of-append, length-bits_of, length-bits, bits_of-joined, bits_of-split}
+use Rattle.hpack_text.proofs.BitLemmas.{bits_of-append, length-bits_of, length-bits}
+use Rattle.hpack_text.proofs.BitLemmas.{bits_of-joined, bits_of-split}
 use Rattle.hpack_text.proofs.BitLemmas.{bits_of-ones}
 use Rattle.hpack_text.proofs.CodeLemmas.{is_huffman_bits, length-huffman_bits}
 

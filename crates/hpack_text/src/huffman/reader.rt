@@ -1,6 +1,6 @@
 //! Reading a Huffman-encoded string, by half octets.
 
-ghost use Rattle.std.specs.Prelude.{◌≡◌, ◌+◌, ◌*◌, ◌/◌, ◌%◌, ◌<◌, ◌≤◌, ◌++◌, length, IfSome};
+ghost use Rattle.std.specs.Prelude.{◌≡◌, ◌+◌, ◌*◌, ◌<◌, ◌≤◌, ◌++◌, length};
 ghost use Rattle.std.specs.Prelude.{MatchOption, MatchResult};
 ghost use Rattle.std.specs.List.{AllByRecursion};
 ghost use Rattle.std.specs.Vec.{vec_capacity};
@@ -46,7 +46,8 @@ fn read_octet(state: u8, octet: u8, text: &mut Vec<u8>) -> Option<u8>
     requires room { length (bits_read text.old.items state) + 4 ≤ 5 * vec_capacity text.old }
     ensures answer { MatchOption result
         (HasEnd text.new.items (bits_read text.old.items state ++ bits_of 8 octet))
-        (λ next. bits_read text.new.items next ≡ bits_read text.old.items state ++ bits_of 8 octet) }
+        (λ next. bits_read text.new.items next
+        ≡ bits_read text.old.items state ++ bits_of 8 octet) }
     ensures octets { AllByRecursion IsOctet text.new.items }
     ensures capacity { vec_capacity text.new ≡ vec_capacity text.old }
 {
@@ -63,7 +64,8 @@ fn read_half(state: u8, half: u8, text: &mut Vec<u8>) -> Option<u8>
     requires room { length (bits_read text.old.items state) ≤ 5 * vec_capacity text.old }
     ensures answer { MatchOption result
         (HasEnd text.new.items (bits_read text.old.items state ++ bits_of 4 half))
-        (λ next. bits_read text.new.items next ≡ bits_read text.old.items state ++ bits_of 4 half) }
+        (λ next. bits_read text.new.items next
+        ≡ bits_read text.old.items state ++ bits_of 4 half) }
     ensures octets { AllByRecursion IsOctet text.new.items }
     ensures capacity { vec_capacity text.new ≡ vec_capacity text.old }
 {

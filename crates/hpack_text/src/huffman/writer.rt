@@ -76,7 +76,8 @@ fn append_octets(pending: Pending, out: &mut Vec<u8>) -> Result<LastBits, AllocE
     ensures ok { IfOk result (λ last. Appends out.old.items out.new.items
         (bits_of pending.count pending.value) (bits_of last.count last.value)) }
     ensures extended { IsExtended out.old.items out.new.items }
-    ensures full { OnErr result (8 * vec_capacity out.old + 8 ≤ 8 * vec_len out.old + pending.count) }
+    ensures full { OnErr result
+        (8 * vec_capacity out.old + 8 ≤ 8 * vec_len out.old + pending.count) }
     ensures capacity { vec_capacity out.old ≤ vec_capacity out.new }
 {
     let mut count = pending.count;

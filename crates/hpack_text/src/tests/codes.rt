@@ -86,7 +86,7 @@ fn steps_walk_all_codes(rt: HostRuntime) -> Result<(), Fail> {
             state = step(state, *bits / 16, &mut text)?.expect(&rt, "no end symbol");
             state = step(state, *bits % 16, &mut text)?.expect(&rt, "no end symbol");
         }
-        assert_eq!(rt; text.as_slice(), &[octet], "{octet}");
+        assert_eq!(rt; text.as_slice(), [octet].as_slice(), "{octet}");
         assert!(rt; state <= 7, "padding after {octet}");
     }
     Ok(())

@@ -36,7 +36,8 @@ overflow_cast-word c =
     shifted_in_same c.args.pending.count c.args.code.count c.args.pending.value
     c.args.code.value c.from.result (omega arith) c.args.pending.within c.requires.within
     c.from.ensures in
-    let top = top_word (c.args.pending.count + c.args.code.count) (c.args.pending.value * 2 ^ c.args.code.count % 2 ^ 64 + c.from.result)
+    let top = top_word (c.args.pending.count + c.args.code.count)
+    (c.args.pending.value * 2 ^ c.args.code.count % 2 ^ 64 + c.from.result)
     c.if-count-lt32.false (omega arith) shifted.within in
     omega (arith, top.small)
 
@@ -46,7 +47,8 @@ overflow_cast-word-2 c =
     shifted_in_same c.args.pending.count c.args.code.count c.args.pending.value
     c.args.code.value c.from.result (omega arith) c.args.pending.within c.requires.within
     c.from.ensures in
-    let top = top_word (c.args.pending.count + c.args.code.count) (c.args.pending.value * 2 ^ c.args.code.count % 2 ^ 64 + c.from.result)
+    let top = top_word (c.args.pending.count + c.args.code.count)
+    (c.args.pending.value * 2 ^ c.args.code.count % 2 ^ 64 + c.from.result)
     c.if-count-lt32.false (omega arith) shifted.within in
     omega (arith, top.small)
 
@@ -56,7 +58,8 @@ invariant_of-result-2 c =
     shifted_in_same c.args.pending.count c.args.code.count c.args.pending.value
     c.args.code.value c.from.result (omega arith) c.args.pending.within c.requires.within
     c.from.ensures in
-    let top = top_word (c.args.pending.count + c.args.code.count) (c.args.pending.value * 2 ^ c.args.code.count % 2 ^ 64 + c.from.result)
+    let top = top_word (c.args.pending.count + c.args.code.count)
+    (c.args.pending.value * 2 ^ c.args.code.count % 2 ^ 64 + c.from.result)
     c.if-count-lt32.false (omega arith) shifted.within in
     record { few = omega arith; within = top.within }
 
@@ -66,7 +69,8 @@ returns-clause-ok c =
     shifted_in_same c.args.pending.count c.args.code.count c.args.pending.value
     c.args.code.value c.from.result (omega arith) c.args.pending.within c.requires.within
     c.from.ensures in
-    let top = top_word (c.args.pending.count + c.args.code.count) (c.args.pending.value * 2 ^ c.args.code.count % 2 ^ 64 + c.from.result)
+    let top = top_word (c.args.pending.count + c.args.code.count)
+    (c.args.pending.value * 2 ^ c.args.code.count % 2 ^ 64 + c.from.result)
     c.if-count-lt32.false (omega arith) shifted.within in
     let appended = c.in_ok-extend_from_slice.ensures.items
     ∙ ap (λ (xs : List ℕ). c.args.out.now.items ++ xs) c.to_be_bytes.ensures in
