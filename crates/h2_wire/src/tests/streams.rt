@@ -40,7 +40,7 @@ fn add_pad(sum: u64, pad: Option<u8>) -> u64 {
     }
 }
 
-// Goes on with a sum by what a frame holds.
+// Continues a sum with the contents of a frame.
 fn add_frame(sum: u64, frame: &FrameRef<'_>) -> u64 {
     match *frame {
         FrameRef::Data {
