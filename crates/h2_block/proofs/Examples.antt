@@ -87,14 +87,14 @@ longest_example : (fragment : List ℕ) → length fragment ≡ 65552
 unfolding computing
 longest_example fragment long = rw long refl
 
-too_long_behind_example : (octets fragment : List ℕ) → length octets ≡ 65536 → length fragment ≡ 17
+too_long_after_example : (octets fragment : List ℕ) → length octets ≡ 65536 → length fragment ≡ 17
     → next_fault (Some (record { stream = 1; end = false; octets = octets }))
     (Continuation 1 true fragment) ≡ Some TooLong
 unfolding computing
-too_long_behind_example octets fragment held long = rw (held, long) refl
+too_long_after_example octets fragment held long = rw (held, long) refl
 
-longest_behind_example : (octets fragment : List ℕ) → length octets ≡ 65536 → length fragment ≡ 16
+longest_after_example : (octets fragment : List ℕ) → length octets ≡ 65536 → length fragment ≡ 16
     → next_fault (Some (record { stream = 1; end = false; octets = octets }))
     (Continuation 1 true fragment) ≡ None
 unfolding computing
-longest_behind_example octets fragment held long = rw (held, long) refl
+longest_after_example octets fragment held long = rw (held, long) refl

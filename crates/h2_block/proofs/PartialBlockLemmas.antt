@@ -26,7 +26,7 @@ continues old new frame more sound no_fault added begun frames items represented
   split = rw (added, begun) (Groups-step frames items old.begun frame represented.split no_fault);
 }
 
--- what holds where there was no fault before
+-- what holds where there was no fault yet
 without : {First : Type 0} (Again : BlockFault → Type 0) (known : Option BlockFault) → known ≡ None
     → First → MatchOption known First Again
 without Again None none first = first

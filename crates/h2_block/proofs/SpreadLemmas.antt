@@ -21,7 +21,7 @@ pub continuations-few : (count stream : ℕ) (octets : List ℕ) → length octe
 unfolding continuations
 continuations-few count stream octets few = rw (le-leb (length octets) max_payload few) refl
 
--- more octets fill a frame, and go on behind it
+-- more octets fill a frame, and continue after it
 pub continuations-more : (count stream : ℕ) (octets : List ℕ) → max_payload < length octets
     → continuations (suc count) stream octets ≡ Continuation stream false (take max_payload octets)
     ∷ continuations count stream (drop max_payload octets)
@@ -34,7 +34,7 @@ pub spread_frames-few : (stream : ℕ) (end : Bool) (octets : List ℕ) → leng
 unfolding spread_frames
 spread_frames-few stream end octets few = rw (le-leb (length octets) max_payload few) refl
 
--- more octets fill HEADERS, and go on behind it
+-- more octets fill HEADERS, and continue after it
 pub spread_frames-more : (stream : ℕ) (end : Bool) (octets : List ℕ) → max_payload < length octets
     → spread_frames stream end octets ≡ Headers stream end false (take max_payload octets) None None
     ∷ continuations (length octets) stream (drop max_payload octets)

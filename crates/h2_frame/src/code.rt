@@ -61,7 +61,8 @@ impl Code {
         }
     }
 
-    /// The code of a number, or none for a number above 13, which RFC 9113, section 7, doesn't name.
+    /// The code of a number, or none for a number above 13, which RFC 9113, section 7, doesn't
+    /// name.
     pub fn from_number(number: u32) -> Option<Code>
         ensures some { IfSome result (λ code. code_number code ≡ number) }
         ensures none { IfNone result (13 < number) }

@@ -2,7 +2,8 @@
 
 ghost use Rattle.std.specs.Prelude.{◌≡◌, ◌≤◌, [], length};
 ghost use Rattle.h2_frame.specs.Frames.{frame_of};
-ghost use Rattle.h2_frame.specs.Encoding.{kind_of_frame, stream_of, payload_of, padded, prioritized};
+ghost use Rattle.h2_frame.specs.Encoding.{kind_of_frame, stream_of, payload_of, padded};
+ghost use Rattle.h2_frame.specs.Encoding.{prioritized};
 
 use crate::code::Code;
 use crate::kind::Kind;

@@ -192,7 +192,8 @@ impl<'a> FrameParts<'a> {
 
     /// Whether the stream's number has 31 bits, and a frame of the kind may be on it.
     pub(crate) fn has_good_stream(&self) -> bool
-        ensures { result ≡ (nat_lt self.now.stream (2 ^ 31) && stream_fits self.now.kind self.now.stream) }
+        ensures { result ≡ (nat_lt self.now.stream (2 ^ 31)
+            && stream_fits self.now.kind self.now.stream) }
     {
         self.stream < ABOVE_31_BITS && fits_stream(self.kind, self.stream)
     }

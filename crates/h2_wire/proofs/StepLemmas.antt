@@ -107,7 +107,8 @@ continues_preface old new matched used sound in_preface after limit place unpars
             sound = sound;
             split = inl (record {
               missing = drop (matched + length used) preface;
-              opens = rw (asked, matched_now) (sym (take-append-drop (matched + length used) preface));
+              opens =
+                  rw (asked, matched_now) (sym (take-append-drop (matched + length used) preface));
               short = rw (asked, counted) few;
               none = rw none refl;
               all = new_unparsed ∙ sym matched_now;

@@ -79,7 +79,8 @@ impl Cutter {
         // After the borrow ends: if the cutter represented `stream` and `frames`, it now represents
         // `stream ++ piece[..used]` and `frames` with this one appended; or `stream ++ piece` is at
         // fault at `place`, right after `frames`.
-        ensures* after { sem 𝓛 (Rests the_row self.entry (λ new. Cuts self.old piece.now result new)) }
+        ensures* after { sem 𝓛 (Rests the_row self.entry
+            (λ new. Cuts self.old piece.now result new)) }
     {
         let step = self.buffer.take(piece)?;
         let frame = match step.head {

@@ -1,4 +1,4 @@
-//! Blocks gathered and spread: rows of calls, the bar, and the way there and back.
+//! Blocks gathered and spread: examples of calls, the limit, and the way there and back.
 
 use crate::{
     BlockFault, Gather, Gathered, no_grouping_past_a_fault, one_grouping, spread, spread_block,
@@ -7,7 +7,7 @@ use h2_frame::{Code, FrameRef, head, head_fault, read_payload};
 use std::alloc::{AllocError, Global};
 use std::test::Fail;
 
-// What a call came to. A block's octets are told by their length and a sum over them, in their
+// What a call came to. A block's octets are given by their length and a sum over them, in their
 // order.
 #[derive(Clone, Copy, Debug, PartialEq, Eq)]
 enum Came {
@@ -116,7 +116,7 @@ fn a_block_is_joined(rt: HostRuntime) -> Result<(), Fail> {
 }
 
 #[test]
-fn whole_blocks_and_other_frames(rt: HostRuntime) {
+fn complete_blocks_and_other_frames(rt: HostRuntime) {
     let padded = FrameRef::Headers {
         stream: 5,
         end: false,
@@ -174,7 +174,7 @@ fn faults_are_told_and_stay(rt: HostRuntime) {
         payload: b"",
     };
     let opened = headers(false, false, b"\x82");
-    // The frame before, the one at fault, and the fault.
+    // The frame that precedes, the one at fault, and the fault.
     let examples = [
         (opened, PING, BlockFault::Interrupted),
         (opened, opened, BlockFault::Interrupted),
@@ -182,9 +182,9 @@ fn faults_are_told_and_stay(rt: HostRuntime) {
         (opened, unknown, BlockFault::Interrupted),
         (PING, other, BlockFault::Stray),
     ];
-    for (before, frame, fault) in examples {
+    for (preceding, frame, fault) in examples {
         let mut gather = Gather::new(rt.alloc());
-        take(&mut gather, before);
+        take(&mut gather, preceding);
         assert_eq!(rt; take(&mut gather, frame), Came::Fault(fault));
         assert_eq!(rt; gather.held(), 0);
         assert!(rt; !gather.is_inside());
@@ -239,13 +239,13 @@ fn empty_frames_hold_nothing(rt: HostRuntime) {
         take(&mut gather, continuation(false, b""));
     }
     assert_eq!(rt; gather.held(), 1);
-    let whole = Came::Block {
+    let complete = Came::Block {
         stream: 1,
         end: false,
         length: 1,
         sum: 0x82,
     };
-    assert_eq!(rt; take(&mut gather, continuation(true, b"")), whole);
+    assert_eq!(rt; take(&mut gather, continuation(true, b"")), complete);
 }
 
 #[test]
@@ -256,7 +256,7 @@ fn blocks_are_spread(rt: HostRuntime) -> Result<(), Fail> {
     spread(1, false, &octets, &mut out)?;
     spread(1, true, b"", &mut out)?;
     assert_eq!(rt; out.len(), 32805);
-    // The heads, and the octets before and behind them.
+    // The heads, and the octets that precede and follow them.
     let parts = [
         (0, b"\x00\x40\x00\x01\x04\x00\x00\x00\x01\x07".as_slice()),
         (
@@ -275,7 +275,7 @@ fn blocks_are_spread(rt: HostRuntime) -> Result<(), Fail> {
     Ok(())
 }
 
-// The frame at the front of the octets, where there is one, and what stands behind it.
+// The frame with which the octets begin, where there is one, and what follows it.
 fn cut(octets: &[u8]) -> Option<(FrameRef<'_>, &[u8])> {
     let (nine, following) = octets.split_first_chunk::<9>()?;
     let read = head(nine);
@@ -287,14 +287,14 @@ fn cut(octets: &[u8]) -> Option<(FrameRef<'_>, &[u8])> {
     Some((frame, &following[length..]))
 }
 
-// The last answer to the frames that the octets spell, up to six.
+// The last answer to the frames that the octets encode, up to six.
 fn take_all(gather: &mut Gather, octets: &[u8]) -> Came {
-    let mut rest = octets;
+    let mut following = octets;
     let mut last = Came::Pass;
     for _ in 0..6 {
-        if let Some((frame, following)) = cut(rest) {
+        if let Some((frame, others)) = cut(following) {
             last = take(gather, frame);
-            rest = following;
+            following = others;
         }
     }
     last

@@ -1,4 +1,4 @@
-//! Streams cut: whole, one octet a piece, and in two at each place.
+//! Streams cut: at once, one octet a piece, and in two at each place.
 
 use crate::{
     Cutter, WireFault, no_reading_past_a_fault, nothing_in_a_partial_frame, one_fault, one_reading,
@@ -10,7 +10,7 @@ use std::test::Fail;
 // What a stream came to.
 #[derive(Clone, Copy, Debug, PartialEq, Eq)]
 struct Outcome {
-    // How many frames were answered, and a sum over what they hold, in their order.
+    // How many frames were answered, and a sum over their contents, in their order.
     frames: usize,
     sum: u64,
     fault: Option<WireFault>,
@@ -40,7 +40,7 @@ fn add_pad(sum: u64, pad: Option<u8>) -> u64 {
     }
 }
 
-// Goes on with a sum by what a frame holds.
+// Continues a sum with the contents of a frame.
 fn add_frame(sum: u64, frame: &FrameRef<'_>) -> u64 {
     match *frame {
         FrameRef::Data {
@@ -99,7 +99,7 @@ fn add_frame(sum: u64, frame: &FrameRef<'_>) -> u64 {
     }
 }
 
-// Feeds one piece, whole. After a fault nothing is fed.
+// Feeds all of one piece. After a fault nothing is fed.
 fn feed(cutter: &mut Cutter, outcome: Outcome, piece: &[u8]) -> Outcome {
     let mut outcome = outcome;
     let mut done = 0usize;
@@ -152,14 +152,20 @@ fn in_octets(alloc: Global, client: bool, stream: &[u8]) -> Outcome {
 #[test]
 fn streams_are_cut_anywhere(rt: HostRuntime) {
     let opening =
-        b"PRI * HTTP/2.0\r\n\r\nSM\r\n\r\n\x00\x00\x06\x04\x00\x00\x00\x00\x00\x00\x03\x00\x00\x00\x64\x00\x00\x03\x42\x00\x00\x00\x00\x01abc\x00\x00\x08";
+        b"PRI * HTTP/2.0\r\n\r\nSM\r\n\r\n\x00\x00\x06\x04\x00\x00\x00\x00\x00\x00\x03\x00\x00\
+            \x00\x64\x00\x00\x03\x42\x00\x00\x00\x00\x01abc\x00\x00\x08";
     let long = b"\x00\x40\x01\x00\x00\x00\x00\x00\x01more";
     let odd = b"\x00\x00\x00\x42\x00\x00\x00\x00\x00\x00\x00\x07\x06\x00\x00\x00\x00\x00";
     let kinds =
-        b"\x00\x00\x09\x01\x29\x00\x00\x00\x01\x01\x80\x00\x00\x0a\x0f\x61\x62\x00\x00\x00\x01\x09\x04\x00\x00\x00\x01\x63\x00\x00\x05\x00\x09\x00\x00\x00\x01\x02\x68\x69\x00\x00\x00\x00\x04\x03\x00\x00\x00\x00\x01\x00\x00\x00\x08\x00\x00\x09\x07\x00\x00\x00\x00\x00\x80\x00\x00\x03\x00\x00\x00\x02\x21\x00\x00\x05\x02\x00\x00\x00\x00\x03\x00\x00\x00\x00\x0f";
+        b"\x00\x00\x09\x01\x29\x00\x00\x00\x01\x01\x80\x00\x00\x0a\x0f\x61\x62\x00\x00\x00\x01\
+            \x09\x04\x00\x00\x00\x01\x63\x00\x00\x05\x00\x09\x00\x00\x00\x01\x02\x68\x69\x00\x00\
+            \x00\x00\x04\x03\x00\x00\x00\x00\x01\x00\x00\x00\x08\x00\x00\x09\x07\x00\x00\x00\x00\
+            \x00\x80\x00\x00\x03\x00\x00\x00\x02\x21\x00\x00\x05\x02\x00\x00\x00\x00\x03\x00\x00\
+            \x00\x00\x0f";
     let padded =
-        b"\x00\x00\x00\x42\x00\x00\x00\x00\x00\x00\x00\x05\x00\x08\x00\x00\x00\x01\x05\x00\x00\x00\x00";
-    // From a client?, the stream, frames, their sum, the fault, what is held, the place.
+        b"\x00\x00\x00\x42\x00\x00\x00\x00\x00\x00\x00\x05\x00\x08\x00\x00\x00\x01\x05\x00\x00\
+            \x00\x00";
+    // From a client?, the stream, frames, their sum, the fault, octets unparsed, the place.
     let examples = [
         (true, opening.as_slice(), 2, 173177860544, None, 3, 54),
         (true, b"".as_slice(), 0, 0, None, 0, 0),
@@ -243,7 +249,25 @@ fn faults_are_answered_again(rt: HostRuntime) {
 }
 
 #[test]
-fn the_longest_frame_is_held_whole(rt: HostRuntime) -> Result<(), Fail> {
+fn the_preface_is_past_once_it_is_complete(rt: HostRuntime) -> Result<(), Fail> {
+    let mut cutter = Cutter::new(rt.alloc(), 16384, true);
+    assert!(rt; !cutter.is_past_preface());
+    let cut = cutter.cut(b"PRI * HTTP/2.0\r\n\r\nSM\r\n\r")?;
+    assert_eq!(rt; cut.used, 23);
+    assert!(rt; !cutter.is_past_preface());
+    let cut = cutter.cut(b"\n\x00")?;
+    assert_eq!(rt; cut.used, 2);
+    assert!(rt; cutter.is_past_preface());
+    let none = Cutter::new(rt.alloc(), 16384, false);
+    assert!(rt; none.is_past_preface());
+    let mut wrong = Cutter::new(rt.alloc(), 16384, true);
+    assert_eq!(rt; wrong.cut(b"PRY").err(), Some(WireFault::BadPreface));
+    assert!(rt; !wrong.is_past_preface());
+    Ok(())
+}
+
+#[test]
+fn the_longest_frame_is_kept_to_its_end(rt: HostRuntime) -> Result<(), Fail> {
     let mut cutter = Cutter::new(rt.alloc(), 16384, false);
     let cut = cutter.cut(b"\x00\x40\x00\x00\x00\x00\x00\x00\x01")?;
     assert!(rt; cut.frame.is_none());
@@ -298,8 +322,8 @@ fn faults_have_their_codes_and_texts(rt: HostRuntime) -> Result<(), Fail> {
     ];
     for (fault, code, text) in examples {
         assert_eq!(rt; fault.code(), code);
-        let told = format!(in rt.alloc(); "{fault}")?;
-        assert_eq!(rt; told.as_str(), text);
+        let shown = format!(in rt.alloc(); "{fault}")?;
+        assert_eq!(rt; shown.as_str(), text);
     }
     Ok(())
 }
