@@ -15,60 +15,144 @@ use Rattle.h2_wire.specs.Streams.{preface, expected_preface}
 use Rattle.h2_block.specs.Grouping.{is_standalone, fault_outside, fault_inside}
 use Rattle.h2_block.specs.Spread.{continuations, spread_frames}
 use Rattle.h2_log.specs.Acts.{IsTypedAct}
-use Rattle.h2_log.specs.LongExamples.{acknowledged_server, changed_server, client_with_all, client_with_body, client_with_output, client_with_send_window, client_without_send_window, full_table, large_block, large_field, remembered_answer, requests_events, requests_octets, server_with_closed_by_us_body, server_with_large, server_with_late_body, server_with_limits, server_with_one_answer, server_with_one_too_many, server_with_refusal, server_with_streams, server_with_table_again, server_with_two, server_with_two_answers, server_with_wrong_preface, server_without_table, tableless_values}
-use Rattle.h2_log.specs.Log.{active_count, allowed_by, last_processed, least_goaway, max_payload_sent_by, max_streams, newest_ping, next_active, next_number, next_unprocessed, output, owed, released, unreleased, waiting}
-use Rattle.h2_log.specs.BasicExamples.{active_server, after_the_acknowledgment, asking_client, before_the_acknowledgment, client_after_goaway, client_at_goaway, client_with_answer, client_with_end, client_with_hundred, client_with_request, client_with_two, ended_client, leaving_client, lowered_client, new_client, new_server, no_octets_after_it, one_octet_after_it, pinging_client, server_above_the_greatest, server_with_body, server_with_padding, server_with_ping, server_with_release, server_with_request, server_with_reset, server_with_send_window, server_with_small_window, short_answer, small_values}
-use Rattle.h2_log.specs.States.{any_block, count_below, is_above, is_active, is_closed_by_us, is_over, is_used, least_block}
-use Rattle.h2_log.specs.Examples.{before, default_values, plain, request, request_block, short_request, table_with_authority, takes, takes_block}
+use Rattle.h2_log.specs.Log.{
+  active_count,
+  allowed_by,
+  last_processed,
+  least_goaway,
+  max_payload_sent_by,
+  max_streams,
+  newest_ping,
+  next_active,
+  next_number,
+  next_unprocessed,
+  output,
+  owed,
+  released,
+  unreleased,
+  waiting,
+}
+use Rattle.h2_log.specs.States.{
+  any_block,
+  count_below,
+  is_above,
+  is_active,
+  is_closed_by_us,
+  is_over,
+  is_used,
+  least_block,
+}
+use Rattle.h2_log.specs.WrittenFrames.{before, takes, takes_block}
 use Rattle.h2_log.specs.LogCalls.{before_put_out, opened, refused_with, with_call, with_items}
-use Rattle.h2_log.specs.Verdicts.{block_verdict, connection_update_verdict, data_verdict, opening_verdict, reset_verdict, update_verdict}
-use Rattle.h2_log.specs.CallRules.{changed_pairs, conditions, data_frames, data_items, encoder_after_call, first_of, items_of, may_lack_memory, opening_pairs, refuse_fault, stream_of_act}
-use Rattle.h2_log.specs.Items.{data_of, data_on, encoding_of_item, encoding_of_items, ends, greatest_block, increment_on, is_block_on, is_goaway, is_goaway_below, one_answer, one_ping, one_reset, opens_from, resets, stream_of_item, total}
+use Rattle.h2_log.specs.Verdicts.{
+  block_verdict,
+  connection_update_verdict,
+  data_verdict,
+  opening_verdict,
+  reset_verdict,
+  update_verdict,
+}
+use Rattle.h2_log.specs.CallRules.{
+  changed_pairs,
+  conditions,
+  data_frames,
+  data_items,
+  encoder_after_call,
+  first_of,
+  items_of,
+  may_lack_memory,
+  opening_pairs,
+  refuse_fault,
+  stream_of_act,
+}
+use Rattle.h2_log.specs.Items.{
+  data_of,
+  data_on,
+  encoding_of_item,
+  encoding_of_items,
+  ends,
+  greatest_block,
+  increment_on,
+  is_block_on,
+  is_goaway,
+  is_goaway_below,
+  one_answer,
+  one_ping,
+  one_reset,
+  opens_from,
+  resets,
+  stream_of_item,
+  total,
+}
 use Rattle.h2_log.specs.ItemEffects.{discarded_flow, encoder_after_settings, events_of}
 use Rattle.h2_log.specs.Configs.{first_bad}
-use Rattle.h2_log.specs.Events.{flow_on, greatest_processed, one_acked, one_pong, processed_by, reported_total, reports_unprocessed}
-use Rattle.h2_log.specs.ItemRules.{frame_step, grouped, grouping_step, may_be_first, opened_by, over_limits, replies_to, settings_fault, verdict_by_rules, verdict_of}
+use Rattle.h2_log.specs.Events.{
+  flow_on,
+  greatest_processed,
+  one_acked,
+  one_pong,
+  processed_by,
+  reported_total,
+  reports_unprocessed,
+}
+use Rattle.h2_log.specs.ItemRules.{
+  frame_step,
+  grouped,
+  grouping_step,
+  may_be_first,
+  opened_by,
+  over_limits,
+  replies_to,
+  settings_fault,
+  verdict_by_rules,
+  verdict_of,
+}
 use Rattle.h2_log.specs.Windows.{given_on, given_on_connection, granted_on, granted_on_connection}
-use Rattle.h2_log.specs.Corners.{leaving_server, leaving_server_with_block, leaving_server_with_body, server_with_closed_body, server_with_third}
-use Rattle.h2_log.specs.Settings.{one_ack, one_settings, payload_limit, settings_count, up_to_settings, value_after, value_fault, value_read}
+use Rattle.h2_log.specs.Settings.{
+  one_ack,
+  one_settings,
+  payload_limit,
+  settings_count,
+  up_to_settings,
+  value_after,
+  value_fault,
+  value_read,
+}
 use Rattle.h2_log.specs.LogView.{overflows}
-use Rattle.h2_log.specs.LogSteps.{owed_at_close, used, with_frame, with_reported, with_sent, with_step, with_unreturned, with_verdict}
+use Rattle.h2_log.specs.LogSteps.{
+  owed_at_close,
+  used,
+  with_frame,
+  with_reported,
+  with_sent,
+  with_step,
+  with_unreturned,
+  with_verdict,
+}
+use Rattle.h2_log.proofs.examples.Octets.{octets_after}
 
 -- opens all that computes
 unfoldable pub computing : Unit {0}
 unfolding bits_of number_of octets_of groups code_in code huffman_bits continuation_of integer
-    string fit static_entries entry least_index choice encoding_of_fields after_fields size_updates
+    string
+    fit static_entries entry least_index choice encoding_of_fields after_fields size_updates
     block_of after_block kind_of head_of fits_stream fits_length form_fault head_fault pairs_in
     pads_too_much payload_fault kind_of_frame stream_of flags_of payload_of encoding_of
     has_good_values refusal preface expected_preface is_standalone fault_outside fault_inside
-    continuations spread_frames IsTypedAct acknowledged_server active_count active_server
-    after_the_acknowledgment allowed_by any_block asking_client before before_put_out
-    before_the_acknowledgment block_verdict changed_pairs changed_server client_after_goaway
-    client_at_goaway client_with_all client_with_answer client_with_body client_with_end
-    client_with_hundred client_with_output client_with_request client_with_send_window
-    client_with_two client_without_send_window conditions connection_update_verdict count_below
-    data_frames data_items data_of data_on data_verdict default_values discarded_flow
-    encoder_after_call encoder_after_settings encoding_of_item encoding_of_items ended_client ends
-    events_of first_bad first_of flow_on frame_step full_table given_on given_on_connection
-    granted_on granted_on_connection greatest_block greatest_processed grouped grouping_step
-    increment_on is_above is_active is_block_on is_closed_by_us is_goaway is_goaway_below is_over
-    is_used items_of large_block large_field last_processed least_block least_goaway leaving_client
-    leaving_server leaving_server_with_block leaving_server_with_body lowered_client
-    max_payload_sent_by max_streams may_be_first may_lack_memory new_client new_server newest_ping
-    next_active next_number next_unprocessed no_octets_after_it one_ack one_acked one_answer
-    one_octet_after_it one_ping one_pong one_reset one_settings opened opened_by opening_pairs
+    continuations spread_frames IsTypedAct active_count allowed_by any_block before
+    before_put_out block_verdict changed_pairs conditions connection_update_verdict count_below
+    data_frames data_items data_of data_on data_verdict discarded_flow encoder_after_call
+    encoder_after_settings encoding_of_item encoding_of_items ends events_of first_bad first_of
+    flow_on frame_step given_on given_on_connection granted_on granted_on_connection
+    greatest_block greatest_processed grouped grouping_step increment_on is_above is_active
+    is_block_on is_closed_by_us is_goaway is_goaway_below is_over is_used items_of
+    last_processed least_block least_goaway max_payload_sent_by max_streams may_be_first
+    may_lack_memory newest_ping next_active next_number next_unprocessed one_ack one_acked
+    one_answer one_ping one_pong one_reset one_settings opened opened_by opening_pairs
     opening_verdict opens_from output over_limits overflows owed owed_at_close payload_limit
-    pinging_client plain processed_by refuse_fault refused_with released remembered_answer
-    replies_to reported_total reports_unprocessed request request_block requests_events
-    requests_octets reset_verdict resets server_above_the_greatest server_with_body
-    server_with_closed_body server_with_closed_by_us_body server_with_large server_with_late_body
-    server_with_limits server_with_one_answer server_with_one_too_many server_with_padding
-    server_with_ping server_with_refusal server_with_release server_with_request server_with_reset
-    server_with_send_window server_with_small_window server_with_streams server_with_table_again
-    server_with_third server_with_two server_with_two_answers server_with_wrong_preface
-    server_without_table settings_count settings_fault short_answer short_request small_values
-    stream_of_act stream_of_item table_with_authority tableless_values takes takes_block total
-    unreleased up_to_settings update_verdict used value_after value_fault value_read
-    verdict_by_rules verdict_of waiting with_call with_frame with_items with_reported with_sent
-    with_step with_unreturned with_verdict
+    processed_by refuse_fault refused_with released replies_to reported_total
+    reports_unprocessed reset_verdict resets settings_count settings_fault stream_of_act
+    stream_of_item takes takes_block total unreleased up_to_settings update_verdict used
+    value_after value_fault value_read verdict_by_rules verdict_of waiting with_call with_frame
+    with_items with_reported with_sent with_step with_unreturned with_verdict octets_after
 computing = tt

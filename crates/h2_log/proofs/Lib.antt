@@ -1,6 +1,4 @@
 pub mod Computing
 pub mod StreamLemmas
 pub mod EncodingLemmas
-pub mod ExampleLemmas
-pub mod LongExampleLemmas
-pub mod BodyLemmas
+pub mod examples

@@ -1,6 +1,31 @@
--- What a log keeps of its stream: items, calls and faults leave the octets, their limits, their frames and the rest as they are; so the
--- frames of a log that comes about are those of its octets.
-use Rattle.std.proofs.Common.{◌≡◌, ℕ, ◌+◌, ◌==◌, nat_lt, not, ◌&&◌, Bool, true, false, if◌then◌else◌, List, [], ◌∷◌, ◌++◌, length, Option, Some, None, refl, ◌∙◌, arith, inl, inr}
+-- What a log keeps of its stream: items, calls and faults leave the octets, their limits, their
+-- frames and the rest as they are; so the frames of a log that comes about are those of its octets.
+use Rattle.std.proofs.Common.{
+  ◌≡◌,
+  ℕ,
+  ◌+◌,
+  ◌==◌,
+  nat_lt,
+  not,
+  ◌&&◌,
+  Bool,
+  true,
+  false,
+  if◌then◌else◌,
+  List,
+  [],
+  ◌∷◌,
+  ◌++◌,
+  length,
+  Option,
+  Some,
+  None,
+  refl,
+  ◌∙◌,
+  arith,
+  inl,
+  inr,
+}
 use Rattle.h2_frame.specs.declared.code.Code.{Code}
 use Rattle.h2_frame.specs.declared.code.Code.TheVariants.{ProtocolError, InternalError}
 use Rattle.h2_frame.specs.Frames.{Frame}
@@ -14,11 +39,47 @@ use Rattle.h2_log.specs.Settings.{is_server}
 use Rattle.h2_log.specs.Log.{Log, last_processed, waiting}
 use Rattle.h2_log.specs.Verdicts.{Verdict, ConnectionFault}
 use Rattle.h2_log.specs.LogView.{log_view}
-use Rattle.h2_log.specs.ItemRules.{Decoded, replies_to, FrameStep, fails_with, begins_block, completes, frame_step}
-use Rattle.h2_log.specs.Histories.{begins, IsLog, took_some, took_one, met_fault, ran_out_of_memory, reported_one, called_one}
-use Rattle.h2_log.specs.LogSteps.{read, with_sent, with_reported, with_credit_returned, with_unreturned, with_failure, with_verdict, used, with_step, with_frame, took_none}
+use Rattle.h2_log.specs.ItemRules.{
+  Decoded,
+  replies_to,
+  FrameStep,
+  fails_with,
+  begins_block,
+  completes,
+  frame_step,
+}
+use Rattle.h2_log.specs.Histories.{
+  begins,
+  IsLog,
+  took_some,
+  took_one,
+  met_fault,
+  ran_out_of_memory,
+  reported_one,
+  called_one,
+}
+use Rattle.h2_log.specs.LogSteps.{
+  read,
+  with_sent,
+  with_reported,
+  with_credit_returned,
+  with_unreturned,
+  with_failure,
+  with_verdict,
+  used,
+  with_step,
+  with_frame,
+  took_none,
+}
 use Rattle.h2_log.specs.Limits.{full_output}
-use Rattle.h2_log.specs.LogCalls.{called, with_items, refused_with, before_put_out, with_call, opened}
+use Rattle.h2_log.specs.LogCalls.{
+  called,
+  with_items,
+  refused_with,
+  before_put_out,
+  with_call,
+  opened,
+}
 use Rattle.h2_log.specs.CallRules.{items_of}
 
 -- The second log has the stream of the first, and is up only where that is.
@@ -32,9 +93,16 @@ pub record Keeps (old new : Log) : Type 0 where
 
 -- a log that is left as it is
 Keeps-refl : (log : Log) → Keeps log log
-Keeps-refl log = record { role = refl; input = refl; limits = refl; frames = refl; unparsed = refl; up = λ h. h }
+Keeps-refl log = record {
+  role = refl;
+  input = refl;
+  limits = refl;
+  frames = refl;
+  unparsed = refl;
+  up = λ h. h;
+}
 
--- one step behind another
+-- one step after another
 Keeps-trans : (one two three : Log) → Keeps one two → Keeps two three → Keeps one three
 Keeps-trans one two three a b = record {
   role = b.role ∙ a.role;
@@ -46,7 +114,8 @@ Keeps-trans one two three a b = record {
 }
 
 -- one of two logs
-Keeps-if : (test : Bool) (log one two : Log) → Keeps log one → Keeps log two → Keeps log (if test then one else two)
+Keeps-if : (test : Bool) (log one two : Log) → Keeps log one → Keeps log two
+    → Keeps log (if test then one else two)
 Keeps-if true log one two a b = a
 Keeps-if false log one two a b = b
 
@@ -54,56 +123,109 @@ Keeps-if false log one two a b = b
 Keeps-with_sent : (log : Log) (items : List Item) → Keeps log (with_sent log items)
 unfolding with_sent
 Keeps-with_sent log [] = Keeps-refl log
-Keeps-with_sent log (item ∷ items) = record { role = refl; input = refl; limits = refl; frames = refl; unparsed = refl; up = λ h. h }
+Keeps-with_sent log
+    (item ∷ items) = record {
+      role = refl;
+      input = refl;
+      limits = refl;
+      frames = refl;
+      unparsed = refl;
+      up = λ h. h;
+    }
 
--- telling
+-- reporting
 Keeps-with_reported : (log : Log) (events : List Event) → Keeps log (with_reported log events)
 unfolding with_reported
 Keeps-with_reported log [] = Keeps-refl log
-Keeps-with_reported log (event ∷ events) = record { role = refl; input = refl; limits = refl; frames = refl; unparsed = refl; up = λ h. h }
+Keeps-with_reported log
+    (event ∷ events) = record {
+      role = refl;
+      input = refl;
+      limits = refl;
+      frames = refl;
+      unparsed = refl;
+      up = λ h. h;
+    }
 
 -- octets that are due
 Keeps-unreturned : (log : Log) (count : ℕ) → Keeps log (record log { unreturned = count })
-Keeps-unreturned log count = record { role = refl; input = refl; limits = refl; frames = refl; unparsed = refl; up = λ h. h }
+Keeps-unreturned log count = record {
+  role = refl;
+  input = refl;
+  limits = refl;
+  frames = refl;
+  unparsed = refl;
+  up = λ h. h;
+}
 
--- giving back what is due
+-- returning what is due
 Keeps-with_credit_returned : (log : Log) → Keeps log (with_credit_returned log)
-Keeps-with_credit_returned log = Keeps-trans log (record log { unreturned = 0 }) (with_credit_returned log) (Keeps-unreturned log 0) (Keeps-with_sent _ _)
+Keeps-with_credit_returned log = Keeps-trans log (record log { unreturned = 0 })
+    (with_credit_returned log) (Keeps-unreturned log 0) (Keeps-with_sent _ _)
 
 -- and settling it
 Keeps-with_unreturned : (more : ℕ) (log : Log) → Keeps log (with_unreturned more log)
 unfolding with_unreturned
 Keeps-with_unreturned more log =
     Keeps-if (nat_lt 0 more && nat_lt (waiting log) full_output) log _ _
-    (Keeps-trans log (record log { unreturned = log.unreturned + more }) _ (Keeps-unreturned log _) (Keeps-with_credit_returned _)) (Keeps-unreturned log _)
+    (Keeps-trans log (record log { unreturned = log.unreturned + more }) _
+    (Keeps-unreturned log _) (Keeps-with_credit_returned _)) (Keeps-unreturned log _)
 
 -- a connection that fails
 Keeps-with_failure : (code : Code) (last : ℕ) (log : Log) → Keeps log (with_failure code last log)
 Keeps-with_failure code last log =
     let k = Keeps-with_sent log _ in
-    record { role = k.role; input = k.input; limits = k.limits; frames = k.frames; unparsed = k.unparsed; up = λ h. cc }
+    record {
+      role = k.role;
+      input = k.input;
+      limits = k.limits;
+      frames = k.frames;
+      unparsed = k.unparsed;
+      up = λ h. cc;
+    }
 
 -- reading an item
-Keeps-read : (log : Log) (decoded : Option Decoded) (item : Item) → Keeps log (read log decoded item)
-Keeps-read log decoded item = record { role = refl; input = refl; limits = refl; frames = refl; unparsed = refl; up = λ h. h }
+Keeps-read : (log : Log) (decoded : Option Decoded) (item : Item)
+    → Keeps log (read log decoded item)
+Keeps-read log decoded item = record {
+  role = refl;
+  input = refl;
+  limits = refl;
+  frames = refl;
+  unparsed = refl;
+  up = λ h. h;
+}
 
 -- and all that it makes
-Keeps-verdict : (log : Log) (decoded : Option Decoded) (item : Item) (verdict : Verdict) → Keeps log (with_verdict log decoded item verdict)
+Keeps-verdict : (log : Log) (decoded : Option Decoded) (item : Item) (verdict : Verdict)
+    → Keeps log (with_verdict log decoded item verdict)
 unfolding with_verdict
 Keeps-verdict log decoded item (ConnectionFault code) = Keeps-with_failure code _ log
 Keeps-verdict log decoded item verdict =
-    Keeps-trans log (with_sent (read log decoded item) (replies_to verdict item)) _ (Keeps-trans log (read log decoded item) _
+    Keeps-trans log (with_sent (read log decoded item) (replies_to verdict item)) _
+    (Keeps-trans log (read log decoded item) _
     (Keeps-read log decoded item) (Keeps-with_sent _ _))
-    (Keeps-trans _ (with_unreturned _ (with_sent (read log decoded item) (replies_to verdict item))) _ (Keeps-with_unreturned _ _) (Keeps-with_reported _ _))
+    (Keeps-trans _ (with_unreturned _ (with_sent (read log decoded item)
+    (replies_to verdict item))) _ (Keeps-with_unreturned _ _) (Keeps-with_reported _ _))
 
 -- what a frame makes of a block that has begun
-Keeps-step : (log : Log) (decoded : Option Decoded) (step : FrameStep) → Keeps log (with_step log decoded step)
+Keeps-step : (log : Log) (decoded : Option Decoded) (step : FrameStep)
+    → Keeps log (with_step log decoded step)
 unfolding with_step
 Keeps-step log decoded (fails_with code) = Keeps-with_failure _ _ log
-Keeps-step log decoded (begins_block begun) = record { role = refl; input = refl; limits = refl; frames = refl; unparsed = refl; up = λ h. h }
+Keeps-step log decoded
+    (begins_block begun) = record {
+      role = refl;
+      input = refl;
+      limits = refl;
+      frames = refl;
+      unparsed = refl;
+      up = λ h. h;
+    }
 Keeps-step log decoded (completes item) =
     Keeps-trans log (record log { begun = None }) _ (record
-    { role = refl; input = refl; limits = refl; frames = refl; unparsed = refl; up = λ h. h }) (Keeps-verdict _ _ _ _)
+    { role = refl; input = refl; limits = refl; frames = refl; unparsed = refl; up = λ h. h })
+    (Keeps-verdict _ _ _ _)
 
 -- a frame stands after those before it
 pub Keeps-frame : (log : Log) (decoded : Option Decoded) (frame : Frame) → Keeps (record log {
@@ -115,20 +237,30 @@ Keeps-frame log decoded frame = Keeps-step _ decoded (frame_step (log_view log) 
 
 -- a call
 Keeps-called : (log : Log) (act : Act) (answer : Answer) → Keeps log (called log act answer)
-Keeps-called log act answer = record { role = refl; input = refl; limits = refl; frames = refl; unparsed = refl; up = λ h. h }
+Keeps-called log act answer = record {
+  role = refl;
+  input = refl;
+  limits = refl;
+  frames = refl;
+  unparsed = refl;
+  up = λ h. h;
+}
 
 -- and what it writes
 Keeps-items : (log : Log) (act : Act) (answer : Answer) → Keeps log (with_items log act answer)
 unfolding with_items
 Keeps-items log act answer =
-    Keeps-trans log (with_sent (called log act answer) (items_of (log_view log) act answer)) _ (Keeps-trans log (called log act answer) _
+    Keeps-trans log (with_sent (called log act answer) (items_of (log_view log) act answer)) _
+    (Keeps-trans log (called log act answer) _
     (Keeps-called _ _ _) (Keeps-with_sent _ _))
     (Keeps-with_unreturned _ _)
 
 -- a stream that the layer above refuses
-Keeps-refused : (log : Log) (act : Act) (answer : Answer) (fault : Option Code) → Keeps log (refused_with log act answer fault)
+Keeps-refused : (log : Log) (act : Act) (answer : Answer) (fault : Option Code)
+    → Keeps log (refused_with log act answer fault)
 unfolding refused_with
-Keeps-refused log act answer (Some code) = Keeps-trans log (called log act answer) _ (Keeps-called _ _ _) (Keeps-with_failure _ _ _)
+Keeps-refused log act answer (Some code) = Keeps-trans log (called log act answer) _
+    (Keeps-called _ _ _) (Keeps-with_failure _ _ _)
 Keeps-refused log act answer None = Keeps-items log act answer
 
 -- output that is given out
@@ -137,34 +269,48 @@ unfolding before_put_out
 Keeps-before_put_out log = Keeps-if _ log _ _ (Keeps-with_credit_returned log) (Keeps-refl log)
 
 -- output that is given out
-Keeps-given : (log : Log) (act : Act) (answer : Answer) (count : ℕ) → Keeps log (record (before_put_out (called log act answer)) { given = count })
+Keeps-given : (log : Log) (act : Act) (answer : Answer) (count : ℕ)
+    → Keeps log (record (before_put_out (called log act answer)) { given = count })
 Keeps-given log act answer count =
-    let k = Keeps-trans log (called log act answer) (before_put_out (called log act answer)) (Keeps-called log act answer) (Keeps-before_put_out _) in
-    record { role = k.role; input = k.input; limits = k.limits; frames = k.frames; unparsed = k.unparsed; up = k.up }
+    let k = Keeps-trans log (called log act answer) (before_put_out (called log act answer))
+    (Keeps-called log act answer) (Keeps-before_put_out _) in
+    record {
+      role = k.role;
+      input = k.input;
+      limits = k.limits;
+      frames = k.frames;
+      unparsed = k.unparsed;
+      up = k.up;
+    }
 
 -- all calls
 pub Keeps-call : (log : Log) (act : Act) (answer : Answer) → Keeps log (with_call log act answer)
 unfolding with_call
 Keeps-call log act (Refused refusal) = Keeps-called log act _
-Keeps-call log act OutOfMemory = Keeps-trans log (called log act OutOfMemory) _ (Keeps-called _ _ _) (Keeps-with_failure _ _ _)
+Keeps-call log act OutOfMemory = Keeps-trans log (called log act OutOfMemory) _
+    (Keeps-called _ _ _) (Keeps-with_failure _ _ _)
 Keeps-call log (Refuse id code) answer = Keeps-refused log _ _ _
 Keeps-call log (PutOut count) (Count given) = Keeps-given log _ _ _
 Keeps-call log act answer = Keeps-items log act answer
 
 -- a stream that isn't processed
 pub Keeps-none : (log : Log) → Keeps log (took_none log)
-Keeps-none log = Keeps-trans log (with_unreturned _ log) _ (Keeps-with_unreturned _ log) (Keeps-with_reported _ _)
+Keeps-none log = Keeps-trans log (with_unreturned _ log) _ (Keeps-with_unreturned _ log)
+    (Keeps-with_reported _ _)
 
 -- What is true of a log's stream as long as it hasn't failed.
 pub record HasStream (of_role : Role) (log : Log) : Type 0 where
   pub role : log.role ≡ of_role
-  pub framed : log.failed ≡ None → Frames (is_server of_role) log.limits log.input log.frames log.unparsed
+  pub framed : log.failed ≡ None → Frames
+      (is_server of_role) log.limits log.input log.frames log.unparsed
 
 -- what is kept of it
-HasStream-keeps : (role : Role) (old new : Log) → HasStream role old → Keeps old new → HasStream role new
+HasStream-keeps : (role : Role) (old new : Log) → HasStream role old → Keeps old new
+    → HasStream role new
 HasStream-keeps role old new has keeps = record {
   role = keeps.role ∙ has.role;
-  framed = λ h. rw (keeps.limits, keeps.input, keeps.frames, keeps.unparsed) (has.framed (keeps.up h));
+  framed = λ h. rw (keeps.limits, keeps.input, keeps.frames, keeps.unparsed) (has.framed
+      (keeps.up h));
 }
 
 -- a new end
@@ -182,10 +328,21 @@ opened_stream Client values =
       });
     }
 opened_stream Server values =
-    record { role = refl; framed = λ h. inl (record { missing = preface; opens = refl; short = omega arith; none = refl; all = refl }) }
+    record {
+      role = refl;
+      framed = λ h. inl
+          (record {
+            missing = preface;
+            opens = refl;
+            short = omega arith;
+            none = refl;
+            all = refl;
+          });
+    }
 
--- The frames of a log that comes about are those of its octets, and behind them stands the rest.
-pub stream_of_log : (role : Role) (values : Values) (log : Log) → IsLog role values log → HasStream role log
+-- The frames of a log that comes about are those of its octets, and after them stands the rest.
+pub stream_of_log : (role : Role) (values : Values) (log : Log) → IsLog role values log
+    → HasStream role log
 unfolding used
 stream_of_log role values _ (begins in_range) = opened_stream role values
 stream_of_log role values _ (took_some {log} is takes octets unparsed frames) = record {
@@ -204,6 +361,9 @@ stream_of_log role values _ (met_fault {log} is takes octets fault at) =
 stream_of_log role values _ (ran_out_of_memory {log} is up octets may) =
     let k = Keeps-with_failure InternalError (last_processed log) (used log octets []) in
     record { role = k.role ∙ (stream_of_log role values log is).role; framed = λ h. absurd (cc) }
-stream_of_log role values _ (reported_one {log} is up some) = HasStream-keeps role log _ (stream_of_log role values log is) (Keeps-none log)
-stream_of_log role values _ (called_one {log} is act answer typed may) = HasStream-keeps role log _ (stream_of_log role values log is)
+stream_of_log role values _ (reported_one {log} is up some) = HasStream-keeps role log _
+    (stream_of_log role values log is) (Keeps-none log)
+stream_of_log role values _
+    (called_one {log} is act answer typed may) = HasStream-keeps role log _
+    (stream_of_log role values log is)
     (Keeps-call log act answer)

@@ -1,5 +1,7 @@
 -- What an end is asked to do, and what it answers.
 use Rattle.std.specs.Prelude.{◌≡◌, ◌≤◌, ◌<◌, ◌^◌, ℕ, Bool, List, length, Option}
+use Rattle.std.specs.List.{AllByRecursion}
+use Rattle.hpack_text.specs.Bits.{IsOctet}
 use Rattle.hpack.specs.declared.types.field.Field.{Field}
 use Rattle.hpack.specs.Written.{AreOctets}
 use Rattle.h2_frame.specs.declared.code.Code.{Code}
@@ -21,9 +23,11 @@ pub record AreInRange (values : Values) : Type 0 where
   pub least_streams : 100 ≤ values.max_streams
   pub max_streams : values.max_streams ≤ 1000
 
--- A call with its arguments. Taking octets isn't among them: what an end makes of those is said frame by frame.
+-- A call with its arguments. Taking octets isn't among them: what an end makes of those is said
+-- frame by frame.
 pub data Act : Type 0 where
-  -- opens a stream with a field block; end: whether it is the last one, and no DATA follows (END_STREAM)
+  -- opens a stream with a field block; end: whether it is the last one, and no DATA follows
+  -- (END_STREAM)
   Open : (fields : List Field) (end : Bool) → Act
   -- writes a further field block
   SendFields : (id : ℕ) (fields : List Field) (end : Bool) → Act
@@ -33,7 +37,8 @@ pub data Act : Type 0 where
   Release : (id count : ℕ) → Act
   -- resets a stream
   ResetStream : (id code : ℕ) → Act
-  -- resets a stream for a fault of the peer that the layer above found, or, with code 2, ends the connection since it found no memory
+  -- resets a stream for a fault of the peer that the layer above found, or, with code 2, ends the
+  -- connection since it found no memory
   Refuse : (id code : ℕ) → Act
   SendPing : (octets : List ℕ) → Act
   -- says that no further streams are taken
@@ -49,22 +54,24 @@ pub data Answer : Type 0 where
   -- how many octets were written, or given out
   Count : (count : ℕ) → Answer
   Done : Answer
-  -- A growth was refused in a call that can't be refused for it: the connection failed, and the call answers that it is done.
+  -- A growth was refused in a call that can't be refused for it: the connection failed, and the
+  -- call answers that it is done.
   OutOfMemory : Answer
   Refused : (refusal : Refusal) → Answer
 
--- The arguments of a call are those that its types hold: names and values of fields are octets, a PING has eight of them, a code has 32 bits,
--- and values are within their bounds.
+-- The arguments of a call are those that its types hold: octets are below 256, numbers of streams
+-- and codes below 2^32, as is the count of `Release`, and that of `PutOut` below 2^64; a PING has
+-- eight octets; values are within their bounds.
 unfoldable pub IsTypedAct : Act → Type 0
 IsTypedAct (Open fields end) = AreOctets fields
-IsTypedAct (SendFields id fields end) = AreOctets fields
-IsTypedAct (SendData id octets end) = Unit {0}
-IsTypedAct (Release id count) = Unit {0}
-IsTypedAct (ResetStream id code) = code < 2 ^ 32
-IsTypedAct (Refuse id code) = code < 2 ^ 32
-IsTypedAct (SendPing octets) = length octets ≡ 8
+IsTypedAct (SendFields id fields end) = (id < 2 ^ 32) × AreOctets fields
+IsTypedAct (SendData id octets end) = (id < 2 ^ 32) × AllByRecursion IsOctet octets
+IsTypedAct (Release id count) = (id < 2 ^ 32) × (count < 2 ^ 32)
+IsTypedAct (ResetStream id code) = (id < 2 ^ 32) × (code < 2 ^ 32)
+IsTypedAct (Refuse id code) = (id < 2 ^ 32) × (code < 2 ^ 32)
+IsTypedAct (SendPing octets) = (length octets ≡ 8) × AllByRecursion IsOctet octets
 IsTypedAct SendGoAway = Unit {0}
-IsTypedAct (PutOut count) = Unit {0}
+IsTypedAct (PutOut count) = count < 2 ^ 64
 IsTypedAct (ChangeSettings values) = AreInRange values
 
 -- the answer that a call shows
@@ -75,8 +82,8 @@ shown Done = Done
 shown OutOfMemory = Done
 shown (Refused refusal) = Refused refusal
 
--- A turn of a log. Behind octets that were used stands what is written for them, and then the event; behind a call its answer, and then what
--- it writes.
+-- A turn of a log. After octets that were used stands what is written for them, and then the event;
+-- after a call its answer, and then what it writes.
 pub data Turn : Type 0 where
   -- octets that were used
   In : (octets : List ℕ) → Turn
@@ -85,7 +92,8 @@ pub data Turn : Type 0 where
   Called : (act : Act) → Turn
   Answered : (answer : Answer) → Turn
   Happened : (event : Event) → Turn
-  -- Octets were handed to `take`, which is called until it has used them and tells no event; and it was done with them, or the connection
-  -- failed with a code. Whoever replays a list of calls puts these two around what happens in between.
+  -- Octets were handed to `take`, which is called until it has used them and reports no event; and
+  -- it was done with them, or the connection failed with a code. Whoever replays a list of calls
+  -- puts these two around what happens in between.
   TakeCalled : (octets : List ℕ) → Turn
   TakeAnswered : (fault : Option Code) → Turn

@@ -1,13 +1,42 @@
--- What an end may write, by what it has read and written before; and the lists that come about so. They say nothing of octets and calls:
--- each call that is accepted, and each reply, keeps to this.
-use Rattle.std.specs.Prelude.{◌≡◌, ◌≢◌, ◌⊎◌, ℕ, ◌+◌, ◌%◌, ◌≤◌, ◌<◌, Bool, true, false, List, [], ◌∷◌, ◌++◌, length}
+-- What an end may write, by what it has read and written before; and the lists that come about so.
+-- They say nothing of octets and calls: each call that is accepted, and each reply, keeps to this.
+use Rattle.std.specs.Prelude.{
+  ◌≡◌,
+  ◌≢◌,
+  ◌⊎◌,
+  ℕ,
+  ◌+◌,
+  ◌%◌,
+  ◌≤◌,
+  ◌<◌,
+  Bool,
+  true,
+  false,
+  List,
+  [],
+  ◌∷◌,
+  ◌++◌,
+  length,
+}
 use Rattle.std.specs.List.{list_any}
 use Rattle.h2_frame.specs.Frames.{Data, Headers, Priority, Reset, Settings, Ping, GoAway, WindowUpdate, Continuation, Unknown}
 use Rattle.h2_frame.specs.Encoding.{payload_of}
 use Rattle.h2_block.specs.Grouping.{Item, alone, block, max_block_octets}
 use Rattle.h2_log.specs.declared.role.Role.{Role}
 use Rattle.h2_log.specs.declared.role.Role.TheVariants.{Client}
-use Rattle.h2_log.specs.Items.{data_on, data_of, increment_on, ends, resets, one_ping, one_answer, is_goaway, is_goaway_below, total, greatest_block}
+use Rattle.h2_log.specs.Items.{
+  data_on,
+  data_of,
+  increment_on,
+  ends,
+  resets,
+  one_ping,
+  one_answer,
+  is_goaway,
+  is_goaway_below,
+  total,
+  greatest_block,
+}
 use Rattle.h2_log.specs.Acts.{Values, AreInRange}
 use Rattle.h2_log.specs.Settings.{peer_of, settings_count, one_ack}
 use Rattle.h2_log.specs.Events.{reports_unprocessed}
@@ -16,7 +45,8 @@ use Rattle.h2_log.specs.Windows.{given_on, given_on_connection}
 use Rattle.h2_log.specs.Log.{Log, acked, allowed_by, max_payload_sent_by}
 use Rattle.h2_log.specs.CallRules.{opening_pairs, changed_pairs}
 
--- Whether a stream is live, by what was read and written alone. Naming streams unprocessed makes fewer of them live.
+-- Whether a stream is active, by what was read and written alone. Naming streams unprocessed makes
+-- fewer of them active.
 abbrev pub active_by_items : Role → ℕ → List Item → List Item → Bool
 active_by_items role i received sent = is_active role i received sent []
 
@@ -24,32 +54,36 @@ active_by_items role i received sent = is_active role i received sent []
 abbrev pub HasAcknowledged : List Item → List Item → Type 0
 HasAcknowledged received sent = total one_ack sent ≡ settings_count received
 
--- A stream on which this end goes on: it is live, and this end hasn't ended it.
+-- A stream on which this end goes on: it is active, and this end hasn't ended it.
 pub record MayContinue (role : Role) (i : ℕ) (received sent : List Item) : Type 0 where
   pub active : active_by_items role i received sent ≡ true
   pub goes : list_any (ends i) sent ≡ false
 
--- A stream may be opened by a client, with an odd number of 31 bits above all before it, while fewer are live than the server allows, and no GOAWAY
--- was written or read (RFC 9113, sections 5.1.1, 5.1.2 and 6.8).
+-- A stream may be opened by a client, with an odd number of 31 bits above all before it, while
+-- fewer are active than the server allows, and no GOAWAY was written or read (RFC 9113, sections
+-- 5.1.1, 5.1.2 and 6.8).
 pub record MayOpen (role : Role) (i : ℕ) (received sent : List Item) : Type 0 where
   pub client : role ≡ Client
   pub odd : i % 2 ≡ 1
   pub rises : greatest_block sent < i
   pub low : i ≤ greatest_number
-  pub few : count_below (greatest_block sent + 1) (λ j. active_by_items role j received sent) < allowed_by received
+  pub few : count_below (greatest_block sent + 1)
+      (λ j. active_by_items role j received sent) < allowed_by received
   pub stays : list_any is_goaway sent ≡ false
   pub reported_to_stay : list_any is_goaway received ≡ false
 
--- DATA may be written on a stream on which this end goes on, with no more octets than the peer reads in a frame, and 16,384 at most (own;
--- section 4.2), and within both windows; of no octets always (section 6.9.1).
+-- DATA may be written on a stream on which this end goes on, with no more octets than the peer
+-- reads in a frame, and 16,384 at most (own; section 4.2), and within both windows; of no octets
+-- always (section 6.9.1).
 pub record MaySendData (role : Role) (i count : ℕ) (received sent : List Item) : Type 0 where
   pub goes_on : MayContinue role i received sent
   pub short : count ≤ max_payload_sent_by received
   pub fits : count ≢ 0 → total (data_on i) sent + count ≤ given_on i received
   pub fits_connection : count ≢ 0 → total data_of sent + count ≤ given_on_connection received
 
--- No more is given back than was read, and never nothing (section 6.9).
-pub record MayUpdateWindow (role : Role) (i increment : ℕ) (received sent : List Item) : Type 0 where
+-- No more is returned than was read, and never nothing (section 6.9).
+pub record MayUpdateWindow (role : Role) (i increment : ℕ)
+    (received sent : List Item) : Type 0 where
   pub some : increment ≢ 0
   pub active : i ≢ 0 → active_by_items role i received sent ≡ true
   pub read : i ≢ 0 → total (increment_on i) sent + increment ≤ total (data_on i) received
@@ -60,36 +94,53 @@ pub record MayReset (role : Role) (i : ℕ) (received sent : List Item) : Type 0
   pub used : is_used role i received sent ≡ true
   pub once : list_any (resets i) sent ≡ false
 
--- Settings may be changed to values within their bounds, once those before were acknowledged (own; section 6.5.3).
-pub record MayChangeSettings (role : Role) (pairs : List (ℕ × ℕ)) (received sent : List Item) : Type 0 where
+-- Settings may be changed to values within their bounds, once those before were acknowledged (own;
+-- section 6.5.3).
+pub record MayChangeSettings (role : Role) (pairs : List (ℕ
+    × ℕ)) (received sent : List Item) : Type 0 where
   pub values : Values
   pub in_range : AreInRange values
   pub changed : pairs ≡ changed_pairs role values
   pub none_waits : settings_count sent ≤ total one_ack received
 
--- What may be written next. All but an acknowledgment stands behind those of all SETTINGS that were read (section 6.5.3: at once).
+-- What may be written next. All but an acknowledgment stands after those of all SETTINGS that were
+-- read (section 6.5.3: at once).
 abbrev pub Allowed : Role → List Item → List Item → Item → Type 0
-Allowed role received sent (block i end octets) = HasAcknowledged received sent × (MayOpen role i received sent ⊎ MayContinue role i received sent) × (length octets ≤ max_block_octets)
-Allowed role received sent (alone (Data i end octets pad)) = HasAcknowledged received sent × MaySendData role i (length (payload_of (Data i end octets pad))) received sent
+Allowed role received sent (block i end octets) = HasAcknowledged received sent
+    × (MayOpen role i received sent ⊎ MayContinue role i received sent)
+    × (length octets ≤ max_block_octets)
+Allowed role received sent (alone (Data i end octets pad)) = HasAcknowledged received sent
+    × MaySendData role i (length (payload_of (Data i end octets pad))) received sent
 Allowed role received sent (alone (Headers i end whole fragment pad priority)) = ⊥
 Allowed role received sent (alone (Priority i octets)) = ⊥
-Allowed role received sent (alone (Reset i code)) = HasAcknowledged received sent × MayReset role i received sent
-Allowed role received sent (alone (Settings false pairs)) = HasAcknowledged received sent × MayChangeSettings role pairs received sent
-Allowed role received sent (alone (Settings true pairs)) = (total one_ack sent + 1 ≡ settings_count received) × (pairs ≡ [])
-Allowed role received sent (alone (Ping false octets)) = HasAcknowledged received sent × (total one_ping sent ≤ total one_answer received)
-Allowed role received sent (alone (Ping true octets)) = HasAcknowledged received sent × (total one_answer sent + 1 ≡ total one_ping received)
+Allowed role received sent (alone (Reset i code)) = HasAcknowledged received sent
+    × MayReset role i received sent
+Allowed role received sent (alone (Settings false pairs)) = HasAcknowledged received sent
+    × MayChangeSettings role pairs received sent
+Allowed role received sent (alone (Settings true pairs)) = (total one_ack sent + 1
+    ≡ settings_count received) × (pairs ≡ [])
+Allowed role received sent (alone (Ping false octets)) = HasAcknowledged received sent
+    × (total one_ping sent ≤ total one_answer received)
+Allowed role received sent (alone (Ping true octets)) = HasAcknowledged received sent
+    × (total one_answer sent + 1 ≡ total one_ping received)
 Allowed role received sent (alone (GoAway last code debug)) = HasAcknowledged received sent
-Allowed role received sent (alone (WindowUpdate i increment)) = HasAcknowledged received sent × MayUpdateWindow role i increment received sent
+Allowed role received sent (alone (WindowUpdate i increment)) = HasAcknowledged received sent
+    × MayUpdateWindow role i increment received sent
 Allowed role received sent (alone (Continuation i whole fragment)) = ⊥
 Allowed role received sent (alone (Unknown kind flags i payload)) = ⊥
 
--- The lists of what an end has read and written: at first its opening, and then one item more, read or written.
+-- The lists of what an end has read and written: at first its opening, and then one item more, read
+-- or written.
 pub data AllowedHistory (role : Role) : List Item → List Item → Type 0 where
-  starts : (values : Values) → AreInRange values → AllowedHistory role [] (alone (Settings false (opening_pairs role values)) ∷ [])
-  reads : {received sent : List Item} (item : Item) → AllowedHistory role received sent → AllowedHistory role (item ∷ received) sent
-  writes : {received sent : List Item} (item : Item) → AllowedHistory role received sent → Allowed role received sent item → AllowedHistory role received (item ∷ sent)
+  starts : (values : Values) → AreInRange values
+      → AllowedHistory role [] (alone (Settings false (opening_pairs role values)) ∷ [])
+  reads : {received sent : List Item} (item : Item) → AllowedHistory role received sent
+      → AllowedHistory role (item ∷ received) sent
+  writes : {received sent : List Item} (item : Item) → AllowedHistory role received sent
+      → Allowed role received sent item → AllowedHistory role received (item ∷ sent)
 
--- Where an item that was written comes from: a front of what was read, at which writing it was allowed; or it is the opening.
+-- Where an item that was written comes from: a front of what was read, at which writing it was
+-- allowed; or it is the opening.
 pub record Origin (role : Role) (received before : List Item) (item : Item) : Type 0 where
   pub unread : List Item
   pub read : List Item
@@ -104,13 +155,15 @@ pub record IsOpening (role : Role) (before : List Item) (item : Item) : Type 0 w
   pub first : before ≡ []
   pub opening : item ≡ alone (Settings false (opening_pairs role values))
 
--- The log is that of the other end, which has read just what this end has written, and has written what this end has read, and perhaps
--- more, newest first. Each acknowledgment that it read was awaited; the streams that it named unprocessed, at a client, are above the last
--- stream of a GOAWAY that it read.
+-- The log is that of the other end, which has read just what this end has written, and has written
+-- what this end has read, and perhaps more, newest first. Each acknowledgment that it read was
+-- awaited; the streams that it named unprocessed, at a client, are above the last stream of a
+-- GOAWAY that it read.
 pub record IsReader (role : Role) (received sent unread : List Item) (log : Log) : Type 0 where
   pub other : log.role ≡ peer_of role
   pub read : log.received ≡ sent
   pub written : log.sent ≡ unread ++ received
   pub with_sent : AllowedHistory log.role log.received log.sent
   pub awaited : acked log ≡ total one_ack log.received
-  pub named : (i : ℕ) → list_any (reports_unprocessed i) log.reported ≡ true → (log.role ≡ Client) × (list_any (is_goaway_below i) log.received ≡ true)
+  pub named : (i : ℕ) → list_any (reports_unprocessed i) log.reported ≡ true → (log.role
+      ≡ Client) × (list_any (is_goaway_below i) log.received ≡ true)

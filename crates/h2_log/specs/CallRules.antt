@@ -1,6 +1,36 @@
 -- What an end answers to a call, and what it writes for it, by what it has so far.
-use Rattle.std.specs.Prelude.{ℕ, zero, suc, ◌+◌, ◌==◌, nat_lt, nat_le, not, ◌||◌, ◌&&◌, min, Bool, false, true, if◌then◌else◌,
-    ℤ, pos, negsuc, List, [], ◌∷◌, ◌++◌, length, take, drop, Option, Some, None, is_some, option_map}
+use Rattle.std.specs.Prelude.{
+  ℕ,
+  zero,
+  suc,
+  ◌+◌,
+  ◌==◌,
+  nat_lt,
+  nat_le,
+  not,
+  ◌||◌,
+  ◌&&◌,
+  min,
+  Bool,
+  false,
+  true,
+  if◌then◌else◌,
+  ℤ,
+  pos,
+  negsuc,
+  List,
+  [],
+  ◌∷◌,
+  ◌++◌,
+  length,
+  take,
+  drop,
+  Option,
+  Some,
+  None,
+  is_some,
+  option_map,
+}
 use Rattle.hpack.specs.declared.types.field.Field.{Field}
 use Rattle.hpack.specs.Lists.{EncoderState, list_size}
 use Rattle.hpack.specs.Choice.{block_of, after_block}
@@ -11,16 +41,46 @@ use Rattle.h2_block.specs.Grouping.{Item, alone, block}
 use Rattle.h2_log.specs.declared.role.Role.{Role}
 use Rattle.h2_log.specs.declared.role.Role.TheVariants.{Client, Server}
 use Rattle.h2_log.specs.declared.refusal.Refusal.{Refusal}
-use Rattle.h2_log.specs.declared.refusal.Refusal.TheVariants.{Closed, NoSuchStream, Ended, TooManyStreams, StreamsExhausted,
-    GoingAway, OutputFull, PingWaits, TooManyResets, ListTooLarge, NotOwed, SettingsWait}
-use Rattle.h2_log.specs.Acts.{Values, Act, Answer, Open, SendFields, SendData, Release, ResetStream, Refuse, SendPing, SendGoAway, PutOut, ChangeSettings, Number, Count, Done}
+use Rattle.h2_log.specs.declared.refusal.Refusal.TheVariants.{
+  Closed,
+  NoSuchStream,
+  Ended,
+  TooManyStreams,
+  StreamsExhausted,
+  GoingAway,
+  OutputFull,
+  PingWaits,
+  TooManyResets,
+  ListTooLarge,
+  NotOwed,
+  SettingsWait,
+}
+use Rattle.h2_log.specs.Acts.{
+  Values,
+  Act,
+  Answer,
+  Open,
+  SendFields,
+  SendData,
+  Release,
+  ResetStream,
+  Refuse,
+  SendPing,
+  SendGoAway,
+  PutOut,
+  ChangeSettings,
+  Number,
+  Count,
+  Done,
+}
 use Rattle.h2_log.specs.Settings.{is_server}
 use Rattle.h2_log.specs.States.{greatest_number}
 use Rattle.h2_log.specs.Limits.{max_list, full_output, max_output, max_resets, max_data}
 use Rattle.h2_log.specs.View.{StreamView, View, ended_in, ended_out, owed_on}
 use Rattle.h2_frame.specs.Codes.{code_number}
 
--- The conditions, of which the first that holds refuses a call; being out of memory comes after all of them.
+-- The conditions, of which the first that holds refuses a call; being out of memory comes after all
+-- of them.
 
 -- the first refusal of a list of conditions
 unfoldable pub first_of : List (Bool × Refusal) → Option Refusal
@@ -62,14 +122,23 @@ is_not_owed view id count = count == 0 || nat_lt (owed_on (view.stream id)) coun
 -- the conditions of each call, in order
 unfoldable pub conditions : View → Act → List (Bool × Refusal)
 conditions view (Open fields end) =
-    (has_failed view, Closed) ∷ (has_all_streams view, TooManyStreams) ∷ (has_no_number view, StreamsExhausted)
+    (has_failed view, Closed) ∷ (has_all_streams view, TooManyStreams) ∷
+    (has_no_number view, StreamsExhausted)
     ∷ (view.goaway_sent || is_some view.goaway_received, GoingAway) ∷ (is_full view, OutputFull)
     ∷ (is_too_large fields, ListTooLarge) ∷ []
 conditions view (SendFields id fields end) =
-    (has_failed view, Closed) ∷ (is_no_stream view id, NoSuchStream) ∷ (ended_out (view.stream id), Ended)
+    (has_failed view, Closed) ∷ (is_no_stream view id, NoSuchStream) ∷ (
+      ended_out
+          (view.stream id),
+      Ended,
+    )
     ∷ (is_full view, OutputFull) ∷ (is_too_large fields, ListTooLarge) ∷ []
 conditions view (SendData id octets end) =
-    (has_failed view, Closed) ∷ (is_no_stream view id, NoSuchStream) ∷ (ended_out (view.stream id), Ended)
+    (has_failed view, Closed) ∷ (is_no_stream view id, NoSuchStream) ∷ (
+      ended_out
+          (view.stream id),
+      Ended,
+    )
     ∷ (is_full view, OutputFull) ∷ []
 conditions view (Release id count) =
     (has_failed view, Closed) ∷ (is_no_stream view id, NoSuchStream) ∷ (is_full view, OutputFull)
@@ -79,7 +148,11 @@ conditions view (ResetStream id code) =
     ∷ (has_all_resets view, TooManyResets) ∷ []
 -- with INTERNAL_ERROR the layer above has run out of memory, whatever the stream
 conditions view (Refuse id code) =
-    (has_failed view, Closed) ∷ (not (code == code_number InternalError) && is_no_stream view id, NoSuchStream) ∷ []
+    (has_failed view, Closed) ∷ (
+      not (code == code_number InternalError)
+          && is_no_stream view id,
+      NoSuchStream,
+    ) ∷ []
 conditions view (SendPing octets) =
     (has_failed view, Closed) ∷ (is_full view, OutputFull) ∷ (is_some view.ping, PingWaits) ∷ []
 conditions view SendGoAway =
@@ -92,7 +165,8 @@ conditions view (ChangeSettings values) =
 abbrev pub refusal_of : View → Act → Option Refusal
 refusal_of view act = first_of (conditions view act)
 
--- Credit is returned where more is unreturned than before, and less than the full output waits (own).
+-- Credit is returned where more is unreturned than before, and less than the full output waits
+-- (own).
 abbrev pub returns_credit : (more waiting : ℕ) → Bool
 returns_credit more waiting = nat_lt 0 more && nat_lt waiting full_output
 
@@ -112,11 +186,13 @@ abbrev pub at_least_none : ℤ → ℕ
 at_least_none (pos n) = n
 at_least_none (negsuc n) = 0
 
--- How many octets of a body are sent: as many as there are, as both windows let through, and at most 65,536.
+-- How many octets of a body are sent: as many as there are, as both windows let through, and at
+-- most 65,536.
 abbrev pub data_count : View → Option StreamView → ℕ → ℕ
 data_count view None count = 0
 data_count view (Some stream) count =
-    min count (min (min (at_least_none stream.send_window) (at_least_none view.send_window)) max_data)
+    min count (min (min (at_least_none stream.send_window)
+    (at_least_none view.send_window)) max_data)
 
 -- the answer to a call that isn't refused
 abbrev pub answer_of : View → Act → Answer
@@ -128,54 +204,66 @@ answer_of view (ResetStream id code) = Done
 answer_of view (Refuse id code) = Done
 answer_of view (SendPing octets) = Done
 answer_of view SendGoAway = Done
-answer_of view (PutOut count) = Count (min count (view.waiting + (if returns_before_put_out view then update_size else 0)))
+answer_of view (PutOut count) = Count (min count (view.waiting +
+    (if returns_before_put_out view then update_size else 0)))
 answer_of view (ChangeSettings values) = Done
 
--- the pairs of own SETTINGS. A client that opens says that it takes no push; both say in their opening how large a list may be.
+-- the pairs of own SETTINGS. A client that opens says that it takes no push; both say in their
+-- opening how large a list may be.
 unfoldable pub opening_pairs : Role → Values → List (ℕ × ℕ)
-opening_pairs Client values = (1, values.table_limit) ∷ (2, 0) ∷ (4, values.initial_window) ∷ (6, max_list) ∷ []
+opening_pairs Client values = (1, values.table_limit) ∷ (2, 0) ∷ (4, values.initial_window) ∷
+    (6, max_list) ∷ []
 opening_pairs Server values =
-    (1, values.table_limit) ∷ (3, values.max_streams) ∷ (4, values.initial_window) ∷ (6, max_list) ∷ []
+    (1, values.table_limit) ∷ (3, values.max_streams) ∷ (4, values.initial_window) ∷
+    (6, max_list) ∷ []
 
 unfoldable pub changed_pairs : Role → Values → List (ℕ × ℕ)
 changed_pairs Client values = (1, values.table_limit) ∷ (4, values.initial_window) ∷ []
-changed_pairs Server values = (1, values.table_limit) ∷ (3, values.max_streams) ∷ (4, values.initial_window) ∷ []
+changed_pairs Server values = (1, values.table_limit) ∷ (3, values.max_streams) ∷
+    (4, values.initial_window) ∷ []
 
--- The DATA frames of octets, newest first, each with the most octets but the last, which has END_STREAM where `end` is set. `count`
--- is how many there may be; as many as octets, and one, are always enough.
+-- The DATA frames of octets, newest first, each with the most octets but the last, which has
+-- END_STREAM where `end` is set. `count` is how many there may be; as many as octets, and one, are
+-- always enough.
 unfoldable pub data_frames : (count most : ℕ) → ℕ → List ℕ → Bool → List Item
 data_frames zero most id octets end = []
 data_frames (suc count) most id octets end =
     if nat_le (length octets) most then alone (Data id end octets None) ∷ []
-    else data_frames count most id (drop most octets) end ++ alone (Data id false (take most octets) None) ∷ []
+    else data_frames count most id (drop most octets) end ++ alone (Data id false
+    (take most octets) None) ∷ []
 
--- what `count` octets of a body give: nothing where that is none of them, save for an empty DATA where there are no octets and the
--- stream ends
+-- what `count` octets of a body give: nothing where that is none of them, save for an empty DATA
+-- where there are no octets and the stream ends
 unfoldable pub data_items : (most id : ℕ) → List ℕ → Bool → ℕ → List Item
 data_items most id octets end count =
     if count == 0 && not (length octets == 0 && end) then []
     else data_frames (suc count) most id (take count octets) (end && count == length octets)
 
--- What a layer above makes of the connection that refuses a stream: the code with which it fails, where that layer has run out of
--- memory or a limit is reached; where there is none the stream is reset.
+-- What a layer above makes of the connection that refuses a stream: the code with which it fails,
+-- where that layer has run out of memory or a limit is reached; where there is none the stream is
+-- reset.
 unfoldable pub refuse_fault : View → ℕ → Option Code
 refuse_fault view code =
     if code == code_number InternalError then Some InternalError
-    else if has_all_resets view || nat_lt max_output (view.waiting + reset_size) then Some EnhanceYourCalm
+    else if has_all_resets view || nat_lt max_output
+    (view.waiting + reset_size) then Some EnhanceYourCalm
     else None
 
 -- the items that a call writes with its answer, newest first
 unfoldable pub items_of : View → Act → Answer → List Item
 items_of view (Open fields end) (Number id) = block id end (block_of view.encoder fields) ∷ []
 items_of view (SendFields id fields end) Done = block id end (block_of view.encoder fields) ∷ []
-items_of view (SendData id octets end) (Count count) = data_items view.max_payload id octets end count
+items_of view (SendData id octets end)
+    (Count count) = data_items view.max_payload id octets end count
 items_of view (Release id count) Done =
-    alone (WindowUpdate 0 count) ∷ (if ended_in (view.stream id) then [] else alone (WindowUpdate id count) ∷ [])
+    alone (WindowUpdate 0 count) ∷ (if ended_in (view.stream id) then [] else alone
+    (WindowUpdate id count) ∷ [])
 items_of view (ResetStream id code) Done = alone (Reset id code) ∷ []
 items_of view (Refuse id code) Done = alone (Reset id code) ∷ []
 items_of view (SendPing octets) Done = alone (Ping false octets) ∷ []
 items_of view SendGoAway Done = alone (GoAway view.last_processed 0 []) ∷ []
-items_of view (ChangeSettings values) Done = alone (Settings false (changed_pairs view.role values)) ∷ []
+items_of view (ChangeSettings values) Done = alone (Settings false
+    (changed_pairs view.role values)) ∷ []
 items_of view act answer = []
 
 -- the stream that a call may close, or 0
@@ -197,12 +285,14 @@ encoder_after_call encoder (Open fields end) (Number id) = after_block encoder f
 encoder_after_call encoder (SendFields id fields end) Done = after_block encoder fields
 encoder_after_call encoder act answer = encoder
 
--- Whether a call is refused where an allocation is. Refusing a stream isn't: it makes the connection fail instead.
+-- Whether a call is refused where an allocation is. Refusing a stream isn't: it makes the
+-- connection fail instead.
 unfoldable pub may_lack_memory : Act → Bool
 may_lack_memory (Refuse id code) = false
 may_lack_memory _ = true
 
--- The readers: what an end answers of itself. Once the connection has failed only `waiting` goes on.
+-- The readers: what an end answers of itself. Once the connection has failed only `waiting` goes
+-- on.
 abbrev pub reader_room : View → ℕ → Option ℤ
 reader_room view id =
     if has_failed view then None

@@ -1,11 +1,12 @@
--- What an end tells whoever uses it.
+-- What an end reports whoever uses it.
 use Rattle.std.specs.Prelude.{ℕ, ◌+◌, ◌==◌, ◌&&◌, max, Bool, false, if◌then◌else◌, List, [], ◌∷◌}
 use Rattle.hpack.specs.declared.types.field.Field.{Field}
 
 pub data Event : Type 0 where
   -- a field block of a stream, and whether it has END_STREAM
   FieldsEvent : (id : ℕ) (list : List Field) (end : Bool) → Event
-  -- octets of a body, and whether they have END_STREAM; flow: what they took of the windows, padding included
+  -- octets of a body, and whether they have END_STREAM; flow: what they took of the windows,
+  -- padding included
   DataEvent : (id : ℕ) (octets : List ℕ) (flow : ℕ) (end : Bool) → Event
   -- a stream was closed with a code, by this end or by the peer
   ResetEvent : (id code : ℕ) (ours : Bool) → Event
@@ -23,7 +24,7 @@ unfoldable pub reports_unprocessed : ℕ → Event → Bool
 reports_unprocessed i (UnprocessedEvent id) = id == i
 reports_unprocessed i _ = false
 
--- the flow of a stream's octets that the event tells
+-- the flow of a stream's octets that the event reports
 unfoldable pub flow_on : ℕ → Event → ℕ
 flow_on i (DataEvent id octets flow end) = if id == i then flow else 0
 flow_on i _ = 0
@@ -43,8 +44,9 @@ unfoldable pub reported_total : (Event → ℕ) → List Event → ℕ
 reported_total f [] = 0
 reported_total f (event ∷ events) = f event + reported_total f events
 
--- The number of a peer's stream that the event shows to be taken: its fields have come, or were too large (ENHANCE_YOUR_CALM is 11),
--- which closed it. Otherwise 0. A stream that was refused is told closed with another code.
+-- The number of a peer's stream that the event shows to be taken: its fields have come, or were too
+-- large (ENHANCE_YOUR_CALM is 11), which closed it. Otherwise 0. A stream that was refused is
+-- reported closed with another code.
 unfoldable pub processed_by : Event → ℕ
 processed_by (FieldsEvent id list end) = id
 processed_by (ResetEvent id code ours) = if ours && code == 11 then id else 0

@@ -1,5 +1,24 @@
--- The logs that come about: whatever octets come and whatever calls are made, an end's log is one of these.
-use Rattle.std.specs.Prelude.{◌≡◌, ◌≢◌, ◌==◌, ◌&&◌, not, Bool, true, false, ℕ, List, [], ◌∷◌, ◌++◌, length, Option, Some, None}
+-- The logs that come about: whatever octets come and whatever calls are made, an end's log is one
+-- of these.
+use Rattle.std.specs.Prelude.{
+  ◌≡◌,
+  ◌≢◌,
+  ◌==◌,
+  ◌&&◌,
+  not,
+  Bool,
+  true,
+  false,
+  ℕ,
+  List,
+  [],
+  ◌∷◌,
+  ◌++◌,
+  length,
+  Option,
+  Some,
+  None,
+}
 use Rattle.hpack.specs.Blocks.{Block}
 use Rattle.hpack.specs.Lists.{NoBlock}
 use Rattle.h2_frame.specs.Frames.{Frame}
@@ -11,20 +30,38 @@ use Rattle.h2_log.specs.Acts.{Values, AreInRange, Act, Answer, IsTypedAct}
 use Rattle.h2_log.specs.Settings.{is_server, own_value}
 use Rattle.h2_log.specs.Log.{Log, acked, next_unprocessed}
 use Rattle.h2_log.specs.LogView.{log_view}
-use Rattle.h2_log.specs.ItemRules.{Decoded, FrameStep, fails_with, begins_block, completes, frame_step}
-use Rattle.h2_log.specs.LogSteps.{limits_from, took_part, took_frame, took_fault, took_out_of_memory, took_none}
+use Rattle.h2_log.specs.ItemRules.{
+  Decoded,
+  FrameStep,
+  fails_with,
+  begins_block,
+  completes,
+  frame_step,
+}
+use Rattle.h2_log.specs.LogSteps.{
+  limits_from,
+  took_part,
+  took_frame,
+  took_fault,
+  took_out_of_memory,
+  took_none,
+}
 use Rattle.h2_log.specs.LogCalls.{MayAnswer, with_call, opened}
 
--- the limit of the peer's table of fields: the own value 1 that is in force (RFC 9113, section 4.3.1)
+-- the limit of the peer's table of fields: the own value 1 that is in force (RFC 9113, section
+-- 4.3.1)
 abbrev pub table_limit : Log → ℕ
 table_limit log = own_value 1 4096 (acked log) log.sent
 
--- What was seen of a block is what it says at its place, behind all blocks before it; nothing was seen where it says nothing.
+-- What was seen of a block is what it says at its place, after all blocks before it; nothing was
+-- seen where it says nothing.
 abbrev pub IsDecoded : Log → List ℕ → Option Decoded → Type 0
 IsDecoded log octets None = NoBlock log.table (table_limit log) octets
-IsDecoded log octets (Some decoded) = Block log.table (table_limit log) octets decoded.fields decoded.after
+IsDecoded log octets (Some decoded) = Block log.table
+    (table_limit log) octets decoded.fields decoded.after
 
--- The same of the item, if there is one, that a frame completes. Nothing is decoded of anything else.
+-- The same of the item, if there is one, that a frame completes. Nothing is decoded of anything
+-- else.
 abbrev pub IsDecodedIn : Log → Option Decoded → FrameStep → Type 0
 IsDecodedIn log decoded (completes (block stream end octets)) = IsDecoded log octets decoded
 IsDecodedIn log decoded (completes (alone frame)) = decoded ≡ None
@@ -34,41 +71,55 @@ IsDecodedIn log decoded (fails_with code) = decoded ≡ None
 abbrev pub IsDecodedFor : Log → Option Decoded → Frame → Type 0
 IsDecodedFor log decoded frame = IsDecodedIn log decoded (frame_step (log_view log) frame)
 
--- Octets are taken as long as the connection hasn't failed, and once all unprocessed streams were told.
+-- Octets are taken as long as the connection hasn't failed, and once all unprocessed streams were
+-- reported.
 pub record TakesOctets (log : Log) : Type 0 where
   pub up : log.failed ≡ None
   pub all_reported : next_unprocessed log ≡ 0
 
 -- Octets came, and no frame ended: the frames are those before, and these are left.
 abbrev pub TakesPart : Role → Log → List ℕ → List ℕ → Type 0
-TakesPart role log octets unparsed = Frames (is_server role) (limits_from log) (log.input ++ octets) log.frames unparsed
+TakesPart role log octets unparsed = Frames (is_server role) (limits_from log) (log.input
+    ++ octets) log.frames unparsed
 
 -- Octets came, and with the last of them a frame ended.
 abbrev pub TakesFrame : Role → Log → List ℕ → Frame → Type 0
-TakesFrame role log octets frame = Frames (is_server role) (limits_from log) (log.input ++ octets) (log.frames ++ frame ∷ []) []
+TakesFrame role log octets frame = Frames (is_server role) (limits_from log) (log.input ++ octets)
+    (log.frames ++ frame ∷ []) []
 
 -- Octets came, and the last of them made a fault.
 abbrev pub TakesFault : Role → Log → List ℕ → WireFault → Type 0
 TakesFault role log octets fault =
-    WireFaultAt (is_server role) (limits_from log) (log.input ++ octets) log.frames (length (log.input ++ octets)) fault
+    WireFaultAt (is_server role) (limits_from log) (log.input ++ octets) log.frames (length
+    (log.input ++ octets)) fault
 
--- Memory may be refused before any octet was used, or with octets with which a frame ended, or none.
+-- Memory may be refused before any octet was used, or with octets with which a frame ended, or
+-- none.
 pub data MayRunOutOfMemory (role : Role) (log : Log) (octets : List ℕ) : Type 0 where
   with_none : octets ≡ [] → MayRunOutOfMemory role log octets
-  with_part : TakesOctets log → (unparsed : List ℕ) → TakesPart role log octets unparsed → MayRunOutOfMemory role log octets
-  with_frame : TakesOctets log → (frame : Frame) → TakesFrame role log octets frame → MayRunOutOfMemory role log octets
+  with_part : TakesOctets log → (unparsed : List ℕ) → TakesPart role log octets unparsed
+      → MayRunOutOfMemory role log octets
+  with_frame : TakesOctets log → (frame : Frame) → TakesFrame role log octets frame
+      → MayRunOutOfMemory role log octets
 
 pub data IsLog (role : Role) (values : Values) : Log → Type 0 where
   begins : AreInRange values → IsLog role values (opened role values)
-  took_some : {log : Log} → IsLog role values log → TakesOctets log → (octets unparsed : List ℕ) → TakesPart role log octets unparsed
+  took_some : {log : Log} → IsLog role values log → TakesOctets log → (octets unparsed : List ℕ)
+      → TakesPart role log octets unparsed
       → IsLog role values (took_part log octets unparsed)
-  took_one : {log : Log} → IsLog role values log → TakesOctets log → (octets : List ℕ) (frame : Frame) (decoded : Option Decoded)
-      → TakesFrame role log octets frame → IsDecodedFor log decoded frame → IsLog role values (took_frame log octets decoded frame)
-  met_fault : {log : Log} → IsLog role values log → TakesOctets log → (octets : List ℕ) (fault : WireFault) → TakesFault role log octets fault
+  took_one : {log : Log} → IsLog role values log → TakesOctets log
+      → (octets : List ℕ) (frame : Frame) (decoded : Option Decoded)
+      → TakesFrame role log octets frame → IsDecodedFor log decoded frame
+      → IsLog role values (took_frame log octets decoded frame)
+  met_fault : {log : Log} → IsLog role values log → TakesOctets log
+      → (octets : List ℕ) (fault : WireFault) → TakesFault role log octets fault
       → IsLog role values (took_fault log octets fault)
-  ran_out_of_memory : {log : Log} → IsLog role values log → log.failed ≡ None → (octets : List ℕ) → MayRunOutOfMemory role log octets
+  ran_out_of_memory : {log : Log} → IsLog role values log → log.failed ≡ None → (octets : List ℕ)
+      → MayRunOutOfMemory role log octets
       → IsLog role values (took_out_of_memory log octets)
-  -- a stream was told that the peer doesn't process
-  reported_one : {log : Log} → IsLog role values log → log.failed ≡ None → next_unprocessed log ≢ 0 → IsLog role values (took_none log)
-  called_one : {log : Log} → IsLog role values log → (act : Act) (answer : Answer) → IsTypedAct act → MayAnswer log act answer
+  -- a stream was reported that the peer doesn't process
+  reported_one : {log : Log} → IsLog role values log → log.failed ≡ None
+      → next_unprocessed log ≢ 0 → IsLog role values (took_none log)
+  called_one : {log : Log} → IsLog role values log → (act : Act) (answer : Answer)
+      → IsTypedAct act → MayAnswer log act answer
       → IsLog role values (with_call log act answer)

@@ -1,5 +1,20 @@
 -- What follows from an item and its verdict: events, tables, and credit that nobody will release.
-use Rattle.std.specs.Prelude.{ℕ, ◌==◌, min, Bool, true, false, if◌then◌else◌, List, [], ◌∷◌, length, Option, Some, None}
+use Rattle.std.specs.Prelude.{
+  ℕ,
+  ◌==◌,
+  min,
+  Bool,
+  true,
+  false,
+  if◌then◌else◌,
+  List,
+  [],
+  ◌∷◌,
+  length,
+  Option,
+  Some,
+  None,
+}
 use Rattle.hpack.specs.declared.types.field.Field.{Field}
 use Rattle.hpack.specs.Tables.{Entries}
 use Rattle.hpack.specs.Lists.{EncoderState}
@@ -8,7 +23,15 @@ use Rattle.h2_frame.specs.Frames.{Data, Reset, Settings, Ping, GoAway}
 use Rattle.h2_frame.specs.Encoding.{payload_of}
 use Rattle.h2_block.specs.Grouping.{Item, alone, block}
 use Rattle.h2_log.specs.Items.{stream_of_item, data_of}
-use Rattle.h2_log.specs.Events.{Event, FieldsEvent, DataEvent, ResetEvent, GoAwayEvent, AckedEvent, PongEvent}
+use Rattle.h2_log.specs.Events.{
+  Event,
+  FieldsEvent,
+  DataEvent,
+  ResetEvent,
+  GoAwayEvent,
+  AckedEvent,
+  PongEvent,
+}
 use Rattle.h2_log.specs.View.{View}
 use Rattle.h2_frame.specs.Codes.{code_number}
 use Rattle.h2_log.specs.Verdicts.{Verdict, ConnectionFault, StreamFault, NoEvent, Reported}
@@ -19,7 +42,8 @@ abbrev pub fields_of : Option Decoded → List Field
 fields_of None = []
 fields_of (Some decoded) = decoded.fields
 
--- the least of a last stream and the one that was received before (RFC 9113, section 6.8: it doesn't grow)
+-- the least of a last stream and the one that was received before (RFC 9113, section 6.8: it
+-- doesn't grow)
 abbrev pub least_last : ℕ → Option ℕ → ℕ
 least_last last None = last
 least_last last (Some before) = min last before
@@ -27,18 +51,22 @@ least_last last (Some before) = min last before
 -- what is reported of an item with this verdict: at most one event
 unfoldable pub events_of : View → Option Decoded → Verdict → Item → List Event
 events_of view decoded (ConnectionFault code) item = []
-events_of view decoded (StreamFault code) item = ResetEvent (stream_of_item item) (code_number code) true ∷ []
+events_of view decoded (StreamFault code) item = ResetEvent (stream_of_item item)
+    (code_number code) true ∷ []
 events_of view decoded NoEvent item = []
-events_of view decoded Reported (block stream end octets) = FieldsEvent stream (fields_of decoded) end ∷ []
+events_of view decoded Reported (block stream end octets) = FieldsEvent stream
+    (fields_of decoded) end ∷ []
 events_of view decoded Reported (alone (Data stream end octets pad)) =
     DataEvent stream octets (length (payload_of (Data stream end octets pad))) end ∷ []
 events_of view decoded Reported (alone (Reset stream code)) = ResetEvent stream code false ∷ []
 events_of view decoded Reported (alone (Settings ack pairs)) = AckedEvent ∷ []
 events_of view decoded Reported (alone (Ping ack octets)) = PongEvent octets ∷ []
-events_of view decoded Reported (alone (GoAway last code debug)) = GoAwayEvent (least_last last view.goaway_received) code ∷ []
+events_of view decoded Reported (alone (GoAway last code debug)) = GoAwayEvent
+    (least_last last view.goaway_received) code ∷ []
 events_of view decoded Reported (alone frame) = []
 
--- octets of DATA that nobody will release: those on a stream that this end has closed, and those after the peer's end
+-- octets of DATA that nobody will release: those on a stream that this end has closed, and those
+-- after the peer's end
 unfoldable pub discarded_flow : Verdict → Item → ℕ
 discarded_flow (ConnectionFault code) item = 0
 discarded_flow (StreamFault code) item = data_of item
@@ -51,11 +79,13 @@ table_after table decoded (alone frame) = table
 table_after table None (block stream end octets) = table
 table_after table (Some decoded) (block stream end octets) = decoded.after
 
--- the own encoder after SETTINGS: each value 1, in order, sets its limit, to 4,096 at most (own; section 4.3.1)
+-- the own encoder after SETTINGS: each value 1, in order, sets its limit, to 4,096 at most (own;
+-- section 4.3.1)
 unfoldable pub encoder_after_settings : EncoderState → List (ℕ × ℕ) → EncoderState
 encoder_after_settings encoder [] = encoder
 encoder_after_settings encoder (pair ∷ pairs) =
-    encoder_after_settings (if pair.0 == 1 then after_limit encoder (min pair.1 4096) else encoder) pairs
+    encoder_after_settings (if pair.0 == 1 then after_limit encoder (min pair.1 4096)
+    else encoder) pairs
 
 abbrev pub encoder_after_item : EncoderState → Item → EncoderState
 encoder_after_item encoder (alone (Settings false pairs)) = encoder_after_settings encoder pairs

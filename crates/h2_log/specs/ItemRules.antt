@@ -1,12 +1,43 @@
--- The verdict on an item that comes next, by what an end has so far (RFC 9113, sections 3.4, 5.1, 6 and 10.5).
-use Rattle.std.specs.Prelude.{ℕ, ◌+◌, ◌%◌, ◌==◌, nat_lt, nat_le, not, ◌||◌, ◌&&◌, Bool, true, false, if◌then◌else◌,
-    ℤ, pos, ◌+ℤ◌, int_lt, List, [], ◌∷◌, ◌++◌, length, Option, Some, None}
+-- The verdict on an item that comes next, by what an end has so far (RFC 9113, sections 3.4, 5.1, 6
+-- and 10.5).
+use Rattle.std.specs.Prelude.{
+  ℕ,
+  ◌+◌,
+  ◌%◌,
+  ◌==◌,
+  nat_lt,
+  nat_le,
+  not,
+  ◌||◌,
+  ◌&&◌,
+  Bool,
+  true,
+  false,
+  if◌then◌else◌,
+  ℤ,
+  pos,
+  ◌+ℤ◌,
+  int_lt,
+  List,
+  [],
+  ◌∷◌,
+  ◌++◌,
+  length,
+  Option,
+  Some,
+  None,
+}
 use Rattle.hpack.specs.declared.types.field.Field.{Field}
 use Rattle.hpack.specs.Tables.{Entries}
 use Rattle.hpack.specs.Lists.{list_size}
 use Rattle.hpack.specs.Choice.{same_octets}
 use Rattle.h2_frame.specs.declared.code.Code.{Code}
-use Rattle.h2_frame.specs.declared.code.Code.TheVariants.{ProtocolError, FlowControlError, CompressionError, EnhanceYourCalm}
+use Rattle.h2_frame.specs.declared.code.Code.TheVariants.{
+  ProtocolError,
+  FlowControlError,
+  CompressionError,
+  EnhanceYourCalm,
+}
 use Rattle.h2_frame.specs.Frames.{Frame, Data, Headers, Priority, Reset, Settings, Ping, GoAway, WindowUpdate, Continuation, Unknown}
 use Rattle.h2_frame.specs.Encoding.{payload_of}
 use Rattle.h2_block.specs.declared.fault.BlockFault.{BlockFault}
@@ -56,22 +87,26 @@ abbrev pub first_fault : Option Code → (overflows : Bool) → Option Code → 
 first_fault (Some code) overflows following = Some code
 first_fault None overflows following = if overflows then Some FlowControlError else following
 
--- the fault of pairs of SETTINGS: that of the first pair that has one. A value can be at fault itself, or be an initial window that
--- brings some stream's window above the greatest (sections 6.5.2 and 6.9.2).
+-- the fault of pairs of SETTINGS: that of the first pair that has one. A value can be at fault
+-- itself, or be an initial window that brings some stream's window above the greatest (sections
+-- 6.5.2 and 6.9.2).
 unfoldable pub settings_fault : View → List (ℕ × ℕ) → Option Code
 settings_fault view [] = None
 settings_fault view (pair ∷ pairs) =
-    first_fault (value_fault (peer_of view.role) pair) (pair.0 == 4 && view.overflows pair.1) (settings_fault view pairs)
+    first_fault (value_fault (peer_of view.role) pair) (pair.0 == 4 && view.overflows pair.1)
+    (settings_fault view pairs)
 
 abbrev pub verdict_of_fault : Option Code → Verdict
 verdict_of_fault None = NoEvent
 verdict_of_fault (Some code) = ConnectionFault code
 
--- the verdict on a field block, by what it decodes to; a block that doesn't decode is a COMPRESSION_ERROR (section 4.3)
+-- the verdict on a field block, by what it decodes to; a block that doesn't decode is a
+-- COMPRESSION_ERROR (section 4.3)
 abbrev pub verdict_of_block : View → ℕ → Option Decoded → Verdict
 verdict_of_block view id None = ConnectionFault CompressionError
 verdict_of_block view id (Some decoded) =
-    block_verdict (view.state id) (peer_opens view id) view.goaway_sent (is_at_capacity view) (ended_in (view.stream id))
+    block_verdict (view.state id) (peer_opens view id) view.goaway_sent (is_at_capacity view)
+    (ended_in (view.stream id))
     (nat_lt max_list (list_size decoded.fields))
 
 -- whether these are the octets of the PING that awaits its answer
@@ -83,23 +118,31 @@ is_awaited_ping octets (Some awaited) = same_octets octets awaited
 unfoldable pub verdict_by_rules : View → Option Decoded → Item → Verdict
 verdict_by_rules view decoded (block stream end octets) = verdict_of_block view stream decoded
 verdict_by_rules view decoded (alone (Data stream end octets pad)) =
-    data_verdict (view.state stream) (exceeds (length (payload_of (Data stream end octets pad))) view.recv_window)
-    (ended_in (view.stream stream)) (exceeds_stream (length (payload_of (Data stream end octets pad))) (view.stream stream))
+    data_verdict (view.state stream) (exceeds (length (payload_of
+    (Data stream end octets pad))) view.recv_window)
+    (ended_in (view.stream stream)) (exceeds_stream (length (payload_of
+    (Data stream end octets pad))) (view.stream stream))
 verdict_by_rules view decoded (alone (Headers stream end whole fragment pad priority)) = NoEvent
 verdict_by_rules view decoded (alone (Priority stream octets)) = NoEvent
 verdict_by_rules view decoded (alone (Reset stream code)) = reset_verdict (view.state stream)
-verdict_by_rules view decoded (alone (Settings false pairs)) = verdict_of_fault (settings_fault view pairs)
-verdict_by_rules view decoded (alone (Settings true pairs)) = if view.settings_wait then Reported else NoEvent
+verdict_by_rules view decoded (alone (Settings false pairs)) = verdict_of_fault
+    (settings_fault view pairs)
+verdict_by_rules view decoded (alone
+    (Settings true pairs)) = if view.settings_wait then Reported else NoEvent
 verdict_by_rules view decoded (alone (Ping false octets)) = NoEvent
-verdict_by_rules view decoded (alone (Ping true octets)) = if is_awaited_ping octets view.ping then Reported else NoEvent
+verdict_by_rules view decoded (alone
+    (Ping true octets)) = if is_awaited_ping octets view.ping then Reported else NoEvent
 verdict_by_rules view decoded (alone (GoAway last code debug)) = Reported
 verdict_by_rules view decoded (alone (WindowUpdate stream increment)) =
-    if stream == 0 then connection_update_verdict increment (overflows_by increment view.send_window)
-    else update_verdict (view.state stream) increment (overflows_stream increment (view.stream stream))
+    if stream == 0 then connection_update_verdict increment
+    (overflows_by increment view.send_window)
+    else update_verdict (view.state stream) increment (overflows_stream increment
+    (view.stream stream))
 verdict_by_rules view decoded (alone (Continuation stream whole fragment)) = NoEvent
 verdict_by_rules view decoded (alone (Unknown kind flags stream payload)) = NoEvent
 
--- what is replied to an item with this verdict: RST_STREAM to a stream's fault, an acknowledgment to SETTINGS and to PING
+-- what is replied to an item with this verdict: RST_STREAM to a stream's fault, an acknowledgment
+-- to SETTINGS and to PING
 unfoldable pub replies_to : Verdict → Item → List Item
 replies_to (ConnectionFault code) item = []
 replies_to (StreamFault code) item = alone (Reset (stream_of_item item) (code_number code)) ∷ []
@@ -115,18 +158,20 @@ is_stream_fault (StreamFault code) = true
 is_stream_fault NoEvent = false
 is_stream_fault Reported = false
 
--- The limits (own; section 10.5): the 1,001st reset ends the connection instead, and so does a reply of so many octets that would
--- bring the waiting output above its limit.
+-- The limits (own; section 10.5): the 1,001st reset ends the connection instead, and so does a
+-- reply of so many octets that would bring the waiting output above its limit.
 unfoldable pub over_limits : (resets waiting size : ℕ) → Verdict → Verdict
 over_limits resets waiting size verdict =
-    if (is_stream_fault verdict && nat_le max_resets resets) || (nat_lt 0 size && nat_lt max_output (waiting + size)) then
+    if (is_stream_fault verdict && nat_le max_resets resets) || (nat_lt 0 size
+    && nat_lt max_output (waiting + size)) then
     ConnectionFault EnhanceYourCalm
     else verdict
 
 -- the verdict on an item that comes next
 unfoldable pub verdict_of : View → Option Decoded → Item → Verdict
 verdict_of view decoded item =
-    over_limits view.resets view.waiting (length (encoding_of_items (replies_to (verdict_by_rules view decoded item) item)))
+    over_limits view.resets view.waiting (length (encoding_of_items (replies_to
+    (verdict_by_rules view decoded item) item)))
     (verdict_by_rules view decoded item)
 
 abbrev pub is_idle : State → Bool
@@ -135,15 +180,16 @@ is_idle Active = false
 is_idle ClosedByUs = false
 is_idle Closed = false
 
--- the number of the stream that an item opens, or 0: an idle number that the peer may open, where no GOAWAY was sent and the stream
--- isn't refused
+-- the number of the stream that an item opens, or 0: an idle number that the peer may open, where
+-- no GOAWAY was sent and the stream isn't refused
 unfoldable pub opened_by : View → Option Decoded → Item → ℕ
 opened_by view (Some decoded) (block stream end octets) =
-    if is_idle (view.state stream) && peer_opens view stream && not view.goaway_sent && not (is_at_capacity view) then stream else 0
+    if is_idle (view.state stream) && peer_opens view stream && not view.goaway_sent && not
+    (is_at_capacity view) then stream else 0
 opened_by view decoded item = 0
 
--- What a frame makes of the field block that has begun, or of none: a fault of the connection, a block that isn't complete yet, or
--- an item.
+-- What a frame makes of the field block that has begun, or of none: a fault of the connection, a
+-- block that isn't complete yet, or an item.
 pub data FrameStep : Type 0 where
   fails_with : (code : Code) → FrameStep
   begins_block : Begun → FrameStep
@@ -159,8 +205,10 @@ unfoldable pub grouped : Option Begun → Frame → FrameStep
 grouped None (Headers stream end true fragment pad priority) = completes (block stream end fragment)
 grouped None (Headers stream end false fragment pad priority) =
     begins_block (record { stream = stream; end = end; octets = fragment })
-grouped (Some begun) (Continuation stream true fragment) = completes (block begun.stream begun.end (begun.octets ++ fragment))
-grouped (Some begun) (Continuation stream false fragment) = begins_block (record begun { octets = begun.octets ++ fragment })
+grouped (Some begun) (Continuation stream true fragment) = completes (block begun.stream begun.end
+    (begun.octets ++ fragment))
+grouped (Some begun) (Continuation stream false fragment) = begins_block
+    (record begun { octets = begun.octets ++ fragment })
 grouped begun frame = completes (alone frame)
 
 unfoldable pub grouping_step : Option Begun → Frame → Option BlockFault → FrameStep

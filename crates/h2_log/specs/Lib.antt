@@ -17,7 +17,4 @@ pub mod LogCalls
 pub mod Histories
 pub mod Allowed
 pub mod Configs
-pub mod Examples
-pub mod BasicExamples
-pub mod LongExamples
-pub mod Corners
+pub mod WrittenFrames

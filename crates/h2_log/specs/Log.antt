@@ -1,5 +1,29 @@
--- The log of one end: what it has read, written, told and been asked so far; and what follows from it for whoever asks.
-use Rattle.std.specs.Prelude.{ℕ, ◌+◌, ◌-◌, ◌^◌, ◌==◌, nat_lt, ◌||◌, ◌&&◌, min, max, Bool, false, if◌then◌else◌, ℤ, List, [], ◌∷◌, length, Option, Some, None, is_some}
+-- The log of one end: what it has read, written, reported and been asked so far; and what follows
+-- from it for whoever asks.
+use Rattle.std.specs.Prelude.{
+  ℕ,
+  ◌+◌,
+  ◌-◌,
+  ◌^◌,
+  ◌==◌,
+  nat_lt,
+  ◌||◌,
+  ◌&&◌,
+  min,
+  max,
+  Bool,
+  false,
+  if◌then◌else◌,
+  ℤ,
+  List,
+  [],
+  ◌∷◌,
+  length,
+  Option,
+  Some,
+  None,
+  is_some,
+}
 use Rattle.std.specs.List.{list_any}
 use Rattle.hpack.specs.Tables.{Entries}
 use Rattle.hpack.specs.Lists.{EncoderState}
@@ -8,12 +32,41 @@ use Rattle.h2_frame.specs.Frames.{Frame, Ping, GoAway}
 use Rattle.h2_wire.specs.Streams.{Limits}
 use Rattle.h2_block.specs.Grouping.{Item, alone, Begun}
 use Rattle.h2_log.specs.declared.role.Role.{Role}
-use Rattle.h2_log.specs.Items.{data_on, data_of, one_reset, one_ping, is_goaway, total, greatest_block}
-use Rattle.h2_log.specs.Events.{Event, flow_on, one_acked, one_pong, reported_total, greatest_processed}
+use Rattle.h2_log.specs.Items.{
+  data_on,
+  data_of,
+  one_reset,
+  one_ping,
+  is_goaway,
+  total,
+  greatest_block,
+}
+use Rattle.h2_log.specs.Events.{
+  Event,
+  flow_on,
+  one_acked,
+  one_pong,
+  reported_total,
+  greatest_processed,
+}
 use Rattle.h2_log.specs.Acts.{Act, Answer, Turn, Release, Done}
 use Rattle.h2_log.specs.Settings.{is_server, value_read, settings_count, own_value}
-use Rattle.h2_log.specs.States.{greatest_number, State, is_active, state_of, openings, count_below, least_block}
-use Rattle.h2_log.specs.Windows.{send_window_of, connection_send_window, recv_window_of, given_on, given_on_connection}
+use Rattle.h2_log.specs.States.{
+  greatest_number,
+  State,
+  is_active,
+  state_of,
+  openings,
+  count_below,
+  least_block,
+}
+use Rattle.h2_log.specs.Windows.{
+  send_window_of,
+  connection_send_window,
+  recv_window_of,
+  given_on,
+  given_on_connection,
+}
 
 pub record Log : Type 0 where
   pub role : Role
@@ -23,7 +76,7 @@ pub record Log : Type 0 where
   pub limits : Limits
   -- the frames that they are, the first one first, up to a fault
   pub frames : List Frame
-  -- the octets behind the last of these frames
+  -- the octets after the last of these frames
   pub unparsed : List ℕ
   -- the field block that has begun
   pub begun : Option Begun
@@ -32,15 +85,15 @@ pub record Log : Type 0 where
   -- the items that were written, newest first, and the octets of the output, the first one first
   pub sent : List Item
   pub written : List ℕ
-  -- the events that were told, newest first
+  -- the events that were reported, newest first
   pub reported : List Event
   -- the calls, with what they answered, newest first
   pub calls : List (Act × Answer)
-  -- the peer's table of fields, behind the blocks that were read
+  -- the peer's table of fields, after the blocks that were read
   pub table : Entries
-  -- the own encoder, behind the limits that were read and the blocks that were written
+  -- the own encoder, after the limits that were read and the blocks that were written
   pub encoder : EncoderState
-  -- octets of the connection's window that nobody will release and that weren't given back yet
+  -- octets of the connection's window that nobody will release and that weren't returned yet
   pub unreturned : ℕ
   -- how many octets of the output were given out
   pub given : ℕ
@@ -49,7 +102,8 @@ pub record Log : Type 0 where
   -- all of that in order, newest first
   pub turns : List Turn
 
--- how many of the own SETTINGS the peer has acknowledged: each was told, and acknowledgments that nobody awaits change nothing
+-- how many of the own SETTINGS the peer has acknowledged: each was reported, and acknowledgments
+-- that nobody awaits change nothing
 abbrev pub acked : Log → ℕ
 acked log = reported_total one_acked log.reported
 
@@ -57,7 +111,7 @@ acked log = reported_total one_acked log.reported
 abbrev pub state : Log → ℕ → State
 state log i = state_of log.role i log.received log.sent log.reported
 
--- Whether a stream is live. That doesn't end with the connection.
+-- Whether a stream is active. That doesn't end with the connection.
 abbrev pub active : Log → ℕ → Bool
 active log i = is_active log.role i log.received log.sent log.reported
 
@@ -65,23 +119,26 @@ active log i = is_active log.role i log.received log.sent log.reported
 unfoldable pub next_number : Log → ℕ
 next_number log = if greatest_block log.sent == 0 then 1 else greatest_block log.sent + 2
 
--- how many streams are live
+-- how many streams are active
 unfoldable pub active_count : Log → ℕ
-active_count log = count_below (greatest_block (openings log.role log.received log.sent) + 1) (active log)
+active_count log = count_below (greatest_block (openings log.role log.received log.sent) + 1)
+    (active log)
 
 -- the greatest number of a peer's stream that was taken, or 0: at a client there is none
 unfoldable pub last_processed : Log → ℕ
 last_processed log = if is_server log.role then greatest_processed log.reported else 0
 
--- how many streams of its own a client may have live: 100 before the server's SETTINGS, then the server's number, and 1,000 where it has
--- named none; never above 1,000 (section 5.1.2)
+-- how many streams of its own a client may have active: 100 before the server's SETTINGS, then the
+-- server's number, and 1,000 where it has named none; never above 1,000 (section 5.1.2)
 unfoldable pub allowed_by : List Item → ℕ
-allowed_by received = if settings_count received == 0 then 100 else min 1000 (value_read 3 1000 received)
+allowed_by received = if settings_count received == 0 then 100 else min 1000
+    (value_read 3 1000 received)
 
 abbrev pub streams_allowed : Log → ℕ
 streams_allowed log = allowed_by log.received
 
--- how many streams a server takes: the own value 3 that the peer has acknowledged last; before any, that of its first SETTINGS
+-- how many streams a server takes: the own value 3 that the peer has acknowledged last; before any,
+-- that of its first SETTINGS
 unfoldable pub max_streams : Log → ℕ
 max_streams log = own_value 3 100 (max 1 (acked log)) log.sent
 
@@ -93,7 +150,8 @@ goaway_written log = list_any is_goaway log.sent
 abbrev pub goaway_read : Log → Bool
 goaway_read log = list_any is_goaway log.received
 
--- the least last stream of the GOAWAYs, which doesn't grow (section 6.8); the greatest number where there is none
+-- the least last stream of the GOAWAYs, which doesn't grow (section 6.8); the greatest number where
+-- there is none
 unfoldable pub least_goaway : List Item → ℕ
 least_goaway [] = greatest_number
 least_goaway (alone (GoAway last code debug) ∷ items) = min last (least_goaway items)
@@ -131,11 +189,11 @@ released i [] = 0
 released i ((Release id count, Done) ∷ calls) = (if id == i then count else 0) + released i calls
 released i (_ ∷ calls) = released i calls
 
--- the flow of a stream that was told and wasn't released
+-- the flow of a stream that was reported and wasn't released
 unfoldable pub unreleased : Log → ℕ → ℕ
 unreleased log i = reported_total (flow_on i) log.reported - released i log.calls
 
--- what is owed on a stream: that, as long as it is live
+-- what is owed on a stream: that, as long as it is active
 unfoldable pub owed : Log → ℕ → ℕ
 owed log i = if active log i then unreleased log i else 0
 
@@ -147,26 +205,31 @@ send_window log i = send_window_of i log.received log.sent
 abbrev pub recv_window : Log → ℕ → ℤ
 recv_window log i = recv_window_of i (acked log) log.received log.sent
 
--- the most octets of a payload that this end sends: those that the peer reads, and at most 16,384 (own)
+-- the most octets of a payload that this end sends: those that the peer reads, and at most 16,384
+-- (own)
 unfoldable pub max_payload_sent_by : List Item → ℕ
 max_payload_sent_by received = min 16384 (value_read 5 16384 received)
 
 abbrev pub max_payload_sent : Log → ℕ
 max_payload_sent log = max_payload_sent_by log.received
 
--- the least live stream of this end above the last one that the peer takes, or 0: what is to be told as unprocessed
+-- the least active stream of this end above the last one that the peer takes, or 0: what is to be
+-- reported as unprocessed
 unfoldable pub next_unprocessed : Log → ℕ
 next_unprocessed log =
-    if is_server log.role then 0 else least_block (λ j. active log j && nat_lt (least_goaway log.received) j) log.sent
+    if is_server log.role then 0 else least_block (λ j. active log j && nat_lt
+    (least_goaway log.received) j) log.sent
 
 -- the least active stream above a number, or 0
 unfoldable pub next_active : Log → ℕ → ℕ
-next_active log id = least_block (λ j. active log j && nat_lt id j) (openings log.role log.received log.sent)
+next_active log id = least_block (λ j. active log j && nat_lt id j)
+    (openings log.role log.received log.sent)
 
--- The readers that a view doesn't have: the octets of a partial frame, and the next active stream. After a failure they answer 0
--- and nothing.
+-- The readers that a view doesn't have: the octets of a partial frame, and the next active stream.
+-- After a failure they answer 0 and nothing.
 abbrev pub reader_held : Log → ℕ
 reader_held log = if is_some log.failed then 0 else length log.unparsed
 
 abbrev pub reader_next_live : Log → ℕ → Option ℕ
-reader_next_live log id = if is_some log.failed || next_active log id == 0 then None else Some (next_active log id)
+reader_next_live log id = if is_some log.failed || next_active log id == 0 then None else Some
+    (next_active log id)

@@ -5,7 +5,28 @@ use Rattle.h2_log.specs.Items.{data_on, data_of, increment_on, ends, total}
 use Rattle.h2_log.specs.Settings.{is_server}
 use Rattle.h2_log.specs.States.{openings, any_block, when}
 use Rattle.h2_log.specs.Windows.{connection_send_window, connection_recv_window, is_above_greatest}
-use Rattle.h2_log.specs.Log.{Log, state, active, next_number, active_count, last_processed, streams_allowed, max_streams, goaway_written, goaway_read, least_goaway, settings_wait, newest_ping, ping_waits, waiting, resets_written, unreleased, send_window, recv_window, max_payload_sent}
+use Rattle.h2_log.specs.Log.{
+  Log,
+  state,
+  active,
+  next_number,
+  active_count,
+  last_processed,
+  streams_allowed,
+  max_streams,
+  goaway_written,
+  goaway_read,
+  least_goaway,
+  settings_wait,
+  newest_ping,
+  ping_waits,
+  waiting,
+  resets_written,
+  unreleased,
+  send_window,
+  recv_window,
+  max_payload_sent,
+}
 use Rattle.h2_log.specs.View.{StreamView, View}
 
 -- what a log says of a stream
@@ -19,11 +40,13 @@ stream_of_log log i =
       ended_out = list_any (ends i) log.sent;
     }
 
--- Whether an initial window brings the send window of an active stream above the greatest (RFC 9113, section 6.9.2).
+-- Whether an initial window brings the send window of an active stream above the greatest (RFC
+-- 9113, section 6.9.2).
 unfoldable pub overflows : Log → ℕ → Bool
 overflows log initial =
     any_block
-    (λ j. active log j && is_above_greatest (initial + total (increment_on j) log.received) (total (data_on j) log.sent))
+    (λ j. active log j && is_above_greatest (initial + total (increment_on j) log.received) (total
+    (data_on j) log.sent))
     (openings log.role log.received log.sent)
 
 abbrev pub log_view : Log → View

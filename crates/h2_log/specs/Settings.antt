@@ -1,5 +1,27 @@
--- Settings that were read, and own ones that are in force (RFC 9113, section 6.5). Lists of items have the newest first.
-use Rattle.std.specs.Prelude.{ℕ, ◌+◌, ◌-◌, ◌^◌, ◌==◌, nat_lt, nat_le, ◌||◌, ◌&&◌, max, Bool, true, false, if◌then◌else◌, List, [], ◌∷◌, Option, Some, None}
+-- Settings that were read, and own ones that are in force (RFC 9113, section 6.5). Lists of items
+-- have the newest first.
+use Rattle.std.specs.Prelude.{
+  ℕ,
+  ◌+◌,
+  ◌-◌,
+  ◌^◌,
+  ◌==◌,
+  nat_lt,
+  nat_le,
+  ◌||◌,
+  ◌&&◌,
+  max,
+  Bool,
+  true,
+  false,
+  if◌then◌else◌,
+  List,
+  [],
+  ◌∷◌,
+  Option,
+  Some,
+  None,
+}
 use Rattle.h2_frame.specs.declared.code.Code.{Code}
 use Rattle.h2_frame.specs.declared.code.Code.TheVariants.{ProtocolError, FlowControlError}
 use Rattle.h2_frame.specs.Frames.{Settings}
@@ -17,8 +39,9 @@ abbrev pub peer_of : Role → Role
 peer_of Client = Server
 peer_of Server = Client
 
--- the fault of a value that an end of this role has sent: ENABLE_PUSH is 0 or 1, and 0 from a server; an initial window is at most
--- 2^31 - 1; a frame size is from 16,384 to 2^24 - 1 (section 6.5.2). Other identifiers are ignored.
+-- the fault of a value that an end of this role has sent: ENABLE_PUSH is 0 or 1, and 0 from a
+-- server; an initial window is at most 2^31 - 1; a frame size is from 16,384 to 2^24 - 1 (section
+-- 6.5.2). Other identifiers are ignored.
 unfoldable pub value_fault : Role → ℕ × ℕ → Option Code
 value_fault from pair =
     if pair.0 == 2 && (nat_lt 1 pair.1 || (is_server from && pair.1 == 1)) then Some ProtocolError
@@ -26,15 +49,19 @@ value_fault from pair =
     else if pair.0 == 5 && (nat_lt pair.1 16384 || nat_lt 16777215 pair.1) then Some ProtocolError
     else None
 
--- the value of an identifier behind these pairs, in order, where it was `before`: the last pair decides
+-- the value of an identifier after these pairs, in order, where it was `before`: the last pair
+-- decides
 unfoldable pub value_after : ℕ → ℕ → List (ℕ × ℕ) → ℕ
 value_after id before [] = before
-value_after id before (pair ∷ pairs) = value_after id (if pair.0 == id then pair.1 else before) pairs
+value_after id before (pair ∷ pairs) = value_after id (if pair.0 == id then pair.1
+    else before) pairs
 
--- the value of an identifier behind all SETTINGS of the items, where it was `first` before them (section 6.5.3)
+-- the value of an identifier after all SETTINGS of the items, where it was `first` before them
+-- (section 6.5.3)
 unfoldable pub value_read : ℕ → ℕ → List Item → ℕ
 value_read id first [] = first
-value_read id first (alone (Settings false pairs) ∷ items) = value_after id (value_read id first items) pairs
+value_read id first (alone (Settings false pairs) ∷ items) = value_after id
+    (value_read id first items) pairs
 value_read id first (_ ∷ items) = value_read id first items
 
 -- 1 for SETTINGS that are no acknowledgment
@@ -56,18 +83,22 @@ settings_count (item ∷ items) = one_settings item + settings_count items
 unfoldable pub up_to_settings : ℕ → List Item → List Item
 up_to_settings count [] = []
 up_to_settings count (item ∷ items) =
-    if one_settings item == 1 && nat_le (settings_count (item ∷ items)) count then item ∷ items else up_to_settings count items
+    if one_settings item == 1 && nat_le (settings_count
+    (item ∷ items)) count then item ∷ items else up_to_settings count items
 
--- The own value of an identifier, `count` of the own SETTINGS having been acknowledged: that of the last of these, and the first value
--- before any. The k-th acknowledgment is of the k-th own SETTINGS (section 6.5.3).
+-- The own value of an identifier, `count` of the own SETTINGS having been acknowledged: that of the
+-- last of these, and the first value before any. The k-th acknowledgment is of the k-th own
+-- SETTINGS (section 6.5.3).
 abbrev pub own_value : ℕ → ℕ → ℕ → List Item → ℕ
 own_value id first count sent = value_read id first (up_to_settings count sent)
 
--- The most octets of a payload that may be read, `count` of the own SETTINGS having been acknowledged: the greatest frame size of the
--- last of these and of all own SETTINGS behind it, since the peer may have applied them already (section 6.5.3). At first it is 16,384.
+-- The most octets of a payload that may be read, `count` of the own SETTINGS having been
+-- acknowledged: the greatest frame size of the last of these and of all own SETTINGS after it,
+-- since the peer may have applied them already (section 6.5.3). At first it is 16,384.
 unfoldable pub payload_limit : ℕ → List Item → ℕ
 payload_limit count [] = 16384
 payload_limit count (item ∷ items) =
     if one_settings item == 1 then
-    (if nat_le (settings_count (item ∷ items)) count then value_read 5 16384 (item ∷ items) else max (value_read 5 16384 (item ∷ items)) (payload_limit count items))
+    (if nat_le (settings_count (item ∷ items)) count then value_read 5 16384 (item ∷ items)
+    else max (value_read 5 16384 (item ∷ items)) (payload_limit count items))
     else payload_limit count items

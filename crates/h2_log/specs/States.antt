@@ -1,5 +1,29 @@
--- The state of a stream, by what was read and written, and by what was told (RFC 9113, section 5.1).
-use Rattle.std.specs.Prelude.{ℕ, zero, suc, ◌+◌, ◌-◌, ◌^◌, ◌%◌, ◌==◌, nat_lt, not, ◌||◌, ◌&&◌, Bool, true, false, if◌then◌else◌, List, [], ◌∷◌, Option, Some, None}
+-- The state of a stream, by what was read and written, and by what was reported (RFC 9113, section
+-- 5.1).
+use Rattle.std.specs.Prelude.{
+  ℕ,
+  zero,
+  suc,
+  ◌+◌,
+  ◌-◌,
+  ◌^◌,
+  ◌%◌,
+  ◌==◌,
+  nat_lt,
+  not,
+  ◌||◌,
+  ◌&&◌,
+  Bool,
+  true,
+  false,
+  if◌then◌else◌,
+  List,
+  [],
+  ◌∷◌,
+  Option,
+  Some,
+  None,
+}
 use Rattle.std.specs.List.{list_any}
 use Rattle.h2_block.specs.Grouping.{Item, alone, block}
 use Rattle.h2_log.specs.declared.role.Role.{Role}
@@ -26,18 +50,19 @@ abbrev pub when : {A : Type 0} → Bool → A → Option A
 when true one = Some one
 when false one = None
 
--- the list that has the blocks which open streams: what the client wrote (section 5.1.1); a server opens none, since this profile has
--- no push
+-- the list that has the blocks which open streams: what the client wrote (section 5.1.1); a server
+-- opens none, since this profile has no push
 abbrev pub openings : Role → List Item → List Item → List Item
 openings Client received sent = sent
 openings Server received sent = received
 
--- Whether the number was used: it is odd, and a stream with it or with a greater number was opened, or would have been if it hadn't
--- been refused. Even numbers are never used.
+-- Whether the number was used: it is odd, and a stream with it or with a greater number was opened,
+-- or would have been if it hadn't been refused. Even numbers are never used.
 unfoldable pub is_used : Role → ℕ → List Item → List Item → Bool
 is_used role i received sent = i % 2 == 1 && list_any (opens_from i) (openings role received sent)
 
--- Whether the number is above the last stream of a GOAWAY that this end wrote, where the peer opens the streams.
+-- Whether the number is above the last stream of a GOAWAY that this end wrote, where the peer opens
+-- the streams.
 unfoldable pub is_above : Role → ℕ → List Item → Bool
 is_above Client i sent = false
 is_above Server i sent = list_any (is_goaway_below i) sent
@@ -45,12 +70,15 @@ is_above Server i sent = list_any (is_goaway_below i) sent
 -- Whether the stream is over: both sides have ended it, or one has reset it.
 unfoldable pub is_over : ℕ → List Item → List Item → Bool
 is_over i received sent =
-    (list_any (ends i) received && list_any (ends i) sent) || list_any (resets i) received || list_any (resets i) sent
+    (list_any (ends i) received && list_any (ends i) sent) || list_any
+    (resets i) received || list_any (resets i) sent
 
--- Whether the stream is live: it was opened, isn't above an own GOAWAY's last stream, isn't over, and wasn't named unprocessed.
+-- Whether the stream is active: it was opened, isn't above an own GOAWAY's last stream, isn't over,
+-- and wasn't named unprocessed.
 unfoldable pub is_active : Role → ℕ → List Item → List Item → List Event → Bool
 is_active role i received sent reported =
-    i % 2 == 1 && list_any (is_block_on i) (openings role received sent) && not (is_above role i sent) && not (is_over i received sent)
+    i % 2 == 1 && list_any (is_block_on i) (openings role received sent) && not
+    (is_above role i sent) && not (is_over i received sent)
     && not (list_any (reports_unprocessed i) reported)
 
 -- Whether this end has reset the stream, or has said that it won't take it.
@@ -59,11 +87,13 @@ is_closed_by_us role i sent = list_any (resets i) sent || is_above role i sent
 
 -- the first of the states that holds
 abbrev pub state_by : (used active closed_by_us : Bool) → State
-state_by used active closed_by_us = if not used then Idle else if active then Active else if closed_by_us then ClosedByUs else Closed
+state_by used active closed_by_us = if not used then Idle else if active then Active
+    else if closed_by_us then ClosedByUs else Closed
 
 -- the state of a stream
 abbrev pub state_of : Role → ℕ → List Item → List Item → List Event → State
-state_of role i received sent reported = state_by (is_used role i received sent) (is_active role i received sent reported) (is_closed_by_us role i sent)
+state_of role i received sent reported = state_by (is_used role i received sent)
+    (is_active role i received sent reported) (is_closed_by_us role i sent)
 
 -- how many of the numbers below a bound pass
 unfoldable pub count_below : ℕ → (ℕ → Bool) → ℕ
@@ -74,7 +104,8 @@ count_below (suc n) test = (if test n then 1 else 0) + count_below n test
 unfoldable pub least_block : (ℕ → Bool) → List Item → ℕ
 least_block test [] = 0
 least_block test (block stream end octets ∷ items) =
-    if test stream && (least_block test items == 0 || nat_lt stream (least_block test items)) then stream else least_block test items
+    if test stream && (least_block test items == 0 || nat_lt stream
+    (least_block test items)) then stream else least_block test items
 least_block test (alone frame ∷ items) = least_block test items
 
 -- Whether a number that passes is among those of the items' blocks.

@@ -1,9 +1,9 @@
--- What an end makes of an item, by the state of the item's stream (RFC 9113, sections 5.1, 6.1, 6.2, 6.4, 6.8 and 6.9): rows in the order
--- in which they are tried.
+-- What an end makes of an item, by the state of the item's stream (RFC 9113, sections 5.1, 6.1,
+-- 6.2, 6.4, 6.8 and 6.9): rules in the order in which they are tried.
 use Rattle.std.specs.Prelude.{ℕ, ◌==◌, Bool, true, false, if◌then◌else◌}
 use Rattle.h2_frame.specs.declared.code.Code.{Code}
-use Rattle.h2_frame.specs.declared.code.Code.TheVariants.{ProtocolError, FlowControlError, StreamClosed, RefusedStream,
-    EnhanceYourCalm}
+use Rattle.h2_frame.specs.declared.code.Code.TheVariants.{ProtocolError, FlowControlError}
+use Rattle.h2_frame.specs.declared.code.Code.TheVariants.{StreamClosed, RefusedStream, EnhanceYourCalm}
 use Rattle.h2_log.specs.States.{State, Idle, Active, ClosedByUs, Closed}
 
 pub data Verdict : Type 0 where
@@ -11,14 +11,15 @@ pub data Verdict : Type 0 where
   ConnectionFault : (code : Code) → Verdict
   -- the stream is reset with a code
   StreamFault : (code : Code) → Verdict
-  -- nothing is told
+  -- nothing is reported
   NoEvent : Verdict
-  -- it is told, as an event
+  -- it is reported, as an event
   Reported : Verdict
 
--- DATA on a stream in this state (sections 5.1, 6.1 and 6.9.1): on an idle stream, or a past one, it is a fault of the connection; so is
--- what passes the connection's window; on a dropped stream it is ignored; behind the peer's end it is a fault of the stream; what passes
--- the stream's window is a fault of the connection (own); otherwise it is told.
+-- DATA on a stream in this state (sections 5.1, 6.1 and 6.9.1): on an idle stream, or a past one,
+-- it is a fault of the connection; so is what passes the connection's window; on a closed by this
+-- end stream it is ignored; after the peer's end it is a fault of the stream; what passes the
+-- stream's window is a fault of the connection (own); otherwise it is reported.
 unfoldable pub data_verdict : State → (passes_connection peer_ended passes_stream : Bool) → Verdict
 data_verdict Idle passes_connection peer_ended passes_stream = ConnectionFault ProtocolError
 data_verdict Closed passes_connection peer_ended passes_stream = ConnectionFault StreamClosed
@@ -30,43 +31,52 @@ data_verdict Active passes_connection peer_ended passes_stream =
     else if passes_stream then ConnectionFault FlowControlError
     else Reported
 
--- RST_STREAM: on an idle stream it is a fault; it closes a live one; otherwise it is ignored (sections 5.1 and 6.4).
+-- RST_STREAM: on an idle stream it is a fault; it closes an active one; otherwise it is ignored
+-- (sections 5.1 and 6.4).
 unfoldable pub reset_verdict : State → Verdict
 reset_verdict Idle = ConnectionFault ProtocolError
 reset_verdict Active = Reported
 reset_verdict ClosedByUs = NoEvent
 reset_verdict Closed = NoEvent
 
--- WINDOW_UPDATE of the connection: no octets are a fault, and so is a window above 2^31 - 1 (sections 6.9 and 6.9.1).
+-- WINDOW_UPDATE of the connection: no octets are a fault, and so is a window above 2^31 - 1
+-- (sections 6.9 and 6.9.1).
 unfoldable pub connection_update_verdict : (increment : ℕ) (above : Bool) → Verdict
 connection_update_verdict increment above =
-    if increment == 0 then ConnectionFault ProtocolError else if above then ConnectionFault FlowControlError else NoEvent
+    if increment == 0 then ConnectionFault ProtocolError
+    else if above then ConnectionFault FlowControlError else NoEvent
 
--- WINDOW_UPDATE of a stream: on an idle one it is a fault of the connection; on one that isn't live it is ignored; then no octets, and a
--- window above 2^31 - 1, are faults of the stream (sections 5.1, 6.9 and 6.9.1).
+-- WINDOW_UPDATE of a stream: on an idle one it is a fault of the connection; on one that isn't
+-- active it is ignored; then no octets, and a window above 2^31 - 1, are faults of the stream
+-- (sections 5.1, 6.9 and 6.9.1).
 unfoldable pub update_verdict : State → (increment : ℕ) (above : Bool) → Verdict
 update_verdict Idle increment above = ConnectionFault ProtocolError
 update_verdict ClosedByUs increment above = NoEvent
 update_verdict Closed increment above = NoEvent
 update_verdict Active increment above =
-    if increment == 0 then StreamFault ProtocolError else if above then StreamFault FlowControlError else NoEvent
+    if increment == 0 then StreamFault ProtocolError
+    else if above then StreamFault FlowControlError else NoEvent
 
--- What opens a stream, where its peer may open it: behind an own GOAWAY it is dropped; where as many streams are live as are allowed it is
--- refused; a list that is too large is a fault of the stream; otherwise it is told (sections 5.1.2, 6.8 and 10.5.1).
+-- What opens a stream, where its peer may open it: after an own GOAWAY it is closed by this end;
+-- where as many streams are active as are allowed it is refused; a list that is too large is a
+-- fault of the stream; otherwise it is reported (sections 5.1.2, 6.8 and 10.5.1).
 unfoldable pub opening_verdict : (left full too_large : Bool) → Verdict
 opening_verdict left full too_large =
-    if left then NoEvent else if full then StreamFault RefusedStream else if too_large then StreamFault EnhanceYourCalm else Reported
+    if left then NoEvent else if full then StreamFault RefusedStream
+    else if too_large then StreamFault EnhanceYourCalm else Reported
 
--- A field block that decodes, on a stream in this state (sections 5.1, 5.1.1 and 6.2). `opens`: the number is one that the peer may
--- open. On an idle stream that the peer may not open, or a past one, it is a fault of the connection; on a dropped one it is ignored;
--- behind the peer's end, or with a list that is too large, it is a fault of the stream; otherwise it is told.
+-- A field block that decodes, on a stream in this state (sections 5.1, 5.1.1 and 6.2). `opens`: the
+-- number is one that the peer may open. On an idle stream that the peer may not open, or a past
+-- one, it is a fault of the connection; on a closed by this end one it is ignored; after the peer's
+-- end, or with a list that is too large, it is a fault of the stream; otherwise it is reported.
 unfoldable pub block_verdict : State → (opens left full peer_ended too_large : Bool) → Verdict
 block_verdict Idle opens left full peer_ended too_large =
     if opens then opening_verdict left full too_large else ConnectionFault ProtocolError
 block_verdict Closed opens left full peer_ended too_large = ConnectionFault ProtocolError
 block_verdict ClosedByUs opens left full peer_ended too_large = NoEvent
 block_verdict Active opens left full peer_ended too_large =
-    if peer_ended then StreamFault StreamClosed else if too_large then StreamFault EnhanceYourCalm else Reported
+    if peer_ended then StreamFault StreamClosed
+    else if too_large then StreamFault EnhanceYourCalm else Reported
 
 -- Whether the verdict is a fault, of the connection or of the stream.
 abbrev pub is_fault : Verdict → Bool

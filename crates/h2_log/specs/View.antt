@@ -1,5 +1,5 @@
--- What the rules of an end look at. An end's log is viewed so (LogView), and so is the machine that represents it; each rule is
--- stated once, over a view.
+-- What the rules of an end look at. An end's log is viewed so (LogView), and so is the machine that
+-- represents it; each rule is stated once, over a view.
 use Rattle.std.specs.Prelude.{ℕ, Bool, false, ℤ, List, Option, Some, None}
 use Rattle.hpack.specs.Lists.{EncoderState}
 use Rattle.h2_frame.specs.declared.code.Code.{Code}
@@ -9,7 +9,8 @@ use Rattle.h2_log.specs.States.{State}
 
 -- an active stream
 pub record StreamView : Type 0 where
-  -- what this end may send on it, and what the peer may (RFC 9113, section 6.9.1); SETTINGS can make them negative
+  -- what this end may send on it, and what the peer may (RFC 9113, section 6.9.1); SETTINGS can
+  -- make them negative
   pub send_window : ℤ
   pub recv_window : ℤ
   -- octets that were reported and aren't released yet
@@ -29,10 +30,12 @@ pub record View : Type 0 where
   -- the state of each stream number, and the stream where it is active
   pub state : ℕ → State
   pub stream : ℕ → Option StreamView
-  -- whether this initial window would bring the send window of some active stream above the greatest
+  -- whether this initial window would bring the send window of some active stream above the
+  -- greatest
   pub overflows : ℕ → Bool
   pub active_count : ℕ
-  -- how many streams of the peer's may be active at once, at a server; and how many of its own a client may have
+  -- how many streams of the peer's may be active at once, at a server; and how many of its own a
+  -- client may have
   pub max_streams : ℕ
   pub streams_allowed : ℕ
   -- the number for the next stream that a client opens; 0 at a server
@@ -42,7 +45,8 @@ pub record View : Type 0 where
   -- what this end may send on the connection, and what the peer may
   pub send_window : ℤ
   pub recv_window : ℤ
-  -- octets of discarded DATA and of closed streams that are still to be returned by WINDOW_UPDATE on stream 0 (section 6.9)
+  -- octets of discarded DATA and of closed streams that are still to be returned by WINDOW_UPDATE
+  -- on stream 0 (section 6.9)
   pub unreturned : ℕ
   -- whether GOAWAY was sent, and the least last stream of those received (section 6.8)
   pub goaway_sent : Bool
@@ -59,7 +63,8 @@ pub record View : Type 0 where
   pub max_payload : ℕ
   pub encoder : EncoderState
 
--- whether the peer has ended the stream, where it is active: for this end it is half-closed (remote) (section 5.1)
+-- whether the peer has ended the stream, where it is active: for this end it is half-closed
+-- (remote) (section 5.1)
 abbrev pub ended_in : Option StreamView → Bool
 ended_in None = false
 ended_in (Some stream) = stream.ended_in

@@ -1,5 +1,5 @@
--- The windows of streams and of the connection, in both directions (RFC 9113, sections 6.9.1 and 6.9.2). A stream's window may be
--- negative, since settings lower it.
+-- The windows of streams and of the connection, in both directions (RFC 9113, sections 6.9.1 and
+-- 6.9.2). A stream's window may be negative, since settings lower it.
 use Rattle.std.specs.Prelude.{ℕ, ◌+◌, ◌-◌, ◌^◌, nat_lt, ◌&&◌, Bool, ℤ, pos, ◌-ℤ◌, List}
 use Rattle.h2_block.specs.Grouping.{Item}
 use Rattle.h2_log.specs.Items.{data_on, data_of, increment_on, total}
@@ -13,7 +13,8 @@ first_window = 65535
 abbrev pub greatest_window : ℕ
 greatest_window = 2 ^ 31 - 1
 
--- what this end was given to send on a stream: the initial window that was read last, and the increments
+-- what this end was given to send on a stream: the initial window that was read last, and the
+-- increments
 unfoldable pub given_on : ℕ → List Item → ℕ
 given_on i received = value_read 4 first_window received + total (increment_on i) received
 
@@ -49,7 +50,8 @@ recv_window_of i count received sent = window (granted_on i count sent) (total (
 abbrev pub connection_recv_window : List Item → List Item → ℤ
 connection_recv_window received sent = window (granted_on_connection sent) (total data_of received)
 
--- Whether so many octets more, behind those that were taken, pass what was given. DATA of no octets passes no window.
+-- Whether so many octets more, after those that were taken, pass what was given. DATA of no octets
+-- passes no window.
 abbrev pub passes : ℕ → ℕ → ℕ → Bool
 passes count given consumed = nat_lt 0 count && nat_lt given (consumed + count)
 

@@ -11,7 +11,8 @@ pub struct Config {
     table_limit: u32,
     initial_window: u32,
     max_streams: u32,
-    ghost in_range: { (table_limit ≤ 65536) × (1 ≤ initial_window) × (initial_window ≤ 2 ^ 31 - 1) × (100 ≤ max_streams) × (max_streams ≤ 1000) },
+    ghost in_range: { (table_limit ≤ 65536) × (1 ≤ initial_window)
+        × (initial_window ≤ 2 ^ 31 - 1) × (100 ≤ max_streams) × (max_streams ≤ 1000) },
 }
 
 /// Why there is no such [`Config`]: the first of its values that is out of its bounds.
@@ -29,16 +30,19 @@ pub enum BadConfig {
 }
 
 impl Config {
-    /// The values: at most `table_limit` octets of header table at the peer's encoder, from 0 to 65,536; windows of `initial_window` octets for
-    /// new streams, from 1 to 2^31 - 1; and, at a server, `max_streams` live streams, from 100 to 1,000.
+    /// The values: at most `table_limit` octets of header table at the peer's encoder, from 0 to
+    /// 65,536; windows of `initial_window` octets for new streams, from 1 to 2^31 - 1; and, at a
+    /// server, `max_streams` active streams, from 100 to 1,000.
     ///
     /// # Errors
     ///
     /// [`BadConfig`] names the first of the three that is out of its bounds.
     pub fn new(table_limit: u32, initial_window: u32, max_streams: u32) -> Result<Config, BadConfig>
-        ensures values { IfOk result (λ config. (config.table_limit ≡ table_limit) × (config.initial_window ≡ initial_window) × (config.max_streams ≡ max_streams)) }
+        ensures values { IfOk result (λ config. (config.table_limit ≡ table_limit)
+            × (config.initial_window ≡ initial_window) × (config.max_streams ≡ max_streams)) }
         ensures good { OnOk result (first_bad table_limit initial_window max_streams ≡ None) }
-        ensures bad { IfErr result (λ bad. first_bad table_limit initial_window max_streams ≡ Some bad) }
+        ensures bad { IfErr result (λ bad. first_bad table_limit initial_window max_streams
+            ≡ Some bad) }
     {
         if table_limit > 65_536 {
             Err(BadConfig::TableLimit)
@@ -69,7 +73,7 @@ impl Config {
         self.initial_window
     }
 
-    /// The most live streams at a server: SETTINGS_MAX_CONCURRENT_STREAMS.
+    /// The most active streams at a server: SETTINGS_MAX_CONCURRENT_STREAMS.
     pub fn max_streams(&self) -> u32
         ensures { result ≡ self.now.max_streams }
     {
@@ -78,9 +82,11 @@ impl Config {
 }
 
 impl Default for Config {
-    /// 4,096 octets of table and 65,535 of window, which are a connection's first values (RFC 9113, section 6.5.2), and 100 streams.
+    /// 4,096 octets of table and 65,535 of window, which are a connection's first values (RFC 9113,
+    /// section 6.5.2), and 100 streams.
     fn default() -> Config
-        ensures { (result.table_limit ≡ 4096) × (result.initial_window ≡ 65535) × (result.max_streams ≡ 100) }
+        ensures { (result.table_limit ≡ 4096) × (result.initial_window ≡ 65535)
+            × (result.max_streams ≡ 100) }
     {
         Config {
             table_limit: 4_096,

@@ -8,13 +8,13 @@ pub enum Refusal {
     /// C1: the connection has failed.
     #[error("C1 Closed: the connection has failed")]
     Closed,
-    /// C2: the stream isn't live.
+    /// C2: the stream isn't active.
     #[error("C2 NoSuchStream: the stream isn't active")]
     NoSuchStream,
     /// C3: this end has sent END_STREAM.
     #[error("C3 Ended: this end has ended the stream")]
     Ended,
-    /// C4: as many streams are live as the peer allows.
+    /// C4: as many streams are active as the peer allows.
     #[error("C4 TooManyStreams: as many streams are active as the peer allows")]
     TooManyStreams,
     /// C5: the next number is above 2^31 - 1, or this end is a server, which opens none.

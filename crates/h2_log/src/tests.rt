@@ -1,19 +1,7 @@
 //! Values within their bounds, and the texts of refusals.
 
 use crate::{
-    BadConfig, Config, Refusal, Role, any_body_as_far_as_windows_go, limits_to_the_octet,
-    block_in_its_encoding, body_as_far_as_windows_go, body_is_released, body_on_a_closed_stream,
-    clients_come_about, closed_by_us_body_is_given_back, faults_at_a_server, faults_of_padding,
-    faults_of_settings_at_a_client, faults_of_settings_at_a_server, first_frame_at_a_client,
-    first_frame_at_a_server, frame_in_its_encoding, frames_of_a_log, goaway_does_not_grow,
-    large_list_is_refused, last_body_is_released, active_stream_at_a_server, message_is_refused,
-    opening_of_a_client, own_window_from_the_acknowledgment_on, padding_counts,
-    padding_takes_of_both_windows, ping_at_a_server, replies_are_bounded, request_at_a_server,
-    reset_gives_back, second_goaway_is_refused, second_ping_is_refused, servers_come_about,
-    settings_of_a_client_change, settings_of_a_server_change, several_table_limits,
-    stream_after_an_own_goaway, stream_too_many_is_refused, streams_after_a_goaway,
-    table_limit_of_the_peer, window_lowered_below_zero, window_raised_too_far,
-    wrong_preface_at_a_server,
+    BadConfig, Config, Refusal, Role, block_in_its_encoding, frame_in_its_encoding, frames_of_a_log,
 };
 use std::test::Fail;
 
@@ -83,46 +71,7 @@ fn roles_differ(rt: HostRuntime) {
 
 #[test]
 fn laws_are_called() {
-    limits_to_the_octet();
-    body_on_a_closed_stream();
-    goaway_does_not_grow();
-    padding_takes_of_both_windows();
-    stream_after_an_own_goaway();
-    any_body_as_far_as_windows_go();
     block_in_its_encoding();
-    body_as_far_as_windows_go();
-    body_is_released();
-    clients_come_about();
-    closed_by_us_body_is_given_back();
-    faults_at_a_server();
-    faults_of_padding();
-    faults_of_settings_at_a_client();
-    faults_of_settings_at_a_server();
-    first_frame_at_a_client();
-    first_frame_at_a_server();
     frame_in_its_encoding();
     frames_of_a_log();
-    large_list_is_refused();
-    last_body_is_released();
-    active_stream_at_a_server();
-    message_is_refused();
-    opening_of_a_client();
-    own_window_from_the_acknowledgment_on();
-    padding_counts();
-    ping_at_a_server();
-    replies_are_bounded();
-    request_at_a_server();
-    reset_gives_back();
-    second_goaway_is_refused();
-    second_ping_is_refused();
-    servers_come_about();
-    settings_of_a_client_change();
-    settings_of_a_server_change();
-    several_table_limits();
-    stream_too_many_is_refused();
-    streams_after_a_goaway();
-    table_limit_of_the_peer();
-    window_lowered_below_zero();
-    window_raised_too_far();
-    wrong_preface_at_a_server();
 }

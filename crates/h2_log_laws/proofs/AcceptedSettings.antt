@@ -1,5 +1,26 @@
 -- SETTINGS that an end may write are no fault for its reader.
-use Rattle.std.proofs.Common.{◌≡◌, ◌≢◌, ℕ, ◌+◌, ◌%◌, ◌≤◌, ◌==◌, ◌&&◌, Bool, true, false, List, [], ◌∷◌, Option, None, refl, inl, inr, arith}
+use Rattle.std.proofs.Common.{
+  ◌≡◌,
+  ◌≢◌,
+  ℕ,
+  ◌+◌,
+  ◌%◌,
+  ◌≤◌,
+  ◌==◌,
+  ◌&&◌,
+  Bool,
+  true,
+  false,
+  List,
+  [],
+  ◌∷◌,
+  Option,
+  None,
+  refl,
+  inl,
+  inr,
+  arith,
+}
 use Rattle.std.proofs.lemmas.Bool.{both_ways, cases_Bool, le-ltb, and_left, and_right, or_from}
 use Rattle.h2_frame.specs.declared.code.Code.{Code}
 use Rattle.h2_frame.specs.Frames.{Settings}
@@ -23,34 +44,44 @@ use Rattle.h2_log_laws.proofs.ReaderStates.{active_parts}
 use Rattle.h2_log_laws.proofs.AllowedHistories.{increments_read}
 
 -- no block passes a test that nothing passes
-any_block_none : (test : ℕ → Bool) (items : List Item) → ((j : ℕ) → test j ≡ false) → any_block test items ≡ false
+any_block_none : (test : ℕ → Bool) (items : List Item) → ((j : ℕ) → test j ≡ false)
+    → any_block test items ≡ false
 unfolding any_block
 any_block_none test [] none = refl
 any_block_none test (block stream end octets ∷ items) none =
     or_from (test stream) (any_block test items) (none stream) (any_block_none test items none)
 any_block_none test (alone frame ∷ items) none = any_block_none test items none
 
--- a live stream isn't stream 0
+-- an active stream isn't stream 0
 active_some : (log : Log) (j : ℕ) → active log j ≡ true → j ≢ 0
 active_some log j alive none =
     let parts = active_parts log.role j log.received log.sent log.reported alive in
     both_ways (0 % 2 == 1) refl (rw none at parts.odd)
 
--- an initial window within its bounds brings no stream's above the greatest, where no more was given back than was read
+-- an initial window within its bounds brings no stream's above the greatest, where no more was
+-- returned than was read
 no_overflow : (log : Log) (initial : ℕ) → initial ≤ greatest_window
-    → ((j : ℕ) → j ≢ 0 → total (increment_on j) log.received ≤ total (data_on j) log.sent) → overflows log initial ≡ false
+    → ((j : ℕ) → j ≢ 0 → total (increment_on j) log.received ≤ total (data_on j) log.sent)
+    → overflows log initial ≡ false
 unfolding overflows
-no_overflow log initial within fewer = any_block_none _ (openings log.role log.received log.sent) (λ j. elim (cases_Bool (active log j)) [
-  | inl alive ↦
-      and_right (active log j) (is_above_greatest (initial + total (increment_on j) log.received) (total (data_on j) log.sent))
-      (le-ltb (greatest_window + total (data_on j) log.sent) (initial + total (increment_on j) log.received)
-      (omega (arith, fewer j (active_some log j alive))))
-  | inr over ↦ and_left (active log j) (is_above_greatest (initial + total (increment_on j) log.received) (total (data_on j) log.sent)) over
-])
+no_overflow log initial within fewer = any_block_none _ (openings log.role log.received log.sent)
+    (λ j. elim (cases_Bool (active log j)) [
+      | inl alive ↦
+          and_right (active log j) (is_above_greatest (initial + total
+          (increment_on j) log.received)
+          (total (data_on j) log.sent))
+          (le-ltb (greatest_window + total (data_on j) log.sent) (initial + total
+          (increment_on j) log.received)
+          (omega (arith, fewer j (active_some log j alive))))
+      | inr over ↦ and_left (active log j) (is_above_greatest (initial + total
+          (increment_on j) log.received) (total (data_on j) log.sent)) over
+    ])
 
--- a pair without fault leaves the fault of those behind it
-pair_sound : (log : Log) (id value : ℕ) (pairs : List (ℕ × ℕ)) → value_fault (peer_of log.role) (id, value) ≡ None
-    → (id == 4 && overflows log value) ≡ false → settings_fault (log_view log) pairs ≡ None → settings_fault (log_view log) ((id, value) ∷ pairs) ≡ None
+-- a pair without fault leaves the fault of those after it
+pair_sound : (log : Log) (id value : ℕ) (pairs : List (ℕ × ℕ))
+    → value_fault (peer_of log.role) (id, value) ≡ None
+    → (id == 4 && overflows log value) ≡ false → settings_fault (log_view log) pairs ≡ None
+    → settings_fault (log_view log) ((id, value) ∷ pairs) ≡ None
 unfolding settings_fault
 pair_sound log id value pairs sound within after = rw (sound, within) after
 
@@ -60,7 +91,8 @@ unfolding settings_fault
 none_sound log = refl
 
 -- an initial window within its bounds has no fault
-window_value : (from : Role) (value : ℕ) → value ≤ greatest_window → value_fault from (4, value) ≡ None
+window_value : (from : Role) (value : ℕ) → value ≤ greatest_window → value_fault from (4, value)
+    ≡ None
 unfolding value_fault
 window_value from value within = rw (le-ltb greatest_window value within) refl
 
@@ -86,54 +118,72 @@ push_value Client = refl
 push_value Server = refl
 
 -- the pairs of an opening have no fault, where its window brings none above the greatest
-opened_sound : (role : Role) (values : Values) (log : Log) → AreInRange values → overflows log values.initial_window ≡ false
+opened_sound : (role : Role) (values : Values) (log : Log) → AreInRange values
+    → overflows log values.initial_window ≡ false
     → settings_fault (log_view log) (opening_pairs role values) ≡ None
 unfolding opening_pairs
 opened_sound Client values log ok within =
     pair_sound log 1 values.table_limit _ (table_value (peer_of log.role) values.table_limit) refl
     (pair_sound log 2 0 _ (push_value (peer_of log.role)) refl
-    (pair_sound log 4 values.initial_window _ (window_value (peer_of log.role) values.initial_window ok.initial_window) within
+    (pair_sound log 4 values.initial_window _ (window_value
+    (peer_of log.role) values.initial_window ok.initial_window) within
     (pair_sound log 6 max_list [] (list_value (peer_of log.role) max_list) refl (none_sound log))))
 opened_sound Server values log ok within =
     pair_sound log 1 values.table_limit _ (table_value (peer_of log.role) values.table_limit) refl
-    (pair_sound log 3 values.max_streams _ (streams_value (peer_of log.role) values.max_streams) refl
-    (pair_sound log 4 values.initial_window _ (window_value (peer_of log.role) values.initial_window ok.initial_window) within
+    (pair_sound log 3 values.max_streams _ (streams_value
+    (peer_of log.role) values.max_streams) refl
+    (pair_sound log 4 values.initial_window _ (window_value
+    (peer_of log.role) values.initial_window ok.initial_window) within
     (pair_sound log 6 max_list [] (list_value (peer_of log.role) max_list) refl (none_sound log))))
 
 -- the pairs of a change have no fault, where its window brings none above the greatest
-changed_sound : (role : Role) (values : Values) (log : Log) → AreInRange values → overflows log values.initial_window ≡ false
+changed_sound : (role : Role) (values : Values) (log : Log) → AreInRange values
+    → overflows log values.initial_window ≡ false
     → settings_fault (log_view log) (changed_pairs role values) ≡ None
 unfolding changed_pairs
 changed_sound Client values log ok within =
     pair_sound log 1 values.table_limit _ (table_value (peer_of log.role) values.table_limit) refl
-    (pair_sound log 4 values.initial_window [] (window_value (peer_of log.role) values.initial_window ok.initial_window) within (none_sound log))
+    (pair_sound log 4 values.initial_window [] (window_value
+    (peer_of log.role) values.initial_window ok.initial_window) within (none_sound log))
 changed_sound Server values log ok within =
     pair_sound log 1 values.table_limit _ (table_value (peer_of log.role) values.table_limit) refl
-    (pair_sound log 3 values.max_streams _ (streams_value (peer_of log.role) values.max_streams) refl
-    (pair_sound log 4 values.initial_window [] (window_value (peer_of log.role) values.initial_window ok.initial_window) within (none_sound log)))
+    (pair_sound log 3 values.max_streams _ (streams_value
+    (peer_of log.role) values.max_streams) refl
+    (pair_sound log 4 values.initial_window [] (window_value
+    (peer_of log.role) values.initial_window ok.initial_window) within (none_sound log)))
 
--- nothing was given back in what wasn't read
+-- nothing was returned in what wasn't read
 nothing_given : (j : ℕ) (sent : List Item) → total (increment_on j) [] ≤ total (data_on j) sent
 unfolding total
 nothing_given j sent = omega arith
 
 -- The SETTINGS that an end opens with are no fault.
-pub first_settings_lem : (role : Role) (values : Values) (log : Log) → AreInRange values → log.received ≡ []
+pub first_settings_lem : (role : Role) (values : Values) (log : Log) → AreInRange values
+    → log.received ≡ []
     → settings_fault (log_view log) (opening_pairs role values) ≡ None
 first_settings_lem role values log ok nothing =
-    opened_sound role values log ok (no_overflow log values.initial_window ok.initial_window (λ j some. rw nothing (nothing_given j log.sent)))
+    opened_sound role values log ok (no_overflow log values.initial_window ok.initial_window
+    (λ j some. rw nothing (nothing_given j log.sent)))
 
 -- no fault is ignored
 fault_none : (fault : Option Code) → fault ≡ None → is_fault (verdict_of_fault fault) ≡ false
 fault_none fault none = rw none refl
 
 -- Changed SETTINGS are no fault.
-pub settings_lem : (role : Role) (received sent unread : List Item) (log : Log) (pairs : List (ℕ × ℕ)) → AllowedHistory role received sent
-    → MayChangeSettings role pairs received sent → IsReader role received sent unread log → is_fault (verdict_by_rules (log_view log) None (alone (Settings false pairs))) ≡ false
+pub settings_lem : (role : Role) (received sent unread : List Item) (log : Log) (pairs : List (ℕ
+    × ℕ)) → AllowedHistory role received sent
+    → MayChangeSettings role pairs received sent → IsReader role received sent unread log
+    → is_fault (verdict_by_rules (log_view log) None (alone (Settings false pairs))) ≡ false
 unfolding verdict_by_rules
 settings_lem role received sent unread log pairs with_sent may reader =
     fault_none (settings_fault (log_view log) pairs)
     (rw may.changed
-    (changed_sound role may.values log may.in_range (no_overflow log may.values.initial_window (may.in_range).initial_window
+    (changed_sound role may.values log may.in_range (no_overflow log may.values.initial_window
+    (may.in_range).initial_window
     (λ j some. rw (reader.read, reader.written)
-    (omega (arith, increments_read role j some received sent with_sent, total_after (data_on j) unread received))))))
+    (omega (
+      arith,
+      increments_read role j some received sent with_sent,
+      total_after
+          (data_on j) unread received,
+    ))))))

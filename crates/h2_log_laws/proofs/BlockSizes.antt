@@ -1,5 +1,31 @@
 -- How many octets a block takes: no more than the size of its list, and those of two updates.
-use Rattle.std.proofs.Common.{◌≡◌, ℕ, zero, suc, ◌+◌, ◌-◌, ◌/◌, ◌%◌, ◌≤◌, ◌==◌, nat_lt, nat_le, if◌then◌else◌, Bool, true, false, List, [], ◌∷◌, ◌++◌, length, refl, arith, length-append, flat_map}
+use Rattle.std.proofs.Common.{
+  ◌≡◌,
+  ℕ,
+  zero,
+  suc,
+  ◌+◌,
+  ◌-◌,
+  ◌/◌,
+  ◌%◌,
+  ◌≤◌,
+  ◌==◌,
+  nat_lt,
+  nat_le,
+  if◌then◌else◌,
+  Bool,
+  true,
+  false,
+  List,
+  [],
+  ◌∷◌,
+  ◌++◌,
+  length,
+  refl,
+  arith,
+  length-append,
+  flat_map,
+}
 use Rattle.std.proofs.lemmas.Bool.{leb-true}
 use Rattle.std.proofs.lemmas.List.Sums.{sum_by-cons}
 use Rattle.hpack_text.specs.Integers.{all_ones, continuation_of, integer}
@@ -7,7 +33,11 @@ use Rattle.hpack_text.specs.Strings.{string}
 use Rattle.hpack_text.specs.Huffman.{huffman_bits}
 use Rattle.hpack.specs.declared.types.field.Field.{Field}
 use Rattle.hpack.specs.declared.types.literal.Literal.{Literal}
-use Rattle.hpack.specs.declared.types.literal.Literal.TheVariants.{WithIndexing, WithoutIndexing, NeverIndexed}
+use Rattle.hpack.specs.declared.types.literal.Literal.TheVariants.{
+  WithIndexing,
+  WithoutIndexing,
+  NeverIndexed,
+}
 use Rattle.hpack.specs.Tables.{Entries}
 use Rattle.hpack.specs.Lists.{EncoderState, list_size}
 use Rattle.hpack.specs.Choice.{Choice, indexed, literal, choice, literal_head, encoding_of_field, after_choice, encoding_of_fields, size_updates, after_updates, block_of}
@@ -15,8 +45,10 @@ use Rattle.h2_block.specs.Grouping.{max_block_octets}
 use Rattle.h2_log.specs.Limits.{max_list}
 
 -- The continuation octets, by the test whether one is enough.
-few_groups_by : (more unparsed : ℕ) (b : Bool) → length (continuation_of more (unparsed / 128)) ≤ suc more
-    → length (if b then unparsed ∷ [] else (unparsed % 128 + 128) ∷ continuation_of more (unparsed / 128)) ≤ suc (suc more)
+few_groups_by : (more unparsed : ℕ) (b : Bool)
+    → length (continuation_of more (unparsed / 128)) ≤ suc more
+    → length (if b then unparsed ∷ [] else (unparsed % 128 + 128) ∷ continuation_of more
+    (unparsed / 128)) ≤ suc (suc more)
 few_groups_by more unparsed true few = omega arith
 few_groups_by more unparsed false few = omega arith
 
@@ -24,22 +56,26 @@ few_groups_by more unparsed false few = omega arith
 few_groups : (more unparsed : ℕ) → length (continuation_of more unparsed) ≤ suc more
 unfolding continuation_of
 few_groups zero unparsed = omega arith
-few_groups (suc more) unparsed = few_groups_by more unparsed (nat_lt unparsed 128) (few_groups more (unparsed / 128))
+few_groups (suc more) unparsed = few_groups_by more unparsed (nat_lt unparsed 128)
+    (few_groups more (unparsed / 128))
 
 -- The octets of an integer, by the test whether it stands in the prefix.
 integer_short_by : (first ones value : ℕ) (b : Bool)
-    → length (if b then (first + value) ∷ [] else (first + ones) ∷ continuation_of 4 (value - ones)) ≤ 6
+    → length (if b then (first + value) ∷ [] else (first + ones) ∷ continuation_of 4
+    (value - ones)) ≤ 6
 integer_short_by first ones value true = omega arith
 integer_short_by first ones value false = omega (arith, few_groups 4 (value - ones))
 
 -- An integer takes at most six octets.
 integer_is_short : (prefix first value : ℕ) → length (integer prefix first value) ≤ 6
 unfolding integer
-integer_is_short prefix first value = integer_short_by first (all_ones prefix) value (nat_lt value (all_ones prefix))
+integer_is_short prefix first value = integer_short_by first (all_ones prefix) value (nat_lt value
+    (all_ones prefix))
 
 -- The octets of a string, by the test whether it is Huffman coded.
 string_by : (text : List ℕ) (b : Bool) → nat_le (length (huffman_bits text)) (length text) ≡ b
-    → length (if b then integer 7 128 (length (huffman_bits text)) ++ huffman_bits text else integer 7 0 (length text) ++ text) ≤ 6 + length text
+    → length (if b then integer 7 128 (length (huffman_bits text)) ++ huffman_bits text
+    else integer 7 0 (length text) ++ text) ≤ 6 + length text
 string_by text true is =
     omega (
       arith,
@@ -47,9 +83,15 @@ string_by text true is =
       length-append (integer 7 128 (length (huffman_bits text))) (huffman_bits text),
       leb-true (length (huffman_bits text)) (length text) is,
     )
-string_by text false is = omega (arith, integer_is_short 7 0 (length text), length-append (integer 7 0 (length text)) text)
+string_by text false is = omega (
+  arith,
+  integer_is_short 7 0 (length text),
+  length-append
+      (integer 7 0 (length text)) text,
+)
 
--- A string takes at most six octets more than its text: it is Huffman coded only where that isn't longer.
+-- A string takes at most six octets more than its text: it is Huffman coded only where that isn't
+-- longer.
 string_fits : (text : List ℕ) → length (string text) ≤ 6 + length text
 unfolding string
 string_fits text = string_by text (nat_le (length (huffman_bits text)) (length text)) refl
@@ -66,7 +108,8 @@ name_fits name true = string_fits name
 name_fits name false = omega arith
 
 -- A field takes no more octets than its size, however it is written.
-field_fits : (chosen : Choice) (field : Field) → length (encoding_of_field chosen field) ≤ length field.name + length field.value + 32
+field_fits : (chosen : Choice) (field : Field)
+    → length (encoding_of_field chosen field) ≤ length field.name + length field.value + 32
 field_fits (indexed index) field = omega (arith, integer_is_short 7 0x80 index)
 field_fits (literal kind index) field =
     omega (
@@ -74,12 +117,14 @@ field_fits (literal kind index) field =
       head_fits kind index,
       name_fits field.name (index == 0),
       string_fits field.value,
-      length-append (literal_head kind index) ((if index == 0 then string field.name else []) ++ string field.value),
+      length-append (literal_head kind index) ((if index == 0 then string field.name else [])
+          ++ string field.value),
       length-append (if index == 0 then string field.name else []) (string field.value),
     )
 
 -- Fields take no more octets than the size of their list.
-fields_fit : (table : Entries) (fields : List Field) → length (encoding_of_fields table fields) ≤ list_size fields
+fields_fit : (table : Entries) (fields : List Field)
+    → length (encoding_of_fields table fields) ≤ list_size fields
 unfolding encoding_of_fields
 fields_fit table [] = omega arith
 fields_fit table (field ∷ fields) =
@@ -87,14 +132,21 @@ fields_fit table (field ∷ fields) =
       arith,
       field_fits (choice table field) field,
       fields_fit (after_choice table (choice table field) field) fields,
-      length-append (encoding_of_field (choice table field) field) (encoding_of_fields (after_choice table (choice table field) field) fields),
+      length-append (encoding_of_field (choice table field) field) (encoding_of_fields
+          (after_choice table (choice table field) field) fields),
       sum_by-cons (λ (one : Field). length one.name + length one.value + 32) field fields,
     )
 
 -- The octets of a block's updates, by the tests that choose them: there are at most two.
 updates_by : (least limit : ℕ) (fell alike rose : Bool)
-    → length (flat_map (integer 5 0x20) (if fell then least ∷ (if alike then [] else limit ∷ []) else if rose then limit ∷ [] else [])) ≤ 12
-updates_by least limit true true rose = omega (arith, integer_is_short 5 0x20 least, length-append (integer 5 0x20 least) [])
+    → length (flat_map (integer 5 0x20) (if fell then least ∷ (if alike then []
+    else limit ∷ []) else if rose then limit ∷ [] else [])) ≤ 12
+updates_by least limit true true rose = omega (
+  arith,
+  integer_is_short 5 0x20 least,
+  length-append
+      (integer 5 0x20 least) [],
+)
 updates_by least limit true false rose =
     omega (
       arith,
@@ -103,17 +155,20 @@ updates_by least limit true false rose =
       length-append (integer 5 0x20 least) (integer 5 0x20 limit ++ []),
       length-append (integer 5 0x20 limit) [],
     )
-updates_by least limit false alike true = omega (arith, integer_is_short 5 0x20 limit, length-append (integer 5 0x20 limit) [])
+updates_by least limit false alike true = omega
+    (arith, integer_is_short 5 0x20 limit, length-append (integer 5 0x20 limit) [])
 updates_by least limit false alike false = omega arith
 
 -- A block's updates take at most twelve octets.
 updates_fit : (state : EncoderState) → length (flat_map (integer 5 0x20) (size_updates state)) ≤ 12
 unfolding size_updates
 updates_fit state =
-    updates_by state.least state.limit (nat_lt state.least state.table.maximum) (state.limit == state.least) (nat_lt state.table.maximum state.limit)
+    updates_by state.least state.limit (nat_lt state.least state.table.maximum)
+    (state.limit == state.least) (nat_lt state.table.maximum state.limit)
 
 -- A list that may be sent is a block that may be gathered.
-pub block_is_gathered : (encoder : EncoderState) (fields : List Field) → list_size fields ≤ max_list → length (block_of encoder fields) ≤ max_block_octets
+pub block_is_gathered : (encoder : EncoderState) (fields : List Field)
+    → list_size fields ≤ max_list → length (block_of encoder fields) ≤ max_block_octets
 unfolding block_of
 block_is_gathered encoder fields few =
     omega (
@@ -121,5 +176,6 @@ block_is_gathered encoder fields few =
       few,
       updates_fit encoder,
       fields_fit (after_updates encoder.table (size_updates encoder)) fields,
-      length-append (flat_map (integer 5 0x20) (size_updates encoder)) (encoding_of_fields (after_updates encoder.table (size_updates encoder)) fields),
+      length-append (flat_map (integer 5 0x20) (size_updates encoder)) (encoding_of_fields
+          (after_updates encoder.table (size_updates encoder)) fields),
     )

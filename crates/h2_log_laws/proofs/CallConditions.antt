@@ -1,15 +1,31 @@
 -- What a call that isn't refused says: none of its conditions holds.
-use Rattle.std.proofs.Common.{◌≡◌, ◌||◌, if◌then◌else◌, Bool, true, false, List, [], ◌∷◌, Option, Some, None, refl}
+use Rattle.std.proofs.Common.{
+  ◌≡◌,
+  ◌||◌,
+  if◌then◌else◌,
+  Bool,
+  true,
+  false,
+  List,
+  [],
+  ◌∷◌,
+  Option,
+  Some,
+  None,
+  refl,
+}
 use Rattle.h2_log.specs.declared.refusal.Refusal.{Refusal}
 use Rattle.h2_log.specs.CallRules.{first_of}
 
 -- Where nothing refuses, a condition doesn't hold, by its test.
-first_false_by : (b : Bool) (refusal : Refusal) (after : Option Refusal) → (if b then Some refusal else after) ≡ None → b ≡ false
+first_false_by : (b : Bool) (refusal : Refusal) (after : Option Refusal)
+    → (if b then Some refusal else after) ≡ None → b ≡ false
 first_false_by true refusal after is = cc
 first_false_by false refusal after is = refl
 
--- Where nothing refuses, nothing behind a condition does, by its test.
-others_by : (b : Bool) (refusal : Refusal) (after : Option Refusal) → (if b then Some refusal else after) ≡ None → after ≡ None
+-- Where nothing refuses, nothing after a condition does, by its test.
+others_by : (b : Bool) (refusal : Refusal) (after : Option Refusal)
+    → (if b then Some refusal else after) ≡ None → after ≡ None
 others_by true refusal after is = cc
 others_by false refusal after is = is
 
@@ -19,11 +35,15 @@ AreFalse [] = Unit {0}
 AreFalse (condition ∷ conditions) = (condition.0 ≡ false) × AreFalse conditions
 
 -- Where no condition refuses, none holds.
-pub none_holds : (conditions : List (Bool × Refusal)) → first_of conditions ≡ None → AreFalse conditions
+pub none_holds : (conditions : List (Bool × Refusal)) → first_of conditions ≡ None
+    → AreFalse conditions
 unfolding first_of
 none_holds [] is = tt
-none_holds ((b, refusal) ∷ conditions) is =
-    (first_false_by b refusal (first_of conditions) is, none_holds conditions (others_by b refusal (first_of conditions) is))
+none_holds ((b, refusal) ∷ conditions) is = (
+  first_false_by b refusal (first_of conditions) is,
+  none_holds conditions (others_by b refusal
+      (first_of conditions) is),
+)
 
 -- Where neither of two tests holds, the one doesn't.
 pub neither_one : (a b : Bool) → (a || b) ≡ false → a ≡ false

@@ -8,7 +8,13 @@ use Rattle.h2_log.specs.Log.{Log}
 use Rattle.h2_log.specs.LogCalls.{before_opening, opened}
 use Rattle.h2_log.specs.Histories.{IsLog}
 use Rattle.h2_log.specs.LogSteps.{used}
-use Rattle.h2_log_laws.proofs.EncoderSteps.{LogIsLimited, wrote_limited, reports_limited, read_limited, call_limited}
+use Rattle.h2_log_laws.proofs.EncoderSteps.{
+  LogIsLimited,
+  wrote_limited,
+  reports_limited,
+  read_limited,
+  call_limited,
+}
 use Rattle.h2_log_laws.proofs.EveryLog.{IsSteady, every_log}
 
 -- Each small change keeps an encoder that writes blocks, with the limit that was read last.
@@ -33,10 +39,19 @@ begins_limited : (role : Role) (values : Values) → LogIsLimited (opened role v
 unfolding opened value_read
 begins_limited role values =
     wrote_limited (before_opening role) _
-    (record { writing = record { least = omega arith; limit = omega arith; maximum = omega arith; within = omega arith }; limit = refl })
+    (record {
+      writing = record {
+        least = omega arith;
+        limit = omega arith;
+        maximum = omega arith;
+        within = omega arith;
+      };
+      limit = refl;
+    })
 
 -- The encoder of every log.
 pub encoder_is_limited : (role : Role) (values : Values) (log : Log) → IsLog role values log
     → IsValidEncoder log.encoder × (log.encoder.limit ≡ min (value_read 1 4096 log.received) 4096)
 encoder_is_limited role values log is =
-    let limited = every_log LogIsLimited encoder_is_steady begins_limited role values log is in (limited.writing, limited.limit)
+    let limited = every_log LogIsLimited encoder_is_steady begins_limited role values log is in
+    (limited.writing, limited.limit)

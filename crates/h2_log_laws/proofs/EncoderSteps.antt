@@ -1,5 +1,21 @@
 -- The encoder of a log: what each step makes of it and of what was read.
-use Rattle.std.proofs.Common.{◌≡◌, ℕ, ◌==◌, min, Bool, true, false, if◌then◌else◌, List, [], ◌∷◌, Option, refl, ◌∙◌, arith}
+use Rattle.std.proofs.Common.{
+  ◌≡◌,
+  ℕ,
+  ◌==◌,
+  min,
+  Bool,
+  true,
+  false,
+  if◌then◌else◌,
+  List,
+  [],
+  ◌∷◌,
+  Option,
+  refl,
+  ◌∙◌,
+  arith,
+}
 use Rattle.hpack.specs.Lists.{EncoderState}
 use Rattle.hpack.specs.Choice.{after_block}
 use Rattle.hpack.specs.Written.{IsValidEncoder}
@@ -27,62 +43,95 @@ abbrev pub LogIsLimited : Log → Type 0
 LogIsLimited log = IsLimited log.encoder log.received
 
 -- Items that are written change neither.
-pub wrote_limited : (log : Log) (items : List Item) → LogIsLimited log → LogIsLimited (with_sent log items)
+pub wrote_limited : (log : Log) (items : List Item) → LogIsLimited log
+    → LogIsLimited (with_sent log items)
 unfolding with_sent
 wrote_limited log [] is = is
 wrote_limited log (item ∷ items) is = is
 
 -- Nor do events.
-pub reports_limited : (log : Log) (events : List Event) → LogIsLimited log → LogIsLimited (with_reported log events)
+pub reports_limited : (log : Log) (events : List Event) → LogIsLimited log
+    → LogIsLimited (with_reported log events)
 unfolding with_reported
 reports_limited log [] is = is
 reports_limited log (event ∷ events) is = is
 
 -- Pairs of SETTINGS set the limit, by the test whether a pair names it.
-pair_limited : (encoder : EncoderState) (before id value : ℕ) (b : Bool) → IsValidEncoder encoder → encoder.limit ≡ min before 4096
+pair_limited : (encoder : EncoderState) (before id value : ℕ) (b : Bool) → IsValidEncoder encoder
+    → encoder.limit ≡ min before 4096
     → IsValidEncoder (if b then after_limit encoder (min value 4096) else encoder)
-    × ((if b then after_limit encoder (min value 4096) else encoder).limit ≡ min (if b then value else before) 4096)
-pair_limited encoder before id value true writing is = (limit_preserves encoder (min value 4096) (omega arith) writing, refl)
+    × ((if b then after_limit encoder (min value 4096) else encoder).limit
+    ≡ min (if b then value else before) 4096)
+pair_limited encoder before id value true writing is = (
+  limit_preserves encoder (min value 4096)
+      (omega arith) writing,
+  refl,
+)
 pair_limited encoder before id value false writing is = (writing, is)
 
 -- Pairs of SETTINGS set the limit.
-pairs_limited : (encoder : EncoderState) (before : ℕ) (pairs : List (ℕ × ℕ)) → IsValidEncoder encoder → encoder.limit ≡ min before 4096
-    → IsValidEncoder (encoder_after_settings encoder pairs) × ((encoder_after_settings encoder pairs).limit ≡ min (value_after 1 before pairs) 4096)
+pairs_limited : (encoder : EncoderState) (before : ℕ) (pairs : List (ℕ × ℕ))
+    → IsValidEncoder encoder → encoder.limit ≡ min before 4096
+    → IsValidEncoder (encoder_after_settings encoder pairs)
+    × ((encoder_after_settings encoder pairs).limit ≡ min (value_after 1 before pairs) 4096)
 unfolding encoder_after_settings value_after
 pairs_limited encoder before [] writing is = (writing, is)
 pairs_limited encoder before (pair ∷ pairs) writing is =
     let one = pair_limited encoder before pair.0 pair.1 (pair.0 == 1) writing is in
-    pairs_limited (if pair.0 == 1 then after_limit encoder (min pair.1 4096) else encoder) (if pair.0 == 1 then pair.1 else before) pairs one.0 one.1
+    pairs_limited (if pair.0 == 1 then after_limit encoder (min pair.1 4096) else encoder)
+    (if pair.0 == 1 then pair.1 else before) pairs one.0 one.1
 
 -- An item that is read: SETTINGS set the limit, and nothing else does.
-pub read_limited : (log : Log) (decoded : Option Decoded) (item : Item) → LogIsLimited log → LogIsLimited (read log decoded item)
+pub read_limited : (log : Log) (decoded : Option Decoded) (item : Item) → LogIsLimited log
+    → LogIsLimited (read log decoded item)
 unfolding value_read
 read_limited log decoded (alone (Settings false pairs)) is =
-    let both = pairs_limited log.encoder (value_read 1 4096 log.received) pairs is.writing is.limit in record { writing = both.0; limit = both.1 }
-read_limited log decoded (alone (Settings true pairs)) is = record { writing = is.writing; limit = is.limit }
-read_limited log decoded (alone (Data stream end octets pad)) is = record { writing = is.writing; limit = is.limit }
-read_limited log decoded (alone (Headers stream end whole fragment pad priority)) is = record { writing = is.writing; limit = is.limit }
-read_limited log decoded (alone (Priority stream octets)) is = record { writing = is.writing; limit = is.limit }
-read_limited log decoded (alone (Reset stream code)) is = record { writing = is.writing; limit = is.limit }
-read_limited log decoded (alone (Ping ack octets)) is = record { writing = is.writing; limit = is.limit }
-read_limited log decoded (alone (GoAway last code debug)) is = record { writing = is.writing; limit = is.limit }
-read_limited log decoded (alone (WindowUpdate stream increment)) is = record { writing = is.writing; limit = is.limit }
-read_limited log decoded (alone (Continuation stream whole fragment)) is = record { writing = is.writing; limit = is.limit }
-read_limited log decoded (alone (Unknown kind flags stream payload)) is = record { writing = is.writing; limit = is.limit }
-read_limited log decoded (block stream end octets) is = record { writing = is.writing; limit = is.limit }
+    let both = pairs_limited log.encoder
+    (value_read 1 4096 log.received) pairs is.writing is.limit in record {
+      writing = both.0;
+      limit = both.1;
+    }
+read_limited log decoded (alone
+    (Settings true pairs)) is = record { writing = is.writing; limit = is.limit }
+read_limited log decoded (alone
+    (Data stream end octets pad)) is = record { writing = is.writing; limit = is.limit }
+read_limited log decoded (alone
+    (Headers stream end whole fragment pad priority)) is = record {
+      writing = is.writing;
+      limit = is.limit;
+    }
+read_limited log decoded (alone
+    (Priority stream octets)) is = record { writing = is.writing; limit = is.limit }
+read_limited log decoded (alone
+    (Reset stream code)) is = record { writing = is.writing; limit = is.limit }
+read_limited log decoded (alone
+    (Ping ack octets)) is = record { writing = is.writing; limit = is.limit }
+read_limited log decoded (alone
+    (GoAway last code debug)) is = record { writing = is.writing; limit = is.limit }
+read_limited log decoded (alone
+    (WindowUpdate stream increment)) is = record { writing = is.writing; limit = is.limit }
+read_limited log decoded (alone
+    (Continuation stream whole fragment)) is = record { writing = is.writing; limit = is.limit }
+read_limited log decoded (alone
+    (Unknown kind flags stream payload)) is = record { writing = is.writing; limit = is.limit }
+read_limited log decoded
+    (block stream end octets) is = record { writing = is.writing; limit = is.limit }
 
 -- A block that is written leaves an encoder that writes blocks, with its limit.
 block_limited : (encoder : EncoderState) (act : Act) (answer : Answer) → IsValidEncoder encoder
-    → IsValidEncoder (encoder_after_call encoder act answer) × ((encoder_after_call encoder act answer).limit ≡ encoder.limit)
+    → IsValidEncoder (encoder_after_call encoder act answer)
+    × ((encoder_after_call encoder act answer).limit ≡ encoder.limit)
 unfolding encoder_after_call after_block
-block_limited encoder (Open fields end) (Number id) writing = (block_goes_on encoder fields writing, refl)
+block_limited encoder (Open fields end) (Number id) writing =
+    (block_goes_on encoder fields writing, refl)
 block_limited encoder (Open fields end) (Count count) writing = (writing, refl)
 block_limited encoder (Open fields end) Done writing = (writing, refl)
 block_limited encoder (Open fields end) OutOfMemory writing = (writing, refl)
 block_limited encoder (Open fields end) (Refused refusal) writing = (writing, refl)
 block_limited encoder (SendFields i fields end) (Number id) writing = (writing, refl)
 block_limited encoder (SendFields i fields end) (Count count) writing = (writing, refl)
-block_limited encoder (SendFields i fields end) Done writing = (block_goes_on encoder fields writing, refl)
+block_limited encoder (SendFields i fields end) Done writing =
+    (block_goes_on encoder fields writing, refl)
 block_limited encoder (SendFields i fields end) OutOfMemory writing = (writing, refl)
 block_limited encoder (SendFields i fields end) (Refused refusal) writing = (writing, refl)
 block_limited encoder (SendData id octets end) answer writing = (writing, refl)
@@ -95,7 +144,11 @@ block_limited encoder (PutOut count) answer writing = (writing, refl)
 block_limited encoder (ChangeSettings values) answer writing = (writing, refl)
 
 -- A call, accepted or refused.
-pub call_limited : (encoder : EncoderState) (received : List Item) (act : Act) (answer : Answer) → IsLimited encoder received
+pub call_limited : (encoder : EncoderState) (received : List Item) (act : Act) (answer : Answer)
+    → IsLimited encoder received
     → IsLimited (encoder_after_call encoder act answer) received
 call_limited encoder received act answer is =
-    let both = block_limited encoder act answer is.writing in record { writing = both.0; limit = both.1 ∙ is.limit }
+    let both = block_limited encoder act answer is.writing in record {
+      writing = both.0;
+      limit = both.1 ∙ is.limit;
+    }

@@ -1,5 +1,25 @@
--- What stands of every log that comes about.
-use Rattle.std.proofs.Common.{◌≡◌, ◌≢◌, ℕ, zero, suc, zero-add, ◌-◌, ◌≤◌, Bool, true, false, if◌then◌else◌, List, [], ◌∷◌, None, refl, sym, arith}
+-- The invariant of every log that comes about.
+use Rattle.std.proofs.Common.{
+  ◌≡◌,
+  ◌≢◌,
+  ℕ,
+  zero,
+  suc,
+  zero-add,
+  ◌-◌,
+  ◌≤◌,
+  Bool,
+  true,
+  false,
+  if◌then◌else◌,
+  List,
+  [],
+  ◌∷◌,
+  None,
+  refl,
+  sym,
+  arith,
+}
 use Rattle.std.specs.List.{list_any}
 use Rattle.std.proofs.lemmas.Bool.{both_ways}
 use Rattle.h2_frame.specs.declared.code.Code.TheVariants.{InternalError}
@@ -22,11 +42,24 @@ use Rattle.h2_log_laws.proofs.LogInvariant.{Represents, Moves}
 use Rattle.h2_log_laws.proofs.InvariantSteps.{fails_represents, step_log}
 use Rattle.h2_log_laws.proofs.InvariantReads.{frame_represents}
 use Rattle.h2_log_laws.proofs.StreamNumbers.{next_left}
-use Rattle.h2_log_laws.proofs.InvariantCalls.{refused_represents, open_represents, fields_represent, data_represents, reset_represents, refuse_represents, failed_represents, ping_represents, leave_represents, change_represents, put_out_represents}
+use Rattle.h2_log_laws.proofs.InvariantCalls.{
+  refused_represents,
+  open_represents,
+  fields_represent,
+  data_represents,
+  reset_represents,
+  refuse_represents,
+  failed_represents,
+  ping_represents,
+  leave_represents,
+  change_represents,
+  put_out_represents,
+}
 use Rattle.h2_log_laws.proofs.ReleasedCredit.{release_represents}
 
--- To tell a stream as unprocessed is sound, where a GOAWAY was read.
-unprocessed_moves : (v : History) (n : ℕ) → AllowedHistory v.role v.received v.sent → list_any is_goaway v.received ≡ true → Moves v n [] [] (UnprocessedEvent n ∷ []) v.calls 0
+-- To report a stream as unprocessed is sound, where a GOAWAY was read.
+unprocessed_moves : (v : History) (n : ℕ) → AllowedHistory v.role v.received v.sent
+    → list_any is_goaway v.received ≡ true → Moves v n [] [] (UnprocessedEvent n ∷ []) v.calls 0
 unfolding total reported_total settings_count one_acked one_pong flow_on
 unprocessed_moves v n with_sent left =
     record {
@@ -46,37 +79,59 @@ unprocessed_moves v n with_sent left =
       fits = omega arith;
     }
 
--- What stands stands behind a stream that was told as unprocessed.
-unprocessed_represents : (role : Role) (log : Log) → Represents role (history_of log) → log.failed ≡ None → next_unprocessed log ≢ 0
+-- The invariant holds after a stream that was reported as unprocessed.
+unprocessed_represents : (role : Role) (log : Log) → Represents role (history_of log)
+    → log.failed ≡ None → next_unprocessed log ≢ 0
     → Represents role (history_of (took_none log))
 unfolding with_sent
 unprocessed_represents role log represents up some =
-    step_log role log log (next_unprocessed log) [] [] (UnprocessedEvent (next_unprocessed log) ∷ []) log.calls 0
-    (owed_at_close log (with_reported log (UnprocessedEvent (next_unprocessed log) ∷ [])) (next_unprocessed log)) represents up refl
-    (unprocessed_moves (history_of log) (next_unprocessed log) represents.with_sent (next_left log represents.with_sent some)) (sym (zero-add _))
+    step_log role log log (next_unprocessed log) [] [] (UnprocessedEvent
+    (next_unprocessed log) ∷ []) log.calls 0
+    (owed_at_close log (with_reported log (UnprocessedEvent (next_unprocessed log) ∷ []))
+    (next_unprocessed log)) represents up refl
+    (unprocessed_moves (history_of log) (next_unprocessed log) represents.with_sent
+    (next_left log represents.with_sent some)) (sym (zero-add _))
 
--- What stands stands behind a call that is accepted.
-accepted_represents : (role : Role) (log : Log) (act : Act) (answer : Answer) → Represents role (history_of log) → IsTypedAct act
-    → refusal_of (log_view log) act ≡ None → answer ≡ answer_of (log_view log) act → Represents role (history_of (with_call log act answer))
-unfolding IsTypedAct
-accepted_represents role log (Open fields end) answer represents typed none is = rw is (open_represents role log fields end represents none)
-accepted_represents role log (SendFields id fields end) answer represents typed none is = rw is (fields_represent role log id fields end represents none)
-accepted_represents role log (SendData id octets end) answer represents typed none is = rw is (data_represents role log id octets end represents none)
-accepted_represents role log (Release id count) answer represents typed none is = rw is (release_represents role log id count represents none)
-accepted_represents role log (ResetStream id code) answer represents typed none is = rw is (reset_represents role log id code represents none)
-accepted_represents role log (Refuse id code) answer represents typed none is = refuse_represents role log id code answer represents none is
-accepted_represents role log (SendPing octets) answer represents typed none is = rw is (ping_represents role log octets represents none)
-accepted_represents role log SendGoAway answer represents typed none is = rw is (leave_represents role log represents none)
-accepted_represents role log (PutOut count) answer represents typed none is = rw is (put_out_represents role log count _ represents)
-accepted_represents role log (ChangeSettings values) answer represents typed none is = rw is (change_represents role log values represents typed none)
-
--- What stands stands behind a call.
-call_represents : (role : Role) (log : Log) (act : Act) (answer : Answer) → Represents role (history_of log) → IsTypedAct act → MayAnswer log act answer
+-- The invariant holds after a call that is accepted.
+accepted_represents : (role : Role) (log : Log) (act : Act) (answer : Answer)
+    → Represents role (history_of log) → IsTypedAct act
+    → refusal_of (log_view log) act ≡ None → answer ≡ answer_of (log_view log) act
     → Represents role (history_of (with_call log act answer))
-call_represents role log act answer represents typed (accepts none is) = accepted_represents role log act answer represents typed none is
-call_represents role log act answer represents typed (refuses refusal for is) = rw is (refused_represents role log act refusal represents)
-call_represents role log act answer represents typed (fails none may is) = rw is (failed_represents role log act may represents none)
-call_represents role log act answer represents typed (lacks none may is) = rw is (refused_represents role log act _ represents)
+unfolding IsTypedAct
+accepted_represents role log (Open fields end) answer represents typed none is = rw is
+    (open_represents role log fields end represents none)
+accepted_represents role log (SendFields id fields end) answer represents typed none is = rw is
+    (fields_represent role log id fields end represents none)
+accepted_represents role log (SendData id octets end) answer represents typed none is = rw is
+    (data_represents role log id octets end represents none)
+accepted_represents role log (Release id count) answer represents typed none is = rw is
+    (release_represents role log id count represents none)
+accepted_represents role log (ResetStream id code) answer represents typed none is = rw is
+    (reset_represents role log id code represents none)
+accepted_represents role log
+    (Refuse id code) answer represents typed none is =
+    refuse_represents role log id code answer represents none is
+accepted_represents role log (SendPing octets) answer represents typed none is = rw is
+    (ping_represents role log octets represents none)
+accepted_represents role log SendGoAway answer represents typed none is = rw is
+    (leave_represents role log represents none)
+accepted_represents role log (PutOut count) answer represents typed none is = rw is
+    (put_out_represents role log count _ represents)
+accepted_represents role log (ChangeSettings values) answer represents typed none is = rw is
+    (change_represents role log values represents typed none)
+
+-- The invariant holds after a call.
+call_represents : (role : Role) (log : Log) (act : Act) (answer : Answer)
+    → Represents role (history_of log) → IsTypedAct act → MayAnswer log act answer
+    → Represents role (history_of (with_call log act answer))
+call_represents role log act answer represents typed
+    (accepts none is) = accepted_represents role log act answer represents typed none is
+call_represents role log act answer represents typed (refuses refusal for is) = rw is
+    (refused_represents role log act refusal represents)
+call_represents role log act answer represents typed (fails none may is) = rw is
+    (failed_represents role log act may represents none)
+call_represents role log act answer represents typed (lacks none may is) = rw is
+    (refused_represents role log act _ represents)
 
 -- nothing of nothing
 none_owed : (n : ℕ) → sum_below n (λ j. 0) ≡ 0
@@ -94,9 +149,11 @@ first_owes : (role : Role) (values : Values) (j : ℕ) → owes (history_of (ope
 unfolding opened with_sent owes left reported_total released
 first_owes role values j = none_of _
 
--- What stands at first.
-begins_represents : (role : Role) (values : Values) → AreInRange values → Represents role (history_of (opened role values))
-unfolding opened with_sent total settings_count reported_total released one_ack one_answer increment_on
+-- The invariant of a new log.
+begins_represents : (role : Role) (values : Values) → AreInRange values
+    → Represents role (history_of (opened role values))
+unfolding opened with_sent total settings_count reported_total released one_ack one_answer
+    increment_on
 begins_represents role values ok =
     record {
       own = refl;
@@ -110,30 +167,46 @@ begins_represents role values ok =
         gave = λ i some. omega arith;
         reported_read = λ i. omega arith;
         opened = λ i none. refl;
-        whole = λ n. omega (arith, sum_less n (λ j. 0) (owes (history_of (opened role values))) (λ j below. first_owes role values j), none_owed n);
+        whole = λ n. omega (
+          arith,
+          sum_less n (λ j. 0) (owes (history_of (opened role values)))
+              (λ j below. first_owes role values j),
+          none_owed n,
+        );
       };
     }
 
 -- octets that were used fail nothing
-used_up : (log : Log) (octets unparsed : List ℕ) → log.failed ≡ None → (used log octets unparsed).failed ≡ None
+used_up : (log : Log) (octets unparsed : List ℕ) → log.failed ≡ None
+    → (used log octets unparsed).failed ≡ None
 unfolding used
 used_up log octets unparsed up = up
 
--- What stands of every log.
-pub log_represents : (role : Role) (values : Values) (log : Log) → IsLog role values log → Represents role (history_of log)
+-- The invariant of every log.
+pub log_represents : (role : Role) (values : Values) (log : Log) → IsLog role values log
+    → Represents role (history_of log)
 log_represents role values _ (begins in_range) = begins_represents role values in_range
 log_represents role values _ (took_some {log = log} is takes octets unparsed read) =
     rw (used_view log octets unparsed) (log_represents role values log is)
 log_represents role values _ (took_one {log = log} is takes octets frame decoded read sees) =
-    frame_represents role (used log octets []) decoded frame (rw (used_view log octets []) (log_represents role values log is)) (used_up log octets [] takes.up)
+    frame_represents role (used log octets []) decoded frame (rw (used_view log octets [])
+    (log_represents role values log is)) (used_up log octets [] takes.up)
 log_represents role values _ (met_fault {log = log} is takes octets fault at) =
-    fails_represents role (wire_fault_code fault) _ (used log octets []) (rw (used_view log octets []) (log_represents role values log is))
+    fails_represents role (wire_fault_code fault) _ (used log octets []) (rw
+    (used_view log octets []) (log_represents role values log is))
     (used_up log octets [] takes.up)
 log_represents role values _ (ran_out_of_memory {log = log} is up octets may) =
-    fails_represents role InternalError _ (used log octets []) (rw (used_view log octets []) (log_represents role values log is)) (used_up log octets [] up)
-log_represents role values _ (reported_one {log = log} is up some) = unprocessed_represents role log (log_represents role values log is) up some
-log_represents role values _ (called_one {log = log} is act answer typed may) = call_represents role log act answer (log_represents role values log is) typed may
+    fails_represents role InternalError _ (used log octets []) (rw (used_view log octets [])
+    (log_represents role values log is)) (used_up log octets [] up)
+log_represents role values _
+    (reported_one {log = log} is up some) = unprocessed_represents role log
+    (log_represents role values log is) up some
+log_represents role values _
+    (called_one {log = log} is act answer typed may) = call_represents role log act answer
+    (log_represents role values log is) typed may
 
 -- What an end has written was allowed when it wrote it.
-pub written_is_allowed : (role : Role) (values : Values) (log : Log) → IsLog role values log → AllowedHistory role log.received log.sent
-written_is_allowed role values log is = let represents = log_represents role values log is in rw (← (represents.own)) represents.with_sent
+pub written_is_allowed : (role : Role) (values : Values) (log : Log) → IsLog role values log
+    → AllowedHistory role log.received log.sent
+written_is_allowed role values log is = let represents = log_represents role values log is in rw
+    (← (represents.own)) represents.with_sent

@@ -1,8 +1,33 @@
--- What stands of a log stands behind what an end takes.
-use Rattle.std.proofs.Common.{◌≡◌, ℕ, ◌≤◌, ◌==◌, ◌&&◌, not, Bool, true, false, if◌then◌else◌, List, [], ◌∷◌, ◌++◌, length, Option, None, Some, refl, arith}
+-- The invariant of a log holds after what an end takes.
+use Rattle.std.proofs.Common.{
+  ◌≡◌,
+  ℕ,
+  ◌≤◌,
+  ◌==◌,
+  ◌&&◌,
+  not,
+  Bool,
+  true,
+  false,
+  if◌then◌else◌,
+  List,
+  [],
+  ◌∷◌,
+  ◌++◌,
+  length,
+  Option,
+  None,
+  Some,
+  refl,
+  arith,
+}
 use Rattle.std.proofs.lemmas.Bool.{both_ways}
 use Rattle.h2_frame.specs.declared.code.Code.{Code}
-use Rattle.h2_frame.specs.declared.code.Code.TheVariants.{ProtocolError, FlowControlError, EnhanceYourCalm}
+use Rattle.h2_frame.specs.declared.code.Code.TheVariants.{
+  ProtocolError,
+  FlowControlError,
+  EnhanceYourCalm,
+}
 use Rattle.h2_frame.specs.Frames.{Frame, Data, Headers, Priority, Reset, Settings, Ping, GoAway, WindowUpdate, Continuation, Unknown}
 use Rattle.h2_frame.specs.Encoding.{stream_of}
 use Rattle.h2_block.specs.Grouping.{Item, alone, block}
@@ -22,9 +47,19 @@ use Rattle.h2_log.specs.Allowed.{AllowedHistory, MayReset}
 use Rattle.h2_log_laws.proofs.LogHistory.{history_of}
 use Rattle.h2_log_laws.proofs.LogInvariant.{Good, Represents, Moves}
 use Rattle.h2_log_laws.proofs.InvariantSteps.{fails_represents, step_log}
-use Rattle.h2_log_laws.proofs.ReplyInvariant.{state_active, active_resets, idle_resets, one_reported, none_reported, reset_reported, settings_answered, ping_answered, data_reported}
+use Rattle.h2_log_laws.proofs.ReplyInvariant.{
+  state_active,
+  active_resets,
+  idle_resets,
+  one_reported,
+  none_reported,
+  reset_reported,
+  settings_answered,
+  ping_answered,
+  data_reported,
+}
 
--- what a verdict asks for: that the stream may be reset, or that the item may be told
+-- what a verdict asks for: that the stream may be reset, or that the item may be reported
 abbrev pub Fits : (reset report : Type 0) → Verdict → Type 0
 Fits reset report (ConnectionFault code) = Unit {0}
 Fits reset report (StreamFault code) = reset
@@ -37,15 +72,17 @@ pub record Resets (log : Log) (item : Item) : Type 0 where
   pub acks : one_settings item ≡ 0
   pub answers : one_ping item ≡ 0
 
--- The item may be told: DATA on a live stream, and no SETTINGS and no PING but those that answer.
+-- The item may be reported: DATA on an active stream, and no SETTINGS and no PING but those that
+-- answer.
 abbrev pub Reports : Log → Item → Type 0
 Reports log (alone (Data stream end octets pad)) = active log stream ≡ true
 Reports log (alone (Settings ack pairs)) = ack ≡ true
 Reports log (alone (Ping ack octets)) = ack ≡ true
 Reports log item = Unit {0}
 
--- DATA is judged so.
-data_fits : (R T : Type 0) (state : State) (passes ended above : Bool) → (state ≡ Active → R) → (state ≡ Active → T)
+-- DATA is checked so.
+data_fits : (R T : Type 0) (state : State) (passes ended above : Bool) → (state ≡ Active → R)
+    → (state ≡ Active → T)
     → Fits R T (data_verdict state passes ended above)
 unfolding data_verdict
 data_fits R T Idle passes ended above r t = tt
@@ -57,7 +94,7 @@ data_fits R T Active false true above r t = r refl
 data_fits R T Active false false true r t = tt
 data_fits R T Active false false false r t = t refl
 
--- RST_STREAM is judged so.
+-- RST_STREAM is checked so.
 reset_fits : (R T : Type 0) (state : State) → T → Fits R T (reset_verdict state)
 unfolding reset_verdict
 reset_fits R T Idle t = tt
@@ -65,58 +102,66 @@ reset_fits R T Active t = t
 reset_fits R T ClosedByUs t = tt
 reset_fits R T Closed t = tt
 
--- A fault of SETTINGS is judged so.
+-- A fault of SETTINGS is checked so.
 fault_fits : (R T : Type 0) (fault : Option Code) → Fits R T (verdict_of_fault fault)
 fault_fits R T None = tt
 fault_fits R T (Some code) = tt
 
--- An answer is judged so.
+-- An answer is checked so.
 reported_fits : (R T : Type 0) (b : Bool) → T → Fits R T (if b then Reported else NoEvent)
 reported_fits R T true t = t
 reported_fits R T false t = tt
 
--- WINDOW_UPDATE of the connection is judged so, by its tests.
+-- WINDOW_UPDATE of the connection is checked so, by its tests.
 connection_by : (R T : Type 0) (none above : Bool)
-    → Fits R T (if none then ConnectionFault ProtocolError else if above then ConnectionFault FlowControlError else NoEvent)
+    → Fits R T (if none then ConnectionFault ProtocolError
+    else if above then ConnectionFault FlowControlError else NoEvent)
 connection_by R T true above = tt
 connection_by R T false true = tt
 connection_by R T false false = tt
 
--- WINDOW_UPDATE of a stream is judged so, by its tests.
+-- WINDOW_UPDATE of a stream is checked so, by its tests.
 update_by : (R T : Type 0) (none above : Bool) → R
-    → Fits R T (if none then StreamFault ProtocolError else if above then StreamFault FlowControlError else NoEvent)
+    → Fits R T (if none then StreamFault ProtocolError
+    else if above then StreamFault FlowControlError else NoEvent)
 update_by R T true above r = r
 update_by R T false true r = r
 update_by R T false false r = tt
 
--- WINDOW_UPDATE of a stream is judged so.
-update_fits : (R T : Type 0) (state : State) (increment : ℕ) (above : Bool) → (state ≡ Active → R) → Fits R T (update_verdict state increment above)
+-- WINDOW_UPDATE of a stream is checked so.
+update_fits : (R T : Type 0) (state : State) (increment : ℕ) (above : Bool) → (state ≡ Active
+    → R) → Fits R T (update_verdict state increment above)
 unfolding update_verdict
 update_fits R T Idle increment above r = tt
 update_fits R T ClosedByUs increment above r = tt
 update_fits R T Closed increment above r = tt
 update_fits R T Active increment above r = update_by R T (increment == 0) above (r refl)
 
--- WINDOW_UPDATE is judged so.
-updates_fit : (R T : Type 0) (b : Bool) (state : State) (increment : ℕ) (one other : Bool) → (state ≡ Active → R)
-    → Fits R T (if b then connection_update_verdict increment one else update_verdict state increment other)
+-- WINDOW_UPDATE is checked so.
+updates_fit : (R T : Type 0) (b : Bool) (state : State) (increment : ℕ) (one other : Bool)
+    → (state ≡ Active → R)
+    → Fits R T (if b then connection_update_verdict increment one
+    else update_verdict state increment other)
 unfolding connection_update_verdict
 updates_fit R T true state increment one other r = connection_by R T (increment == 0) one
 updates_fit R T false state increment one other r = update_fits R T state increment other r
 
--- A block that opens is judged so.
-opening_fits : (R T : Type 0) (left full large : Bool) → R → T → Fits R T (opening_verdict left full large)
+-- A block that opens is checked so.
+opening_fits : (R T : Type 0) (left full large : Bool) → R → T
+    → Fits R T (opening_verdict left full large)
 unfolding opening_verdict
 opening_fits R T true full large r t = tt
 opening_fits R T false true large r t = r
 opening_fits R T false false true r t = r
 opening_fits R T false false false r t = t
 
--- A block is judged so.
-block_fits : (R T : Type 0) (state : State) (opens left full ended large : Bool) → (state ≡ Active → R) → (state ≡ Idle → opens ≡ true → R) → T
+-- A block is checked so.
+block_fits : (R T : Type 0) (state : State) (opens left full ended large : Bool) → (state
+    ≡ Active → R) → (state ≡ Idle → opens ≡ true → R) → T
     → Fits R T (block_verdict state opens left full ended large)
 unfolding block_verdict
-block_fits R T Idle true left full ended large r o t = opening_fits R T left full large (o refl refl) t
+block_fits R T Idle true left full ended large r o t = opening_fits R T left full large
+    (o refl refl) t
 block_fits R T Idle false left full ended large r o t = tt
 block_fits R T Closed opens left full ended large r o t = tt
 block_fits R T ClosedByUs opens left full ended large r o t = tt
@@ -124,77 +169,116 @@ block_fits R T Active opens left full true large r o t = r refl
 block_fits R T Active opens left full false true r o t = r refl
 block_fits R T Active opens left full false false r o t = t
 
--- The bars make nothing more of a verdict than a fault of the connection.
-over_limits_by : (R T : Type 0) (b : Bool) (verdict : Verdict) → Fits R T verdict → Fits R T (if b then ConnectionFault EnhanceYourCalm else verdict)
+-- The limits make nothing more of a verdict than a fault of the connection.
+over_limits_by : (R T : Type 0) (b : Bool) (verdict : Verdict) → Fits R T verdict
+    → Fits R T (if b then ConnectionFault EnhanceYourCalm else verdict)
 over_limits_by R T true verdict fits = tt
 over_limits_by R T false verdict fits = fits
 
--- a stream whose state is live may be reset
-active_faults : (log : Log) (item : Item) → one_settings item ≡ 0 → one_ping item ≡ 0 → state log (stream_of_item item) ≡ Active → Resets log item
+-- a stream whose state is active may be reset
+active_faults : (log : Log) (item : Item) → one_settings item ≡ 0 → one_ping item ≡ 0
+    → state log (stream_of_item item) ≡ Active → Resets log item
 active_faults log item acks answers is =
     record {
-      may = active_resets log.role (stream_of_item item) (item ∷ []) log.received log.sent log.reported (state_active _ _ _ is);
+      may = active_resets log.role (stream_of_item item)
+          (item ∷ []) log.received log.sent log.reported (state_active _ _ _ is);
       acks = acks;
       answers = answers;
     }
 
--- Each item is judged so, before the bars.
-rules_fit : (log : Log) (decoded : Option Decoded) (item : Item) → AllowedHistory log.role log.received log.sent
+-- Each item is checked so, before the limits.
+rules_fit : (log : Log) (decoded : Option Decoded) (item : Item)
+    → AllowedHistory log.role log.received log.sent
     → Fits (Resets log item) (Reports log item) (verdict_by_rules (log_view log) decoded item)
 unfolding verdict_by_rules one_settings one_ping stream_of_item stream_of
 rules_fit log None (block stream end octets) with_sent = tt
 rules_fit log (Some decoded) (block stream end octets) with_sent =
-    block_fits (Resets log (block stream end octets)) (Unit {0}) (state log stream) (peer_opens (log_view log) stream) _ _ _ _
+    block_fits (Resets log (block stream end octets)) (Unit {0}) (state log stream) (peer_opens
+    (log_view log) stream) _ _ _ _
     (active_faults log (block stream end octets) refl refl)
-    (λ idle opens. record { may = idle_resets log stream end octets with_sent idle opens; acks = refl; answers = refl }) tt
+    (λ idle opens. record {
+      may = idle_resets log stream end octets with_sent idle opens;
+      acks = refl;
+      answers = refl;
+    }) tt
 rules_fit log decoded (alone (Data stream end octets pad)) with_sent =
-    data_fits (Resets log (alone (Data stream end octets pad))) (active log stream ≡ true) (state log stream) _ _ _
+    data_fits (Resets log (alone (Data stream end octets pad))) (active log stream
+    ≡ true) (state log stream) _ _ _
     (active_faults log (alone (Data stream end octets pad)) refl refl) (λ is. state_active _ _ _ is)
 rules_fit log decoded (alone (Headers stream end last fragment pad priority)) with_sent = tt
 rules_fit log decoded (alone (Priority stream octets)) with_sent = tt
-rules_fit log decoded (alone (Reset stream code)) with_sent = reset_fits (Resets log (alone (Reset stream code))) (Unit {0}) (state log stream) tt
+rules_fit log decoded (alone (Reset stream code)) with_sent = reset_fits (Resets log (alone
+    (Reset stream code))) (Unit {0}) (state log stream) tt
 rules_fit log decoded (alone (Settings false pairs)) with_sent =
-    fault_fits (Resets log (alone (Settings false pairs))) (false ≡ true) (settings_fault (log_view log) pairs)
-rules_fit log decoded (alone (Settings true pairs)) with_sent = reported_fits (Resets log (alone (Settings true pairs))) (true ≡ true) (settings_wait log) refl
+    fault_fits (Resets log (alone (Settings false pairs))) (false
+    ≡ true) (settings_fault (log_view log) pairs)
+rules_fit log decoded (alone (Settings true pairs)) with_sent = reported_fits (Resets log (alone
+    (Settings true pairs))) (true ≡ true) (settings_wait log) refl
 rules_fit log decoded (alone (Ping false octets)) with_sent = tt
-rules_fit log decoded (alone (Ping true octets)) with_sent = reported_fits (Resets log (alone (Ping true octets))) (true ≡ true) _ refl
+rules_fit log decoded (alone (Ping true octets)) with_sent = reported_fits (Resets log (alone
+    (Ping true octets))) (true ≡ true) _ refl
 rules_fit log decoded (alone (GoAway last code debug)) with_sent = tt
 rules_fit log decoded (alone (WindowUpdate stream increment)) with_sent =
-    updates_fit (Resets log (alone (WindowUpdate stream increment))) (Unit {0}) (stream == 0) (state log stream) increment _ _
+    updates_fit (Resets log (alone (WindowUpdate stream increment))) (Unit {0}) (stream == 0)
+    (state log stream) increment _ _
     (active_faults log (alone (WindowUpdate stream increment)) refl refl)
 rules_fit log decoded (alone (Continuation stream last fragment)) with_sent = tt
 rules_fit log decoded (alone (Unknown kind flags stream payload)) with_sent = tt
 
--- Each item is judged so.
-verdict_fits : (log : Log) (decoded : Option Decoded) (item : Item) → AllowedHistory log.role log.received log.sent
+-- Each item is checked so.
+verdict_fits : (log : Log) (decoded : Option Decoded) (item : Item)
+    → AllowedHistory log.role log.received log.sent
     → Fits (Resets log item) (Reports log item) (verdict_of (log_view log) decoded item)
 unfolding verdict_of over_limits
-verdict_fits log decoded item with_sent = over_limits_by (Resets log item) (Reports log item) _ (verdict_by_rules (log_view log) decoded item) (rules_fit log decoded item with_sent)
+verdict_fits log decoded item with_sent = over_limits_by (Resets log item) (Reports log item) _
+    (verdict_by_rules (log_view log) decoded item) (rules_fit log decoded item with_sent)
 
--- What is told of an item is sound.
-reported_moves : (log : Log) (decoded : Option Decoded) (item : Item) → AllowedHistory log.role log.received log.sent → Reports log item
-    → Moves (history_of log) (stream_of_item item) (item ∷ []) (replies_to Reported item) (events_of (log_view log) decoded Reported item) log.calls (discarded_flow Reported item)
-unfolding replies_to discarded_flow events_of stream_of_item stream_of one_settings one_ping one_acked one_ack one_pong one_answer reports_unprocessed flow_on
+-- What is reported of an item is sound.
+reported_moves : (log : Log) (decoded : Option Decoded) (item : Item)
+    → AllowedHistory log.role log.received log.sent → Reports log item
+    → Moves (history_of log) (stream_of_item item) (item ∷ []) (replies_to Reported item)
+    (events_of (log_view log) decoded Reported item) log.calls (discarded_flow Reported item)
+unfolding replies_to discarded_flow events_of stream_of_item stream_of one_settings one_ping
+    one_acked one_ack one_pong one_answer reports_unprocessed flow_on
 reported_moves log decoded (block stream end octets) with_sent with_reported =
-    one_reported (history_of log) stream (block stream end octets) (FieldsEvent stream (fields_of decoded) end) with_sent refl refl (omega arith) (omega arith)
+    one_reported (history_of log) stream (block stream end octets) (FieldsEvent stream
+    (fields_of decoded) end) with_sent refl refl (omega arith) (omega arith)
     (λ j. refl) (λ j. refl)
-reported_moves log decoded (alone (Data stream end octets pad)) with_sent with_reported = data_reported (history_of log) stream end octets pad with_sent with_reported
-reported_moves log decoded (alone (Headers stream end last fragment pad priority)) with_sent with_reported = none_reported (history_of log) _ _ 0 with_sent refl refl (omega arith)
-reported_moves log decoded (alone (Priority stream octets)) with_sent with_reported = none_reported (history_of log) _ _ 0 with_sent refl refl (omega arith)
+reported_moves log decoded (alone
+    (Data stream end octets pad)) with_sent with_reported = data_reported
+    (history_of log) stream end octets pad with_sent with_reported
+reported_moves log decoded (alone
+    (Headers stream end last fragment pad priority)) with_sent with_reported = none_reported
+    (history_of log) _ _ 0 with_sent refl refl (omega arith)
+reported_moves log decoded (alone
+    (Priority stream octets)) with_sent with_reported = none_reported
+    (history_of log) _ _ 0 with_sent refl refl (omega arith)
 reported_moves log decoded (alone (Reset stream code)) with_sent with_reported =
-    one_reported (history_of log) stream (alone (Reset stream code)) (ResetEvent stream code false) with_sent refl refl (omega arith) (omega arith) (λ j. refl)
+    one_reported (history_of log) stream (alone (Reset stream code))
+    (ResetEvent stream code false) with_sent refl refl (omega arith) (omega arith) (λ j. refl)
     (λ j. refl)
 reported_moves log decoded (alone (Settings true pairs)) with_sent with_reported =
-    one_reported (history_of log) _ (alone (Settings true pairs)) AckedEvent with_sent refl refl (omega arith) (omega arith) (λ j. refl) (λ j. refl)
-reported_moves log decoded (alone (Settings false pairs)) with_sent with_reported = absurd (both_ways false refl with_reported)
+    one_reported (history_of log) _ (alone (Settings true pairs)) AckedEvent with_sent refl refl
+    (omega arith) (omega arith) (λ j. refl) (λ j. refl)
+reported_moves log decoded (alone (Settings false pairs)) with_sent with_reported = absurd
+    (both_ways false refl with_reported)
 reported_moves log decoded (alone (Ping true octets)) with_sent with_reported =
-    one_reported (history_of log) _ (alone (Ping true octets)) (PongEvent octets) with_sent refl refl (omega arith) (omega arith) (λ j. refl) (λ j. refl)
-reported_moves log decoded (alone (Ping false octets)) with_sent with_reported = absurd (both_ways false refl with_reported)
+    one_reported (history_of log) _ (alone (Ping true octets))
+    (PongEvent octets) with_sent refl refl (omega arith) (omega arith) (λ j. refl) (λ j. refl)
+reported_moves log decoded (alone (Ping false octets)) with_sent with_reported = absurd
+    (both_ways false refl with_reported)
 reported_moves log decoded (alone (GoAway last code debug)) with_sent with_reported =
-    one_reported (history_of log) _ (alone (GoAway last code debug)) _ with_sent refl refl (omega arith) (omega arith) (λ j. refl) (λ j. refl)
-reported_moves log decoded (alone (WindowUpdate stream increment)) with_sent with_reported = none_reported (history_of log) _ _ 0 with_sent refl refl (omega arith)
-reported_moves log decoded (alone (Continuation stream last fragment)) with_sent with_reported = none_reported (history_of log) _ _ 0 with_sent refl refl (omega arith)
-reported_moves log decoded (alone (Unknown kind flags stream payload)) with_sent with_reported = none_reported (history_of log) _ _ 0 with_sent refl refl (omega arith)
+    one_reported (history_of log) _ (alone (GoAway last code debug)) _ with_sent refl refl
+    (omega arith) (omega arith) (λ j. refl) (λ j. refl)
+reported_moves log decoded (alone
+    (WindowUpdate stream increment)) with_sent with_reported = none_reported
+    (history_of log) _ _ 0 with_sent refl refl (omega arith)
+reported_moves log decoded (alone
+    (Continuation stream last fragment)) with_sent with_reported = none_reported
+    (history_of log) _ _ 0 with_sent refl refl (omega arith)
+reported_moves log decoded (alone
+    (Unknown kind flags stream payload)) with_sent with_reported = none_reported
+    (history_of log) _ _ 0 with_sent refl refl (omega arith)
 
 -- SETTINGS take nothing of a window.
 none_of_settings : (pairs : List (ℕ × ℕ)) → data_of (alone (Settings false pairs)) ≤ 0
@@ -207,60 +291,95 @@ unfolding data_of
 none_of_ping octets = omega arith
 
 -- What is replied to a fault of a stream is sound.
-fault_moves : (log : Log) (decoded : Option Decoded) (item : Item) (code : Code) → Good (history_of log) → AllowedHistory log.role log.received log.sent → Resets log item
-    → Moves (history_of log) (stream_of_item item) (item ∷ []) (replies_to (StreamFault code) item) (events_of (log_view log) decoded (StreamFault code) item) log.calls
+fault_moves : (log : Log) (decoded : Option Decoded) (item : Item) (code : Code)
+    → Good (history_of log) → AllowedHistory log.role log.received log.sent → Resets log item
+    → Moves (history_of log) (stream_of_item item) (item ∷ []) (replies_to
+    (StreamFault code) item) (events_of (log_view log) decoded (StreamFault code) item) log.calls
     (discarded_flow (StreamFault code) item)
 unfolding replies_to events_of discarded_flow
 fault_moves log decoded item code good with_sent fits =
-    reset_reported (history_of log) (stream_of_item item) item (code_number code) (data_of item) good with_sent fits.acks fits.answers fits.may (omega arith)
+    reset_reported (history_of log) (stream_of_item item) item (code_number code)
+    (data_of item) good with_sent fits.acks fits.answers fits.may (omega arith)
 
--- What is replied to an item of which nothing is told is sound.
-ignored_moves : (log : Log) (decoded : Option Decoded) (item : Item) → Good (history_of log) → AllowedHistory log.role log.received log.sent
-    → Moves (history_of log) (stream_of_item item) (item ∷ []) (replies_to NoEvent item) (events_of (log_view log) decoded NoEvent item) log.calls (discarded_flow NoEvent item)
+-- What is replied to an item of which nothing is reported is sound.
+ignored_moves : (log : Log) (decoded : Option Decoded) (item : Item) → Good (history_of log)
+    → AllowedHistory log.role log.received log.sent
+    → Moves (history_of log) (stream_of_item item) (item ∷ []) (replies_to NoEvent item)
+    (events_of (log_view log) decoded NoEvent item) log.calls (discarded_flow NoEvent item)
 unfolding replies_to events_of discarded_flow one_settings one_ping
-ignored_moves log decoded (block stream end octets) good with_sent = none_reported (history_of log) _ _ _ with_sent refl refl (omega arith)
-ignored_moves log decoded (alone (Data stream end octets pad)) good with_sent = none_reported (history_of log) _ _ _ with_sent refl refl (omega arith)
-ignored_moves log decoded (alone (Headers stream end last fragment pad priority)) good with_sent = none_reported (history_of log) _ _ _ with_sent refl refl (omega arith)
-ignored_moves log decoded (alone (Priority stream octets)) good with_sent = none_reported (history_of log) _ _ _ with_sent refl refl (omega arith)
-ignored_moves log decoded (alone (Reset stream code)) good with_sent = none_reported (history_of log) _ _ _ with_sent refl refl (omega arith)
-ignored_moves log decoded (alone (Settings false pairs)) good with_sent = settings_answered (history_of log) _ pairs _ good with_sent (none_of_settings pairs)
-ignored_moves log decoded (alone (Settings true pairs)) good with_sent = none_reported (history_of log) _ _ _ with_sent refl refl (omega arith)
-ignored_moves log decoded (alone (Ping false octets)) good with_sent = ping_answered (history_of log) _ octets _ good with_sent (none_of_ping octets)
-ignored_moves log decoded (alone (Ping true octets)) good with_sent = none_reported (history_of log) _ _ _ with_sent refl refl (omega arith)
-ignored_moves log decoded (alone (GoAway last code debug)) good with_sent = none_reported (history_of log) _ _ _ with_sent refl refl (omega arith)
-ignored_moves log decoded (alone (WindowUpdate stream increment)) good with_sent = none_reported (history_of log) _ _ _ with_sent refl refl (omega arith)
-ignored_moves log decoded (alone (Continuation stream last fragment)) good with_sent = none_reported (history_of log) _ _ _ with_sent refl refl (omega arith)
-ignored_moves log decoded (alone (Unknown kind flags stream payload)) good with_sent = none_reported (history_of log) _ _ _ with_sent refl refl (omega arith)
+ignored_moves log decoded (block stream end octets) good with_sent = none_reported
+    (history_of log) _ _ _ with_sent refl refl (omega arith)
+ignored_moves log decoded (alone (Data stream end octets pad)) good with_sent = none_reported
+    (history_of log) _ _ _ with_sent refl refl (omega arith)
+ignored_moves log decoded (alone
+    (Headers stream end last fragment pad priority)) good with_sent = none_reported
+    (history_of log) _ _ _ with_sent refl refl (omega arith)
+ignored_moves log decoded (alone (Priority stream octets)) good with_sent = none_reported
+    (history_of log) _ _ _ with_sent refl refl (omega arith)
+ignored_moves log decoded (alone (Reset stream code)) good with_sent = none_reported
+    (history_of log) _ _ _ with_sent refl refl (omega arith)
+ignored_moves log decoded (alone (Settings false pairs)) good with_sent = settings_answered
+    (history_of log) _ pairs _ good with_sent (none_of_settings pairs)
+ignored_moves log decoded (alone (Settings true pairs)) good with_sent = none_reported
+    (history_of log) _ _ _ with_sent refl refl (omega arith)
+ignored_moves log decoded (alone (Ping false octets)) good with_sent = ping_answered
+    (history_of log) _ octets _ good with_sent (none_of_ping octets)
+ignored_moves log decoded (alone (Ping true octets)) good with_sent = none_reported
+    (history_of log) _ _ _ with_sent refl refl (omega arith)
+ignored_moves log decoded (alone (GoAway last code debug)) good with_sent = none_reported
+    (history_of log) _ _ _ with_sent refl refl (omega arith)
+ignored_moves log decoded (alone (WindowUpdate stream increment)) good with_sent = none_reported
+    (history_of log) _ _ _ with_sent refl refl (omega arith)
+ignored_moves log decoded (alone
+    (Continuation stream last fragment)) good with_sent = none_reported
+    (history_of log) _ _ _ with_sent refl refl (omega arith)
+ignored_moves log decoded (alone
+    (Unknown kind flags stream payload)) good with_sent = none_reported
+    (history_of log) _ _ _ with_sent refl refl (omega arith)
 
--- What stands stands behind an item, by its verdict.
-verdict_represents : (role : Role) (log : Log) (decoded : Option Decoded) (item : Item) (verdict : Verdict) → Represents role (history_of log) → log.failed ≡ None
-    → Fits (Resets log item) (Reports log item) verdict → Represents role (history_of (with_verdict log decoded item verdict))
+-- The invariant holds after an item, by its verdict.
+verdict_represents : (role : Role) (log : Log) (decoded : Option Decoded) (item : Item)
+    (verdict : Verdict) → Represents role (history_of log) → log.failed ≡ None
+    → Fits (Resets log item) (Reports log item) verdict
+    → Represents role (history_of (with_verdict log decoded item verdict))
 unfolding with_verdict
-verdict_represents role log decoded item (ConnectionFault code) represents up fits = fails_represents role code _ log represents up
+verdict_represents role log decoded item
+    (ConnectionFault code) represents up fits = fails_represents role code _ log represents up
 verdict_represents role log decoded item (StreamFault code) represents up fits =
-    step_log role log (read log decoded item) (stream_of_item item) (item ∷ []) (replies_to (StreamFault code) item)
-    (events_of (log_view log) decoded (StreamFault code) item) log.calls (discarded_flow (StreamFault code) item) _ represents up refl
+    step_log role log (read log decoded item) (stream_of_item item) (item ∷ []) (replies_to
+    (StreamFault code) item)
+    (events_of (log_view log) decoded (StreamFault code) item) log.calls (discarded_flow
+    (StreamFault code) item) _ represents up refl
     (fault_moves log decoded item code (represents.good up) represents.with_sent fits) refl
 verdict_represents role log decoded item NoEvent represents up fits =
-    step_log role log (read log decoded item) (stream_of_item item) (item ∷ []) (replies_to NoEvent item) (events_of (log_view log) decoded NoEvent item)
-    log.calls (discarded_flow NoEvent item) _ represents up refl (ignored_moves log decoded item (represents.good up) represents.with_sent) refl
+    step_log role log (read log decoded item) (stream_of_item item) (item ∷ [])
+    (replies_to NoEvent item) (events_of (log_view log) decoded NoEvent item)
+    log.calls (discarded_flow NoEvent item) _ represents up refl (ignored_moves log decoded item
+    (represents.good up) represents.with_sent) refl
 verdict_represents role log decoded item Reported represents up fits =
-    step_log role log (read log decoded item) (stream_of_item item) (item ∷ []) (replies_to Reported item) (events_of (log_view log) decoded Reported item)
-    log.calls (discarded_flow Reported item) _ represents up refl (reported_moves log decoded item represents.with_sent fits) refl
+    step_log role log (read log decoded item) (stream_of_item item) (item ∷ [])
+    (replies_to Reported item) (events_of (log_view log) decoded Reported item)
+    log.calls (discarded_flow Reported item) _ represents up refl
+    (reported_moves log decoded item represents.with_sent fits) refl
 
 -- What is represented is so after what a frame makes of a block that has begun.
-step_of_frame_represents : (role : Role) (log : Log) (decoded : Option Decoded) (step : FrameStep) → Represents role (history_of log)
+step_of_frame_represents : (role : Role) (log : Log) (decoded : Option Decoded)
+    (step : FrameStep) → Represents role (history_of log)
     → log.failed ≡ None → Represents role (history_of (with_step log decoded step))
 unfolding with_step
-step_of_frame_represents role log decoded (fails_with code) represents up = fails_represents role code (last_processed log) log represents up
+step_of_frame_represents role log decoded
+    (fails_with code) represents up = fails_represents role code
+    (last_processed log) log represents up
 step_of_frame_represents role log decoded (begins_block begun) represents up = represents
 step_of_frame_represents role log decoded (completes item) represents up =
     verdict_represents role (record log { begun = None }) decoded item _ represents up
     (verdict_fits (record log { begun = None }) decoded item represents.with_sent)
 
--- What stands stands behind a frame.
-pub frame_represents : (role : Role) (log : Log) (decoded : Option Decoded) (frame : Frame) → Represents role (history_of log) → log.failed ≡ None
+-- The invariant holds after a frame.
+pub frame_represents : (role : Role) (log : Log) (decoded : Option Decoded) (frame : Frame)
+    → Represents role (history_of log) → log.failed ≡ None
     → Represents role (history_of (with_frame log decoded frame))
 unfolding with_frame
 frame_represents role log decoded frame represents up =
-    step_of_frame_represents role (record log { frames = log.frames ++ frame ∷ [] }) decoded (frame_step (log_view log) frame) represents up
+    step_of_frame_represents role (record log { frames = log.frames ++ frame ∷ [] }) decoded
+    (frame_step (log_view log) frame) represents up

@@ -1,5 +1,27 @@
--- What stands of a log stands behind each way of going on.
-use Rattle.std.proofs.Common.{◌≡◌, ◌≢◌, ℕ, ◌+◌, ◌-◌, ◌≤◌, ◌&&◌, nat_lt, Bool, true, false, List, [], ◌∷◌, None, refl, sym, ap, ◌∙◌, inl, arith}
+-- The invariant of a log holds after each way of going on.
+use Rattle.std.proofs.Common.{
+  ◌≡◌,
+  ◌≢◌,
+  ℕ,
+  ◌+◌,
+  ◌-◌,
+  ◌≤◌,
+  ◌&&◌,
+  nat_lt,
+  Bool,
+  true,
+  false,
+  List,
+  [],
+  ◌∷◌,
+  None,
+  refl,
+  sym,
+  ap,
+  ◌∙◌,
+  inl,
+  arith,
+}
 use Rattle.std.specs.List.{list_any}
 use Rattle.std.proofs.lemmas.Bool.{and_parts, ltb-true, ne_eqb}
 use Rattle.h2_frame.specs.declared.code.Code.{Code}
@@ -19,8 +41,31 @@ use Rattle.h2_log.specs.Limits.{full_output}
 use Rattle.h2_log.specs.Allowed.{writes}
 use Rattle.h2_log_laws.specs.Sums.{sum_below}
 use Rattle.h2_log_laws.proofs.ReaderStates.{active_parts}
-use Rattle.h2_log_laws.proofs.LogHistory.{History, history_of, left, active_in_view, owes, owing, moved, give, given_by, wrote_view, reports_view, with_unreturned_view, owing_view, fails_view, sum_less}
-use Rattle.h2_log_laws.proofs.LogInvariant.{Good, Represents, Moves, active_before, less_by, step_represents}
+use Rattle.h2_log_laws.proofs.LogHistory.{
+  History,
+  history_of,
+  left,
+  active_in_view,
+  owes,
+  owing,
+  moved,
+  give,
+  given_by,
+  wrote_view,
+  reports_view,
+  with_unreturned_view,
+  owing_view,
+  fails_view,
+  sum_less,
+}
+use Rattle.h2_log_laws.proofs.LogInvariant.{
+  Good,
+  Represents,
+  Moves,
+  active_before,
+  less_by,
+  step_represents,
+}
 
 -- an update of the connection's window isn't one of a stream's
 pub update_elsewhere : (i count : ℕ) → i ≢ 0 → increment_on i (alone (WindowUpdate 0 count)) ≡ 0
@@ -34,13 +79,14 @@ update_here count = refl
 
 -- no block stands among more openings, where one more item is an update
 opened_given : (role : Role) (i count : ℕ) (received sent : List Item)
-    → list_any (is_block_on i) (openings role received (alone (WindowUpdate 0 count) ∷ sent)) ≡ false
+    → list_any (is_block_on i) (openings role received (alone (WindowUpdate 0 count) ∷ sent))
+    ≡ false
     → list_any (is_block_on i) (openings role received sent) ≡ false
 unfolding is_block_on
 opened_given Client i count received sent none = none
 opened_given Server i count received sent none = none
 
--- opened before, if opened behind
+-- opened before, if opened after
 opened_back : (role : Role) (i count : ℕ) (received sent : List Item)
     → list_any (is_block_on i) (openings role received (alone (WindowUpdate 0 count) ∷ sent)) ≡ true
     → list_any (is_block_on i) (openings role received sent) ≡ true
@@ -48,15 +94,19 @@ unfolding is_block_on
 opened_back Client i count received sent some = some
 opened_back Server i count received sent some = some
 
--- what is owed doesn't grow where what is due is given back
+-- what is owed doesn't grow where what is due is returned
 owes_given : (v : History) (j : ℕ) → owes (give v) j ≤ owes v j
 unfolding owes left
 owes_given v j =
-    less_by (active_in_view v j) (active_in_view (give v) j) (reported_total (flow_on j) v.reported - released j v.calls) (reported_total (flow_on j) v.reported - released j v.calls)
-    (λ active. inl (active_before v.role j [] (alone (WindowUpdate 0 v.unreturned) ∷ []) v.received v.sent [] v.reported active
-    (opened_back v.role j v.unreturned v.received v.sent (active_parts v.role j v.received (alone (WindowUpdate 0 v.unreturned) ∷ v.sent) v.reported active).opened))) (omega arith)
+    less_by (active_in_view v j) (active_in_view (give v) j) (reported_total
+    (flow_on j) v.reported - released j v.calls) (reported_total
+    (flow_on j) v.reported - released j v.calls)
+    (λ active. inl (active_before v.role j [] (alone
+    (WindowUpdate 0 v.unreturned) ∷ []) v.received v.sent [] v.reported active
+    (opened_back v.role j v.unreturned v.received v.sent (active_parts v.role j v.received (alone
+    (WindowUpdate 0 v.unreturned) ∷ v.sent) v.reported active).opened))) (omega arith)
 
--- What is good stays so where what is due is given back.
+-- What is good stays so where what is due is returned.
 give_good : (v : History) → Good v → Good (give v)
 unfolding total one_ack one_answer
 give_good v good =
@@ -70,12 +120,14 @@ give_good v good =
       reported_read = good.reported_read;
       opened = λ i none. good.opened i (opened_given v.role i v.unreturned v.received v.sent none);
       whole = λ n.
-          let less : sum_below n (owes (give v)) ≤ sum_below n (owes v) = sum_less n (owes v) (owes (give v)) (λ j below. owes_given v j) in
+          let less : sum_below n (owes (give v)) ≤ sum_below n (owes v) = sum_less n (owes v)
+          (owes (give v)) (λ j below. owes_given v j) in
           omega (arith, less, good.whole n, update_here v.unreturned);
     }
 
--- What is due may be given back, where it isn't nothing.
-pub give_represents : (role : Role) (v : History) → Represents role v → v.failed ≡ None → v.unreturned ≢ 0 → Represents role (give v)
+-- What is due may be returned, where it isn't nothing.
+pub give_represents : (role : Role) (v : History) → Represents role v → v.failed ≡ None
+    → v.unreturned ≢ 0 → Represents role (give v)
 give_represents role v represents up some =
     let good = represents.good up in
     let whole = good.whole 0 in
@@ -93,24 +145,28 @@ give_represents role v represents up some =
       good = λ still. give_good v good;
     }
 
--- A failure stands: GOAWAY may always be written.
-pub fails_represents : (role : Role) (code : Code) (last : ℕ) (log : Log) → Represents role (history_of log) → log.failed ≡ None
+-- The invariant holds after a failure: GOAWAY may always be written.
+pub fails_represents : (role : Role) (code : Code) (last : ℕ) (log : Log)
+    → Represents role (history_of log) → log.failed ≡ None
     → Represents role (history_of (with_failure code last log))
 fails_represents role code last log represents up =
     rw (fails_view code last log) (record {
       own = represents.own;
-      with_sent = writes (alone (GoAway last (code_number code) [])) represents.with_sent (represents.good up).returned;
+      with_sent = writes (alone (GoAway last (code_number code) [])) represents.with_sent
+          (represents.good up).returned;
       good = λ none. absurd (cc);
     })
 
 -- what is owed hangs on what was released alone
-owes_recalled : (v : History) (calls : List (Act × Answer)) (j : ℕ) → released j calls ≡ released j v.calls
+owes_recalled : (v : History) (calls : List (Act × Answer)) (j : ℕ) → released j calls
+    ≡ released j v.calls
     → owes (record v { calls = calls }) j ≤ owes v j
 unfolding owes left
 owes_recalled v calls j same = rw same (omega arith)
 
 -- the same of what is good
-recalled_good : (v : History) (calls : List (Act × Answer)) → ((j : ℕ) → released j calls ≡ released j v.calls) → Good v
+recalled_good : (v : History) (calls : List (Act × Answer)) → ((j : ℕ) → released j calls
+    ≡ released j v.calls) → Good v
     → Good (record v { calls = calls })
 recalled_good v calls same good =
     record {
@@ -123,55 +179,86 @@ recalled_good v calls same good =
       reported_read = good.reported_read;
       opened = good.opened;
       whole = λ n.
-          let less : sum_below n (owes (record v { calls = calls })) ≤ sum_below n (owes v) = sum_less n (owes v) (owes (record v { calls = calls }))
+          let less : sum_below n (owes (record v { calls = calls })) ≤ sum_below n
+          (owes v) = sum_less n (owes v) (owes (record v { calls = calls }))
           (λ j below. owes_recalled v calls j (same j)) in
           omega (arith, less, good.whole n);
     }
 
 -- A call that releases nothing changes nothing.
-pub recalled_represents : (role : Role) (v : History) (calls : List (Act × Answer)) → ((j : ℕ) → released j calls ≡ released j v.calls) → Represents role v
+pub recalled_represents : (role : Role) (v : History) (calls : List (Act × Answer)) → ((j : ℕ)
+    → released j calls ≡ released j v.calls) → Represents role v
     → Represents role (record v { calls = calls })
 recalled_represents role v calls same represents =
-    record { own = represents.own; with_sent = represents.with_sent; good = λ up. recalled_good v calls same (represents.good up) }
+    record {
+      own = represents.own;
+      with_sent = represents.with_sent;
+      good = λ up. recalled_good v calls same (represents.good up);
+    }
 
--- What is due may be given back behind a step, before its events.
-reported_given : (role : Role) (v : History) (reads items : List Item) (events : List Event) (calls : List (Act × Answer)) (unreturned : ℕ) (b : Bool)
-    → v.failed ≡ None → (b ≡ true → unreturned ≢ 0) → Represents role (moved v reads items events calls unreturned)
-    → Represents role (moved (given_by b (moved v reads items [] calls unreturned)) [] [] events (given_by b (moved v reads items [] calls unreturned)).calls
+-- What is due may be returned after a step, before its events.
+reported_given : (role : Role) (v : History) (reads items : List Item) (events : List Event)
+    (calls : List (Act × Answer)) (unreturned : ℕ) (b : Bool)
+    → v.failed ≡ None → (b ≡ true → unreturned ≢ 0)
+    → Represents role (moved v reads items events calls unreturned)
+    → Represents role (moved (given_by b (moved v reads items [] calls unreturned)) [] [] events
+    (given_by b (moved v reads items [] calls unreturned)).calls
     (given_by b (moved v reads items [] calls unreturned)).unreturned)
-reported_given role v reads items events calls unreturned true up some represents = give_represents role (moved v reads items events calls unreturned) represents up (some refl)
+reported_given role v reads items events calls unreturned true up some represents =
+    give_represents role (moved v reads items events calls unreturned) represents up (some refl)
 reported_given role v reads items events calls unreturned false up some represents = represents
 
 -- what a stream leaves owing doesn't hang on what is due
-owing_unreturned : (v : History) (reads items : List Item) (events : List Event) (calls : List (Act × Answer)) (unreturned other i : ℕ)
-    → owing v (moved v reads items events calls unreturned) i ≡ owing v (moved v reads items events calls other) i
+owing_unreturned : (v : History) (reads items : List Item) (events : List Event) (calls : List
+    (Act × Answer)) (unreturned other i : ℕ)
+    → owing v (moved v reads items events calls unreturned) i
+    ≡ owing v (moved v reads items events calls other) i
 unfolding owing left
 owing_unreturned v reads items events calls unreturned other i = refl
 
 -- something more is due
-more_unreturned : (unreturned more : ℕ) (b : Bool) → (nat_lt 0 more && b) ≡ true → unreturned + more ≢ 0
-more_unreturned unreturned more b both = let some = ltb-true 0 more (and_parts _ _ both).0 in λ none. omega arith
+more_unreturned : (unreturned more : ℕ) (b : Bool) → (nat_lt 0 more && b) ≡ true
+    → unreturned + more ≢ 0
+more_unreturned unreturned more b both = let some = ltb-true 0 more
+    (and_parts _ _ both).0 in λ none. omega arith
 
--- A sound step of a log stands.
-pub step_log : (role : Role) (log base : Log) (i : ℕ) (reads items : List Item) (events : List Event) (calls : List (Act × Answer)) (discarded more : ℕ)
-    → Represents role (history_of log) → log.failed ≡ None → history_of base ≡ moved (history_of log) reads [] [] calls log.unreturned
-    → Moves (history_of log) i reads items events calls discarded → more ≡ discarded + owed_at_close log (with_reported (with_sent base items) events) i
-    → Represents role (history_of (with_reported (with_unreturned more (with_sent base items)) events))
+-- The invariant holds after a sound step of a log.
+pub step_log : (role : Role) (log base : Log) (i : ℕ) (reads items : List Item)
+    (events : List Event) (calls : List (Act × Answer)) (discarded more : ℕ)
+    → Represents role (history_of log) → log.failed ≡ None → history_of base
+    ≡ moved (history_of log) reads [] [] calls log.unreturned
+    → Moves (history_of log) i reads items events calls discarded → more
+    ≡ discarded + owed_at_close log (with_reported (with_sent base items) events) i
+    → Represents role (history_of (with_reported (with_unreturned more
+    (with_sent base items)) events))
 step_log role log base i reads items events calls discarded more represents up is moves counts =
     let b = nat_lt 0 more && nat_lt (waiting (with_sent base items)) full_output in
-    let written : history_of (with_sent base items) ≡ moved (history_of log) reads items [] calls log.unreturned =
+    let written : history_of (with_sent base items)
+    ≡ moved (history_of log) reads items [] calls log.unreturned =
     wrote_view base items ∙ ap (λ (v : History). moved v [] items [] v.calls v.unreturned) is in
-    let reported : history_of (with_reported (with_sent base items) events) ≡ moved (history_of log) reads items events calls log.unreturned =
-    reports_view (with_sent base items) events ∙ ap (λ (v : History). moved v [] [] events v.calls v.unreturned) written in
-    let owed : owed_at_close log (with_reported (with_sent base items) events) i ≡ owing (history_of log) (moved (history_of log) reads items events calls (log.unreturned + more)) i =
-    owing_view log (with_reported (with_sent base items) events) i ∙ ap (λ (v : History). owing (history_of log) v i) reported
-    ∙ owing_unreturned (history_of log) reads items events calls log.unreturned (log.unreturned + more) i in
-    let returned : history_of (with_unreturned more (with_sent base items)) ≡ given_by b (moved (history_of log) reads items [] calls (log.unreturned + more)) =
-    with_unreturned_view more (with_sent base items) ∙ ap (λ (v : History). given_by b (moved v [] [] [] v.calls (v.unreturned + more))) written in
+    let reported : history_of (with_reported (with_sent base items) events)
+    ≡ moved (history_of log) reads items events calls log.unreturned =
+    reports_view (with_sent base items) events
+    ∙ ap (λ (v : History). moved v [] [] events v.calls v.unreturned) written in
+    let owed : owed_at_close log (with_reported (with_sent base items) events) i
+    ≡ owing (history_of log) (moved (history_of log) reads items events calls
+    (log.unreturned + more)) i =
+    owing_view log (with_reported (with_sent base items) events) i
+    ∙ ap (λ (v : History). owing (history_of log) v i) reported
+    ∙ owing_unreturned (history_of log) reads items events calls log.unreturned
+    (log.unreturned + more) i in
+    let returned : history_of (with_unreturned more (with_sent base items))
+    ≡ given_by b (moved (history_of log) reads items [] calls (log.unreturned + more)) =
+    with_unreturned_view more (with_sent base items)
+    ∙ ap (λ (v : History). given_by b (moved v [] [] [] v.calls (v.unreturned + more))) written in
     let all : history_of (with_reported (with_unreturned more (with_sent base items)) events)
-    ≡ (λ (v : History). moved v [] [] events v.calls v.unreturned) (given_by b (moved (history_of log) reads items [] calls (log.unreturned + more))) =
-    reports_view (with_unreturned more (with_sent base items)) events ∙ ap (λ (v : History). moved v [] [] events v.calls v.unreturned) returned in
-    rw all (reported_given role (history_of log) reads items events calls (log.unreturned + more) b up
+    ≡ (λ (v : History). moved v [] [] events v.calls v.unreturned) (given_by b (moved
+    (history_of log) reads items [] calls (log.unreturned + more))) =
+    reports_view (with_unreturned more (with_sent base items)) events
+    ∙ ap (λ (v : History). moved v [] [] events v.calls v.unreturned) returned in
+    rw all (reported_given role (history_of log) reads items events calls
+    (log.unreturned + more) b up
     (more_unreturned log.unreturned more (nat_lt (waiting (with_sent base items)) full_output))
-    (step_represents role (history_of log) i reads items events calls discarded (log.unreturned + more) represents up moves
+    (step_represents role (history_of log) i reads items events calls discarded
+    (log.unreturned + more) represents up moves
     (ap (λ (n : ℕ). log.unreturned + n) (counts ∙ ap (λ (n : ℕ). discarded + n) owed))))

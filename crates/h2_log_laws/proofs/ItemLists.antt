@@ -1,5 +1,22 @@
 -- Lists of items, newest first: what more items at the front change.
-use Rattle.std.proofs.Common.{◌≡◌, ℕ, zero, suc, ◌+◌, ◌≤◌, Bool, true, false, if◌then◌else◌, List, [], ◌∷◌, ◌++◌, refl, arith}
+use Rattle.std.proofs.Common.{
+  ◌≡◌,
+  ℕ,
+  zero,
+  suc,
+  ◌+◌,
+  ◌≤◌,
+  Bool,
+  true,
+  false,
+  if◌then◌else◌,
+  List,
+  [],
+  ◌∷◌,
+  ◌++◌,
+  refl,
+  arith,
+}
 use Rattle.std.specs.List.{list_any}
 use Rattle.std.proofs.lemmas.Bool.{or_right, false_from_ne_true, both_ways}
 use Rattle.h2_block.specs.Grouping.{Item}
@@ -8,14 +25,17 @@ use Rattle.h2_log.specs.Settings.{settings_count}
 use Rattle.h2_log.specs.States.{count_below}
 
 -- What some item of a list passes, some item of a longer list passes.
-pub any_after : {X : Type 0} (p : X → Bool) → (more xs : List X) → list_any p xs ≡ true → list_any p (more ++ xs) ≡ true
+pub any_after : {X : Type 0} (p : X → Bool) → (more xs : List X) → list_any p xs ≡ true
+    → list_any p (more ++ xs) ≡ true
 any_after p [] xs some = some
 any_after p (x ∷ more) xs some = or_right (p x) (list_any p (more ++ xs)) (any_after p more xs some)
 
 -- What no item of a list passes, no item of a shorter list passes.
-pub none_after : {X : Type 0} (p : X → Bool) → (more xs : List X) → list_any p (more ++ xs) ≡ false → list_any p xs ≡ false
+pub none_after : {X : Type 0} (p : X → Bool) → (more xs : List X) → list_any p (more ++ xs)
+    ≡ false → list_any p xs ≡ false
 none_after p more xs none =
-    false_from_ne_true (list_any p xs) (λ some. both_ways (list_any p (more ++ xs)) none (any_after p more xs some))
+    false_from_ne_true (list_any p xs) (λ some. both_ways (list_any p (more ++ xs)) none
+    (any_after p more xs some))
 
 -- A sum over a list is no greater than one over a longer list.
 pub total_after : (f : Item → ℕ) (more items : List Item) → total f items ≤ total f (more ++ items)
@@ -24,21 +44,25 @@ total_after f [] items = omega arith
 total_after f (item ∷ more) items = omega (arith, total_after f more items)
 
 -- A list has no more SETTINGS than a longer one.
-pub settings_after : (more items : List Item) → settings_count items ≤ settings_count (more ++ items)
+pub settings_after : (more items : List Item)
+    → settings_count items ≤ settings_count (more ++ items)
 unfolding settings_count
 settings_after [] items = omega arith
 settings_after (item ∷ more) items = omega (arith, settings_after more items)
 
 -- a number of one test is no greater than of another that passes wherever it does
-count_step : (one other : Bool) (m n : ℕ) → (one ≡ true → other ≡ true) → m ≤ n → (if one then 1 else 0) + m ≤ (if other then 1 else 0) + n
+count_step : (one other : Bool) (m n : ℕ) → (one ≡ true → other ≡ true) → m ≤ n
+    → (if one then 1 else 0) + m ≤ (if other then 1 else 0) + n
 count_step true true m n goes le = omega arith
 count_step true false m n goes le = absurd (both_ways false refl (goes refl))
 count_step false true m n goes le = omega arith
 count_step false false m n goes le = omega arith
 
 -- No more numbers pass a test than pass one that passes wherever it does.
-pub count_below_more : (n : ℕ) (one other : ℕ → Bool) → ((j : ℕ) → one j ≡ true → other j ≡ true) → count_below n one ≤ count_below n other
+pub count_below_more : (n : ℕ) (one other : ℕ → Bool) → ((j : ℕ) → one j ≡ true → other j ≡ true)
+    → count_below n one ≤ count_below n other
 unfolding count_below
 count_below_more zero one other goes = omega arith
 count_below_more (suc n) one other goes =
-    count_step (one n) (other n) (count_below n one) (count_below n other) (goes n) (count_below_more n one other goes)
+    count_step (one n) (other n) (count_below n one) (count_below n other) (goes n)
+    (count_below_more n one other goes)

@@ -1,5 +1,33 @@
 -- How many octets are written of what an end writes.
-use Rattle.std.proofs.Common.{◌≡◌, ℕ, zero, suc, ◌+◌, ◌*◌, ◌≤◌, nat_le, if◌then◌else◌, Bool, true, false, List, [], ◌∷◌, ◌++◌, length, take, drop, None, refl, ap, arith, length-append, length-take, length-drop, leb-false}
+use Rattle.std.proofs.Common.{
+  ◌≡◌,
+  ℕ,
+  zero,
+  suc,
+  ◌+◌,
+  ◌*◌,
+  ◌≤◌,
+  nat_le,
+  if◌then◌else◌,
+  Bool,
+  true,
+  false,
+  List,
+  [],
+  ◌∷◌,
+  ◌++◌,
+  length,
+  take,
+  drop,
+  None,
+  refl,
+  ap,
+  arith,
+  length-append,
+  length-take,
+  length-drop,
+  leb-false,
+}
 use Rattle.std.proofs.lemmas.List.Concat.{flat_map-cons}
 use Rattle.h2_frame.specs.Frames.{Frame, Data, Headers, Reset, Settings, Ping, GoAway, WindowUpdate, Continuation}
 use Rattle.h2_frame.specs.Encoding.{payload_of, encoding_of}
@@ -42,29 +70,34 @@ unfolding payload_of
 size-ack = size-frame (Settings true [])
 
 -- PING takes nine and its octets.
-pub size-ping : (ack : Bool) (octets : List ℕ) → size_of (alone (Ping ack octets) ∷ []) ≡ 9 + length octets
+pub size-ping : (ack : Bool) (octets : List ℕ) → size_of (alone (Ping ack octets) ∷ [])
+    ≡ 9 + length octets
 unfolding payload_of
 size-ping ack octets = size-frame (Ping ack octets)
 
 -- The SETTINGS of an opening take 33 octets.
-pub size-opening : (role : Role) (values : Values) → size_of (alone (Settings false (opening_pairs role values)) ∷ []) ≡ 33
+pub size-opening : (role : Role) (values : Values)
+    → size_of (alone (Settings false (opening_pairs role values)) ∷ []) ≡ 33
 unfolding payload_of opening_pairs
 size-opening Client values = size-frame (Settings false (opening_pairs Client values))
 size-opening Server values = size-frame (Settings false (opening_pairs Server values))
 
 -- SETTINGS that change values take at most 27.
-pub size-change : (role : Role) (values : Values) → size_of (alone (Settings false (changed_pairs role values)) ∷ []) ≤ 27
+pub size-change : (role : Role) (values : Values)
+    → size_of (alone (Settings false (changed_pairs role values)) ∷ []) ≤ 27
 unfolding payload_of changed_pairs
 size-change Client values = omega (arith, size-frame (Settings false (changed_pairs Client values)))
 size-change Server values = omega (arith, size-frame (Settings false (changed_pairs Server values)))
 
 -- Two updates take 26 octets.
-pub size-updates : (stream increment other more : ℕ) → size_of (alone (WindowUpdate stream increment) ∷ alone (WindowUpdate other more) ∷ []) ≡ 26
+pub size-updates : (stream increment other more : ℕ)
+    → size_of (alone (WindowUpdate stream increment) ∷ alone (WindowUpdate other more) ∷ []) ≡ 26
 unfolding encoding_of_items encoding_of_item payload_of
 size-updates stream increment other more =
     omega (
       arith,
-      length-append (encoding_of (WindowUpdate other more)) (encoding_of (WindowUpdate stream increment)),
+      length-append (encoding_of (WindowUpdate other more)) (encoding_of
+          (WindowUpdate stream increment)),
       length-encoding_of (WindowUpdate stream increment),
       length-encoding_of (WindowUpdate other more),
     )
@@ -74,15 +107,28 @@ pub size-append : (xs ys : List Item) → size_of (xs ++ ys) ≡ size_of xs + si
 unfolding encoding_of_items
 size-append [] ys = omega arith
 size-append (x ∷ xs) ys =
-    omega (arith, size-append xs ys, length-append (encoding_of_items (xs ++ ys)) (encoding_of_item x), length-append (encoding_of_items xs) (encoding_of_item x))
+    omega (
+      arith,
+      size-append xs ys,
+      length-append (encoding_of_items (xs ++ ys))
+          (encoding_of_item x),
+      length-append (encoding_of_items xs) (encoding_of_item x),
+    )
 
--- DATA frames take no more than nine octets and twice their octets, by the test whether one is enough.
-data_size_by : (count most id : ℕ) (octets : List ℕ) (end b : Bool) → 9 ≤ most → nat_le (length octets) most ≡ b
+-- DATA frames take no more than nine octets and twice their octets, by the test whether one is
+-- enough.
+data_size_by : (count most id : ℕ) (octets : List ℕ) (end b : Bool) → 9 ≤ most
+    → nat_le (length octets) most ≡ b
     → size_of (data_frames count most id (drop most octets) end) ≤ 9 + 2 * length (drop most octets)
     → size_of (if b then alone (Data id end octets None) ∷ []
-    else data_frames count most id (drop most octets) end ++ alone (Data id false (take most octets) None) ∷ []) ≤ 9 + 2 * length octets
+    else data_frames count most id (drop most octets) end ++ alone (Data id false
+    (take most octets) None) ∷ []) ≤ 9 + 2 * length octets
 unfolding payload_of
-data_size_by count most id octets end true big fits few = omega (arith, size-frame (Data id end octets None))
+data_size_by count most id octets end true big fits few = omega (
+  arith,
+  size-frame
+      (Data id end octets None),
+)
 data_size_by count most id octets end false big fits few =
     omega (
       arith,
@@ -91,32 +137,51 @@ data_size_by count most id octets end false big fits few =
       leb-false (length octets) most fits,
       length-drop most octets,
       length-take most octets,
-      size-append (data_frames count most id (drop most octets) end) (alone (Data id false (take most octets) None) ∷ []),
+      size-append (data_frames count most id (drop most octets) end) (alone (Data id false
+          (take most octets) None) ∷ []),
       size-frame (Data id false (take most octets) None),
     )
 
 -- DATA frames take no more than nine octets and twice their octets.
-pub size-data : (count most id : ℕ) (octets : List ℕ) (end : Bool) → 9 ≤ most → size_of (data_frames count most id octets end) ≤ 9 + 2 * length octets
+pub size-data : (count most id : ℕ) (octets : List ℕ) (end : Bool) → 9 ≤ most
+    → size_of (data_frames count most id octets end) ≤ 9 + 2 * length octets
 unfolding data_frames encoding_of_items
 size-data zero most id octets end big = omega arith
 size-data (suc count) most id octets end big =
-    data_size_by count most id octets end (nat_le (length octets) most) big refl (size-data count most id (drop most octets) end big)
+    data_size_by count most id octets end (nat_le (length octets) most) big refl
+    (size-data count most id (drop most octets) end big)
 
 -- The octets of a frame and others are those of both.
 frames_size : (frame : Frame) (frames : List Frame)
-    → length (encoding_of_frames (frame ∷ frames)) ≡ 9 + length (payload_of frame) + length (encoding_of_frames frames)
+    → length (encoding_of_frames (frame ∷ frames))
+    ≡ 9 + length (payload_of frame) + length (encoding_of_frames frames)
 frames_size frame frames =
-    let both : length (encoding_of_frames (frame ∷ frames)) ≡ length (encoding_of frame ++ encoding_of_frames frames) =
+    let both : length (encoding_of_frames (frame ∷ frames))
+    ≡ length (encoding_of frame ++ encoding_of_frames frames) =
     ap length (flat_map-cons encoding_of frame frames) in
-    omega (arith, both, length-append (encoding_of frame) (encoding_of_frames frames), length-encoding_of frame)
+    omega (
+      arith,
+      both,
+      length-append (encoding_of frame)
+          (encoding_of_frames frames),
+      length-encoding_of frame,
+    )
 
--- CONTINUATIONs take no more than nine octets and twice their octets, by the test whether one is enough.
-continuations_size_by : (count stream : ℕ) (octets : List ℕ) (b : Bool) → nat_le (length octets) max_payload ≡ b
-    → length (encoding_of_frames (continuations count stream (drop max_payload octets))) ≤ 9 + 2 * length (drop max_payload octets)
+-- CONTINUATIONs take no more than nine octets and twice their octets, by the test whether one is
+-- enough.
+continuations_size_by : (count stream : ℕ) (octets : List ℕ) (b : Bool)
+    → nat_le (length octets) max_payload ≡ b
+    → length (encoding_of_frames (continuations count stream
+    (drop max_payload octets))) ≤ 9 + 2 * length (drop max_payload octets)
     → length (encoding_of_frames (if b then Continuation stream true octets ∷ []
-    else Continuation stream false (take max_payload octets) ∷ continuations count stream (drop max_payload octets))) ≤ 9 + 2 * length octets
+    else Continuation stream false (take max_payload octets) ∷ continuations count stream
+    (drop max_payload octets))) ≤ 9 + 2 * length octets
 unfolding payload_of
-continuations_size_by count stream octets true fits few = omega (arith, frames_size (Continuation stream true octets) [])
+continuations_size_by count stream octets true fits few = omega (
+  arith,
+  frames_size
+      (Continuation stream true octets) [],
+)
 continuations_size_by count stream octets false fits few =
     omega (
       arith,
@@ -124,23 +189,33 @@ continuations_size_by count stream octets false fits few =
       leb-false (length octets) max_payload fits,
       length-drop max_payload octets,
       length-take max_payload octets,
-      frames_size (Continuation stream false (take max_payload octets)) (continuations count stream (drop max_payload octets)),
+      frames_size (Continuation stream false (take max_payload octets))
+          (continuations count stream (drop max_payload octets)),
     )
 
 -- CONTINUATIONs take no more than nine octets and twice their octets.
-continuations_size : (count stream : ℕ) (octets : List ℕ) → length (encoding_of_frames (continuations count stream octets)) ≤ 9 + 2 * length octets
+continuations_size : (count stream : ℕ) (octets : List ℕ)
+    → length (encoding_of_frames (continuations count stream octets)) ≤ 9 + 2 * length octets
 unfolding continuations
 continuations_size zero stream octets = omega arith
 continuations_size (suc count) stream octets =
-    continuations_size_by count stream octets (nat_le (length octets) max_payload) refl (continuations_size count stream (drop max_payload octets))
+    continuations_size_by count stream octets (nat_le (length octets) max_payload) refl
+    (continuations_size count stream (drop max_payload octets))
 
--- A block takes no more than nine octets and twice its octets, by the test whether one frame is enough.
-spread_size_by : (stream : ℕ) (end : Bool) (octets : List ℕ) (b : Bool) → nat_le (length octets) max_payload ≡ b
+-- A block takes no more than nine octets and twice its octets, by the test whether one frame is
+-- enough.
+spread_size_by : (stream : ℕ) (end : Bool) (octets : List ℕ) (b : Bool)
+    → nat_le (length octets) max_payload ≡ b
     → length (encoding_of_frames (if b then Headers stream end true octets None None ∷ []
-    else Headers stream end false (take max_payload octets) None None ∷ continuations (length octets) stream (drop max_payload octets)))
+    else Headers stream end false (take max_payload octets) None None ∷ continuations
+    (length octets) stream (drop max_payload octets)))
     ≤ 9 + 2 * length octets
 unfolding payload_of
-spread_size_by stream end octets true fits = omega (arith, frames_size (Headers stream end true octets None None) [])
+spread_size_by stream end octets true fits = omega (
+  arith,
+  frames_size
+      (Headers stream end true octets None None) [],
+)
 spread_size_by stream end octets false fits =
     omega (
       arith,
@@ -148,10 +223,13 @@ spread_size_by stream end octets false fits =
       length-drop max_payload octets,
       length-take max_payload octets,
       continuations_size (length octets) stream (drop max_payload octets),
-      frames_size (Headers stream end false (take max_payload octets) None None) (continuations (length octets) stream (drop max_payload octets)),
+      frames_size (Headers stream end false (take max_payload octets) None None) (continuations
+          (length octets) stream (drop max_payload octets)),
     )
 
 -- A block takes no more than nine octets and twice its octets.
-pub size-block : (stream : ℕ) (end : Bool) (octets : List ℕ) → size_of (block stream end octets ∷ []) ≤ 9 + 2 * length octets
+pub size-block : (stream : ℕ) (end : Bool) (octets : List ℕ)
+    → size_of (block stream end octets ∷ []) ≤ 9 + 2 * length octets
 unfolding encoding_of_items encoding_of_item spread_frames
-size-block stream end octets = spread_size_by stream end octets (nat_le (length octets) max_payload) refl
+size-block stream end octets = spread_size_by stream end octets (nat_le
+    (length octets) max_payload) refl

@@ -1,7 +1,36 @@
 -- The least number of a block that passes a test.
-use Rattle.std.proofs.Common.{◌≡◌, ◌≢◌, ℕ, ◌≤◌, ◌<◌, ◌==◌, nat_lt, ◌&&◌, ◌||◌, Bool, true, false, if◌then◌else◌, List, [], ◌∷◌, refl, arith, inl, inr}
+use Rattle.std.proofs.Common.{
+  ◌≡◌,
+  ◌≢◌,
+  ℕ,
+  ◌≤◌,
+  ◌<◌,
+  ◌==◌,
+  nat_lt,
+  ◌&&◌,
+  ◌||◌,
+  Bool,
+  true,
+  false,
+  if◌then◌else◌,
+  List,
+  [],
+  ◌∷◌,
+  refl,
+  arith,
+  inl,
+  inr,
+}
 use Rattle.std.specs.List.{list_any}
-use Rattle.std.proofs.lemmas.Bool.{both_ways, eqb-true, ltb-true, lt-ltb, and_parts, and_from, or_cases}
+use Rattle.std.proofs.lemmas.Bool.{
+  both_ways,
+  eqb-true,
+  ltb-true,
+  lt-ltb,
+  and_parts,
+  and_from,
+  or_cases,
+}
 use Rattle.std.proofs.lemmas.Bool.Decides.{nat_tests}
 use Rattle.h2_block.specs.Grouping.{Item, alone, block}
 use Rattle.h2_log.specs.Items.{is_block_on, greatest_block}
@@ -10,72 +39,97 @@ use Rattle.h2_log.specs.Log.{Log, active, next_active}
 use Rattle.h2_log_laws.proofs.ReaderStates.{active_parts}
 
 -- Of a number and the least of others, by the test of the number: what is chosen passes.
-chosen_passes : (test : ℕ → Bool) (stream least : ℕ) (b : Bool) → (b ≡ true → test stream ≡ true) → (least ≢ 0 → test least ≡ true)
+chosen_passes : (test : ℕ → Bool) (stream least : ℕ) (b : Bool) → (b ≡ true → test stream ≡ true)
+    → (least ≢ 0 → test least ≡ true)
     → (if b then stream else least) ≢ 0 → test (if b then stream else least) ≡ true
 chosen_passes test stream least true here after some = here refl
 chosen_passes test stream least false here after some = after some
 
 -- The least number that passes, passes.
-pub least_passes : (test : ℕ → Bool) (items : List Item) → least_block test items ≢ 0 → test (least_block test items) ≡ true
+pub least_passes : (test : ℕ → Bool) (items : List Item) → least_block test items ≢ 0
+    → test (least_block test items) ≡ true
 unfolding least_block
 least_passes test [] some = absurd (some refl)
 least_passes test (alone frame ∷ items) some = least_passes test items some
 least_passes test (block stream end octets ∷ items) some =
-    chosen_passes test stream (least_block test items) (test stream && (least_block test items == 0 || nat_lt stream (least_block test items)))
+    chosen_passes test stream (least_block test items) (test stream &&
+    (least_block test items == 0 || nat_lt stream (least_block test items)))
     (λ both. (and_parts _ _ both).0) (least_passes test items) some
 
 -- A number that passes is chosen, or a lesser one is.
 passing_chosen : (stream least : ℕ) → stream ≢ 0
-    → ((if true && (least == 0 || nat_lt stream least) then stream else least) ≢ 0) × ((if true && (least == 0 || nat_lt stream least) then stream else least) ≤ stream)
+    → ((if true && (least == 0 || nat_lt stream least) then stream else least) ≢ 0)
+    × ((if true && (least == 0 || nat_lt stream least) then stream else least) ≤ stream)
 passing_chosen stream least some = (grind (arith, nat_tests), grind (arith, nat_tests))
 
 -- What is chosen is no greater than the least of others.
-lesser_chosen : (stream least bound : ℕ) (passes : Bool) → (passes ≡ true → stream ≢ 0) → least ≢ 0 → least ≤ bound
-    → ((if passes && (least == 0 || nat_lt stream least) then stream else least) ≢ 0) × ((if passes && (least == 0 || nat_lt stream least) then stream else least) ≤ bound)
-lesser_chosen stream least bound true nonzero some le = let here = nonzero refl in (grind (arith, nat_tests), grind (arith, nat_tests))
+lesser_chosen : (stream least bound : ℕ) (passes : Bool) → (passes ≡ true → stream ≢ 0)
+    → least ≢ 0 → least ≤ bound
+    → ((if passes && (least == 0 || nat_lt stream least) then stream else least) ≢ 0)
+    × ((if passes && (least == 0 || nat_lt stream least) then stream else least) ≤ bound)
+lesser_chosen stream least bound true nonzero some le = let here = nonzero refl in (
+  grind
+      (arith, nat_tests),
+  grind (arith, nat_tests),
+)
 lesser_chosen stream least bound false nonzero some le = (some, le)
 
 -- A number of a block that passes is found, or a lesser one is.
-pub least_found : (test : ℕ → Bool) (i : ℕ) (items : List Item) → ((j : ℕ) → test j ≡ true → j ≢ 0) → test i ≡ true
-    → list_any (is_block_on i) items ≡ true → (least_block test items ≢ 0) × (least_block test items ≤ i)
+pub least_found : (test : ℕ → Bool) (i : ℕ) (items : List Item) → ((j : ℕ) → test j ≡ true
+    → j ≢ 0) → test i ≡ true
+    → list_any (is_block_on i) items ≡ true → (least_block test items ≢ 0)
+    × (least_block test items ≤ i)
 unfolding least_block is_block_on
 least_found test i [] nonzero passes here = absurd (both_ways false refl here)
-least_found test i (alone frame ∷ items) nonzero passes here = least_found test i items nonzero passes here
-least_found test i (block stream end octets ∷ items) nonzero passes here = elim (or_cases (stream == i) (list_any (is_block_on i) items) here) [
-  | inl same ↦
-      let equal : stream ≡ i = eqb-true stream i same in
-      rw (equal, passes) (passing_chosen i (least_block test items) (nonzero i passes))
-  | inr after ↦
-      let others = least_found test i items nonzero passes after in
-      lesser_chosen stream (least_block test items) i (test stream) (nonzero stream) others.0 others.1
-]
+least_found test i
+    (alone frame ∷ items) nonzero passes here = least_found test i items nonzero passes here
+least_found test i (block stream end octets ∷ items) nonzero passes here = elim (or_cases
+    (stream == i) (list_any (is_block_on i) items) here) [
+      | inl same ↦
+          let equal : stream ≡ i = eqb-true stream i same in
+          rw (equal, passes) (passing_chosen i (least_block test items) (nonzero i passes))
+      | inr after ↦
+          let others = least_found test i items nonzero passes after in
+          lesser_chosen stream (least_block test items) i (test stream)
+          (nonzero stream) others.0 others.1
+    ]
 
 -- No block has a number above the greatest.
-pub greatest_above : (i : ℕ) (items : List Item) → list_any (is_block_on i) items ≡ true → i ≤ greatest_block items
+pub greatest_above : (i : ℕ) (items : List Item) → list_any (is_block_on i) items ≡ true
+    → i ≤ greatest_block items
 unfolding greatest_block is_block_on
 greatest_above i [] here = absurd (both_ways false refl here)
 greatest_above i (alone frame ∷ items) here = greatest_above i items here
-greatest_above i (block stream end octets ∷ items) here = elim (or_cases (stream == i) (list_any (is_block_on i) items) here) [
-  | inl same ↦ omega (arith, eqb-true stream i same)
-  | inr after ↦ omega (arith, greatest_above i items after)
-]
+greatest_above i (block stream end octets ∷ items) here = elim (or_cases (stream == i) (list_any
+    (is_block_on i) items) here) [
+      | inl same ↦ omega (arith, eqb-true stream i same)
+      | inr after ↦ omega (arith, greatest_above i items after)
+    ]
 
--- A live stream's number isn't 0, and a block has it.
+-- An active stream's number isn't 0, and a block has it.
 active_nonzero : (log : Log) (id j : ℕ) → (active log j && nat_lt id j) ≡ true → j ≢ 0
-active_nonzero log id j both = λ none. let above = ltb-true id j (and_parts _ _ both).1 in omega arith
+active_nonzero log id j both = λ none. let above = ltb-true id j
+    (and_parts _ _ both).1 in omega arith
 
--- The next live stream is live and above the number.
-pub next_passes : (log : Log) (id : ℕ) → next_active log id ≢ 0 → (active log (next_active log id) && nat_lt id (next_active log id)) ≡ true
+-- The next active stream is active and above the number.
+pub next_passes : (log : Log) (id : ℕ) → next_active log id ≢ 0
+    → (active log (next_active log id) && nat_lt id (next_active log id)) ≡ true
 unfolding next_active
-next_passes log id some = least_passes (λ j. active log j && nat_lt id j) (openings log.role log.received log.sent) some
+next_passes log id some = least_passes (λ j. active log j && nat_lt id j)
+    (openings log.role log.received log.sent) some
 
--- The next live stream is found, and is no greater than any that is live and above the number.
-pub next_found : (log : Log) (id i : ℕ) → active log i ≡ true → id < i → (next_active log id ≢ 0) × (next_active log id ≤ i)
+-- The next active stream is found, and is no greater than any that is active and above the number.
+pub next_found : (log : Log) (id i : ℕ) → active log i ≡ true → id < i → (next_active log id ≢ 0)
+    × (next_active log id ≤ i)
 unfolding next_active
 next_found log id i alive above =
-    least_found (λ j. active log j && nat_lt id j) i (openings log.role log.received log.sent) (active_nonzero log id)
-    (and_from (active log i) (nat_lt id i) alive (lt-ltb id i above)) (active_parts log.role i log.received log.sent log.reported alive).opened
+    least_found (λ j. active log j && nat_lt id j) i (openings log.role log.received log.sent)
+    (active_nonzero log id)
+    (and_from (active log i) (nat_lt id i) alive (lt-ltb id i above))
+    (active_parts log.role i log.received log.sent log.reported alive).opened
 
--- A live stream is among those that are counted.
-pub active_counted : (log : Log) (i : ℕ) → active log i ≡ true → i ≤ greatest_block (openings log.role log.received log.sent)
-active_counted log i alive = greatest_above i (openings log.role log.received log.sent) (active_parts log.role i log.received log.sent log.reported alive).opened
+-- An active stream is among those that are counted.
+pub active_counted : (log : Log) (i : ℕ) → active log i ≡ true
+    → i ≤ greatest_block (openings log.role log.received log.sent)
+active_counted log i alive = greatest_above i (openings log.role log.received log.sent)
+    (active_parts log.role i log.received log.sent log.reported alive).opened

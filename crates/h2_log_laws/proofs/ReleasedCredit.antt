@@ -1,5 +1,29 @@
 -- What is released of a stream is no more than was read, on the stream and on the connection.
-use Rattle.std.proofs.Common.{◌≡◌, ◌≢◌, ℕ, suc, ◌+◌, ◌-◌, ◌≤◌, ◌==◌, nat_lt, Bool, true, false, if◌then◌else◌, List, [], ◌∷◌, ◌++◌, None, refl, sym, ap, ◌∙◌, arith}
+use Rattle.std.proofs.Common.{
+  ◌≡◌,
+  ◌≢◌,
+  ℕ,
+  suc,
+  ◌+◌,
+  ◌-◌,
+  ◌≤◌,
+  ◌==◌,
+  nat_lt,
+  Bool,
+  true,
+  false,
+  if◌then◌else◌,
+  List,
+  [],
+  ◌∷◌,
+  ◌++◌,
+  None,
+  refl,
+  sym,
+  ap,
+  ◌∙◌,
+  arith,
+}
 use Rattle.std.proofs.lemmas.Bool.{both_ways, eqb-false, ne_eqb, eq-eqb, or_parts, ltb-false}
 use Rattle.h2_frame.specs.Frames.{WindowUpdate}
 use Rattle.h2_block.specs.Grouping.{Item, alone}
@@ -20,7 +44,13 @@ use Rattle.h2_log_laws.proofs.LogInvariant.{Good, Represents, Moves}
 use Rattle.h2_log_laws.proofs.InvariantSteps.{update_elsewhere, update_here}
 use Rattle.h2_log_laws.proofs.DataOfCalls.{total_next}
 use Rattle.h2_log_laws.proofs.LogViewLemmas.{stream_is_active, owed_there}
-use Rattle.h2_log_laws.proofs.InvariantCalls.{first_none, none_since, active_is_active, active_some, items_represent}
+use Rattle.h2_log_laws.proofs.InvariantCalls.{
+  first_none,
+  none_since,
+  active_is_active,
+  active_some,
+  items_represent,
+}
 
 -- an update gives to its stream
 gives_here : (i count : ℕ) → increment_on i (alone (WindowUpdate i count)) ≡ count
@@ -34,21 +64,26 @@ gives_elsewhere i j count other = rw (ne_eqb i j other) refl
 
 -- an update gives as much as a release
 gives_released : (i j count : ℕ) (calls : List (Act × Answer))
-    → increment_on j (alone (WindowUpdate i count)) + released j calls ≡ released j ((Release i count, Done) ∷ calls)
+    → increment_on j (alone (WindowUpdate i count)) + released j calls
+    ≡ released j ((Release i count, Done) ∷ calls)
 unfolding increment_on released
 gives_released i j count calls = refl
 
 -- a release releases so much
-released_here : (i count : ℕ) (calls : List (Act × Answer)) → released i ((Release i count, Done) ∷ calls) ≡ count + released i calls
-released_here i count calls = sym (gives_released i i count calls) ∙ ap (λ (n : ℕ). n + released i calls) (gives_here i count)
+released_here : (i count : ℕ) (calls : List (Act × Answer))
+    → released i ((Release i count, Done) ∷ calls) ≡ count + released i calls
+released_here i count calls = sym (gives_released i i count calls)
+    ∙ ap (λ (n : ℕ). n + released i calls) (gives_here i count)
 
--- what is owed on a live stream
-owes_active : (v : History) (i : ℕ) → active_in_view v i ≡ true → owes v i ≡ reported_total (flow_on i) v.reported - released i v.calls
+-- what is owed on an active stream
+owes_active : (v : History) (i : ℕ) → active_in_view v i ≡ true → owes v i
+    ≡ reported_total (flow_on i) v.reported - released i v.calls
 unfolding owes left
 owes_active v i active = rw active refl
 
 -- the same of a log
-unreleased_is : (log : Log) (i : ℕ) → unreleased log i ≡ reported_total (flow_on i) log.reported - released i log.calls
+unreleased_is : (log : Log) (i : ℕ) → unreleased log i
+    ≡ reported_total (flow_on i) log.reported - released i log.calls
 unfolding unreleased
 unreleased_is log i = refl
 
@@ -72,7 +107,7 @@ update_answer : (i count : ℕ) → one_answer (alone (WindowUpdate i count)) �
 unfolding one_answer
 update_answer i count = refl
 
--- what a release gives back
+-- what a release returns
 pub record Gives (v : History) (i count : ℕ) : Type 0 where
   pub some : count ≢ 0
   pub number : i ≢ 0
@@ -81,11 +116,14 @@ pub record Gives (v : History) (i count : ℕ) : Type 0 where
 
 -- the updates of a release, by the test whether the peer has ended the stream
 abbrev pub updates : ℕ → ℕ → Bool → List Item
-updates i count ended = alone (WindowUpdate 0 count) ∷ (if ended then [] else alone (WindowUpdate i count) ∷ [])
+updates i count ended = alone (WindowUpdate 0 count) ∷ (if ended then [] else alone
+    (WindowUpdate i count) ∷ [])
 
--- the connection may be given back as much
-gives_all : (v : History) (i count : ℕ) (sent : List Item) → Good v → Gives v i count → HasAcknowledged v.received sent
-    → total (increment_on 0) sent ≡ total (increment_on 0) v.sent → HasAcknowledged v.received sent × MayUpdateWindow v.role 0 count v.received sent
+-- the connection may be returned as much
+gives_all : (v : History) (i count : ℕ) (sent : List Item) → Good v → Gives v i count
+    → HasAcknowledged v.received sent
+    → total (increment_on 0) sent ≡ total (increment_on 0) v.sent
+    → HasAcknowledged v.received sent × MayUpdateWindow v.role 0 count v.received sent
 gives_all v i count sent good gives returned same =
     let whole = good.whole (suc i) in
     let one = owes_one v i in
@@ -101,10 +139,13 @@ gives_all v i count sent good gives returned same =
     )
 
 -- the updates of a release may be written
-updates_written : (v : History) (i count : ℕ) (ended : Bool) → Good v → AllowedHistory v.role v.received v.sent → active_by_items v.role i v.received v.sent ≡ true → Gives v i count
+updates_written : (v : History) (i count : ℕ) (ended : Bool) → Good v
+    → AllowedHistory v.role v.received v.sent → active_by_items v.role i v.received v.sent ≡ true
+    → Gives v i count
     → AllowedHistory v.role v.received (updates i count ended ++ v.sent)
 updates_written v i count true good with_sent active gives =
-    writes (alone (WindowUpdate 0 count)) with_sent (gives_all v i count v.sent good gives good.returned refl)
+    writes (alone (WindowUpdate 0 count)) with_sent
+    (gives_all v i count v.sent good gives good.returned refl)
 updates_written v i count false good with_sent active gives =
     let gave = good.gave i gives.number in
     let reported = good.reported_read i in
@@ -122,23 +163,33 @@ updates_written v i count false good with_sent active gives =
       },
     ))
     (gives_all v i count (alone (WindowUpdate i count) ∷ v.sent) good gives
-    (omega (arith, total_next one_ack (alone (WindowUpdate i count)) v.sent, update_ack i count, good.returned)) (omega arith))
+    (omega (
+      arith,
+      total_next one_ack (alone
+          (WindowUpdate i count)) v.sent,
+      update_ack i count,
+      good.returned,
+    )) (omega arith))
 
 -- what the updates give, of each kind
 updates_total : (f : Item → ℕ) (i count : ℕ) (ended : Bool)
-    → total f (updates i count ended) ≤ f (alone (WindowUpdate 0 count)) + f (alone (WindowUpdate i count))
+    → total f (updates i count ended) ≤ f (alone (WindowUpdate 0 count)) + f (alone
+    (WindowUpdate i count))
 unfolding total
 updates_total f i count true = omega arith
 updates_total f i count false = omega arith
 
 -- what the updates give the connection
-updates_all : (i count : ℕ) (ended : Bool) → i ≢ 0 → total (increment_on 0) (updates i count ended) ≡ count
+updates_all : (i count : ℕ) (ended : Bool) → i ≢ 0
+    → total (increment_on 0) (updates i count ended) ≡ count
 unfolding total
 updates_all i count true some = omega (arith, update_here count)
 updates_all i count false some = omega (arith, update_here count, gives_elsewhere i 0 count some)
 
 -- A release is sound.
-release_moves : (v : History) (i count : ℕ) (ended : Bool) → Good v → AllowedHistory v.role v.received v.sent → active_by_items v.role i v.received v.sent ≡ true → Gives v i count
+release_moves : (v : History) (i count : ℕ) (ended : Bool) → Good v
+    → AllowedHistory v.role v.received v.sent → active_by_items v.role i v.received v.sent ≡ true
+    → Gives v i count
     → Moves v i [] (updates i count ended) [] ((Release i count, Done) ∷ v.calls) 0
 unfolding reported_total settings_count
 release_moves v i count ended good with_sent active gives =
@@ -147,12 +198,25 @@ release_moves v i count ended good with_sent active gives =
     let much = gives.owed in
     record {
       with_sent = updates_written v i count ended good with_sent active gives;
-      returned = omega (arith, updates_total one_ack i count ended, update_ack 0 count, update_ack i count);
-      answered = omega (arith, updates_total one_answer i count ended, update_answer 0 count, update_answer i count, total_none one_ping);
+      returned = omega
+          (arith, updates_total one_ack i count ended, update_ack 0 count, update_ack i count);
+      answered = omega (
+        arith,
+        updates_total one_answer i count ended,
+        update_answer 0 count,
+        update_answer i count,
+        total_none one_ping,
+      );
       acked = omega arith;
       ponged = omega arith;
       named = λ j some. absurd (both_ways false refl some);
-      gave = λ j some. omega (arith, updates_total (increment_on j) i count ended, update_elsewhere j count some, gives_released i j count v.calls);
+      gave = λ j some. omega (
+        arith,
+        updates_total
+            (increment_on j) i count ended,
+        update_elsewhere j count some,
+        gives_released i j count v.calls,
+      );
       reported_read = λ j. omega arith;
       reported_open = λ j some. absurd (some refl);
       elsewhere = λ j other. refl;
@@ -162,8 +226,9 @@ release_moves v i count ended good with_sent active gives =
       fits = omega arith;
     }
 
--- Releasing stands.
-pub release_represents : (role : Role) (log : Log) (id count : ℕ) → Represents role (history_of log) → refusal_of (log_view log) (Release id count) ≡ None
+-- The invariant holds after releasing.
+pub release_represents : (role : Role) (log : Log) (id count : ℕ)
+    → Represents role (history_of log) → refusal_of (log_view log) (Release id count) ≡ None
     → Represents role (history_of (with_call log (Release id count) Done))
 unfolding conditions with_call items_of stream_of_act
 release_represents role log id count represents none =
@@ -175,10 +240,18 @@ release_represents role log id count represents none =
     let is_active_here = stream_is_active log id c2.0 in
     let stream = (log_view log).stream id in
     let owing = or_parts (count == 0) (nat_lt (owed_on stream) count) c4.0 in
-    items_represent role log (Release id count) Done (updates id count (ended_in ((log_view log).stream id))) represents up refl
-    (release_moves (history_of log) id count (ended_in ((log_view log).stream id)) (represents.good up) represents.with_sent (active_is_active log id is_active_here) (record {
+    items_represent role log (Release id count) Done (updates id count (ended_in
+    ((log_view log).stream id))) represents up refl
+    (release_moves (history_of log) id count (ended_in ((log_view log).stream id))
+    (represents.good up) represents.with_sent (active_is_active log id is_active_here) (record {
       some = eqb-false count 0 owing.0;
       number = active_some log id is_active_here;
       active = is_active_here;
-      owed = omega (arith, ltb-false (owed_on stream) count owing.1, owed_there log id is_active_here, unreleased_is log id);
+      owed = omega (
+        arith,
+        ltb-false
+            (owed_on stream) count owing.1,
+        owed_there log id is_active_here,
+        unreleased_is log id,
+      );
     }))

@@ -1,5 +1,28 @@
 -- Settings that were read, and own ones that are in force.
-use Rattle.std.proofs.Common.{◌≡◌, ◌⊎◌, ℕ, ◌+◌, ◌≤◌, ◌<◌, ◌==◌, nat_le, ◌&&◌, true, false, List, [], ◌∷◌, ◌++◌, refl, ap, sym, ◌∙◌, inl, inr, arith}
+use Rattle.std.proofs.Common.{
+  ◌≡◌,
+  ◌⊎◌,
+  ℕ,
+  ◌+◌,
+  ◌≤◌,
+  ◌<◌,
+  ◌==◌,
+  nat_le,
+  ◌&&◌,
+  true,
+  false,
+  List,
+  [],
+  ◌∷◌,
+  ◌++◌,
+  refl,
+  ap,
+  sym,
+  ◌∙◌,
+  inl,
+  inr,
+  arith,
+}
 use Rattle.std.proofs.lemmas.Bool.{cases_eq, eq-eqb, ne_eqb, le-leb, lt-leb, and_left, and_right}
 use Rattle.h2_frame.specs.Frames.{Data, Headers, Priority, Reset, Settings, Ping, GoAway, WindowUpdate, Continuation, Unknown}
 use Rattle.h2_block.specs.Grouping.{Item, alone, block}
@@ -11,7 +34,8 @@ use Rattle.h2_log.specs.declared.role.Role.{Role}
 use Rattle.h2_log_laws.proofs.ItemLists.{settings_after}
 
 -- An item is SETTINGS that are no acknowledgment, or counts as none.
-pub settings_or : (item : Item) → ((pairs : List (ℕ × ℕ)) × (item ≡ alone (Settings false pairs))) ⊎ (one_settings item ≡ 0)
+pub settings_or : (item : Item) → ((pairs : List (ℕ × ℕ)) × (item
+    ≡ alone (Settings false pairs))) ⊎ (one_settings item ≡ 0)
 unfolding one_settings
 settings_or (block stream end octets) = inr refl
 settings_or (alone (Data stream end octets pad)) = inr refl
@@ -45,7 +69,8 @@ value_kept id first (alone (Unknown kind flags stream payload)) items none = ref
 
 -- SETTINGS change each value that they name.
 pub value_changed : (id first : ℕ) (pairs : List (ℕ × ℕ)) (items : List Item)
-    → value_read id first (alone (Settings false pairs) ∷ items) ≡ value_after id (value_read id first items) pairs
+    → value_read id first (alone (Settings false pairs) ∷ items)
+    ≡ value_after id (value_read id first items) pairs
 unfolding value_read
 value_changed id first pairs items = refl
 
@@ -55,27 +80,36 @@ unfolding one_settings
 settings_one pairs = refl
 
 -- the test of an item that isn't the one that is sought
-passed_over : (one count most : ℕ) → (one ≡ 1 → most < count) → (one == 1 && nat_le count most) ≡ false
+passed_over : (one count most : ℕ) → (one ≡ 1 → most < count) → (one == 1 && nat_le count most)
+    ≡ false
 passed_over one count most above = elim (cases_eq one 1) [
   | inl is ↦ and_right (one == 1) (nat_le count most) (lt-leb count most (above is))
   | inr other ↦ and_left (one == 1) (nat_le count most) (ne_eqb one 1 other)
 ]
 
 -- An item that isn't the one that is sought is passed over.
-pub up_to_next : (count : ℕ) (item : Item) (items : List Item) → (one_settings item ≡ 1 → count < one_settings item + settings_count items)
+pub up_to_next : (count : ℕ) (item : Item) (items : List Item) → (one_settings item ≡ 1
+    → count < one_settings item + settings_count items)
     → up_to_settings count (item ∷ items) ≡ up_to_settings count items
 unfolding up_to_settings settings_count
-up_to_next count item items above = rw (passed_over (one_settings item) (one_settings item + settings_count items) count above) refl
+up_to_next count item items above = rw (passed_over (one_settings item)
+    (one_settings item + settings_count items) count above) refl
 
 -- The item that is sought is found.
-pub up_to_here : (count : ℕ) (item : Item) (items : List Item) → one_settings item ≡ 1 → one_settings item + settings_count items ≤ count
+pub up_to_here : (count : ℕ) (item : Item) (items : List Item) → one_settings item ≡ 1
+    → one_settings item + settings_count items ≤ count
     → up_to_settings count (item ∷ items) ≡ item ∷ items
 unfolding up_to_settings settings_count
 up_to_here count item items one within =
-    rw (eq-eqb (one_settings item) 1 one, le-leb (one_settings item + settings_count items) count within) refl
+    rw (
+      eq-eqb (one_settings item) 1 one,
+      le-leb
+          (one_settings item + settings_count items) count within,
+    ) refl
 
 -- The count of a list with one item more.
-pub count_next : (item : Item) (items : List Item) → settings_count (item ∷ items) ≡ one_settings item + settings_count items
+pub count_next : (item : Item) (items : List Item) → settings_count (item ∷ items)
+    ≡ one_settings item + settings_count items
 unfolding settings_count
 count_next item items = refl
 
@@ -84,11 +118,13 @@ pub count_none : settings_count [] ≡ 0
 unfolding settings_count
 count_none = refl
 
--- Items behind all those that count change nothing.
-up_to_after : (count : ℕ) (more items : List Item) → count ≡ settings_count items → up_to_settings count (more ++ items) ≡ up_to_settings count items
+-- Items after all those that count change nothing.
+up_to_after : (count : ℕ) (more items : List Item) → count ≡ settings_count items
+    → up_to_settings count (more ++ items) ≡ up_to_settings count items
 up_to_after count [] items all = refl
 up_to_after count (item ∷ more) items all =
-    up_to_next count item (more ++ items) (λ one. omega (arith, settings_after more items)) ∙ up_to_after count more items all
+    up_to_next count item (more ++ items) (λ one. omega (arith, settings_after more items))
+    ∙ up_to_after count more items all
 
 -- All SETTINGS of a list give the value that was read.
 value_of_all : (id first count : ℕ) (items : List Item) → count ≡ settings_count items
@@ -98,22 +134,29 @@ value_of_all id first count [] all = refl
 value_of_all id first count (item ∷ items) all = elim (settings_or item) [
   | inl (pairs, is) ↦
       let one : one_settings item ≡ 1 = rw is (settings_one pairs) in
-      ap (λ (line : List Item). value_read id first line) (up_to_here count item items one (omega (arith, count_next item items)))
+      ap (λ (line : List Item). value_read id first line) (up_to_here count item items one (omega
+      (arith, count_next item items)))
   | inr none ↦
-      ap (λ (line : List Item). value_read id first line) (up_to_next count item items (λ one. absurd (omega arith)))
-      ∙ value_of_all id first count items (omega (arith, count_next item items)) ∙ sym (value_kept id first item items none)
+      ap (λ (line : List Item). value_read id first line) (up_to_next count item items
+      (λ one. absurd (omega arith)))
+      ∙ value_of_all id first count items (omega (arith, count_next item items))
+      ∙ sym (value_kept id first item items none)
 ]
 
 -- What the reader knows to be acknowledged is all that the writer has read.
-pub acked_all : (role : Role) (received sent unread : List Item) (log : Log) → HasAcknowledged received sent → IsReader role received sent unread log
+pub acked_all : (role : Role) (received sent unread : List Item) (log : Log)
+    → HasAcknowledged received sent → IsReader role received sent unread log
     → acked log ≡ settings_count received
-acked_all role received sent unread log returned reader = reader.awaited ∙ ap (λ (items : List Item). total one_ack items) reader.read ∙ returned
+acked_all role received sent unread log returned reader = reader.awaited
+    ∙ ap (λ (items : List Item). total one_ack items) reader.read ∙ returned
 
 -- A value that was read last is the one in force at the reader.
-pub limits_lem : (id first : ℕ) (role : Role) (received sent unread : List Item) (log : Log) → HasAcknowledged received sent → IsReader role received sent unread log
+pub limits_lem : (id first : ℕ) (role : Role) (received sent unread : List Item) (log : Log)
+    → HasAcknowledged received sent → IsReader role received sent unread log
     → own_value id first (acked log) log.sent ≡ value_read id first received
 limits_lem id first role received sent unread log returned reader =
     let all = acked_all role received sent unread log returned reader in
     ap (λ (items : List Item). own_value id first (acked log) items) reader.written
-    ∙ ap (λ (items : List Item). value_read id first items) (up_to_after (acked log) unread received all)
+    ∙ ap (λ (items : List Item). value_read id first items) (up_to_after
+    (acked log) unread received all)
     ∙ value_of_all id first (acked log) received all

@@ -1,7 +1,43 @@
--- The numbers of streams that were written, and what a stream that is told as unprocessed says of what was read.
-use Rattle.std.proofs.Common.{◌≡◌, ◌⊎◌, ◌≢◌, ℕ, ◌+◌, ◌≤◌, ◌<◌, ◌==◌, ◌%◌, ◌&&◌, ◌||◌, nat_lt, max, Bool, true, false, if◌then◌else◌, List, [], ◌∷◌, refl, inl, inr, arith}
+-- The numbers of streams that were written, and what a stream that is reported as unprocessed says
+-- of what was read.
+use Rattle.std.proofs.Common.{
+  ◌≡◌,
+  ◌⊎◌,
+  ◌≢◌,
+  ℕ,
+  ◌+◌,
+  ◌≤◌,
+  ◌<◌,
+  ◌==◌,
+  ◌%◌,
+  ◌&&◌,
+  ◌||◌,
+  nat_lt,
+  max,
+  Bool,
+  true,
+  false,
+  if◌then◌else◌,
+  List,
+  [],
+  ◌∷◌,
+  refl,
+  inl,
+  inr,
+  arith,
+}
 use Rattle.std.specs.List.{list_any}
-use Rattle.std.proofs.lemmas.Bool.{both_ways, eqb-true, or_cases, cases_lt, eq-eqb, le-ltb, and_right, and_left, true_from_ne_false}
+use Rattle.std.proofs.lemmas.Bool.{
+  both_ways,
+  eqb-true,
+  or_cases,
+  cases_lt,
+  eq-eqb,
+  le-ltb,
+  and_right,
+  and_left,
+  true_from_ne_false,
+}
 use Rattle.h2_frame.specs.Frames.{Data, Headers, Priority, Reset, Settings, Ping, GoAway, WindowUpdate, Continuation, Unknown}
 use Rattle.h2_block.specs.Grouping.{Item, alone, block}
 use Rattle.h2_log.specs.declared.role.Role.{Role}
@@ -21,36 +57,48 @@ max_is a b = elim (cases_lt a b) [
 ]
 
 -- A block's number is no greater than the greatest.
-pub block_below : (i : ℕ) (items : List Item) → list_any (is_block_on i) items ≡ true → i ≤ greatest_block items
+pub block_below : (i : ℕ) (items : List Item) → list_any (is_block_on i) items ≡ true
+    → i ≤ greatest_block items
 unfolding is_block_on greatest_block
 block_below i [] here = absurd (both_ways false refl here)
 block_below i (alone frame ∷ items) here = block_below i items here
-block_below i (block stream end octets ∷ items) here = elim (or_cases (stream == i) (list_any (is_block_on i) items) here) [
-  | inl same ↦ omega (arith, eqb-true stream i same)
-  | inr after ↦ omega (arith, block_below i items after)
-]
+block_below i (block stream end octets ∷ items) here = elim (or_cases (stream == i) (list_any
+    (is_block_on i) items) here) [
+      | inl same ↦ omega (arith, eqb-true stream i same)
+      | inr after ↦ omega (arith, block_below i items after)
+    ]
 
 -- what a client may write keeps to the greatest number
-low_by : (received sent : List Item) (item : Item) → Allowed Client received sent item → greatest_block sent ≤ greatest_number
+low_by : (received sent : List Item) (item : Item) → Allowed Client received sent item
+    → greatest_block sent ≤ greatest_number
     → greatest_block (item ∷ sent) ≤ greatest_number
 unfolding greatest_block
 low_by received sent (alone frame) allowed low = low
 low_by received sent (block i end octets) allowed low = elim allowed.1 [
   | inl may ↦ omega (arith, may.low)
-  | inr goes ↦ omega (arith, block_below i sent (active_parts Client i received sent [] goes.active).opened)
+  | inr goes ↦ omega (
+    arith,
+    block_below i sent
+        (active_parts Client i received sent [] goes.active).opened,
+  )
 ]
 
 -- A client writes blocks on no greater numbers than the greatest.
-pub client_low : (received sent : List Item) → AllowedHistory Client received sent → greatest_block sent ≤ greatest_number
+pub client_low : (received sent : List Item) → AllowedHistory Client received sent
+    → greatest_block sent ≤ greatest_number
 unfolding greatest_block
 client_low _ _ (starts values ok) = omega arith
 client_low _ sent (reads {received = received} item with_sent) = client_low received sent with_sent
-client_low received _ (writes {sent = sent} item with_sent allowed) = low_by received sent item allowed (client_low received sent with_sent)
+client_low received _
+    (writes {sent = sent} item with_sent allowed) = low_by received sent item allowed
+    (client_low received sent with_sent)
 
 -- the number of a block that may be written is odd
-odd_allowed : (role : Role) (i : ℕ) (received sent : List Item) → MayOpen role i received sent ⊎ MayContinue role i received sent → i % 2 ≡ 1
+odd_allowed : (role : Role) (i : ℕ) (received sent : List Item)
+    → MayOpen role i received sent ⊎ MayContinue role i received sent → i % 2 ≡ 1
 odd_allowed role i received sent (inl may) = may.odd
-odd_allowed role i received sent (inr goes) = eqb-true (i % 2) 1 (active_parts role i received sent [] goes.active).odd
+odd_allowed role i received sent (inr goes) = eqb-true (i % 2) 1
+    (active_parts role i received sent [] goes.active).odd
 
 -- a number of two, of which one is odd, and the other odd or nothing
 odd_max : (i n : ℕ) → i % 2 ≡ 1 → (n ≡ 0) ⊎ (n % 2 ≡ 1) → max i n % 2 ≡ 1
@@ -61,41 +109,52 @@ odd_max i n odd (inr also) = elim (max_is i n) [
 ]
 
 -- what may be written keeps the greatest number odd
-odd_by : (role : Role) (received sent : List Item) (item : Item) → Allowed role received sent item → (greatest_block sent ≡ 0) ⊎ (greatest_block sent % 2 ≡ 1)
+odd_by : (role : Role) (received sent : List Item) (item : Item)
+    → Allowed role received sent item → (greatest_block sent ≡ 0) ⊎ (greatest_block sent % 2 ≡ 1)
     → (greatest_block (item ∷ sent) ≡ 0) ⊎ (greatest_block (item ∷ sent) % 2 ≡ 1)
 unfolding greatest_block
 odd_by role received sent (alone frame) allowed odd = odd
-odd_by role received sent (block i end octets) allowed odd = inr (odd_max i (greatest_block sent) (odd_allowed role i received sent allowed.1) odd)
+odd_by role received sent (block i end octets) allowed odd = inr (odd_max i (greatest_block sent)
+    (odd_allowed role i received sent allowed.1) odd)
 
 -- The greatest number of a block that was written is odd, if there is one.
-pub odd_blocks : (role : Role) (received sent : List Item) → AllowedHistory role received sent → (greatest_block sent ≡ 0) ⊎ (greatest_block sent % 2 ≡ 1)
+pub odd_blocks : (role : Role) (received sent : List Item) → AllowedHistory role received sent
+    → (greatest_block sent ≡ 0) ⊎ (greatest_block sent % 2 ≡ 1)
 unfolding greatest_block
 odd_blocks role _ _ (starts values ok) = inl refl
-odd_blocks role _ sent (reads {received = received} item with_sent) = odd_blocks role received sent with_sent
-odd_blocks role received _ (writes {sent = sent} item with_sent allowed) = odd_by role received sent item allowed (odd_blocks role received sent with_sent)
+odd_blocks role _ sent
+    (reads {received = received} item with_sent) = odd_blocks role received sent with_sent
+odd_blocks role received _
+    (writes {sent = sent} item with_sent allowed) = odd_by role received sent item allowed
+    (odd_blocks role received sent with_sent)
 
 -- two more than an odd number
 odd_next : (n : ℕ) → n % 2 ≡ 1 → (n + 2) % 2 ≡ 1
 odd_next n odd = omega arith
 
 -- the next number by the test whether it is the first
-next_by : (n : ℕ) (b : Bool) → n == 0 ≡ b → (n ≡ 0) ⊎ (n % 2 ≡ 1) → ((if b then 1 else n + 2) % 2 ≡ 1) × (n < (if b then 1 else n + 2))
+next_by : (n : ℕ) (b : Bool) → n == 0 ≡ b → (n ≡ 0) ⊎ (n % 2 ≡ 1) → ((if b then 1 else n + 2) % 2
+    ≡ 1) × (n < (if b then 1 else n + 2))
 next_by n true is odd = (refl, omega (arith, eqb-true n 0 is))
 next_by n false is (inl none) = absurd (both_ways _ is (eq-eqb n 0 none))
 next_by n false is (inr odd) = (odd_next n odd, omega arith)
 
 -- The next number is odd, and above all before it.
-pub next_odd : (log : Log) → AllowedHistory log.role log.received log.sent → (next_number log % 2 ≡ 1) × (greatest_block log.sent < next_number log)
+pub next_odd : (log : Log) → AllowedHistory log.role log.received log.sent → (next_number log % 2
+    ≡ 1) × (greatest_block log.sent < next_number log)
 unfolding next_number
-next_odd log with_sent = next_by (greatest_block log.sent) (greatest_block log.sent == 0) refl (odd_blocks log.role log.received log.sent with_sent)
+next_odd log with_sent = next_by (greatest_block log.sent) (greatest_block log.sent == 0) refl
+    (odd_blocks log.role log.received log.sent with_sent)
 
 -- Where no GOAWAY was read, no stream is above the last one.
-pub last_none : (items : List Item) → list_any is_goaway items ≡ false → least_goaway items ≡ greatest_number
+pub last_none : (items : List Item) → list_any is_goaway items ≡ false → least_goaway items
+    ≡ greatest_number
 unfolding is_goaway least_goaway
 last_none [] none = refl
 last_none (block stream end octets ∷ items) none = last_none items none
 last_none (alone (Data stream end octets pad) ∷ items) none = last_none items none
-last_none (alone (Headers stream end whole fragment pad priority) ∷ items) none = last_none items none
+last_none (alone
+    (Headers stream end whole fragment pad priority) ∷ items) none = last_none items none
 last_none (alone (Priority stream octets) ∷ items) none = last_none items none
 last_none (alone (Reset stream code) ∷ items) none = last_none items none
 last_none (alone (Settings ack pairs) ∷ items) none = last_none items none
@@ -106,12 +165,14 @@ last_none (alone (Continuation stream whole fragment) ∷ items) none = last_non
 last_none (alone (Unknown kind flags stream payload) ∷ items) none = last_none items none
 
 -- Where no number passes, there is no least one.
-pub least_none : (test : ℕ → Bool) (items : List Item) → ((j : ℕ) → j ≤ greatest_block items → test j ≡ false) → least_block test items ≡ 0
+pub least_none : (test : ℕ → Bool) (items : List Item) → ((j : ℕ) → j ≤ greatest_block items
+    → test j ≡ false) → least_block test items ≡ 0
 unfolding least_block greatest_block
 least_none test [] none = refl
 least_none test (alone frame ∷ items) none = least_none test items none
 least_none test (block stream end octets ∷ items) none =
-    rw (and_left (test stream) (least_block test items == 0 || nat_lt stream (least_block test items)) (none stream (omega arith)))
+    rw (and_left (test stream) (least_block test items == 0 || nat_lt stream
+    (least_block test items)) (none stream (omega arith)))
     (least_none test items (λ j below. none j (omega arith)))
 
 -- a server names no stream
@@ -119,13 +180,16 @@ next_of : (role : Role) (n : ℕ) → (if is_server role then 0 else n) ≢ 0 �
 next_of Client n some = (refl, some)
 next_of Server n some = absurd (some refl)
 
--- A stream is told as unprocessed only where a GOAWAY was read.
-pub next_left : (log : Log) → AllowedHistory log.role log.received log.sent → next_unprocessed log ≢ 0 → list_any is_goaway log.received ≡ true
+-- A stream is reported as unprocessed only where a GOAWAY was read.
+pub next_left : (log : Log) → AllowedHistory log.role log.received log.sent
+    → next_unprocessed log ≢ 0 → list_any is_goaway log.received ≡ true
 unfolding next_unprocessed
 next_left log with_sent some =
     let both = next_of log.role _ some in
     let client : AllowedHistory Client log.received log.sent = rw (both.0) at with_sent in
     true_from_ne_false (list_any is_goaway log.received) (λ none.
-    both.1 (least_none (λ j. active log j && nat_lt (least_goaway log.received) j) log.sent (λ j below.
+    both.1 (least_none (λ j. active log j && nat_lt (least_goaway log.received) j) log.sent
+    (λ j below.
     and_right (active log j) (nat_lt (least_goaway log.received) j)
-    (le-ltb (least_goaway log.received) j (omega (arith, last_none log.received none, client_low log.received log.sent client))))))
+    (le-ltb (least_goaway log.received) j (omega
+    (arith, last_none log.received none, client_low log.received log.sent client))))))

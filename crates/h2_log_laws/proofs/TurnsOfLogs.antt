@@ -12,18 +12,28 @@ use Rattle.h2_log.specs.Log.{Log}
 use Rattle.h2_log.specs.LogSteps.{used, with_sent, with_reported}
 use Rattle.h2_log.specs.LogCalls.{called, opened}
 use Rattle.h2_log.specs.Histories.{IsLog}
-use Rattle.h2_log_laws.specs.Turns.{octets_in, octets_out, events_in, acts_in, answers_in, acts_of, answers_of, TurnsRecord}
+use Rattle.h2_log_laws.specs.Turns.{
+  octets_in,
+  octets_out,
+  events_in,
+  acts_in,
+  answers_in,
+  acts_of,
+  answers_of,
+  TurnsRecord,
+}
 use Rattle.h2_log_laws.proofs.EveryLog.{IsSteady, every_log}
 
--- The octets of items behind others.
-written_after : (newer older : List Item) → encoding_of_items (newer ++ older) ≡ encoding_of_items older ++ encoding_of_items newer
+-- The octets of items after others.
+written_after : (newer older : List Item) → encoding_of_items (newer ++ older)
+    ≡ encoding_of_items older ++ encoding_of_items newer
 unfolding encoding_of_items
 written_after [] older = sym (append-nil (encoding_of_items older))
 written_after (item ∷ newer) older =
     ap (λ (octets : List ℕ). octets ++ encoding_of_item item) (written_after newer older)
     ∙ append_assoc (encoding_of_items older) (encoding_of_items newer) (encoding_of_item item)
 
--- Events that were told are turns, and nothing else is told by them.
+-- Events that were reported are turns, and nothing else is reported by them.
 pub record HappenedOnly (happened : List Event) (turns : List Turn) : Type 0 where
   pub input : octets_in (map Happened happened ++ turns) ≡ octets_in turns
   pub output : octets_out (map Happened happened ++ turns) ≡ octets_out turns
@@ -33,7 +43,13 @@ pub record HappenedOnly (happened : List Event) (turns : List Turn) : Type 0 whe
 
 happened_only : (events : List Event) (turns : List Turn) → HappenedOnly events turns
 unfolding octets_in octets_out events_in acts_in answers_in
-happened_only [] turns = record { input = refl; output = refl; events = refl; acts = refl; answers = refl }
+happened_only [] turns = record {
+  input = refl;
+  output = refl;
+  events = refl;
+  acts = refl;
+  answers = refl;
+}
 happened_only (event ∷ events) turns =
     let others = happened_only events turns in
     record {
@@ -45,7 +61,8 @@ happened_only (event ∷ events) turns =
     }
 
 -- Items that are written.
-wrote_reported : (log : Log) (items : List Item) → TurnsRecord log → TurnsRecord (with_sent log items)
+wrote_reported : (log : Log) (items : List Item) → TurnsRecord log
+    → TurnsRecord (with_sent log items)
 unfolding with_sent octets_in octets_out events_in acts_in answers_in
 wrote_reported log [] is = is
 wrote_reported log (item ∷ items) is =
@@ -57,12 +74,15 @@ wrote_reported log (item ∷ items) is =
       answers = is.answers;
       items =
           ap (λ (octets : List ℕ). octets ++ encoding_of_items (item ∷ items)) is.items
-          ∙ append_assoc (expected_preface (not (is_server log.role))) (encoding_of_items log.sent) (encoding_of_items (item ∷ items))
-          ∙ ap (λ (octets : List ℕ). expected_preface (not (is_server log.role)) ++ octets) (sym (written_after (item ∷ items) log.sent));
+          ∙ append_assoc (expected_preface (not (is_server log.role)))
+          (encoding_of_items log.sent) (encoding_of_items (item ∷ items))
+          ∙ ap (λ (octets : List ℕ). expected_preface (not (is_server log.role)) ++ octets) (sym
+          (written_after (item ∷ items) log.sent));
     }
 
--- Events that are told.
-reports_reported : (log : Log) (events : List Event) → TurnsRecord log → TurnsRecord (with_reported log events)
+-- Events that are reported.
+reports_reported : (log : Log) (events : List Event) → TurnsRecord log
+    → TurnsRecord (with_reported log events)
 unfolding with_reported
 reports_reported log [] is = is
 reports_reported log (event ∷ events) is =
@@ -77,7 +97,8 @@ reports_reported log (event ∷ events) is =
     }
 
 -- Octets that are used.
-used_reported : (log : Log) (octets unparsed : List ℕ) → TurnsRecord log → TurnsRecord (used log octets unparsed)
+used_reported : (log : Log) (octets unparsed : List ℕ) → TurnsRecord log
+    → TurnsRecord (used log octets unparsed)
 unfolding used octets_in octets_out events_in acts_in answers_in
 used_reported log octets unparsed is =
     record {
@@ -90,7 +111,8 @@ used_reported log octets unparsed is =
     }
 
 -- A call, and its answer.
-called_reported : (log : Log) (act : Act) (answer : Answer) → TurnsRecord log → TurnsRecord (called log act answer)
+called_reported : (log : Log) (act : Act) (answer : Answer) → TurnsRecord log
+    → TurnsRecord (called log act answer)
 unfolding octets_in octets_out events_in acts_in answers_in acts_of answers_of
 called_reported log act answer is =
     record {
@@ -109,20 +131,71 @@ turns_are_steady =
       used = used_reported;
       with_sent = wrote_reported;
       with_reported = reports_reported;
-      read = λ log decoded item is. record { input = is.input; output = is.output; events = is.events; acts = is.acts; answers = is.answers; items = is.items };
+      read = λ log decoded item is. record {
+        input = is.input;
+        output = is.output;
+        events = is.events;
+        acts = is.acts;
+        answers = is.answers;
+        items = is.items;
+      };
       called = called_reported;
-      unreturned = λ log n is. record { input = is.input; output = is.output; events = is.events; acts = is.acts; answers = is.answers; items = is.items };
-      given = λ log n is. record { input = is.input; output = is.output; events = is.events; acts = is.acts; answers = is.answers; items = is.items };
-      failed = λ log code is. record { input = is.input; output = is.output; events = is.events; acts = is.acts; answers = is.answers; items = is.items };
-      frames = λ log frames is. record { input = is.input; output = is.output; events = is.events; acts = is.acts; answers = is.answers; items = is.items };
-      begun = λ log begun is. record { input = is.input; output = is.output; events = is.events; acts = is.acts; answers = is.answers; items = is.items };
+      unreturned = λ log n is. record {
+        input = is.input;
+        output = is.output;
+        events = is.events;
+        acts = is.acts;
+        answers = is.answers;
+        items = is.items;
+      };
+      given = λ log n is. record {
+        input = is.input;
+        output = is.output;
+        events = is.events;
+        acts = is.acts;
+        answers = is.answers;
+        items = is.items;
+      };
+      failed = λ log code is. record {
+        input = is.input;
+        output = is.output;
+        events = is.events;
+        acts = is.acts;
+        answers = is.answers;
+        items = is.items;
+      };
+      frames = λ log frames is. record {
+        input = is.input;
+        output = is.output;
+        events = is.events;
+        acts = is.acts;
+        answers = is.answers;
+        items = is.items;
+      };
+      begun = λ log begun is. record {
+        input = is.input;
+        output = is.output;
+        events = is.events;
+        acts = is.acts;
+        answers = is.answers;
+        items = is.items;
+      };
     }
 
 -- The turns of a new end.
 begins_reported : (role : Role) (values : Values) → TurnsRecord (opened role values)
-unfolding opened with_sent octets_in octets_out events_in acts_in answers_in acts_of answers_of encoding_of_items
-begins_reported role values = record { input = refl; output = refl; events = refl; acts = refl; answers = refl; items = refl }
+unfolding opened with_sent octets_in octets_out events_in acts_in answers_in acts_of answers_of
+    encoding_of_items
+begins_reported role values = record {
+  input = refl;
+  output = refl;
+  events = refl;
+  acts = refl;
+  answers = refl;
+  items = refl;
+}
 
 -- The turns of every log.
-pub turns_report : (role : Role) (values : Values) (log : Log) → IsLog role values log → TurnsRecord log
+pub turns_report : (role : Role) (values : Values) (log : Log) → IsLog role values log
+    → TurnsRecord log
 turns_report = every_log TurnsRecord turns_are_steady begins_reported

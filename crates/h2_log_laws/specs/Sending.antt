@@ -5,11 +5,14 @@ use Rattle.h2_frame.specs.Encoding.{payload_of, refusal, IsTyped}
 use Rattle.h2_block.specs.Grouping.{Item, alone, block, is_standalone, max_block_octets}
 use Rattle.h2_block.specs.Spread.{spread_frames, max_payload}
 
--- A frame can be sent that no refusal of writing holds for, whose numbers are those that its types hold, and whose payload has at most 16,384
--- octets; a block on a stream that there is, with as many octets as may be gathered.
+-- A frame can be sent that no refusal of writing holds for, whose numbers are those that its types
+-- hold, and whose payload has at most 16,384 octets; a block on a stream that there is, with as
+-- many octets as may be gathered.
 abbrev pub IsSendable : Item → Type 0
-IsSendable (alone frame) = (is_standalone frame ≡ true) × (refusal frame ≡ None) × IsTyped frame × (length (payload_of frame) ≤ max_payload)
-IsSendable (block stream end octets) = (1 ≤ stream) × (stream < 2 ^ 31) × (length octets ≤ max_block_octets)
+IsSendable (alone frame) = (is_standalone frame ≡ true) × (refusal frame ≡ None) × IsTyped frame
+    × (length (payload_of frame) ≤ max_payload)
+IsSendable (block stream end octets) = (1 ≤ stream) × (stream < 2 ^ 31)
+    × (length octets ≤ max_block_octets)
 
 -- the frames of an item
 abbrev pub frames_of_item : Item → List Frame

@@ -9,7 +9,8 @@ use Rattle.hpack.specs.Choice.{block_of, after_block}
 use Rattle.hpack.specs.Written.{AreOctets}
 use Rattle.hpack.specs.Limits.{after_limit}
 
--- a block of a connection: the limits that its encoder was given since the last one, its fields, and the limit of its reader's decoder
+-- a block of a connection: the limits that its encoder was given since the last one, its fields,
+-- and the limit of its reader's decoder
 pub record Sending : Type 0 where
   pub limits : List ℕ
   pub fields : List Field
@@ -23,25 +24,31 @@ encoder_before encoder sending = fold after_limit encoder sending.limits
 abbrev pub octets_sent : EncoderState → List Sending → List (List ℕ)
 octets_sent encoder [] = []
 octets_sent encoder (sending ∷ others) =
-    block_of (encoder_before encoder sending) sending.fields ∷ octets_sent (after_block (encoder_before encoder sending) sending.fields) others
+    block_of (encoder_before encoder sending) sending.fields ∷ octets_sent (after_block
+    (encoder_before encoder sending) sending.fields) others
 
--- the encoder behind them
+-- the encoder after them
 abbrev pub encoder_after : EncoderState → List Sending → EncoderState
 encoder_after encoder [] = encoder
-encoder_after encoder (sending ∷ others) = encoder_after (after_block (encoder_before encoder sending) sending.fields) others
+encoder_after encoder (sending ∷ others) = encoder_after (after_block
+    (encoder_before encoder sending) sending.fields) others
 
--- At each block the reader's limit isn't below the writer's; limits have 32 bits, fields are octets, and lists are within what strings hold.
+-- At each block the reader's limit isn't below the writer's; limits have 32 bits, fields are
+-- octets, and lists are within what strings hold.
 abbrev pub AreWithin : EncoderState → List Sending → Type 0
 AreWithin encoder [] = Unit {0}
 AreWithin encoder (sending ∷ others) =
-    AllByRecursion (λ limit. limit < 2 ^ 32) sending.limits × AreOctets sending.fields × (list_size sending.fields < 2 ^ 35)
+    AllByRecursion (λ limit. limit < 2 ^ 32) sending.limits × AreOctets sending.fields
+    × (list_size sending.fields < 2 ^ 35)
     × ((encoder_before encoder sending).limit ≤ sending.reader)
     × AreWithin (after_block (encoder_before encoder sending) sending.fields) others
 
--- The octets of blocks, read in order from a table on, say the fields of the blocks, and leave a table.
+-- The octets of blocks, read in order from a table on, say the fields of the blocks, and leave a
+-- table.
 abbrev pub AreRead : Entries → List (List ℕ) → List Sending → Entries → Type 0
 AreRead table [] [] after = after ≡ table
 AreRead table [] (sending ∷ others) after = ⊥
 AreRead table (octets ∷ more) [] after = ⊥
 AreRead table (octets ∷ more) (sending ∷ others) after =
-    (between : Entries) × Block table sending.reader octets sending.fields between × AreRead between more others after
+    (between : Entries) × Block table sending.reader octets sending.fields between
+    × AreRead between more others after

@@ -46,11 +46,13 @@ unfoldable pub answers_of : List (Act × Answer) → List Answer
 answers_of [] = []
 answers_of (call ∷ calls) = shown call.1 ∷ answers_of calls
 
--- The turns tell all of a log, and the output is a client's preface and the items as they are written.
+-- The turns tell all of a log, and the output is a client's preface and the items as they are
+-- written.
 pub record TurnsRecord (log : Log) : Type 0 where
   pub input : octets_in log.turns ≡ log.input
   pub output : octets_out log.turns ≡ log.written
   pub events : events_in log.turns ≡ log.reported
   pub acts : acts_in log.turns ≡ acts_of log.calls
   pub answers : answers_in log.turns ≡ answers_of log.calls
-  pub items : log.written ≡ expected_preface (not (is_server log.role)) ++ encoding_of_items log.sent
+  pub items : log.written ≡ expected_preface (not (is_server log.role))
+      ++ encoding_of_items log.sent

@@ -1,5 +1,5 @@
-//! Laws of the definitions of one end by its log: what follows from them, whatever code keeps to them. Each is the contract of a
-//! function that does nothing.
+//! Laws of the definitions of one end by its log: what follows from them, whatever code keeps to
+//! them. Each is the contract of a function that does nothing.
 #![tactic(auto)]
 
 mod accepts;

@@ -15,18 +15,24 @@ ghost use Rattle.h2_log.specs.Limits.{max_list};
 ghost use Rattle.h2_log.specs.Allowed.{HasAcknowledged, IsReader};
 ghost use Rattle.h2_log_laws.specs.Tables.{Sending, octets_sent, encoder_after, AreWithin, AreRead};
 
-/// What an encoder writes, block by block, with limits that change between blocks, its reader decodes block by block, with the same table
-/// behind each, where the reader's limit is never below the encoder's.
+/// What an encoder writes, block by block, with limits that change between blocks, its reader
+/// decodes block by block, with the same table after each, where the reader's limit is never below
+/// the encoder's.
 pub fn tables_in_step()
-    ensures { (encoder : EncoderState) (sendings : List Sending) → IsValidEncoder encoder → AreWithin encoder sendings
-        → AreRead encoder.table (octets_sent encoder sendings) sendings (encoder_after encoder sendings).table }
+    ensures { (encoder : EncoderState) (sendings : List Sending) → IsValidEncoder encoder
+        → AreWithin encoder sendings
+        → AreRead encoder.table (octets_sent encoder sendings) sendings
+        (encoder_after encoder sendings).table }
 {}
 
-/// The value of a setting that an end has read last is the one in force at its peer, once the peer has read what the end has written, and
-/// the end has acknowledged what it has read. So a table limit and an initial window are the same at both ends.
+/// The value of a setting that an end has read last is the one in force at its peer, once the peer
+/// has read what the end has written, and the end has acknowledged what it has read. So a table
+/// limit and an initial window are the same at both ends.
 pub fn limits_agree()
-    ensures { (id first : ℕ) (role : Role) (received sent unread : List Item) (log : Log) → HasAcknowledged received sent
-        → IsReader role received sent unread log → own_value id first (acked log) log.sent ≡ value_read id first received }
+    ensures { (id first : ℕ) (role : Role) (received sent unread : List Item) (log : Log)
+        → HasAcknowledged received sent
+        → IsReader role received sent unread log → own_value id first (acked log) log.sent
+        ≡ value_read id first received }
 {}
 
 /// A list that an end may send is a block that its peer may gather.
@@ -35,8 +41,10 @@ pub fn block_fits()
         → length (block_of encoder fields) ≤ max_block_octets }
 {}
 
-/// The encoder of a log is one whose blocks are read, and its limit is the peer's table limit that was read last, 4,096 at most.
+/// The encoder of a log is one whose blocks are read, and its limit is the peer's table limit that
+/// was read last, 4,096 at most.
 pub fn encoder_of_a_log()
     ensures { (role : Role) (values : Values) (log : Log) → IsLog role values log
-        → IsValidEncoder log.encoder × (log.encoder.limit ≡ min (value_read 1 4096 log.received) 4096) }
+        → IsValidEncoder log.encoder × (log.encoder.limit
+        ≡ min (value_read 1 4096 log.received) 4096) }
 {}

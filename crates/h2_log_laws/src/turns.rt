@@ -6,8 +6,10 @@ ghost use Rattle.h2_log.specs.Log.{Log};
 ghost use Rattle.h2_log.specs.Histories.{IsLog};
 ghost use Rattle.h2_log_laws.specs.Turns.{TurnsRecord};
 
-/// The turns of a log tell all of it: joined, the octets that came in and those that joined the output; and the events, the calls and their
-/// answers, in order. The output is a client's preface, and the frames of the items that were written.
+/// The turns of a log tell all of it: joined, the octets that came in and those that joined the
+/// output; and the events, the calls and their answers, in order. The output is a client's preface,
+/// and the frames of the items that were written.
 pub fn turns_of_a_log()
-    ensures { (role : Role) (values : Values) (log : Log) → IsLog role values log → TurnsRecord log }
+    ensures { (role : Role) (values : Values) (log : Log) → IsLog role values log
+        → TurnsRecord log }
 {}

@@ -155,7 +155,7 @@ pub second_holds : (a b : Bool) → (a && b) ≡ true → b ≡ true
 second_holds true b is = is
 second_holds false b is = cc
 
--- More is unreturned, or all is returned at once, by the tests.
+-- More credit is unreturned, or all is returned at once, by the tests.
 returned_by : (more : ℕ) (e : End) (b : Bool)
     → (nat_lt 0 more && nat_lt (length e.output.waiting) full_output) ≡ b → Up e
     → Up (if b then return_credit (more_unreturned e more) else more_unreturned e more)
@@ -165,7 +165,7 @@ returned_by more e true is h =
     (second_holds (nat_lt 0 more) (nat_lt (length e.output.waiting) full_output) is)) h
 returned_by more e false is h = h
 
--- More is unreturned, or all is returned at once.
+-- More credit is unreturned, or all is returned at once.
 pub returned_up : (more : ℕ) (e : End) → Up e → Up (add_unreturned more e)
 unfolding add_unreturned
 returned_up more e h =

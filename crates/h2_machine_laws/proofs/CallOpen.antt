@@ -8,7 +8,6 @@ use Rattle.std.proofs.lemmas.Int.{ints}
 use Rattle.std.specs.List.{list_any}
 use Rattle.std.specs.FinMap as map
 use Rattle.hpack.specs.declared.types.field.Field.{Field}
-use Rattle.hpack.specs.Lists.{EncoderState}
 use Rattle.hpack.specs.Choice.{block_of, after_block}
 use Rattle.h2_block.specs.Grouping.{Item, block}
 use Rattle.h2_log.specs.declared.role.Role.{Role}

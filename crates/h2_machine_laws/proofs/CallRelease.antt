@@ -251,7 +251,7 @@ abbrev updates : ℕ → ℕ → Bool → List Item
 updates id count ended = alone (WindowUpdate 0 count) ∷
     (if ended then [] else alone (WindowUpdate id count) ∷ [])
 
--- An active stream stays so after them.
+-- A active stream stays so after them.
 updates_active : (role : Role) (received sent : List Item) (reported : _) (id count : ℕ)
     (ended : Bool)
     → is_active role id received (updates id count ended ++ sent) reported ≡ is_active role id

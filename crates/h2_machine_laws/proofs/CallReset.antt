@@ -119,7 +119,7 @@ kept_all e log id code i h = elim (cases_eq i id) [
       ∙ kept_other e log id code i other h
 ]
 
--- An active stream was reset.
+-- A active stream was reset.
 reset_runs : (e : End) (log : Log) (id code : ℕ) → active log id ≡ true → RepresentsWhileUp e log
     → RepresentsWhileUp (record e {
       streams = record e.streams {
@@ -180,7 +180,7 @@ pub entry_owes : (l r : Bool) (s : StreamView) → l ≡ true → owed_entry (en
 entry_owes true r s is = refl
 entry_owes false r s is = cc
 
--- An active stream is reset, and what it owes is unreturned.
+-- A active stream is reset, and what it owes is unreturned.
 pub reset_up : (e : End) (log base : Log) (id code : ℕ) → active log id ≡ true
     → active base id ≡ true → Up e base
     → Up (reset_stream (queue_output e (alone (Reset id code) ∷ [])) id 0)

@@ -12,7 +12,7 @@ use Rattle.hpack.specs.Choice.{block_of, after_block}
 use Rattle.h2_block.specs.Grouping.{Item, block}
 use Rattle.h2_machine.specs.End.{End, active_entry, owed_entry}
 use Rattle.h2_log.specs.LogView.{log_view, stream_of_log}
-use Rattle.h2_log.specs.Items.{data_on, data_of, ends, resets, total}
+use Rattle.h2_log.specs.Items.{data_on, data_of, ends, total}
 use Rattle.h2_log.specs.Acts.{SendFields, SendData, Count, Done}
 use Rattle.h2_log.specs.Windows.{given_on, given_on_connection, window}
 use Rattle.h2_log.specs.Log.{Log, active, send_window, unreleased, released, max_payload_sent}

@@ -1,6 +1,6 @@
 -- Every log that hasn't failed has what is asked of it; and what each step keeps.
-use Rattle.std.proofs.Common.{◌≡◌, ◌≢◌, ℕ, ◌≤◌, ◌==◌, max, nat_lt, not, ◌&&◌, ◌||◌, Bool, true}
-use Rattle.std.proofs.Common.{false, if◌then◌else◌, List, [], ◌∷◌, ◌++◌, length, Option, Some, None}
+use Rattle.std.proofs.Common.{◌≡◌, ◌≢◌, ℕ, ◌≤◌, ◌==◌, max, nat_lt, ◌&&◌, ◌||◌, Bool, true}
+use Rattle.std.proofs.Common.{false, if◌then◌else◌, List, [], ◌∷◌, ◌++◌, Option, Some, None}
 use Rattle.std.proofs.Common.{refl, sym, ap, ◌∙◌, arith}
 use Rattle.std.specs.List.{list_any}
 use Rattle.std.proofs.lemmas.Bool.{both_ways, or_left, eq-eqb, ne_eqb}
@@ -16,12 +16,12 @@ use Rattle.h2_log.specs.Events.{greatest_processed, processed_by, reports_unproc
 use Rattle.h2_log.specs.Acts.{Values}
 use Rattle.h2_log.specs.Settings.{is_server, settings_count, value_read}
 use Rattle.h2_log.specs.States.{least_block}
-use Rattle.h2_log.specs.Log.{Log, last_processed, next_unprocessed}
+use Rattle.h2_log.specs.Log.{Log, next_unprocessed}
 use Rattle.h2_log.specs.Verdicts.{Verdict, ConnectionFault, StreamFault, NoEvent, Reported}
 use Rattle.h2_log.specs.ItemRules.{Decoded, FrameStep, fails_with, begins_block, completes}
 use Rattle.h2_log.specs.ItemRules.{frame_step, over_limits, replies_to, verdict_by_rules}
 use Rattle.h2_log.specs.ItemRules.{verdict_of}
-use Rattle.h2_log.specs.LogSteps.{read, with_sent, with_reported, with_unreturned, with_failure}
+use Rattle.h2_log.specs.LogSteps.{read, with_sent, with_reported, with_unreturned}
 use Rattle.h2_log.specs.LogSteps.{owed_at_close, with_verdict, with_step, with_frame, used}
 use Rattle.h2_log.specs.LogSteps.{took_none}
 use Rattle.h2_log.specs.ItemEffects.{events_of}

@@ -1,8 +1,7 @@
 -- An end that represents a log and hasn't failed is viewed as the log is: every observation agrees.
-use Rattle.std.proofs.Common.{◌≡◌, ℕ, ◌+◌, ◌==◌, Bool, true, false, if◌then◌else◌, List, length}
-use Rattle.std.proofs.Common.{pos, ◌-ℤ◌, Option, Some, None, is_some, refl, sym, ap, ◌∙◌, arith}
+use Rattle.std.proofs.Common.{◌≡◌, ℕ, ◌+◌, Bool, true, false, if◌then◌else◌, List, length}
+use Rattle.std.proofs.Common.{pos, is_some, refl, ap, ◌∙◌, arith}
 use Rattle.std.proofs.Common.{length-drop}
-use Rattle.std.proofs.Math.Path.{fun_ext}
 use Rattle.std.proofs.lemmas.Int.{ints}
 use Rattle.std.specs.List.{list_any}
 use Rattle.h2_block.specs.Grouping.{Item}
@@ -14,7 +13,6 @@ use Rattle.h2_log.specs.Settings.{is_server}
 use Rattle.h2_log.specs.States.{openings, when}
 use Rattle.h2_log.specs.Windows.{window, given_on_connection, granted_on_connection}
 use Rattle.h2_log.specs.Log.{Log, active, waiting, output, next_number, max_streams, goaway_written}
-use Rattle.h2_log.specs.Log.{max_payload_sent}
 use Rattle.h2_log.specs.LogView.{log_view, stream_of_log}
 use Rattle.h2_log.specs.View.{StreamView, View}
 use Rattle.h2_machine.specs.End.{End, end_view, stream_in, stream_at, number_after}

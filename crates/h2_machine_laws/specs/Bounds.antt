@@ -14,8 +14,8 @@ goaway_size = 17
 abbrev pub max_active : ℕ
 max_active = 1000
 
--- Output waits within its bound, which only the GOAWAY of a connection error passes; no more streams were reset, and no more are active, than
--- may be; and what is in force keeps to that.
+-- Output waits within its bound, which only the GOAWAY of a connection error exceeds; no more
+-- streams were reset, and no more are active, than may be; and what is in force keeps to that.
 pub record IsBounded (e : End) : Type 0 where
   pub up : e.failed ≡ None → length e.output.waiting ≤ max_output
   pub output : length e.output.waiting ≤ max_output + goaway_size
@@ -26,7 +26,7 @@ pub record IsBounded (e : End) : Type 0 where
   pub awaited : (values : Values) → e.own.awaited ≡ Some values → AreInRange values
   pub encoder : IsValidEncoder e.output.encoder
 
--- The connection's window is whole, and nothing is kept of numbers that weren't used.
+-- The connection's receive window is conserved, and nothing is kept of numbers that weren't used.
 pub record KeepsConnectionWindow (e : End) : Type 0 where
   pub whole : ConservesConnectionWindow e
   pub used : NoneAboveHighest e

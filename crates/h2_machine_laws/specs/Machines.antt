@@ -4,7 +4,8 @@ use Rattle.h2_log.specs.Acts.{Act, Answer, Number, Count, Done, OutOfMemory, Ref
 use Rattle.h2_machine.specs.End.{End}
 use Rattle.h2_machine.specs.Machine.{after_call, fail}
 
--- A call that is refused changes nothing; one in which a allocation was refused makes the connection fail; any other is accepted.
+-- A call that is refused changes nothing; one that is out of memory makes the connection fail;
+-- any other is accepted.
 unfoldable pub end_after : End → Act → Answer → End
 end_after e act (Refused refusal) = e
 end_after e act OutOfMemory = fail InternalError e.streams.last_processed e

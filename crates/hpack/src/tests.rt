@@ -5,5 +5,4 @@ mod encoder;
 mod fields;
 mod in_step;
 mod lists;
-mod ring;
 mod static_table;

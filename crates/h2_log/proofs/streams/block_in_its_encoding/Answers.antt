@@ -1,4 +1,4 @@
--- By the lemma on blocks in their spelling.
+-- By the lemma on blocks in their encoding.
 use Rattle.h2_log.proofs.EncodingLemmas.{takes_block_comes}
 use Rattle.h2_log.proofs.streams.block_in_its_encoding.Goals as goal
 

@@ -6,4 +6,5 @@ use Rattle.h2_log_laws.proofs.accepts.first_settings_are_no_fault.Goals as goal
 
 pub returns : goal.returns
 unfolding verdict_by_rules
-returns c = λ role values log ok other nothing. ap verdict_of_fault (first_settings_lem role values log ok nothing)
+returns c = λ role values log ok other nothing. ap verdict_of_fault
+    (first_settings_lem role values log ok nothing)

@@ -8,7 +8,8 @@ pub returns-then-table_limit-gt65536-clause-bad : goal.returns-then-table_limit-
 unfolding first_bad
 returns-then-table_limit-gt65536-clause-bad c = grind (arith, nat_tests)
 
-pub returns-then-initial_window-gt2147483647-clause-bad : goal.returns-then-initial_window-gt2147483647-clause-bad
+pub returns-then-initial_window-gt2147483647-clause-bad
+    : goal.returns-then-initial_window-gt2147483647-clause-bad
 unfolding first_bad
 returns-then-initial_window-gt2147483647-clause-bad c = grind (arith, nat_tests)
 

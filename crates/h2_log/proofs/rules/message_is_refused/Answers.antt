@@ -1,8 +1,0 @@
--- By computing.
-use Rattle.std.proofs.Common.{refl}
-use Rattle.h2_log.proofs.Computing.{computing}
-use Rattle.h2_log.proofs.rules.message_is_refused.Goals as goal
-
-pub returns : goal.returns
-unfolding computing
-returns c = (refl, refl, (refl, refl, refl, refl))
