@@ -5,130 +5,48 @@ use Rattle.hpack_text.specs.Integers.{continuation_of, integer}
 use Rattle.hpack_text.specs.Strings.{string}
 use Rattle.hpack.specs.Sizes.{fit}
 use Rattle.hpack.specs.Static.{static_entries, entry}
-use Rattle.hpack.specs.Choice.{least_index, choice, encoding_of_fields, after_fields, size_updates, block_of, after_block}
+use Rattle.hpack.specs.Choice.{least_index, choice, encoding_of_fields, after_fields, size_updates}
+use Rattle.hpack.specs.Choice.{block_of, after_block}
 use Rattle.h2_frame.specs.Codes.{kind_of}
 use Rattle.h2_frame.specs.Heads.{head_of, fits_stream, fits_length, form_fault, head_fault}
 use Rattle.h2_frame.specs.Pairs.{pairs_in}
 use Rattle.h2_frame.specs.Frames.{pads_too_much, payload_fault}
-use Rattle.h2_frame.specs.Encoding.{kind_of_frame, stream_of, flags_of, payload_of, encoding_of, has_good_values, refusal}
+use Rattle.h2_frame.specs.Encoding.{kind_of_frame, stream_of, flags_of, payload_of, encoding_of}
+use Rattle.h2_frame.specs.Encoding.{has_good_values, refusal}
 use Rattle.h2_wire.specs.Streams.{preface, expected_preface}
 use Rattle.h2_block.specs.Grouping.{is_standalone, fault_outside, fault_inside}
 use Rattle.h2_block.specs.Spread.{continuations, spread_frames}
 use Rattle.h2_log.specs.Acts.{IsTypedAct}
-use Rattle.h2_log.specs.Log.{
-  active_count,
-  allowed_by,
-  last_processed,
-  least_goaway,
-  max_payload_sent_by,
-  max_streams,
-  newest_ping,
-  next_active,
-  next_number,
-  next_unprocessed,
-  output,
-  owed,
-  released,
-  unreleased,
-  waiting,
-}
-use Rattle.h2_log.specs.States.{
-  any_block,
-  count_below,
-  is_above,
-  is_active,
-  is_closed_by_us,
-  is_over,
-  is_used,
-  least_block,
-}
+use Rattle.h2_log.specs.Log.{active_count, allowed_by, last_processed, least_goaway}
+use Rattle.h2_log.specs.Log.{max_payload_sent_by, max_streams, newest_ping, next_active}
+use Rattle.h2_log.specs.Log.{next_number, next_unprocessed, output, owed, released, unreleased}
+use Rattle.h2_log.specs.Log.{waiting}
+use Rattle.h2_log.specs.States.{any_block, count_below, is_above, is_active, is_closed_by_us}
+use Rattle.h2_log.specs.States.{is_over, is_used, least_block}
 use Rattle.h2_log.specs.WrittenFrames.{before, takes, takes_block}
 use Rattle.h2_log.specs.LogCalls.{before_put_out, opened, refused_with, with_call, with_items}
-use Rattle.h2_log.specs.Verdicts.{
-  block_verdict,
-  connection_update_verdict,
-  data_verdict,
-  opening_verdict,
-  reset_verdict,
-  update_verdict,
-}
-use Rattle.h2_log.specs.CallRules.{
-  changed_pairs,
-  conditions,
-  data_frames,
-  data_items,
-  encoder_after_call,
-  first_of,
-  items_of,
-  may_lack_memory,
-  opening_pairs,
-  refuse_fault,
-  stream_of_act,
-}
-use Rattle.h2_log.specs.Items.{
-  data_of,
-  data_on,
-  encoding_of_item,
-  encoding_of_items,
-  ends,
-  greatest_block,
-  increment_on,
-  is_block_on,
-  is_goaway,
-  is_goaway_below,
-  one_answer,
-  one_ping,
-  one_reset,
-  opens_from,
-  resets,
-  stream_of_item,
-  total,
-}
+use Rattle.h2_log.specs.Verdicts.{block_verdict, connection_update_verdict, data_verdict}
+use Rattle.h2_log.specs.Verdicts.{opening_verdict, reset_verdict, update_verdict}
+use Rattle.h2_log.specs.CallRules.{changed_pairs, conditions, data_frames, data_items}
+use Rattle.h2_log.specs.CallRules.{encoder_after_call, first_of, items_of, may_lack_memory}
+use Rattle.h2_log.specs.CallRules.{opening_pairs, refuse_fault, stream_of_act}
+use Rattle.h2_log.specs.Items.{data_of, data_on, encoding_of_item, encoding_of_items, ends}
+use Rattle.h2_log.specs.Items.{greatest_block, increment_on, is_block_on, is_goaway}
+use Rattle.h2_log.specs.Items.{is_goaway_below, one_answer, one_ping, one_reset, opens_from, resets}
+use Rattle.h2_log.specs.Items.{stream_of_item, total}
 use Rattle.h2_log.specs.ItemEffects.{discarded_flow, encoder_after_settings, events_of}
 use Rattle.h2_log.specs.Configs.{first_bad}
-use Rattle.h2_log.specs.Events.{
-  flow_on,
-  greatest_processed,
-  one_acked,
-  one_pong,
-  processed_by,
-  reported_total,
-  reports_unprocessed,
-}
-use Rattle.h2_log.specs.ItemRules.{
-  frame_step,
-  grouped,
-  grouping_step,
-  may_be_first,
-  opened_by,
-  over_limits,
-  replies_to,
-  settings_fault,
-  verdict_by_rules,
-  verdict_of,
-}
+use Rattle.h2_log.specs.Events.{flow_on, greatest_processed, one_acked, one_pong, processed_by}
+use Rattle.h2_log.specs.Events.{reported_total, reports_unprocessed}
+use Rattle.h2_log.specs.ItemRules.{frame_step, grouped, grouping_step, may_be_first, opened_by}
+use Rattle.h2_log.specs.ItemRules.{over_limits, replies_to, settings_fault, verdict_by_rules}
+use Rattle.h2_log.specs.ItemRules.{verdict_of}
 use Rattle.h2_log.specs.Windows.{given_on, given_on_connection, granted_on, granted_on_connection}
-use Rattle.h2_log.specs.Settings.{
-  one_ack,
-  one_settings,
-  payload_limit,
-  settings_count,
-  up_to_settings,
-  value_after,
-  value_fault,
-  value_read,
-}
+use Rattle.h2_log.specs.Settings.{one_ack, one_settings, payload_limit, settings_count}
+use Rattle.h2_log.specs.Settings.{up_to_settings, value_after, value_fault, value_read}
 use Rattle.h2_log.specs.LogView.{overflows}
-use Rattle.h2_log.specs.LogSteps.{
-  owed_at_close,
-  used,
-  with_frame,
-  with_reported,
-  with_sent,
-  with_step,
-  with_unreturned,
-  with_verdict,
-}
+use Rattle.h2_log.specs.LogSteps.{owed_at_close, used, with_frame, with_reported, with_sent}
+use Rattle.h2_log.specs.LogSteps.{with_step, with_unreturned, with_verdict}
 use Rattle.h2_log.proofs.examples.Octets.{octets_after}
 
 -- opens all that computes

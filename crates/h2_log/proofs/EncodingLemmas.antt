@@ -1,44 +1,18 @@
 -- A frame that comes in the encoding that is written is cut whole, where nothing stands between it
 -- and the frames before it.
-use Rattle.std.proofs.Common.{
-  ◌≡◌,
-  ℕ,
-  ◌+◌,
-  ◌≤◌,
-  ◌<◌,
-  ◌==◌,
-  nat_lt,
-  nat_le,
-  ◌&&◌,
-  Bool,
-  true,
-  false,
-  List,
-  [],
-  ◌∷◌,
-  ◌++◌,
-  length,
-  Option,
-  Some,
-  None,
-  refl,
-  sym,
-  ◌∙◌,
-  subst,
-  arith,
-  inl,
-  inr,
-  append-nil,
-  length-append,
-}
+use Rattle.std.proofs.Common.{◌≡◌, ℕ, ◌+◌, ◌≤◌, ◌<◌, ◌==◌, nat_lt, nat_le, ◌&&◌, Bool, true, false}
+use Rattle.std.proofs.Common.{List, [], ◌∷◌, ◌++◌, length, Option, Some, None, refl, sym, ◌∙◌}
+use Rattle.std.proofs.Common.{subst, arith, inl, inr, append-nil, length-append}
 use Rattle.std.proofs.lemmas.Bool.Decides.{nat_tests}
 use Rattle.hpack.specs.declared.types.field.Field.{Field}
 use Rattle.hpack.specs.Tables.{Entries}
 use Rattle.h2_frame.specs.Frames.{Frame, Headers}
 use Rattle.h2_frame.specs.Encoding.{payload_of, encoding_of, refusal, IsTyped}
 use Rattle.h2_frame.proofs.EncodingLemmas.{encoding_encodes, sound_head, sound_payload}
-use Rattle.h2_wire.specs.Streams.{expected_preface, Limits, IsFrame, AreFrames, IsSound, IsAfterPreface, Frames}
-use Rattle.h2_wire.proofs.StreamLemmas.{past_not_in_preface, past_frame, IsSound-push, IsPartial-empty}
+use Rattle.h2_wire.specs.Streams.{expected_preface, Limits, IsFrame, AreFrames, IsSound}
+use Rattle.h2_wire.specs.Streams.{IsAfterPreface, Frames}
+use Rattle.h2_wire.proofs.StreamLemmas.{past_not_in_preface, past_frame, IsSound-push}
+use Rattle.h2_wire.proofs.StreamLemmas.{IsPartial-empty}
 use Rattle.h2_log.specs.declared.role.Role.{Role}
 use Rattle.h2_log.specs.Acts.{Values}
 use Rattle.h2_log.specs.Settings.{is_server, payload_limit}

@@ -1,31 +1,8 @@
 -- What a log keeps of its stream: items, calls and faults leave the octets, their limits, their
 -- frames and the rest as they are; so the frames of a log that comes about are those of its octets.
-use Rattle.std.proofs.Common.{
-  ◌≡◌,
-  ℕ,
-  ◌+◌,
-  ◌==◌,
-  nat_lt,
-  not,
-  ◌&&◌,
-  Bool,
-  true,
-  false,
-  if◌then◌else◌,
-  List,
-  [],
-  ◌∷◌,
-  ◌++◌,
-  length,
-  Option,
-  Some,
-  None,
-  refl,
-  ◌∙◌,
-  arith,
-  inl,
-  inr,
-}
+use Rattle.std.proofs.Common.{◌≡◌, ℕ, ◌+◌, ◌==◌, nat_lt, not, ◌&&◌, Bool, true, false}
+use Rattle.std.proofs.Common.{if◌then◌else◌, List, [], ◌∷◌, ◌++◌, length, Option, Some, None, refl}
+use Rattle.std.proofs.Common.{◌∙◌, arith, inl, inr}
 use Rattle.h2_frame.specs.declared.code.Code.{Code}
 use Rattle.h2_frame.specs.declared.code.Code.TheVariants.{ProtocolError, InternalError}
 use Rattle.h2_frame.specs.Frames.{Frame}
@@ -39,47 +16,16 @@ use Rattle.h2_log.specs.Settings.{is_server}
 use Rattle.h2_log.specs.Log.{Log, last_processed, waiting}
 use Rattle.h2_log.specs.Verdicts.{Verdict, ConnectionFault}
 use Rattle.h2_log.specs.LogView.{log_view}
-use Rattle.h2_log.specs.ItemRules.{
-  Decoded,
-  replies_to,
-  FrameStep,
-  fails_with,
-  begins_block,
-  completes,
-  frame_step,
-}
-use Rattle.h2_log.specs.Histories.{
-  begins,
-  IsLog,
-  took_some,
-  took_one,
-  met_fault,
-  ran_out_of_memory,
-  reported_one,
-  called_one,
-}
-use Rattle.h2_log.specs.LogSteps.{
-  read,
-  with_sent,
-  with_reported,
-  with_credit_returned,
-  with_unreturned,
-  with_failure,
-  with_verdict,
-  used,
-  with_step,
-  with_frame,
-  took_none,
-}
+use Rattle.h2_log.specs.ItemRules.{Decoded, replies_to, FrameStep, fails_with, begins_block}
+use Rattle.h2_log.specs.ItemRules.{completes, frame_step}
+use Rattle.h2_log.specs.Histories.{begins, IsLog, took_some, took_one, met_fault, ran_out_of_memory}
+use Rattle.h2_log.specs.Histories.{reported_one, called_one}
+use Rattle.h2_log.specs.LogSteps.{read, with_sent, with_reported, with_credit_returned}
+use Rattle.h2_log.specs.LogSteps.{with_unreturned, with_failure, with_verdict, used, with_step}
+use Rattle.h2_log.specs.LogSteps.{with_frame, took_none}
 use Rattle.h2_log.specs.Limits.{full_output}
-use Rattle.h2_log.specs.LogCalls.{
-  called,
-  with_items,
-  refused_with,
-  before_put_out,
-  with_call,
-  opened,
-}
+use Rattle.h2_log.specs.LogCalls.{called, with_items, refused_with, before_put_out, with_call}
+use Rattle.h2_log.specs.LogCalls.{opened}
 use Rattle.h2_log.specs.CallRules.{items_of}
 
 -- The second log has the stream of the first, and is up only where that is.

@@ -1,42 +1,16 @@
 -- What an end may write, by what it has read and written before; and the lists that come about so.
 -- They say nothing of octets and calls: each call that is accepted, and each reply, keeps to this.
-use Rattle.std.specs.Prelude.{
-  ◌≡◌,
-  ◌≢◌,
-  ◌⊎◌,
-  ℕ,
-  ◌+◌,
-  ◌%◌,
-  ◌≤◌,
-  ◌<◌,
-  Bool,
-  true,
-  false,
-  List,
-  [],
-  ◌∷◌,
-  ◌++◌,
-  length,
-}
+use Rattle.std.specs.Prelude.{◌≡◌, ◌≢◌, ◌⊎◌, ℕ, ◌+◌, ◌%◌, ◌≤◌, ◌<◌, Bool, true, false, List, []}
+use Rattle.std.specs.Prelude.{◌∷◌, ◌++◌, length}
 use Rattle.std.specs.List.{list_any}
-use Rattle.h2_frame.specs.Frames.{Data, Headers, Priority, Reset, Settings, Ping, GoAway, WindowUpdate, Continuation, Unknown}
+use Rattle.h2_frame.specs.Frames.{Data, Headers, Priority, Reset, Settings, Ping, GoAway}
+use Rattle.h2_frame.specs.Frames.{WindowUpdate, Continuation, Unknown}
 use Rattle.h2_frame.specs.Encoding.{payload_of}
 use Rattle.h2_block.specs.Grouping.{Item, alone, block, max_block_octets}
 use Rattle.h2_log.specs.declared.role.Role.{Role}
 use Rattle.h2_log.specs.declared.role.Role.TheVariants.{Client}
-use Rattle.h2_log.specs.Items.{
-  data_on,
-  data_of,
-  increment_on,
-  ends,
-  resets,
-  one_ping,
-  one_answer,
-  is_goaway,
-  is_goaway_below,
-  total,
-  greatest_block,
-}
+use Rattle.h2_log.specs.Items.{data_on, data_of, increment_on, ends, resets, one_ping, one_answer}
+use Rattle.h2_log.specs.Items.{is_goaway, is_goaway_below, total, greatest_block}
 use Rattle.h2_log.specs.Acts.{Values, AreInRange}
 use Rattle.h2_log.specs.Settings.{peer_of, settings_count, one_ack}
 use Rattle.h2_log.specs.Events.{reports_unprocessed}

@@ -1,36 +1,7 @@
 -- What an end answers to a call, and what it writes for it, by what it has so far.
-use Rattle.std.specs.Prelude.{
-  ℕ,
-  zero,
-  suc,
-  ◌+◌,
-  ◌==◌,
-  nat_lt,
-  nat_le,
-  not,
-  ◌||◌,
-  ◌&&◌,
-  min,
-  Bool,
-  false,
-  true,
-  if◌then◌else◌,
-  ℤ,
-  pos,
-  negsuc,
-  List,
-  [],
-  ◌∷◌,
-  ◌++◌,
-  length,
-  take,
-  drop,
-  Option,
-  Some,
-  None,
-  is_some,
-  option_map,
-}
+use Rattle.std.specs.Prelude.{ℕ, zero, suc, ◌+◌, ◌==◌, nat_lt, nat_le, not, ◌||◌, ◌&&◌, min, Bool}
+use Rattle.std.specs.Prelude.{false, true, if◌then◌else◌, ℤ, pos, negsuc, List, [], ◌∷◌, ◌++◌}
+use Rattle.std.specs.Prelude.{length, take, drop, Option, Some, None, is_some, option_map}
 use Rattle.hpack.specs.declared.types.field.Field.{Field}
 use Rattle.hpack.specs.Lists.{EncoderState, list_size}
 use Rattle.hpack.specs.Choice.{block_of, after_block}
@@ -41,38 +12,14 @@ use Rattle.h2_block.specs.Grouping.{Item, alone, block}
 use Rattle.h2_log.specs.declared.role.Role.{Role}
 use Rattle.h2_log.specs.declared.role.Role.TheVariants.{Client, Server}
 use Rattle.h2_log.specs.declared.refusal.Refusal.{Refusal}
-use Rattle.h2_log.specs.declared.refusal.Refusal.TheVariants.{
-  Closed,
-  NoSuchStream,
-  Ended,
-  TooManyStreams,
-  StreamsExhausted,
-  GoingAway,
-  OutputFull,
-  PingWaits,
-  TooManyResets,
-  ListTooLarge,
-  NotOwed,
-  SettingsWait,
-}
-use Rattle.h2_log.specs.Acts.{
-  Values,
-  Act,
-  Answer,
-  Open,
-  SendFields,
-  SendData,
-  Release,
-  ResetStream,
-  Refuse,
-  SendPing,
-  SendGoAway,
-  PutOut,
-  ChangeSettings,
-  Number,
-  Count,
-  Done,
-}
+use Rattle.h2_log.specs.declared.refusal.Refusal.TheVariants.{Closed, NoSuchStream, Ended}
+use Rattle.h2_log.specs.declared.refusal.Refusal.TheVariants.{TooManyStreams, StreamsExhausted}
+use Rattle.h2_log.specs.declared.refusal.Refusal.TheVariants.{GoingAway, OutputFull, PingWaits}
+use Rattle.h2_log.specs.declared.refusal.Refusal.TheVariants.{TooManyResets, ListTooLarge, NotOwed}
+use Rattle.h2_log.specs.declared.refusal.Refusal.TheVariants.{SettingsWait}
+use Rattle.h2_log.specs.Acts.{Values, Act, Answer, Open, SendFields, SendData, Release, ResetStream}
+use Rattle.h2_log.specs.Acts.{Refuse, SendPing, SendGoAway, PutOut, ChangeSettings, Number, Count}
+use Rattle.h2_log.specs.Acts.{Done}
 use Rattle.h2_log.specs.Settings.{is_server}
 use Rattle.h2_log.specs.States.{greatest_number}
 use Rattle.h2_log.specs.Limits.{max_list, full_output, max_output, max_resets, max_data}

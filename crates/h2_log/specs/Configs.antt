@@ -1,11 +1,8 @@
 -- The values of an end's own settings that are allowed (own).
 use Rattle.std.specs.Prelude.{ℕ, ◌-◌, ◌^◌, nat_lt, ◌||◌, if◌then◌else◌, Option, Some, None}
 use Rattle.h2_log.specs.declared.config.BadConfig.{BadConfig}
-use Rattle.h2_log.specs.declared.config.BadConfig.TheVariants.{
-  TableLimit,
-  InitialWindow,
-  MaxStreams,
-}
+use Rattle.h2_log.specs.declared.config.BadConfig.TheVariants.{TableLimit, InitialWindow}
+use Rattle.h2_log.specs.declared.config.BadConfig.TheVariants.{MaxStreams}
 
 -- the first value that is out of its bounds: a table limit from 0 to 65,536, an initial window from
 -- 1 to 2^31 - 1, a number of streams from 100 to 1,000

@@ -1,24 +1,7 @@
 -- The logs that come about: whatever octets come and whatever calls are made, an end's log is one
 -- of these.
-use Rattle.std.specs.Prelude.{
-  ◌≡◌,
-  ◌≢◌,
-  ◌==◌,
-  ◌&&◌,
-  not,
-  Bool,
-  true,
-  false,
-  ℕ,
-  List,
-  [],
-  ◌∷◌,
-  ◌++◌,
-  length,
-  Option,
-  Some,
-  None,
-}
+use Rattle.std.specs.Prelude.{◌≡◌, ◌≢◌, ◌==◌, ◌&&◌, not, Bool, true, false, ℕ, List, [], ◌∷◌, ◌++◌}
+use Rattle.std.specs.Prelude.{length, Option, Some, None}
 use Rattle.hpack.specs.Blocks.{Block}
 use Rattle.hpack.specs.Lists.{NoBlock}
 use Rattle.h2_frame.specs.Frames.{Frame}
@@ -30,22 +13,10 @@ use Rattle.h2_log.specs.Acts.{Values, AreInRange, Act, Answer, IsTypedAct}
 use Rattle.h2_log.specs.Settings.{is_server, own_value}
 use Rattle.h2_log.specs.Log.{Log, acked, next_unprocessed}
 use Rattle.h2_log.specs.LogView.{log_view}
-use Rattle.h2_log.specs.ItemRules.{
-  Decoded,
-  FrameStep,
-  fails_with,
-  begins_block,
-  completes,
-  frame_step,
-}
-use Rattle.h2_log.specs.LogSteps.{
-  limits_from,
-  took_part,
-  took_frame,
-  took_fault,
-  took_out_of_memory,
-  took_none,
-}
+use Rattle.h2_log.specs.ItemRules.{Decoded, FrameStep, fails_with, begins_block, completes}
+use Rattle.h2_log.specs.ItemRules.{frame_step}
+use Rattle.h2_log.specs.LogSteps.{limits_from, took_part, took_frame, took_fault}
+use Rattle.h2_log.specs.LogSteps.{took_out_of_memory, took_none}
 use Rattle.h2_log.specs.LogCalls.{MayAnswer, with_call, opened}
 
 -- the limit of the peer's table of fields: the own value 1 that is in force (RFC 9113, section

@@ -1,20 +1,6 @@
 -- What follows from an item and its verdict: events, tables, and credit that nobody will release.
-use Rattle.std.specs.Prelude.{
-  ℕ,
-  ◌==◌,
-  min,
-  Bool,
-  true,
-  false,
-  if◌then◌else◌,
-  List,
-  [],
-  ◌∷◌,
-  length,
-  Option,
-  Some,
-  None,
-}
+use Rattle.std.specs.Prelude.{ℕ, ◌==◌, min, Bool, true, false, if◌then◌else◌, List, [], ◌∷◌, length}
+use Rattle.std.specs.Prelude.{Option, Some, None}
 use Rattle.hpack.specs.declared.types.field.Field.{Field}
 use Rattle.hpack.specs.Tables.{Entries}
 use Rattle.hpack.specs.Lists.{EncoderState}
@@ -23,15 +9,8 @@ use Rattle.h2_frame.specs.Frames.{Data, Reset, Settings, Ping, GoAway}
 use Rattle.h2_frame.specs.Encoding.{payload_of}
 use Rattle.h2_block.specs.Grouping.{Item, alone, block}
 use Rattle.h2_log.specs.Items.{stream_of_item, data_of}
-use Rattle.h2_log.specs.Events.{
-  Event,
-  FieldsEvent,
-  DataEvent,
-  ResetEvent,
-  GoAwayEvent,
-  AckedEvent,
-  PongEvent,
-}
+use Rattle.h2_log.specs.Events.{Event, FieldsEvent, DataEvent, ResetEvent, GoAwayEvent, AckedEvent}
+use Rattle.h2_log.specs.Events.{PongEvent}
 use Rattle.h2_log.specs.View.{View}
 use Rattle.h2_frame.specs.Codes.{code_number}
 use Rattle.h2_log.specs.Verdicts.{Verdict, ConnectionFault, StreamFault, NoEvent, Reported}

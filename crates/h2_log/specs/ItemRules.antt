@@ -1,44 +1,17 @@
 -- The verdict on an item that comes next, by what an end has so far (RFC 9113, sections 3.4, 5.1, 6
 -- and 10.5).
-use Rattle.std.specs.Prelude.{
-  ℕ,
-  ◌+◌,
-  ◌%◌,
-  ◌==◌,
-  nat_lt,
-  nat_le,
-  not,
-  ◌||◌,
-  ◌&&◌,
-  Bool,
-  true,
-  false,
-  if◌then◌else◌,
-  ℤ,
-  pos,
-  ◌+ℤ◌,
-  int_lt,
-  List,
-  [],
-  ◌∷◌,
-  ◌++◌,
-  length,
-  Option,
-  Some,
-  None,
-}
+use Rattle.std.specs.Prelude.{ℕ, ◌+◌, ◌%◌, ◌==◌, nat_lt, nat_le, not, ◌||◌, ◌&&◌, Bool, true, false}
+use Rattle.std.specs.Prelude.{if◌then◌else◌, ℤ, pos, ◌+ℤ◌, int_lt, List, [], ◌∷◌, ◌++◌, length}
+use Rattle.std.specs.Prelude.{Option, Some, None}
 use Rattle.hpack.specs.declared.types.field.Field.{Field}
 use Rattle.hpack.specs.Tables.{Entries}
 use Rattle.hpack.specs.Lists.{list_size}
 use Rattle.hpack.specs.Choice.{same_octets}
 use Rattle.h2_frame.specs.declared.code.Code.{Code}
-use Rattle.h2_frame.specs.declared.code.Code.TheVariants.{
-  ProtocolError,
-  FlowControlError,
-  CompressionError,
-  EnhanceYourCalm,
-}
-use Rattle.h2_frame.specs.Frames.{Frame, Data, Headers, Priority, Reset, Settings, Ping, GoAway, WindowUpdate, Continuation, Unknown}
+use Rattle.h2_frame.specs.declared.code.Code.TheVariants.{ProtocolError, FlowControlError}
+use Rattle.h2_frame.specs.declared.code.Code.TheVariants.{CompressionError, EnhanceYourCalm}
+use Rattle.h2_frame.specs.Frames.{Frame, Data, Headers, Priority, Reset, Settings, Ping, GoAway}
+use Rattle.h2_frame.specs.Frames.{WindowUpdate, Continuation, Unknown}
 use Rattle.h2_frame.specs.Encoding.{payload_of}
 use Rattle.h2_block.specs.declared.fault.BlockFault.{BlockFault}
 use Rattle.h2_block.specs.Grouping.{Item, alone, block, Begun, next_fault}
@@ -51,7 +24,9 @@ use Rattle.h2_log.specs.Windows.{greatest_window}
 use Rattle.h2_log.specs.Limits.{max_list, max_output, max_resets}
 use Rattle.h2_log.specs.View.{StreamView, View, ended_in}
 use Rattle.h2_frame.specs.Codes.{code_number}
-use Rattle.h2_log.specs.Verdicts.{Verdict, ConnectionFault, StreamFault, NoEvent, Reported, data_verdict, reset_verdict, connection_update_verdict, update_verdict, block_verdict}
+use Rattle.h2_log.specs.Verdicts.{Verdict, ConnectionFault, StreamFault, NoEvent, Reported}
+use Rattle.h2_log.specs.Verdicts.{data_verdict, reset_verdict, connection_update_verdict}
+use Rattle.h2_log.specs.Verdicts.{update_verdict, block_verdict}
 
 -- what a field block decodes to: its fields, and the table after it
 pub record Decoded : Type 0 where

@@ -1,24 +1,7 @@
 -- What items do to streams and windows: an item is a frame that is no part of a block, or a whole
 -- field block. Lists of items have the newest first.
-use Rattle.std.specs.Prelude.{
-  ℕ,
-  ◌+◌,
-  ◌%◌,
-  ◌==◌,
-  nat_lt,
-  nat_le,
-  max,
-  Bool,
-  true,
-  false,
-  ◌&&◌,
-  if◌then◌else◌,
-  List,
-  [],
-  ◌∷◌,
-  ◌++◌,
-  length,
-}
+use Rattle.std.specs.Prelude.{ℕ, ◌+◌, ◌%◌, ◌==◌, nat_lt, nat_le, max, Bool, true, false, ◌&&◌}
+use Rattle.std.specs.Prelude.{if◌then◌else◌, List, [], ◌∷◌, ◌++◌, length}
 use Rattle.h2_frame.specs.Frames.{Data, Reset, Ping, GoAway, WindowUpdate}
 use Rattle.h2_frame.specs.Encoding.{payload_of, stream_of, encoding_of}
 use Rattle.h2_block.specs.Grouping.{Item, alone, block}

@@ -1,29 +1,7 @@
 -- The log of one end: what it has read, written, reported and been asked so far; and what follows
 -- from it for whoever asks.
-use Rattle.std.specs.Prelude.{
-  ℕ,
-  ◌+◌,
-  ◌-◌,
-  ◌^◌,
-  ◌==◌,
-  nat_lt,
-  ◌||◌,
-  ◌&&◌,
-  min,
-  max,
-  Bool,
-  false,
-  if◌then◌else◌,
-  ℤ,
-  List,
-  [],
-  ◌∷◌,
-  length,
-  Option,
-  Some,
-  None,
-  is_some,
-}
+use Rattle.std.specs.Prelude.{ℕ, ◌+◌, ◌-◌, ◌^◌, ◌==◌, nat_lt, ◌||◌, ◌&&◌, min, max, Bool, false}
+use Rattle.std.specs.Prelude.{if◌then◌else◌, ℤ, List, [], ◌∷◌, length, Option, Some, None, is_some}
 use Rattle.std.specs.List.{list_any}
 use Rattle.hpack.specs.Tables.{Entries}
 use Rattle.hpack.specs.Lists.{EncoderState}
@@ -32,41 +10,16 @@ use Rattle.h2_frame.specs.Frames.{Frame, Ping, GoAway}
 use Rattle.h2_wire.specs.Streams.{Limits}
 use Rattle.h2_block.specs.Grouping.{Item, alone, Begun}
 use Rattle.h2_log.specs.declared.role.Role.{Role}
-use Rattle.h2_log.specs.Items.{
-  data_on,
-  data_of,
-  one_reset,
-  one_ping,
-  is_goaway,
-  total,
-  greatest_block,
-}
-use Rattle.h2_log.specs.Events.{
-  Event,
-  flow_on,
-  one_acked,
-  one_pong,
-  reported_total,
-  greatest_processed,
-}
+use Rattle.h2_log.specs.Items.{data_on, data_of, one_reset, one_ping, is_goaway, total}
+use Rattle.h2_log.specs.Items.{greatest_block}
+use Rattle.h2_log.specs.Events.{Event, flow_on, one_acked, one_pong, reported_total}
+use Rattle.h2_log.specs.Events.{greatest_processed}
 use Rattle.h2_log.specs.Acts.{Act, Answer, Turn, Release, Done}
 use Rattle.h2_log.specs.Settings.{is_server, value_read, settings_count, own_value}
-use Rattle.h2_log.specs.States.{
-  greatest_number,
-  State,
-  is_active,
-  state_of,
-  openings,
-  count_below,
-  least_block,
-}
-use Rattle.h2_log.specs.Windows.{
-  send_window_of,
-  connection_send_window,
-  recv_window_of,
-  given_on,
-  given_on_connection,
-}
+use Rattle.h2_log.specs.States.{greatest_number, State, is_active, state_of, openings, count_below}
+use Rattle.h2_log.specs.States.{least_block}
+use Rattle.h2_log.specs.Windows.{send_window_of, connection_send_window, recv_window_of, given_on}
+use Rattle.h2_log.specs.Windows.{given_on_connection}
 
 pub record Log : Type 0 where
   pub role : Role

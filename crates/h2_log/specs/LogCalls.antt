@@ -1,20 +1,6 @@
 -- What an end's log is after a call with its answer, and at first.
-use Rattle.std.specs.Prelude.{
-  ◌≡◌,
-  ℕ,
-  ◌+◌,
-  not,
-  false,
-  true,
-  if◌then◌else◌,
-  List,
-  [],
-  ◌∷◌,
-  ◌++◌,
-  Option,
-  Some,
-  None,
-}
+use Rattle.std.specs.Prelude.{◌≡◌, ℕ, ◌+◌, not, false, true, if◌then◌else◌, List, [], ◌∷◌, ◌++◌}
+use Rattle.std.specs.Prelude.{Option, Some, None}
 use Rattle.hpack.specs.Lists.{empty_table}
 use Rattle.h2_frame.specs.declared.code.Code.{Code}
 use Rattle.h2_frame.specs.declared.code.Code.TheVariants.{InternalError}
@@ -22,41 +8,16 @@ use Rattle.h2_frame.specs.Frames.{Settings}
 use Rattle.h2_wire.specs.Streams.{expected_preface}
 use Rattle.h2_block.specs.Grouping.{alone}
 use Rattle.h2_log.specs.Items.{encoding_of_items}
-use Rattle.h2_log.specs.Acts.{
-  shown,
-  Values,
-  Act,
-  Answer,
-  Out,
-  Refuse,
-  PutOut,
-  Count,
-  OutOfMemory,
-  Refused,
-  Called,
-  Answered,
-}
+use Rattle.h2_log.specs.Acts.{shown, Values, Act, Answer, Out, Refuse, PutOut, Count, OutOfMemory}
+use Rattle.h2_log.specs.Acts.{Refused, Called, Answered}
 use Rattle.h2_log.specs.Settings.{is_server}
 use Rattle.h2_log.specs.Log.{Log, last_processed}
 use Rattle.h2_log.specs.LogView.{log_view}
-use Rattle.h2_log.specs.CallRules.{
-  refusal_of,
-  answer_of,
-  items_of,
-  refuse_fault,
-  stream_of_act,
-  encoder_after_call,
-  may_lack_memory,
-  returns_before_put_out,
-  opening_pairs,
-}
-use Rattle.h2_log.specs.LogSteps.{
-  with_sent,
-  with_unreturned,
-  with_credit_returned,
-  owed_at_close,
-  with_failure,
-}
+use Rattle.h2_log.specs.CallRules.{refusal_of, answer_of, items_of, refuse_fault, stream_of_act}
+use Rattle.h2_log.specs.CallRules.{encoder_after_call, may_lack_memory, returns_before_put_out}
+use Rattle.h2_log.specs.CallRules.{opening_pairs}
+use Rattle.h2_log.specs.LogSteps.{with_sent, with_unreturned, with_credit_returned, owed_at_close}
+use Rattle.h2_log.specs.LogSteps.{with_failure}
 use Rattle.h2_log.specs.declared.role.Role.{Role}
 use Rattle.h2_log.specs.declared.refusal.Refusal.{Refusal}
 use Rattle.h2_log.specs.declared.refusal.Refusal.TheVariants.{Memory}

@@ -1,25 +1,6 @@
 -- What an end's log is after what it reads: octets, frames and items.
-use Rattle.std.specs.Prelude.{
-  map as each,
-  ℕ,
-  ◌+◌,
-  ◌&&◌,
-  nat_le,
-  not,
-  max,
-  Bool,
-  true,
-  false,
-  if◌then◌else◌,
-  List,
-  [],
-  ◌∷◌,
-  ◌++◌,
-  length,
-  Option,
-  Some,
-  None,
-}
+use Rattle.std.specs.Prelude.{map as each, ℕ, ◌+◌, ◌&&◌, nat_le, not, max, Bool, true, false}
+use Rattle.std.specs.Prelude.{if◌then◌else◌, List, [], ◌∷◌, ◌++◌, length, Option, Some, None}
 use Rattle.h2_frame.specs.declared.code.Code.{Code}
 use Rattle.h2_frame.specs.declared.code.Code.TheVariants.{InternalError}
 use Rattle.h2_frame.specs.Frames.{Frame, GoAway, WindowUpdate}
@@ -31,29 +12,13 @@ use Rattle.h2_log.specs.Items.{stream_of_item, encoding_of_items}
 use Rattle.h2_log.specs.Events.{Event, UnprocessedEvent}
 use Rattle.h2_log.specs.Acts.{In, Out, Happened}
 use Rattle.h2_log.specs.Settings.{payload_limit}
-use Rattle.h2_log.specs.Log.{
-  Log,
-  acked,
-  active,
-  last_processed,
-  waiting,
-  unreleased,
-  next_unprocessed,
-}
+use Rattle.h2_log.specs.Log.{Log, acked, active, last_processed, waiting, unreleased}
+use Rattle.h2_log.specs.Log.{next_unprocessed}
 use Rattle.h2_log.specs.LogView.{log_view}
 use Rattle.h2_frame.specs.Codes.{code_number}
 use Rattle.h2_log.specs.Verdicts.{Verdict, ConnectionFault}
-use Rattle.h2_log.specs.ItemRules.{
-  Decoded,
-  replies_to,
-  verdict_of,
-  opened_by,
-  FrameStep,
-  fails_with,
-  begins_block,
-  completes,
-  frame_step,
-}
+use Rattle.h2_log.specs.ItemRules.{Decoded, replies_to, verdict_of, opened_by, FrameStep}
+use Rattle.h2_log.specs.ItemRules.{fails_with, begins_block, completes, frame_step}
 use Rattle.h2_log.specs.ItemEffects.{events_of, discarded_flow, table_after, encoder_after_item}
 use Rattle.h2_log.specs.CallRules.{returns_credit}
 

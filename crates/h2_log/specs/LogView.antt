@@ -5,28 +5,10 @@ use Rattle.h2_log.specs.Items.{data_on, data_of, increment_on, ends, total}
 use Rattle.h2_log.specs.Settings.{is_server}
 use Rattle.h2_log.specs.States.{openings, any_block, when}
 use Rattle.h2_log.specs.Windows.{connection_send_window, connection_recv_window, is_above_greatest}
-use Rattle.h2_log.specs.Log.{
-  Log,
-  state,
-  active,
-  next_number,
-  active_count,
-  last_processed,
-  streams_allowed,
-  max_streams,
-  goaway_written,
-  goaway_read,
-  least_goaway,
-  settings_wait,
-  newest_ping,
-  ping_waits,
-  waiting,
-  resets_written,
-  unreleased,
-  send_window,
-  recv_window,
-  max_payload_sent,
-}
+use Rattle.h2_log.specs.Log.{Log, state, active, next_number, active_count, last_processed}
+use Rattle.h2_log.specs.Log.{streams_allowed, max_streams, goaway_written, goaway_read}
+use Rattle.h2_log.specs.Log.{least_goaway, settings_wait, newest_ping, ping_waits, waiting}
+use Rattle.h2_log.specs.Log.{resets_written, unreleased, send_window, recv_window, max_payload_sent}
 use Rattle.h2_log.specs.View.{StreamView, View}
 
 -- what a log says of a stream

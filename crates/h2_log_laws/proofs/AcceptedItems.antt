@@ -1,35 +1,8 @@
 -- PING, GOAWAY, RST_STREAM, acknowledgments, later blocks, DATA and WINDOW_UPDATE that an end may
 -- write are no fault for its reader.
-use Rattle.std.proofs.Common.{
-  ◌≡◌,
-  ◌⊎◌,
-  ◌≢◌,
-  ℕ,
-  zero,
-  suc,
-  ◌+◌,
-  ◌≤◌,
-  ◌<◌,
-  ◌&&◌,
-  nat_lt,
-  Bool,
-  true,
-  false,
-  if◌then◌else◌,
-  List,
-  [],
-  ◌++◌,
-  length,
-  Option,
-  None,
-  Some,
-  refl,
-  ap,
-  ◌∙◌,
-  inl,
-  inr,
-  arith,
-}
+use Rattle.std.proofs.Common.{◌≡◌, ◌⊎◌, ◌≢◌, ℕ, zero, suc, ◌+◌, ◌≤◌, ◌<◌, ◌&&◌, nat_lt, Bool, true}
+use Rattle.std.proofs.Common.{false, if◌then◌else◌, List, [], ◌++◌, length, Option, None, Some}
+use Rattle.std.proofs.Common.{refl, ap, ◌∙◌, inl, inr, arith}
 use Rattle.std.proofs.lemmas.Bool.{lt-ltb, le-ltb, ne_eqb, and_left, and_right}
 use Rattle.hpack.specs.Lists.{list_size}
 use Rattle.h2_frame.specs.Frames.{Data, Reset, Settings, Ping, GoAway, WindowUpdate}
@@ -38,14 +11,18 @@ use Rattle.h2_block.specs.Grouping.{Item, alone, block}
 use Rattle.h2_log.specs.declared.role.Role.{Role}
 use Rattle.h2_log.specs.Items.{ends, total, data_of, data_on, increment_on}
 use Rattle.h2_log.specs.Settings.{settings_count, one_ack, value_read, own_value}
-use Rattle.h2_log.specs.States.{State, Idle, Active, ClosedByUs, Closed, is_used, is_active, is_closed_by_us}
-use Rattle.h2_log.specs.Windows.{first_window, greatest_window, given_on, given_on_connection, granted_on, granted_on_connection, passes, is_above_greatest}
+use Rattle.h2_log.specs.States.{State, Idle, Active, ClosedByUs, Closed, is_used, is_active}
+use Rattle.h2_log.specs.States.{is_closed_by_us}
+use Rattle.h2_log.specs.Windows.{first_window, greatest_window, given_on, given_on_connection}
+use Rattle.h2_log.specs.Windows.{granted_on, granted_on_connection, passes, is_above_greatest}
 use Rattle.h2_log.specs.Log.{Log, acked, state, settings_wait, goaway_written}
 use Rattle.h2_log.specs.LogView.{log_view}
-use Rattle.h2_log.specs.Verdicts.{Reported, NoEvent, is_fault, reset_verdict, block_verdict, data_verdict, update_verdict, connection_update_verdict}
+use Rattle.h2_log.specs.Verdicts.{Reported, NoEvent, is_fault, reset_verdict, block_verdict}
+use Rattle.h2_log.specs.Verdicts.{data_verdict, update_verdict, connection_update_verdict}
 use Rattle.h2_log.specs.ItemRules.{Decoded, verdict_by_rules, peer_opens}
 use Rattle.h2_log.specs.Limits.{max_list}
-use Rattle.h2_log.specs.Allowed.{HasAcknowledged, MayContinue, MaySendData, MayReset, MayUpdateWindow, AllowedHistory, IsReader}
+use Rattle.h2_log.specs.Allowed.{HasAcknowledged, MayContinue, MaySendData, MayReset}
+use Rattle.h2_log.specs.Allowed.{MayUpdateWindow, AllowedHistory, IsReader}
 use Rattle.std.specs.List.{list_any}
 use Rattle.h2_log_laws.proofs.LogViewLemmas.{data_by_sums, update_by_sums, block_by_items}
 use Rattle.h2_log_laws.proofs.ItemLists.{settings_after, total_after}

@@ -1,33 +1,7 @@
 -- Blocks with which a client may open streams are no fault for its server.
-use Rattle.std.proofs.Common.{
-  ◌≡◌,
-  ℕ,
-  ◌+◌,
-  ◌%◌,
-  ◌≤◌,
-  ◌<◌,
-  ◌==◌,
-  ◌&&◌,
-  nat_lt,
-  nat_le,
-  max,
-  Bool,
-  true,
-  false,
-  if◌then◌else◌,
-  List,
-  [],
-  ◌∷◌,
-  ◌++◌,
-  Some,
-  refl,
-  sym,
-  ap,
-  ◌∙◌,
-  inl,
-  inr,
-  arith,
-}
+use Rattle.std.proofs.Common.{◌≡◌, ℕ, ◌+◌, ◌%◌, ◌≤◌, ◌<◌, ◌==◌, ◌&&◌, nat_lt, nat_le, max, Bool}
+use Rattle.std.proofs.Common.{true, false, if◌then◌else◌, List, [], ◌∷◌, ◌++◌, Some, refl, sym, ap}
+use Rattle.std.proofs.Common.{◌∙◌, inl, inr, arith}
 use Rattle.std.specs.List.{list_any}
 use Rattle.std.proofs.lemmas.Bool.{cases_eq, le-ltb, lt-leb, eq-eqb, ne_eqb, and_right, or_from}
 use Rattle.hpack.specs.Lists.{list_size}
@@ -38,12 +12,14 @@ use Rattle.h2_log.specs.Items.{ends, opens_from, greatest_block}
 use Rattle.h2_log.specs.Events.{Event}
 use Rattle.h2_log.specs.Settings.{is_server, settings_count, value_read, own_value}
 use Rattle.h2_log.specs.States.{State, Idle, is_used, is_active, state_of, count_below}
-use Rattle.h2_log.specs.Log.{Log, acked, state, goaway_written, max_streams, active_count, allowed_by}
+use Rattle.h2_log.specs.Log.{Log, acked, state, goaway_written, max_streams, active_count}
+use Rattle.h2_log.specs.Log.{allowed_by}
 use Rattle.h2_log.specs.Verdicts.{is_fault, block_verdict, opening_verdict}
 use Rattle.h2_log.specs.ItemRules.{Decoded, verdict_by_rules, peer_opens, is_at_capacity}
 use Rattle.h2_log.specs.LogView.{log_view}
 use Rattle.h2_log.specs.Limits.{max_list}
-use Rattle.h2_log.specs.Allowed.{HasAcknowledged, MayOpen, AllowedHistory, IsReader, active_by_items}
+use Rattle.h2_log.specs.Allowed.{HasAcknowledged, MayOpen, AllowedHistory, IsReader}
+use Rattle.h2_log.specs.Allowed.{active_by_items}
 use Rattle.h2_log_laws.proofs.LogViewLemmas.{block_by_items}
 use Rattle.h2_log_laws.proofs.ItemLists.{count_below_more}
 use Rattle.h2_log_laws.proofs.ReaderStates.{active_back}

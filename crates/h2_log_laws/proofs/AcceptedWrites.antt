@@ -1,24 +1,9 @@
 -- What an end may write is no fault for its reader: all of it at once.
-use Rattle.std.proofs.Common.{
-  ◌≡◌,
-  ◌⊎◌,
-  ℕ,
-  zero,
-  suc,
-  ◌≤◌,
-  Bool,
-  true,
-  false,
-  List,
-  Option,
-  None,
-  Some,
-  inl,
-  inr,
-  arith,
-}
+use Rattle.std.proofs.Common.{◌≡◌, ◌⊎◌, ℕ, zero, suc, ◌≤◌, Bool, true, false, List, Option, None}
+use Rattle.std.proofs.Common.{Some, inl, inr, arith}
 use Rattle.hpack.specs.Lists.{list_size}
-use Rattle.h2_frame.specs.Frames.{Data, Headers, Priority, Reset, Settings, Ping, GoAway, WindowUpdate, Continuation, Unknown}
+use Rattle.h2_frame.specs.Frames.{Data, Headers, Priority, Reset, Settings, Ping, GoAway}
+use Rattle.h2_frame.specs.Frames.{WindowUpdate, Continuation, Unknown}
 use Rattle.h2_block.specs.Grouping.{Item, alone, block}
 use Rattle.h2_log.specs.declared.role.Role.{Role}
 use Rattle.h2_log.specs.Log.{Log}
@@ -26,18 +11,11 @@ use Rattle.h2_log.specs.Verdicts.{is_fault}
 use Rattle.h2_log.specs.LogView.{log_view}
 use Rattle.h2_log.specs.ItemRules.{Decoded, verdict_by_rules}
 use Rattle.h2_log.specs.Limits.{max_list}
-use Rattle.h2_log.specs.Allowed.{HasAcknowledged, MayContinue, MayOpen, MayUpdateWindow, Allowed, AllowedHistory, IsReader}
+use Rattle.h2_log.specs.Allowed.{HasAcknowledged, MayContinue, MayOpen, MayUpdateWindow, Allowed}
+use Rattle.h2_log.specs.Allowed.{AllowedHistory, IsReader}
 use Rattle.h2_log_laws.specs.Accepting.{IsDecodable}
-use Rattle.h2_log_laws.proofs.AcceptedItems.{
-  ping_lem,
-  goaway_lem,
-  reset_lem,
-  acknowledgment_sound,
-  block_lem,
-  data_lem,
-  update_lem,
-  connection_update_lem,
-}
+use Rattle.h2_log_laws.proofs.AcceptedItems.{ping_lem, goaway_lem, reset_lem, acknowledgment_sound}
+use Rattle.h2_log_laws.proofs.AcceptedItems.{block_lem, data_lem, update_lem, connection_update_lem}
 use Rattle.h2_log_laws.proofs.AcceptedSettings.{settings_lem}
 use Rattle.h2_log_laws.proofs.AcceptedOpenings.{opening_lem}
 

@@ -1,43 +1,21 @@
 -- The lists of what an end has read and written.
-use Rattle.std.proofs.Common.{
-  ◌≡◌,
-  ◌⊎◌,
-  ◌≢◌,
-  ℕ,
-  ◌+◌,
-  ◌≤◌,
-  false,
-  List,
-  [],
-  ◌∷◌,
-  ◌++◌,
-  refl,
-  ap,
-  inl,
-  inr,
-  arith,
-}
+use Rattle.std.proofs.Common.{◌≡◌, ◌⊎◌, ◌≢◌, ℕ, ◌+◌, ◌≤◌, false, List, [], ◌∷◌, ◌++◌, refl, ap, inl}
+use Rattle.std.proofs.Common.{inr, arith}
 use Rattle.std.proofs.lemmas.Bool.{cases_eq, eq-eqb, ne_eqb}
-use Rattle.h2_frame.specs.Frames.{Data, Headers, Priority, Reset, Settings, Ping, GoAway, WindowUpdate, Continuation, Unknown}
+use Rattle.h2_frame.specs.Frames.{Data, Headers, Priority, Reset, Settings, Ping, GoAway}
+use Rattle.h2_frame.specs.Frames.{WindowUpdate, Continuation, Unknown}
 use Rattle.h2_block.specs.Grouping.{Item, alone, block}
 use Rattle.h2_log.specs.declared.role.Role.{Role}
 use Rattle.h2_log.specs.declared.role.Role.TheVariants.{Client, Server}
 use Rattle.h2_log.specs.Acts.{Values, AreInRange}
 use Rattle.h2_log.specs.Items.{total, data_on, increment_on}
-use Rattle.h2_log.specs.Settings.{value_read, value_after, settings_count, up_to_settings, own_value}
+use Rattle.h2_log.specs.Settings.{value_read, value_after, settings_count, up_to_settings}
+use Rattle.h2_log.specs.Settings.{own_value}
 use Rattle.h2_log.specs.Windows.{first_window, greatest_window}
 use Rattle.h2_log.specs.CallRules.{opening_pairs, changed_pairs}
 use Rattle.h2_log.specs.Allowed.{Allowed, AllowedHistory, starts, reads, writes, Origin, IsOpening}
-use Rattle.h2_log_laws.proofs.SettingsLists.{
-  settings_or,
-  value_kept,
-  value_changed,
-  settings_one,
-  count_next,
-  count_none,
-  up_to_next,
-  up_to_here,
-}
+use Rattle.h2_log_laws.proofs.SettingsLists.{settings_or, value_kept, value_changed, settings_one}
+use Rattle.h2_log_laws.proofs.SettingsLists.{count_next, count_none, up_to_next, up_to_here}
 
 -- an item of an opening is the opening
 opening_first : (role : Role) (values : Values) → AreInRange values

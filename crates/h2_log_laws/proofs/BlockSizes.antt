@@ -1,31 +1,7 @@
 -- How many octets a block takes: no more than the size of its list, and those of two updates.
-use Rattle.std.proofs.Common.{
-  ◌≡◌,
-  ℕ,
-  zero,
-  suc,
-  ◌+◌,
-  ◌-◌,
-  ◌/◌,
-  ◌%◌,
-  ◌≤◌,
-  ◌==◌,
-  nat_lt,
-  nat_le,
-  if◌then◌else◌,
-  Bool,
-  true,
-  false,
-  List,
-  [],
-  ◌∷◌,
-  ◌++◌,
-  length,
-  refl,
-  arith,
-  length-append,
-  flat_map,
-}
+use Rattle.std.proofs.Common.{◌≡◌, ℕ, zero, suc, ◌+◌, ◌-◌, ◌/◌, ◌%◌, ◌≤◌, ◌==◌, nat_lt, nat_le}
+use Rattle.std.proofs.Common.{if◌then◌else◌, Bool, true, false, List, [], ◌∷◌, ◌++◌, length, refl}
+use Rattle.std.proofs.Common.{arith, length-append, flat_map}
 use Rattle.std.proofs.lemmas.Bool.{leb-true}
 use Rattle.std.proofs.lemmas.List.Sums.{sum_by-cons}
 use Rattle.hpack_text.specs.Integers.{all_ones, continuation_of, integer}
@@ -33,14 +9,13 @@ use Rattle.hpack_text.specs.Strings.{string}
 use Rattle.hpack_text.specs.Huffman.{huffman_bits}
 use Rattle.hpack.specs.declared.types.field.Field.{Field}
 use Rattle.hpack.specs.declared.types.literal.Literal.{Literal}
-use Rattle.hpack.specs.declared.types.literal.Literal.TheVariants.{
-  WithIndexing,
-  WithoutIndexing,
-  NeverIndexed,
-}
+use Rattle.hpack.specs.declared.types.literal.Literal.TheVariants.{WithIndexing, WithoutIndexing}
+use Rattle.hpack.specs.declared.types.literal.Literal.TheVariants.{NeverIndexed}
 use Rattle.hpack.specs.Tables.{Entries}
 use Rattle.hpack.specs.Lists.{EncoderState, list_size}
-use Rattle.hpack.specs.Choice.{Choice, indexed, literal, choice, literal_head, encoding_of_field, after_choice, encoding_of_fields, size_updates, after_updates, block_of}
+use Rattle.hpack.specs.Choice.{Choice, indexed, literal, choice, literal_head, encoding_of_field}
+use Rattle.hpack.specs.Choice.{after_choice, encoding_of_fields, size_updates, after_updates}
+use Rattle.hpack.specs.Choice.{block_of}
 use Rattle.h2_block.specs.Grouping.{max_block_octets}
 use Rattle.h2_log.specs.Limits.{max_list}
 

@@ -1,38 +1,7 @@
 -- The DATA of one call: one after another, each within what was given.
-use Rattle.std.proofs.Common.{
-  ◌≡◌,
-  ◌≢◌,
-  ℕ,
-  zero,
-  suc,
-  ◌+◌,
-  ◌-◌,
-  min,
-  ◌≤◌,
-  ◌<◌,
-  ◌==◌,
-  ◌&&◌,
-  not,
-  nat_le,
-  Bool,
-  true,
-  false,
-  if◌then◌else◌,
-  List,
-  [],
-  ◌∷◌,
-  ◌++◌,
-  length,
-  take,
-  drop,
-  Option,
-  None,
-  refl,
-  ◌∙◌,
-  arith,
-  append_assoc,
-  length-drop,
-}
+use Rattle.std.proofs.Common.{◌≡◌, ◌≢◌, ℕ, zero, suc, ◌+◌, ◌-◌, min, ◌≤◌, ◌<◌, ◌==◌, ◌&&◌, not}
+use Rattle.std.proofs.Common.{nat_le, Bool, true, false, if◌then◌else◌, List, [], ◌∷◌, ◌++◌, length}
+use Rattle.std.proofs.Common.{take, drop, Option, None, refl, ◌∙◌, arith, append_assoc, length-drop}
 use Rattle.std.specs.List.{list_any}
 use Rattle.std.proofs.lemmas.List.{length-take-le}
 use Rattle.std.proofs.lemmas.Bool.{or_from, and_right, leb-true, leb-false, eq-eqb}

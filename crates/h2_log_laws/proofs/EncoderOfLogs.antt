@@ -8,13 +8,8 @@ use Rattle.h2_log.specs.Log.{Log}
 use Rattle.h2_log.specs.LogCalls.{before_opening, opened}
 use Rattle.h2_log.specs.Histories.{IsLog}
 use Rattle.h2_log.specs.LogSteps.{used}
-use Rattle.h2_log_laws.proofs.EncoderSteps.{
-  LogIsLimited,
-  wrote_limited,
-  reports_limited,
-  read_limited,
-  call_limited,
-}
+use Rattle.h2_log_laws.proofs.EncoderSteps.{LogIsLimited, wrote_limited, reports_limited}
+use Rattle.h2_log_laws.proofs.EncoderSteps.{read_limited, call_limited}
 use Rattle.h2_log_laws.proofs.EveryLog.{IsSteady, every_log}
 
 -- Each small change keeps an encoder that writes blocks, with the limit that was read last.

@@ -1,31 +1,19 @@
 -- The encoder of a log: what each step makes of it and of what was read.
-use Rattle.std.proofs.Common.{
-  ◌≡◌,
-  ℕ,
-  ◌==◌,
-  min,
-  Bool,
-  true,
-  false,
-  if◌then◌else◌,
-  List,
-  [],
-  ◌∷◌,
-  Option,
-  refl,
-  ◌∙◌,
-  arith,
-}
+use Rattle.std.proofs.Common.{◌≡◌, ℕ, ◌==◌, min, Bool, true, false, if◌then◌else◌, List, [], ◌∷◌}
+use Rattle.std.proofs.Common.{Option, refl, ◌∙◌, arith}
 use Rattle.hpack.specs.Lists.{EncoderState}
 use Rattle.hpack.specs.Choice.{after_block}
 use Rattle.hpack.specs.Written.{IsValidEncoder}
 use Rattle.hpack.specs.Limits.{after_limit}
 use Rattle.hpack.proofs.LimitLemmas.{limit_preserves}
 use Rattle.hpack.proofs.WrittenBlocks.{block_goes_on}
-use Rattle.h2_frame.specs.Frames.{Data, Headers, Priority, Reset, Settings, Ping, GoAway, WindowUpdate, Continuation, Unknown}
+use Rattle.h2_frame.specs.Frames.{Data, Headers, Priority, Reset, Settings, Ping, GoAway}
+use Rattle.h2_frame.specs.Frames.{WindowUpdate, Continuation, Unknown}
 use Rattle.h2_block.specs.Grouping.{Item, alone, block}
 use Rattle.h2_log.specs.Events.{Event}
-use Rattle.h2_log.specs.Acts.{Act, Answer, Open, SendFields, SendData, Release, ResetStream, Refuse, SendPing, SendGoAway, PutOut, ChangeSettings, Number, Count, Done, OutOfMemory, Refused}
+use Rattle.h2_log.specs.Acts.{Act, Answer, Open, SendFields, SendData, Release, ResetStream, Refuse}
+use Rattle.h2_log.specs.Acts.{SendPing, SendGoAway, PutOut, ChangeSettings, Number, Count, Done}
+use Rattle.h2_log.specs.Acts.{OutOfMemory, Refused}
 use Rattle.h2_log.specs.Settings.{value_read, value_after}
 use Rattle.h2_log.specs.Log.{Log}
 use Rattle.h2_log.specs.ItemRules.{Decoded}

@@ -1,21 +1,6 @@
 -- What each small change of a log keeps, every log that comes about has.
-use Rattle.std.proofs.Common.{
-  ℕ,
-  ◌+◌,
-  nat_lt,
-  ◌&&◌,
-  Bool,
-  true,
-  false,
-  if◌then◌else◌,
-  List,
-  [],
-  ◌∷◌,
-  ◌++◌,
-  Option,
-  Some,
-  None,
-}
+use Rattle.std.proofs.Common.{ℕ, ◌+◌, nat_lt, ◌&&◌, Bool, true, false, if◌then◌else◌, List, [], ◌∷◌}
+use Rattle.std.proofs.Common.{◌++◌, Option, Some, None}
 use Rattle.h2_frame.specs.declared.code.Code.{Code}
 use Rattle.h2_frame.specs.declared.code.Code.TheVariants.{InternalError}
 use Rattle.h2_frame.specs.Frames.{Frame}
@@ -23,16 +8,22 @@ use Rattle.h2_wire.specs.Faults.{wire_fault_code}
 use Rattle.h2_block.specs.Grouping.{Item, Begun}
 use Rattle.h2_log.specs.declared.role.Role.{Role}
 use Rattle.h2_log.specs.Events.{Event}
-use Rattle.h2_log.specs.Acts.{Values, Act, Answer, Refuse, PutOut, Number, Count, Done, OutOfMemory, Refused}
+use Rattle.h2_log.specs.Acts.{Values, Act, Answer, Refuse, PutOut, Number, Count, Done, OutOfMemory}
+use Rattle.h2_log.specs.Acts.{Refused}
 use Rattle.h2_log.specs.Log.{Log, last_processed, waiting}
 use Rattle.h2_log.specs.Verdicts.{Verdict, ConnectionFault, StreamFault, NoEvent, Reported}
 use Rattle.h2_log.specs.LogView.{log_view}
-use Rattle.h2_log.specs.ItemRules.{Decoded, FrameStep, fails_with, begins_block, completes, frame_step}
+use Rattle.h2_log.specs.ItemRules.{Decoded, FrameStep, fails_with, begins_block, completes}
+use Rattle.h2_log.specs.ItemRules.{frame_step}
 use Rattle.h2_log.specs.Limits.{full_output}
-use Rattle.h2_log.specs.LogSteps.{read, with_sent, with_reported, with_unreturned, with_credit_returned, with_failure, with_verdict, with_step, with_frame, used}
-use Rattle.h2_log.specs.LogCalls.{with_call, with_items, refused_with, called, before_put_out, opened}
+use Rattle.h2_log.specs.LogSteps.{read, with_sent, with_reported, with_unreturned}
+use Rattle.h2_log.specs.LogSteps.{with_credit_returned, with_failure, with_verdict, with_step}
+use Rattle.h2_log.specs.LogSteps.{with_frame, used}
+use Rattle.h2_log.specs.LogCalls.{with_call, with_items, refused_with, called, before_put_out}
+use Rattle.h2_log.specs.LogCalls.{opened}
 use Rattle.h2_log.specs.CallRules.{refuse_fault, returns_before_put_out}
-use Rattle.h2_log.specs.Histories.{IsLog, begins, took_some, took_one, met_fault, ran_out_of_memory, reported_one, called_one}
+use Rattle.h2_log.specs.Histories.{IsLog, begins, took_some, took_one, met_fault, ran_out_of_memory}
+use Rattle.h2_log.specs.Histories.{reported_one, called_one}
 
 -- What each small change keeps: octets that are used, items that are written and read, events, and
 -- so on.

@@ -1,53 +1,12 @@
 -- The invariant of a log holds after a call.
-use Rattle.std.proofs.Common.{
-  ◌≡◌,
-  ◌⊎◌,
-  ◌≢◌,
-  ℕ,
-  zero,
-  suc,
-  zero-add,
-  ◌+◌,
-  ◌≤◌,
-  ◌<◌,
-  ◌==◌,
-  ◌&&◌,
-  ◌||◌,
-  ◌%◌,
-  not,
-  nat_lt,
-  nat_le,
-  Bool,
-  true,
-  false,
-  if◌then◌else◌,
-  List,
-  [],
-  ◌∷◌,
-  ◌++◌,
-  length,
-  Option,
-  None,
-  Some,
-  refl,
-  sym,
-  ◌∙◌,
-  inl,
-  inr,
-  arith,
-}
+use Rattle.std.proofs.Common.{◌≡◌, ◌⊎◌, ◌≢◌, ℕ, zero, suc, zero-add, ◌+◌, ◌≤◌, ◌<◌, ◌==◌, ◌&&◌}
+use Rattle.std.proofs.Common.{◌||◌, ◌%◌, not, nat_lt, nat_le, Bool, true, false, if◌then◌else◌}
+use Rattle.std.proofs.Common.{List, [], ◌∷◌, ◌++◌, length, Option, None, Some, refl, sym, ◌∙◌, inl}
+use Rattle.std.proofs.Common.{inr, arith}
 use Rattle.std.specs.List.{list_any}
 use Rattle.std.specs.Option.{is_some}
-use Rattle.std.proofs.lemmas.Bool.{
-  both_ways,
-  or_parts,
-  and_parts,
-  ltb-true,
-  ltb-false,
-  leb-false,
-  false_from_ne_true,
-  not-true,
-}
+use Rattle.std.proofs.lemmas.Bool.{both_ways, or_parts, and_parts, ltb-true, ltb-false, leb-false}
+use Rattle.std.proofs.lemmas.Bool.{false_from_ne_true, not-true}
 use Rattle.hpack.specs.Lists.{list_size}
 use Rattle.hpack.specs.Choice.{block_of}
 use Rattle.hpack.specs.declared.types.field.Field.{Field}
@@ -58,14 +17,21 @@ use Rattle.h2_block.specs.Grouping.{Item, alone, block}
 use Rattle.h2_log.specs.declared.role.Role.{Role}
 use Rattle.h2_log.specs.declared.role.Role.TheVariants.{Client, Server}
 use Rattle.h2_log.specs.declared.refusal.Refusal.{Refusal}
-use Rattle.h2_log.specs.Items.{total, increment_on, one_ping, one_answer, ends, is_goaway, greatest_block}
+use Rattle.h2_log.specs.Items.{total, increment_on, one_ping, one_answer, ends, is_goaway}
+use Rattle.h2_log.specs.Items.{greatest_block}
 use Rattle.h2_log.specs.Settings.{settings_count, one_ack, is_server}
 use Rattle.h2_log.specs.Events.{reported_total, one_pong}
-use Rattle.h2_log.specs.Acts.{Values, AreInRange, Act, Answer, Open, SendFields, SendData, Release, ResetStream, Refuse, SendPing, SendGoAway, PutOut, ChangeSettings, Number, Count, Done, OutOfMemory, Refused}
+use Rattle.h2_log.specs.Acts.{Values, AreInRange, Act, Answer, Open, SendFields, SendData, Release}
+use Rattle.h2_log.specs.Acts.{ResetStream, Refuse, SendPing, SendGoAway, PutOut, ChangeSettings}
+use Rattle.h2_log.specs.Acts.{Number, Count, Done, OutOfMemory, Refused}
 use Rattle.h2_log.specs.States.{openings, count_below, greatest_number}
-use Rattle.h2_log.specs.Log.{Log, active, active_count, released, acked, next_number, allowed_by, streams_allowed, last_processed, waiting, goaway_written, goaway_read, least_goaway, newest_ping, ping_waits, max_payload_sent}
+use Rattle.h2_log.specs.Log.{Log, active, active_count, released, acked, next_number, allowed_by}
+use Rattle.h2_log.specs.Log.{streams_allowed, last_processed, waiting, goaway_written, goaway_read}
+use Rattle.h2_log.specs.Log.{least_goaway, newest_ping, ping_waits, max_payload_sent}
 use Rattle.h2_log.specs.LogView.{log_view}
-use Rattle.h2_log.specs.CallRules.{may_lack_memory, returns_before_put_out, first_of, conditions, refusal_of, items_of, stream_of_act, refuse_fault, changed_pairs, data_items}
+use Rattle.h2_log.specs.CallRules.{may_lack_memory, returns_before_put_out, first_of, conditions}
+use Rattle.h2_log.specs.CallRules.{refusal_of, items_of, stream_of_act, refuse_fault, changed_pairs}
+use Rattle.h2_log.specs.CallRules.{data_items}
 use Rattle.h2_log.specs.LogSteps.{with_sent, with_reported, with_credit_returned, owed_at_close}
 use Rattle.h2_log.specs.Limits.{full_output, max_list, max_output, max_resets}
 use Rattle.h2_log.specs.LogCalls.{called, with_items, refused_with, before_put_out, with_call}
@@ -75,12 +41,8 @@ use Rattle.h2_log_laws.proofs.BlockSizes.{block_is_gathered}
 use Rattle.h2_log_laws.proofs.ReaderStates.{active_parts, active_from}
 use Rattle.h2_log_laws.proofs.LogHistory.{History, history_of, active_in_view, given_by}
 use Rattle.h2_log_laws.proofs.LogInvariant.{Good, Represents, Moves}
-use Rattle.h2_log_laws.proofs.InvariantSteps.{
-  give_represents,
-  fails_represents,
-  recalled_represents,
-  step_log,
-}
+use Rattle.h2_log_laws.proofs.InvariantSteps.{give_represents, fails_represents}
+use Rattle.h2_log_laws.proofs.InvariantSteps.{recalled_represents, step_log}
 use Rattle.h2_log_laws.proofs.ReplyInvariant.{active_resets}
 use Rattle.h2_log_laws.proofs.StreamNumbers.{next_odd}
 use Rattle.h2_log_laws.proofs.LogViewLemmas.{when_some, stream_is_active, open_out}

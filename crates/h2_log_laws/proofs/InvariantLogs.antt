@@ -1,25 +1,6 @@
 -- The invariant of every log that comes about.
-use Rattle.std.proofs.Common.{
-  ◌≡◌,
-  ◌≢◌,
-  ℕ,
-  zero,
-  suc,
-  zero-add,
-  ◌-◌,
-  ◌≤◌,
-  Bool,
-  true,
-  false,
-  if◌then◌else◌,
-  List,
-  [],
-  ◌∷◌,
-  None,
-  refl,
-  sym,
-  arith,
-}
+use Rattle.std.proofs.Common.{◌≡◌, ◌≢◌, ℕ, zero, suc, zero-add, ◌-◌, ◌≤◌, Bool, true, false}
+use Rattle.std.proofs.Common.{if◌then◌else◌, List, [], ◌∷◌, None, refl, sym, arith}
 use Rattle.std.specs.List.{list_any}
 use Rattle.std.proofs.lemmas.Bool.{both_ways}
 use Rattle.h2_frame.specs.declared.code.Code.TheVariants.{InternalError}
@@ -28,13 +9,16 @@ use Rattle.h2_log.specs.declared.role.Role.{Role}
 use Rattle.h2_log.specs.Items.{total, increment_on, one_answer, is_goaway}
 use Rattle.h2_log.specs.Settings.{settings_count, one_ack}
 use Rattle.h2_log.specs.Events.{UnprocessedEvent, flow_on, reported_total, one_acked, one_pong}
-use Rattle.h2_log.specs.Acts.{Values, AreInRange, Act, Answer, IsTypedAct, Open, SendFields, SendData, Release, ResetStream, Refuse, SendPing, SendGoAway, PutOut, ChangeSettings}
+use Rattle.h2_log.specs.Acts.{Values, AreInRange, Act, Answer, IsTypedAct, Open, SendFields}
+use Rattle.h2_log.specs.Acts.{SendData, Release, ResetStream, Refuse, SendPing, SendGoAway, PutOut}
+use Rattle.h2_log.specs.Acts.{ChangeSettings}
 use Rattle.h2_log.specs.Log.{Log, released, next_unprocessed}
 use Rattle.h2_log.specs.LogSteps.{with_sent, with_reported, owed_at_close, took_none, used}
 use Rattle.h2_log.specs.LogCalls.{opened, with_call, MayAnswer, accepts, refuses, lacks, fails}
 use Rattle.h2_log.specs.CallRules.{refusal_of, answer_of}
 use Rattle.h2_log.specs.LogView.{log_view}
-use Rattle.h2_log.specs.Histories.{IsLog, begins, took_some, took_one, met_fault, ran_out_of_memory, reported_one, called_one}
+use Rattle.h2_log.specs.Histories.{IsLog, begins, took_some, took_one, met_fault, ran_out_of_memory}
+use Rattle.h2_log.specs.Histories.{reported_one, called_one}
 use Rattle.h2_log.specs.Allowed.{AllowedHistory, starts}
 use Rattle.h2_log_laws.specs.Sums.{sum_below}
 use Rattle.h2_log_laws.proofs.LogHistory.{History, history_of, left, owes, used_view, sum_less}
@@ -42,19 +26,10 @@ use Rattle.h2_log_laws.proofs.LogInvariant.{Represents, Moves}
 use Rattle.h2_log_laws.proofs.InvariantSteps.{fails_represents, step_log}
 use Rattle.h2_log_laws.proofs.InvariantReads.{frame_represents}
 use Rattle.h2_log_laws.proofs.StreamNumbers.{next_left}
-use Rattle.h2_log_laws.proofs.InvariantCalls.{
-  refused_represents,
-  open_represents,
-  fields_represent,
-  data_represents,
-  reset_represents,
-  refuse_represents,
-  failed_represents,
-  ping_represents,
-  leave_represents,
-  change_represents,
-  put_out_represents,
-}
+use Rattle.h2_log_laws.proofs.InvariantCalls.{refused_represents, open_represents, fields_represent}
+use Rattle.h2_log_laws.proofs.InvariantCalls.{data_represents, reset_represents, refuse_represents}
+use Rattle.h2_log_laws.proofs.InvariantCalls.{failed_represents, ping_represents, leave_represents}
+use Rattle.h2_log_laws.proofs.InvariantCalls.{change_represents, put_out_represents}
 use Rattle.h2_log_laws.proofs.ReleasedCredit.{release_represents}
 
 -- To report a stream as unprocessed is sound, where a GOAWAY was read.

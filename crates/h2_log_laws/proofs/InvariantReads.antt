@@ -1,45 +1,28 @@
 -- The invariant of a log holds after what an end takes.
-use Rattle.std.proofs.Common.{
-  ◌≡◌,
-  ℕ,
-  ◌≤◌,
-  ◌==◌,
-  ◌&&◌,
-  not,
-  Bool,
-  true,
-  false,
-  if◌then◌else◌,
-  List,
-  [],
-  ◌∷◌,
-  ◌++◌,
-  length,
-  Option,
-  None,
-  Some,
-  refl,
-  arith,
-}
+use Rattle.std.proofs.Common.{◌≡◌, ℕ, ◌≤◌, ◌==◌, ◌&&◌, not, Bool, true, false, if◌then◌else◌, List}
+use Rattle.std.proofs.Common.{[], ◌∷◌, ◌++◌, length, Option, None, Some, refl, arith}
 use Rattle.std.proofs.lemmas.Bool.{both_ways}
 use Rattle.h2_frame.specs.declared.code.Code.{Code}
-use Rattle.h2_frame.specs.declared.code.Code.TheVariants.{
-  ProtocolError,
-  FlowControlError,
-  EnhanceYourCalm,
-}
-use Rattle.h2_frame.specs.Frames.{Frame, Data, Headers, Priority, Reset, Settings, Ping, GoAway, WindowUpdate, Continuation, Unknown}
+use Rattle.h2_frame.specs.declared.code.Code.TheVariants.{ProtocolError, FlowControlError}
+use Rattle.h2_frame.specs.declared.code.Code.TheVariants.{EnhanceYourCalm}
+use Rattle.h2_frame.specs.Frames.{Frame, Data, Headers, Priority, Reset, Settings, Ping, GoAway}
+use Rattle.h2_frame.specs.Frames.{WindowUpdate, Continuation, Unknown}
 use Rattle.h2_frame.specs.Encoding.{stream_of}
 use Rattle.h2_block.specs.Grouping.{Item, alone, block}
 use Rattle.h2_log.specs.declared.role.Role.{Role}
 use Rattle.h2_log.specs.Items.{stream_of_item, data_of, one_ping, one_answer}
 use Rattle.h2_log.specs.Settings.{one_settings, one_ack}
-use Rattle.h2_log.specs.Events.{FieldsEvent, ResetEvent, AckedEvent, PongEvent, flow_on, one_acked, one_pong, reports_unprocessed}
+use Rattle.h2_log.specs.Events.{FieldsEvent, ResetEvent, AckedEvent, PongEvent, flow_on, one_acked}
+use Rattle.h2_log.specs.Events.{one_pong, reports_unprocessed}
 use Rattle.h2_log.specs.States.{State, Idle, Active, ClosedByUs, Closed}
 use Rattle.h2_log.specs.Log.{Log, active, state, settings_wait, last_processed}
 use Rattle.h2_frame.specs.Codes.{code_number}
-use Rattle.h2_log.specs.Verdicts.{Verdict, ConnectionFault, StreamFault, NoEvent, Reported, data_verdict, reset_verdict, connection_update_verdict, update_verdict, block_verdict, opening_verdict}
-use Rattle.h2_log.specs.ItemRules.{Decoded, replies_to, peer_opens, settings_fault, verdict_of_fault, verdict_by_rules, verdict_of, over_limits, FrameStep, fails_with, begins_block, completes, frame_step}
+use Rattle.h2_log.specs.Verdicts.{Verdict, ConnectionFault, StreamFault, NoEvent, Reported}
+use Rattle.h2_log.specs.Verdicts.{data_verdict, reset_verdict, connection_update_verdict}
+use Rattle.h2_log.specs.Verdicts.{update_verdict, block_verdict, opening_verdict}
+use Rattle.h2_log.specs.ItemRules.{Decoded, replies_to, peer_opens, settings_fault}
+use Rattle.h2_log.specs.ItemRules.{verdict_of_fault, verdict_by_rules, verdict_of, over_limits}
+use Rattle.h2_log.specs.ItemRules.{FrameStep, fails_with, begins_block, completes, frame_step}
 use Rattle.h2_log.specs.ItemEffects.{fields_of, events_of, discarded_flow}
 use Rattle.h2_log.specs.LogView.{log_view}
 use Rattle.h2_log.specs.LogSteps.{read, with_verdict, with_step, with_frame}
@@ -47,17 +30,9 @@ use Rattle.h2_log.specs.Allowed.{AllowedHistory, MayReset}
 use Rattle.h2_log_laws.proofs.LogHistory.{history_of}
 use Rattle.h2_log_laws.proofs.LogInvariant.{Good, Represents, Moves}
 use Rattle.h2_log_laws.proofs.InvariantSteps.{fails_represents, step_log}
-use Rattle.h2_log_laws.proofs.ReplyInvariant.{
-  state_active,
-  active_resets,
-  idle_resets,
-  one_reported,
-  none_reported,
-  reset_reported,
-  settings_answered,
-  ping_answered,
-  data_reported,
-}
+use Rattle.h2_log_laws.proofs.ReplyInvariant.{state_active, active_resets, idle_resets}
+use Rattle.h2_log_laws.proofs.ReplyInvariant.{one_reported, none_reported, reset_reported}
+use Rattle.h2_log_laws.proofs.ReplyInvariant.{settings_answered, ping_answered, data_reported}
 
 -- what a verdict asks for: that the stream may be reset, or that the item may be reported
 abbrev pub Fits : (reset report : Type 0) → Verdict → Type 0

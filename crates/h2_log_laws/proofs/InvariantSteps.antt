@@ -1,27 +1,6 @@
 -- The invariant of a log holds after each way of going on.
-use Rattle.std.proofs.Common.{
-  ◌≡◌,
-  ◌≢◌,
-  ℕ,
-  ◌+◌,
-  ◌-◌,
-  ◌≤◌,
-  ◌&&◌,
-  nat_lt,
-  Bool,
-  true,
-  false,
-  List,
-  [],
-  ◌∷◌,
-  None,
-  refl,
-  sym,
-  ap,
-  ◌∙◌,
-  inl,
-  arith,
-}
+use Rattle.std.proofs.Common.{◌≡◌, ◌≢◌, ℕ, ◌+◌, ◌-◌, ◌≤◌, ◌&&◌, nat_lt, Bool, true, false, List, []}
+use Rattle.std.proofs.Common.{◌∷◌, None, refl, sym, ap, ◌∙◌, inl, arith}
 use Rattle.std.specs.List.{list_any}
 use Rattle.std.proofs.lemmas.Bool.{and_parts, ltb-true, ne_eqb}
 use Rattle.h2_frame.specs.declared.code.Code.{Code}
@@ -36,36 +15,17 @@ use Rattle.h2_log.specs.Acts.{Act, Answer}
 use Rattle.h2_log.specs.States.{openings}
 use Rattle.h2_log.specs.Log.{Log, released, waiting}
 use Rattle.h2_frame.specs.Codes.{code_number}
-use Rattle.h2_log.specs.LogSteps.{with_sent, with_reported, with_unreturned, with_failure, owed_at_close}
+use Rattle.h2_log.specs.LogSteps.{with_sent, with_reported, with_unreturned, with_failure}
+use Rattle.h2_log.specs.LogSteps.{owed_at_close}
 use Rattle.h2_log.specs.Limits.{full_output}
 use Rattle.h2_log.specs.Allowed.{writes}
 use Rattle.h2_log_laws.specs.Sums.{sum_below}
 use Rattle.h2_log_laws.proofs.ReaderStates.{active_parts}
-use Rattle.h2_log_laws.proofs.LogHistory.{
-  History,
-  history_of,
-  left,
-  active_in_view,
-  owes,
-  owing,
-  moved,
-  give,
-  given_by,
-  wrote_view,
-  reports_view,
-  with_unreturned_view,
-  owing_view,
-  fails_view,
-  sum_less,
-}
-use Rattle.h2_log_laws.proofs.LogInvariant.{
-  Good,
-  Represents,
-  Moves,
-  active_before,
-  less_by,
-  step_represents,
-}
+use Rattle.h2_log_laws.proofs.LogHistory.{History, history_of, left, active_in_view, owes, owing}
+use Rattle.h2_log_laws.proofs.LogHistory.{moved, give, given_by, wrote_view, reports_view}
+use Rattle.h2_log_laws.proofs.LogHistory.{with_unreturned_view, owing_view, fails_view, sum_less}
+use Rattle.h2_log_laws.proofs.LogInvariant.{Good, Represents, Moves, active_before, less_by}
+use Rattle.h2_log_laws.proofs.LogInvariant.{step_represents}
 
 -- an update of the connection's window isn't one of a stream's
 pub update_elsewhere : (i count : ℕ) → i ≢ 0 → increment_on i (alone (WindowUpdate 0 count)) ≡ 0

@@ -1,35 +1,10 @@
 -- How many octets are written of what an end writes.
-use Rattle.std.proofs.Common.{
-  ◌≡◌,
-  ℕ,
-  zero,
-  suc,
-  ◌+◌,
-  ◌*◌,
-  ◌≤◌,
-  nat_le,
-  if◌then◌else◌,
-  Bool,
-  true,
-  false,
-  List,
-  [],
-  ◌∷◌,
-  ◌++◌,
-  length,
-  take,
-  drop,
-  None,
-  refl,
-  ap,
-  arith,
-  length-append,
-  length-take,
-  length-drop,
-  leb-false,
-}
+use Rattle.std.proofs.Common.{◌≡◌, ℕ, zero, suc, ◌+◌, ◌*◌, ◌≤◌, nat_le, if◌then◌else◌, Bool, true}
+use Rattle.std.proofs.Common.{false, List, [], ◌∷◌, ◌++◌, length, take, drop, None, refl, ap, arith}
+use Rattle.std.proofs.Common.{length-append, length-take, length-drop, leb-false}
 use Rattle.std.proofs.lemmas.List.Concat.{flat_map-cons}
-use Rattle.h2_frame.specs.Frames.{Frame, Data, Headers, Reset, Settings, Ping, GoAway, WindowUpdate, Continuation}
+use Rattle.h2_frame.specs.Frames.{Frame, Data, Headers, Reset, Settings, Ping, GoAway, WindowUpdate}
+use Rattle.h2_frame.specs.Frames.{Continuation}
 use Rattle.h2_frame.specs.Encoding.{payload_of, encoding_of}
 use Rattle.h2_frame.proofs.FramePartsLemmas.{length-encoding_of}
 use Rattle.h2_block.specs.Grouping.{Item, alone, block}

@@ -1,35 +1,7 @@
 -- What of a log matters to what it may write, and what more at the front of its lists changes.
-use Rattle.std.proofs.Common.{
-  ◌≡◌,
-  ◌⊎◌,
-  ◌≢◌,
-  ℕ,
-  zero,
-  suc,
-  zero-add,
-  suc-add,
-  ◌+◌,
-  ◌-◌,
-  ◌≤◌,
-  ◌<◌,
-  ◌&&◌,
-  not,
-  nat_lt,
-  Bool,
-  true,
-  false,
-  if◌then◌else◌,
-  List,
-  [],
-  ◌∷◌,
-  ◌++◌,
-  Option,
-  Some,
-  refl,
-  inl,
-  inr,
-  arith,
-}
+use Rattle.std.proofs.Common.{◌≡◌, ◌⊎◌, ◌≢◌, ℕ, zero, suc, zero-add, suc-add, ◌+◌, ◌-◌, ◌≤◌, ◌<◌}
+use Rattle.std.proofs.Common.{◌&&◌, not, nat_lt, Bool, true, false, if◌then◌else◌, List, [], ◌∷◌}
+use Rattle.std.proofs.Common.{◌++◌, Option, Some, refl, inl, inr, arith}
 use Rattle.std.specs.List.{list_any}
 use Rattle.std.proofs.lemmas.Bool.{or_cases, or_left, or_right, cases_eq}
 use Rattle.h2_frame.specs.declared.code.Code.{Code}
@@ -42,7 +14,8 @@ use Rattle.h2_log.specs.Acts.{Act, Answer}
 use Rattle.h2_log.specs.States.{is_active}
 use Rattle.h2_log.specs.Log.{Log, released, unreleased, waiting}
 use Rattle.h2_frame.specs.Codes.{code_number}
-use Rattle.h2_log.specs.LogSteps.{with_sent, with_reported, with_unreturned, with_credit_returned, with_failure, owed_at_close, used}
+use Rattle.h2_log.specs.LogSteps.{with_sent, with_reported, with_unreturned, with_credit_returned}
+use Rattle.h2_log.specs.LogSteps.{with_failure, owed_at_close, used}
 use Rattle.h2_log.specs.Limits.{full_output}
 use Rattle.h2_log_laws.specs.Sums.{sum_below}
 

@@ -1,37 +1,17 @@
 -- The invariant of every log: what was written was allowed, and, as long as the connection hasn't
 -- failed, what keeps the next writing allowed.
-use Rattle.std.proofs.Common.{
-  ◌≡◌,
-  ◌⊎◌,
-  ◌≢◌,
-  ℕ,
-  zero,
-  suc,
-  ◌+◌,
-  ◌-◌,
-  ◌≤◌,
-  ◌&&◌,
-  not,
-  Bool,
-  true,
-  false,
-  if◌then◌else◌,
-  List,
-  ◌++◌,
-  None,
-  refl,
-  inl,
-  inr,
-  arith,
-}
+use Rattle.std.proofs.Common.{◌≡◌, ◌⊎◌, ◌≢◌, ℕ, zero, suc, ◌+◌, ◌-◌, ◌≤◌, ◌&&◌, not, Bool, true}
+use Rattle.std.proofs.Common.{false, if◌then◌else◌, List, ◌++◌, None, refl, inl, inr, arith}
 use Rattle.std.specs.List.{list_any}
 use Rattle.std.proofs.lemmas.Bool.{both_ways, cases_eq, cases_Bool}
 use Rattle.h2_block.specs.Grouping.{Item}
 use Rattle.h2_log.specs.declared.role.Role.{Role}
 use Rattle.h2_log.specs.declared.role.Role.TheVariants.{Client, Server}
-use Rattle.h2_log.specs.Items.{total, increment_on, data_on, data_of, one_ping, one_answer, is_goaway, is_block_on, ends, resets, is_goaway_below}
+use Rattle.h2_log.specs.Items.{total, increment_on, data_on, data_of, one_ping, one_answer}
+use Rattle.h2_log.specs.Items.{is_goaway, is_block_on, ends, resets, is_goaway_below}
 use Rattle.h2_log.specs.Settings.{settings_count, one_ack}
-use Rattle.h2_log.specs.Events.{Event, flow_on, reported_total, one_acked, one_pong, reports_unprocessed}
+use Rattle.h2_log.specs.Events.{Event, flow_on, reported_total, one_acked, one_pong}
+use Rattle.h2_log.specs.Events.{reports_unprocessed}
 use Rattle.h2_log.specs.Acts.{Act, Answer}
 use Rattle.h2_log.specs.States.{is_active, openings, is_above}
 use Rattle.h2_log.specs.Log.{released}
@@ -40,19 +20,9 @@ use Rattle.h2_log_laws.specs.Sums.{sum_below}
 use Rattle.h2_log_laws.proofs.ItemLists.{none_after, any_after}
 use Rattle.h2_log_laws.proofs.WindowsOfTwoEnds.{total-append}
 use Rattle.h2_log_laws.proofs.ReaderStates.{active_parts, active_from, lasts_parts, lasts_from}
-use Rattle.h2_log_laws.proofs.LogHistory.{
-  History,
-  left,
-  active_in_view,
-  owes,
-  owing,
-  moved,
-  reported_append,
-  settings_append,
-  any_either,
-  sum_longer,
-  sum_moves,
-}
+use Rattle.h2_log_laws.proofs.LogHistory.{History, left, active_in_view, owes, owing, moved}
+use Rattle.h2_log_laws.proofs.LogHistory.{reported_append, settings_append, any_either, sum_longer}
+use Rattle.h2_log_laws.proofs.LogHistory.{sum_moves}
 
 -- What holds of a view as long as the connection hasn't failed: all that was read is answered;
 -- nothing was reported that wasn't read; increments were released, and stand for octets that were

@@ -1,36 +1,8 @@
 -- The rules over the view of a log, by what was read and written in all. Where a stream isn't
 -- active the rules ask nothing of it.
-use Rattle.std.proofs.Common.{
-  ◌≡◌,
-  ℕ,
-  ◌+◌,
-  ◌-◌,
-  min,
-  not,
-  Bool,
-  true,
-  false,
-  if◌then◌else◌,
-  ◌&&◌,
-  ◌==◌,
-  nat_lt,
-  ℤ,
-  pos,
-  negsuc,
-  ◌+ℤ◌,
-  ◌-ℤ◌,
-  List,
-  Option,
-  Some,
-  None,
-  length,
-  subst,
-  refl,
-  ap,
-  ap₂,
-  ◌∙◌,
-  arith,
-}
+use Rattle.std.proofs.Common.{◌≡◌, ℕ, ◌+◌, ◌-◌, min, not, Bool, true, false, if◌then◌else◌, ◌&&◌}
+use Rattle.std.proofs.Common.{◌==◌, nat_lt, ℤ, pos, negsuc, ◌+ℤ◌, ◌-ℤ◌, List, Option, Some, None}
+use Rattle.std.proofs.Common.{length, subst, refl, ap, ap₂, ◌∙◌, arith}
 use Rattle.std.specs.Prelude.{int_lt}
 use Rattle.std.specs.Option.{is_some}
 use Rattle.std.specs.List.{list_any}
@@ -43,13 +15,17 @@ use Rattle.h2_frame.specs.Encoding.{payload_of}
 use Rattle.h2_block.specs.Grouping.{Item, alone, block}
 use Rattle.h2_log.specs.Items.{data_on, data_of, increment_on, ends, total}
 use Rattle.h2_log.specs.States.{State, Idle, Active, ClosedByUs, Closed, when}
-use Rattle.h2_log.specs.Windows.{greatest_window, given_on, given_on_connection, granted_on, granted_on_connection, connection_send_window, passes, is_above_greatest}
+use Rattle.h2_log.specs.Windows.{greatest_window, given_on, given_on_connection, granted_on}
+use Rattle.h2_log.specs.Windows.{granted_on_connection, connection_send_window, passes}
+use Rattle.h2_log.specs.Windows.{is_above_greatest}
 use Rattle.h2_log.specs.Limits.{max_list, max_data}
 use Rattle.h2_log.specs.View.{StreamView, ended_in, ended_out, owed_on}
 use Rattle.h2_log.specs.Log.{Log, acked, state, active, send_window, unreleased, goaway_written}
 use Rattle.h2_log.specs.LogView.{stream_of_log, log_view}
-use Rattle.h2_log.specs.Verdicts.{data_verdict, update_verdict, connection_update_verdict, block_verdict}
-use Rattle.h2_log.specs.ItemRules.{Decoded, exceeds_stream, overflows_stream, peer_opens, is_at_capacity, verdict_by_rules}
+use Rattle.h2_log.specs.Verdicts.{data_verdict, update_verdict, connection_update_verdict}
+use Rattle.h2_log.specs.Verdicts.{block_verdict}
+use Rattle.h2_log.specs.ItemRules.{Decoded, exceeds_stream, overflows_stream, peer_opens}
+use Rattle.h2_log.specs.ItemRules.{is_at_capacity, verdict_by_rules}
 use Rattle.h2_log.specs.CallRules.{is_no_stream, at_least_none, data_count}
 use Rattle.h2_log_laws.proofs.ReaderStates.{state_is_active}
 

@@ -1,24 +1,6 @@
 -- What is written of items is read as their frames, which group to the items.
-use Rattle.std.proofs.Common.{
-  ◌≡◌,
-  ℕ,
-  ◌+◌,
-  ◌≤◌,
-  Bool,
-  List,
-  [],
-  ◌∷◌,
-  ◌++◌,
-  length,
-  None,
-  refl,
-  sym,
-  ap,
-  ◌∙◌,
-  inr,
-  arith,
-  append-nil,
-}
+use Rattle.std.proofs.Common.{◌≡◌, ℕ, ◌+◌, ◌≤◌, Bool, List, [], ◌∷◌, ◌++◌, length, None, refl, sym}
+use Rattle.std.proofs.Common.{ap, ◌∙◌, inr, arith, append-nil}
 use Rattle.std.specs.List.{AllByRecursion}
 use Rattle.std.proofs.lemmas.Grind.{flat_map-append}
 use Rattle.h2_frame.specs.Frames.{Frame}
@@ -117,11 +99,11 @@ one_item : (item : Item) (frames : List Frame) → Groups frames (item ∷ []) N
 one_item item frames groups =
     let parts = groups.grouped in
     let none : parts.1 ≡ [] = parts.4 in
-    let whole : groups.whole ≡ parts.0 = parts.2
+    let whole : groups.complete ≡ parts.0 = parts.2
     ∙ ap (λ (unparsed : List Frame). parts.0 ++ unparsed) none ∙ append-nil parts.0 in
     let all : frames ≡ parts.0 = groups.joined
-    ∙ ap (λ (unparsed : List Frame). groups.whole ++ unparsed) groups.unfinished
-    ∙ append-nil groups.whole ∙ whole in
+    ∙ ap (λ (unparsed : List Frame). groups.complete ++ unparsed) groups.unfinished
+    ∙ append-nil groups.complete ∙ whole in
     rw all parts.3
 
 -- The frames of an item are it.

@@ -1,48 +1,18 @@
 -- The state of a stream at the reader, where the writer uses it or goes on it.
-use Rattle.std.proofs.Common.{
-  ◌≡◌,
-  ◌⊎◌,
-  ℕ,
-  ◌%◌,
-  ◌==◌,
-  nat_le,
-  ◌&&◌,
-  Bool,
-  true,
-  false,
-  List,
-  [],
-  ◌∷◌,
-  ◌++◌,
-  refl,
-  inl,
-  inr,
-  arith,
-}
+use Rattle.std.proofs.Common.{◌≡◌, ◌⊎◌, ℕ, ◌%◌, ◌==◌, nat_le, ◌&&◌, Bool, true, false, List, []}
+use Rattle.std.proofs.Common.{◌∷◌, ◌++◌, refl, inl, inr, arith}
 use Rattle.std.specs.List.{list_any}
-use Rattle.std.proofs.lemmas.Bool.{
-  both_ways,
-  eqb-true,
-  le-leb,
-  and_parts,
-  and_from,
-  and_left,
-  or_cases,
-  or_parts,
-  or_from,
-  or_left,
-  or_right,
-  not-true,
-  not_from_false,
-  false_from_ne_true,
-}
+use Rattle.std.proofs.lemmas.Bool.{both_ways, eqb-true, le-leb, and_parts, and_from, and_left}
+use Rattle.std.proofs.lemmas.Bool.{or_cases, or_parts, or_from, or_left, or_right, not-true}
+use Rattle.std.proofs.lemmas.Bool.{not_from_false, false_from_ne_true}
 use Rattle.h2_block.specs.Grouping.{Item, alone, block}
 use Rattle.h2_log.specs.declared.role.Role.{Role}
 use Rattle.h2_log.specs.declared.role.Role.TheVariants.{Client, Server}
 use Rattle.h2_log.specs.Items.{is_block_on, opens_from, ends, resets, is_goaway_below}
 use Rattle.h2_log.specs.Settings.{peer_of}
 use Rattle.h2_log.specs.Events.{Event, reports_unprocessed}
-use Rattle.h2_log.specs.States.{Idle, Active, ClosedByUs, openings, is_used, is_above, is_over, is_active, is_closed_by_us, state_by, state_of}
+use Rattle.h2_log.specs.States.{Idle, Active, ClosedByUs, openings, is_used, is_above, is_over}
+use Rattle.h2_log.specs.States.{is_active, is_closed_by_us, state_by, state_of}
 use Rattle.h2_log.specs.Allowed.{MayContinue}
 use Rattle.h2_log_laws.proofs.ItemLists.{any_after, none_after}
 

@@ -1,29 +1,6 @@
 -- What is released of a stream is no more than was read, on the stream and on the connection.
-use Rattle.std.proofs.Common.{
-  ◌≡◌,
-  ◌≢◌,
-  ℕ,
-  suc,
-  ◌+◌,
-  ◌-◌,
-  ◌≤◌,
-  ◌==◌,
-  nat_lt,
-  Bool,
-  true,
-  false,
-  if◌then◌else◌,
-  List,
-  [],
-  ◌∷◌,
-  ◌++◌,
-  None,
-  refl,
-  sym,
-  ap,
-  ◌∙◌,
-  arith,
-}
+use Rattle.std.proofs.Common.{◌≡◌, ◌≢◌, ℕ, suc, ◌+◌, ◌-◌, ◌≤◌, ◌==◌, nat_lt, Bool, true, false}
+use Rattle.std.proofs.Common.{if◌then◌else◌, List, [], ◌∷◌, ◌++◌, None, refl, sym, ap, ◌∙◌, arith}
 use Rattle.std.proofs.lemmas.Bool.{both_ways, eqb-false, ne_eqb, eq-eqb, or_parts, ltb-false}
 use Rattle.h2_frame.specs.Frames.{WindowUpdate}
 use Rattle.h2_block.specs.Grouping.{Item, alone}
@@ -37,20 +14,16 @@ use Rattle.h2_log.specs.View.{ended_in, owed_on}
 use Rattle.h2_log.specs.LogView.{log_view}
 use Rattle.h2_log.specs.CallRules.{conditions, refusal_of, items_of, stream_of_act}
 use Rattle.h2_log.specs.LogCalls.{with_call}
-use Rattle.h2_log.specs.Allowed.{HasAcknowledged, AllowedHistory, writes, active_by_items, MayUpdateWindow}
+use Rattle.h2_log.specs.Allowed.{HasAcknowledged, AllowedHistory, writes, active_by_items}
+use Rattle.h2_log.specs.Allowed.{MayUpdateWindow}
 use Rattle.h2_log_laws.specs.Sums.{sum_below}
 use Rattle.h2_log_laws.proofs.LogHistory.{History, history_of, active_in_view, left, owes}
 use Rattle.h2_log_laws.proofs.LogInvariant.{Good, Represents, Moves}
 use Rattle.h2_log_laws.proofs.InvariantSteps.{update_elsewhere, update_here}
 use Rattle.h2_log_laws.proofs.DataOfCalls.{total_next}
 use Rattle.h2_log_laws.proofs.LogViewLemmas.{stream_is_active, owed_there}
-use Rattle.h2_log_laws.proofs.InvariantCalls.{
-  first_none,
-  none_since,
-  active_is_active,
-  active_some,
-  items_represent,
-}
+use Rattle.h2_log_laws.proofs.InvariantCalls.{first_none, none_since, active_is_active, active_some}
+use Rattle.h2_log_laws.proofs.InvariantCalls.{items_represent}
 
 -- an update gives to its stream
 gives_here : (i count : ℕ) → increment_on i (alone (WindowUpdate i count)) ≡ count

@@ -1,55 +1,26 @@
 -- What an end replies to what it reads, and reports of it, is sound.
-use Rattle.std.proofs.Common.{
-  ◌≡◌,
-  ◌≢◌,
-  ℕ,
-  ◌≤◌,
-  ◌==◌,
-  ◌%◌,
-  ◌&&◌,
-  Bool,
-  true,
-  false,
-  if◌then◌else◌,
-  List,
-  [],
-  ◌∷◌,
-  ◌++◌,
-  length,
-  Option,
-  refl,
-  sym,
-  inl,
-  inr,
-  arith,
-}
+use Rattle.std.proofs.Common.{◌≡◌, ◌≢◌, ℕ, ◌≤◌, ◌==◌, ◌%◌, ◌&&◌, Bool, true, false, if◌then◌else◌}
+use Rattle.std.proofs.Common.{List, [], ◌∷◌, ◌++◌, length, Option, refl, sym, inl, inr, arith}
 use Rattle.std.specs.List.{list_any}
-use Rattle.std.proofs.lemmas.Bool.{
-  and_parts,
-  and_from,
-  eqb-true,
-  ne_eqb,
-  both_ways,
-  or_cases,
-  or_left,
-  or_from,
-  false_from_ne_true,
-  eq-eqb,
-  cases_eq,
-}
-use Rattle.h2_frame.specs.Frames.{Data, Headers, Priority, Reset, Settings, Ping, GoAway, WindowUpdate, Continuation, Unknown}
+use Rattle.std.proofs.lemmas.Bool.{and_parts, and_from, eqb-true, ne_eqb, both_ways, or_cases}
+use Rattle.std.proofs.lemmas.Bool.{or_left, or_from, false_from_ne_true, eq-eqb, cases_eq}
+use Rattle.h2_frame.specs.Frames.{Data, Headers, Priority, Reset, Settings, Ping, GoAway}
+use Rattle.h2_frame.specs.Frames.{WindowUpdate, Continuation, Unknown}
 use Rattle.h2_frame.specs.Encoding.{payload_of}
 use Rattle.h2_block.specs.Grouping.{Item, alone, block}
 use Rattle.h2_log.specs.declared.role.Role.{Role}
 use Rattle.h2_log.specs.declared.role.Role.TheVariants.{Client, Server}
-use Rattle.h2_log.specs.Items.{total, increment_on, data_on, data_of, one_ping, one_answer, is_block_on, resets, opens_from}
+use Rattle.h2_log.specs.Items.{total, increment_on, data_on, data_of, one_ping, one_answer}
+use Rattle.h2_log.specs.Items.{is_block_on, resets, opens_from}
 use Rattle.h2_log.specs.Settings.{settings_count, one_settings, one_ack, is_server}
-use Rattle.h2_log.specs.Events.{Event, DataEvent, ResetEvent, flow_on, reported_total, one_acked, one_pong, reports_unprocessed}
+use Rattle.h2_log.specs.Events.{Event, DataEvent, ResetEvent, flow_on, reported_total, one_acked}
+use Rattle.h2_log.specs.Events.{one_pong, reports_unprocessed}
 use Rattle.h2_log.specs.States.{Idle, Active, is_active, is_used, openings, state_by}
 use Rattle.h2_log.specs.Log.{Log, active, state}
 use Rattle.h2_log.specs.LogView.{log_view}
 use Rattle.h2_log.specs.ItemRules.{peer_opens}
-use Rattle.h2_log.specs.Allowed.{HasAcknowledged, AllowedHistory, starts, reads, writes, Allowed, MayReset}
+use Rattle.h2_log.specs.Allowed.{HasAcknowledged, AllowedHistory, starts, reads, writes, Allowed}
+use Rattle.h2_log.specs.Allowed.{MayReset}
 use Rattle.h2_log_laws.proofs.ItemLists.{any_after}
 use Rattle.h2_log_laws.proofs.ReaderStates.{active_parts, lasts_parts, active_used, opens_here}
 use Rattle.h2_log_laws.proofs.LogHistory.{History, active_in_view}

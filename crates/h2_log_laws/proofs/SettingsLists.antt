@@ -1,32 +1,12 @@
 -- Settings that were read, and own ones that are in force.
-use Rattle.std.proofs.Common.{
-  ◌≡◌,
-  ◌⊎◌,
-  ℕ,
-  ◌+◌,
-  ◌≤◌,
-  ◌<◌,
-  ◌==◌,
-  nat_le,
-  ◌&&◌,
-  true,
-  false,
-  List,
-  [],
-  ◌∷◌,
-  ◌++◌,
-  refl,
-  ap,
-  sym,
-  ◌∙◌,
-  inl,
-  inr,
-  arith,
-}
+use Rattle.std.proofs.Common.{◌≡◌, ◌⊎◌, ℕ, ◌+◌, ◌≤◌, ◌<◌, ◌==◌, nat_le, ◌&&◌, true, false, List, []}
+use Rattle.std.proofs.Common.{◌∷◌, ◌++◌, refl, ap, sym, ◌∙◌, inl, inr, arith}
 use Rattle.std.proofs.lemmas.Bool.{cases_eq, eq-eqb, ne_eqb, le-leb, lt-leb, and_left, and_right}
-use Rattle.h2_frame.specs.Frames.{Data, Headers, Priority, Reset, Settings, Ping, GoAway, WindowUpdate, Continuation, Unknown}
+use Rattle.h2_frame.specs.Frames.{Data, Headers, Priority, Reset, Settings, Ping, GoAway}
+use Rattle.h2_frame.specs.Frames.{WindowUpdate, Continuation, Unknown}
 use Rattle.h2_block.specs.Grouping.{Item, alone, block}
-use Rattle.h2_log.specs.Settings.{value_read, value_after, one_settings, settings_count, up_to_settings, own_value, one_ack}
+use Rattle.h2_log.specs.Settings.{value_read, value_after, one_settings, settings_count}
+use Rattle.h2_log.specs.Settings.{up_to_settings, own_value, one_ack}
 use Rattle.h2_log.specs.Items.{total}
 use Rattle.h2_log.specs.Log.{Log, acked}
 use Rattle.h2_log.specs.Allowed.{HasAcknowledged, IsReader}

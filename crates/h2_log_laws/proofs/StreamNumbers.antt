@@ -1,44 +1,13 @@
 -- The numbers of streams that were written, and what a stream that is reported as unprocessed says
 -- of what was read.
-use Rattle.std.proofs.Common.{
-  ◌≡◌,
-  ◌⊎◌,
-  ◌≢◌,
-  ℕ,
-  ◌+◌,
-  ◌≤◌,
-  ◌<◌,
-  ◌==◌,
-  ◌%◌,
-  ◌&&◌,
-  ◌||◌,
-  nat_lt,
-  max,
-  Bool,
-  true,
-  false,
-  if◌then◌else◌,
-  List,
-  [],
-  ◌∷◌,
-  refl,
-  inl,
-  inr,
-  arith,
-}
+use Rattle.std.proofs.Common.{◌≡◌, ◌⊎◌, ◌≢◌, ℕ, ◌+◌, ◌≤◌, ◌<◌, ◌==◌, ◌%◌, ◌&&◌, ◌||◌, nat_lt, max}
+use Rattle.std.proofs.Common.{Bool, true, false, if◌then◌else◌, List, [], ◌∷◌, refl, inl, inr}
+use Rattle.std.proofs.Common.{arith}
 use Rattle.std.specs.List.{list_any}
-use Rattle.std.proofs.lemmas.Bool.{
-  both_ways,
-  eqb-true,
-  or_cases,
-  cases_lt,
-  eq-eqb,
-  le-ltb,
-  and_right,
-  and_left,
-  true_from_ne_false,
-}
-use Rattle.h2_frame.specs.Frames.{Data, Headers, Priority, Reset, Settings, Ping, GoAway, WindowUpdate, Continuation, Unknown}
+use Rattle.std.proofs.lemmas.Bool.{both_ways, eqb-true, or_cases, cases_lt, eq-eqb, le-ltb}
+use Rattle.std.proofs.lemmas.Bool.{and_right, and_left, true_from_ne_false}
+use Rattle.h2_frame.specs.Frames.{Data, Headers, Priority, Reset, Settings, Ping, GoAway}
+use Rattle.h2_frame.specs.Frames.{WindowUpdate, Continuation, Unknown}
 use Rattle.h2_block.specs.Grouping.{Item, alone, block}
 use Rattle.h2_log.specs.declared.role.Role.{Role}
 use Rattle.h2_log.specs.declared.role.Role.TheVariants.{Client, Server}
@@ -46,7 +15,8 @@ use Rattle.h2_log.specs.Items.{is_block_on, greatest_block, is_goaway}
 use Rattle.h2_log.specs.Settings.{is_server}
 use Rattle.h2_log.specs.States.{least_block, greatest_number}
 use Rattle.h2_log.specs.Log.{Log, active, next_number, next_unprocessed, least_goaway}
-use Rattle.h2_log.specs.Allowed.{AllowedHistory, starts, reads, writes, Allowed, MayOpen, MayContinue}
+use Rattle.h2_log.specs.Allowed.{AllowedHistory, starts, reads, writes, Allowed, MayOpen}
+use Rattle.h2_log.specs.Allowed.{MayContinue}
 use Rattle.h2_log_laws.proofs.ReaderStates.{active_parts}
 
 -- the greater of two numbers is one of them

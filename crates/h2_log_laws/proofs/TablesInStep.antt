@@ -8,14 +8,8 @@ use Rattle.hpack.specs.Written.{IsValidEncoder}
 use Rattle.hpack.specs.Limits.{after_limit}
 use Rattle.hpack.proofs.LimitLemmas.{fold_limits, limit_preserves}
 use Rattle.hpack.proofs.WrittenBlocks.{block_encodes, block_goes_on}
-use Rattle.h2_log_laws.specs.Tables.{
-  Sending,
-  encoder_before,
-  octets_sent,
-  encoder_after,
-  AreWithin,
-  AreRead,
-}
+use Rattle.h2_log_laws.specs.Tables.{Sending, encoder_before, octets_sent, encoder_after, AreWithin}
+use Rattle.h2_log_laws.specs.Tables.{AreRead}
 
 -- Setting limits leaves what must be true of an encoder.
 limits_keep : (encoder : EncoderState) (limits : List ℕ)

@@ -12,16 +12,8 @@ use Rattle.h2_log.specs.Log.{Log}
 use Rattle.h2_log.specs.LogSteps.{used, with_sent, with_reported}
 use Rattle.h2_log.specs.LogCalls.{called, opened}
 use Rattle.h2_log.specs.Histories.{IsLog}
-use Rattle.h2_log_laws.specs.Turns.{
-  octets_in,
-  octets_out,
-  events_in,
-  acts_in,
-  answers_in,
-  acts_of,
-  answers_of,
-  TurnsRecord,
-}
+use Rattle.h2_log_laws.specs.Turns.{octets_in, octets_out, events_in, acts_in, answers_in, acts_of}
+use Rattle.h2_log_laws.specs.Turns.{answers_of, TurnsRecord}
 use Rattle.h2_log_laws.proofs.EveryLog.{IsSteady, every_log}
 
 -- The octets of items after others.

@@ -4,7 +4,9 @@ use Rattle.std.proofs.lemmas.Int.{ints}
 use Rattle.h2_block.specs.Grouping.{Item}
 use Rattle.h2_log.specs.Items.{data_on, data_of, increment_on, total}
 use Rattle.h2_log.specs.Settings.{value_read, own_value}
-use Rattle.h2_log.specs.Windows.{first_window, window, given_on, given_on_connection, granted_on, granted_on_connection, send_window_of, connection_send_window, recv_window_of, connection_recv_window}
+use Rattle.h2_log.specs.Windows.{first_window, window, given_on, given_on_connection, granted_on}
+use Rattle.h2_log.specs.Windows.{granted_on_connection, send_window_of, connection_send_window}
+use Rattle.h2_log.specs.Windows.{recv_window_of, connection_recv_window}
 
 -- the sum over two lists, one after the other
 pub total-append : (f : Item → ℕ) (xs ys : List Item) → total f (xs ++ ys) ≡ total f xs + total f ys

@@ -1,21 +1,8 @@
 //! No item that an end may write is a fault for an end that has read just what was written before
 //! it, however much more that end has written meanwhile.
 
-ghost use Rattle.std.specs.Prelude.{
-  ◌≡◌,
-  ◌≢◌,
-  ℕ,
-  ◌≤◌,
-  Bool,
-  true,
-  false,
-  List,
-  [],
-  Option,
-  Some,
-  None,
-  length,
-};
+ghost use Rattle.std.specs.Prelude.{◌≡◌, ◌≢◌, ℕ, ◌≤◌, Bool, true, false, List, [], Option, Some};
+ghost use Rattle.std.specs.Prelude.{None, length};
 ghost use Rattle.hpack.specs.Lists.{list_size};
 ghost use Rattle.h2_frame.specs.Frames.{Data, Reset, Settings, Ping, GoAway, WindowUpdate};
 ghost use Rattle.h2_frame.specs.Encoding.{payload_of};
@@ -29,7 +16,9 @@ ghost use Rattle.h2_log.specs.Verdicts.{NoEvent, Reported, is_fault};
 ghost use Rattle.h2_log.specs.ItemRules.{Decoded, verdict_by_rules};
 ghost use Rattle.h2_log.specs.Limits.{max_list};
 ghost use Rattle.h2_log.specs.CallRules.{opening_pairs};
-ghost use Rattle.h2_log.specs.Allowed.{HasAcknowledged, MayContinue, MayOpen, MaySendData, MayReset, MayUpdateWindow, MayChangeSettings, Allowed, AllowedHistory, IsReader};
+ghost use Rattle.h2_log.specs.Allowed.{HasAcknowledged, MayContinue, MayOpen, MaySendData};
+ghost use Rattle.h2_log.specs.Allowed.{MayReset, MayUpdateWindow, MayChangeSettings, Allowed};
+ghost use Rattle.h2_log.specs.Allowed.{AllowedHistory, IsReader};
 ghost use Rattle.h2_log_laws.specs.Accepting.{IsDecodable};
 
 /// A field block that opens a stream is no fault, and the stream isn't refused: as many are active

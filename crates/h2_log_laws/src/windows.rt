@@ -4,7 +4,9 @@ ghost use Rattle.std.specs.Prelude.{◌≡◌, ℕ, ◌+◌, List, ◌++◌, pos
 ghost use Rattle.h2_block.specs.Grouping.{Item};
 ghost use Rattle.h2_log.specs.Items.{data_on, data_of, increment_on, total};
 ghost use Rattle.h2_log.specs.Settings.{value_read, own_value};
-ghost use Rattle.h2_log.specs.Windows.{first_window, window, send_window_of, connection_send_window, recv_window_of, connection_recv_window};
+ghost use Rattle.h2_log.specs.Windows.{first_window, window, send_window_of};
+ghost use Rattle.h2_log.specs.Windows.{connection_send_window, recv_window_of};
+ghost use Rattle.h2_log.specs.Windows.{connection_recv_window};
 
 /// What one end may send on the connection, with its DATA under way and the increments that come
 /// back, is what the other end lets it send (RFC 9113, section 6.9).

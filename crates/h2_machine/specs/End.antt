@@ -1,6 +1,7 @@
 -- One end as values: what it keeps in place of its log, by subject, and its view for the rules.
-use Rattle.std.specs.Prelude.{ℕ, ◌+◌, ◌%◌, ◌==◌, nat_lt, ◌||◌, ◌&&◌, Bool, true, false, if◌then◌else◌, ℤ, pos, ◌+ℤ◌, int_lt,
-    List, [], ◌∷◌, length, Option, Some, None, is_some}
+use Rattle.std.specs.Prelude.{ℕ, ◌+◌, ◌%◌, ◌==◌, nat_lt, ◌||◌, ◌&&◌, Bool, true, false}
+use Rattle.std.specs.Prelude.{if◌then◌else◌, ℤ, pos, ◌+ℤ◌, int_lt, List, [], ◌∷◌, length, Option}
+use Rattle.std.specs.Prelude.{Some, None, is_some}
 use Rattle.std.specs.Ordering.{nat_cmp}
 use Rattle.std.specs.FinMap as map
 use Rattle.hpack.specs.Tables.{Entries}
@@ -54,7 +55,8 @@ pub record GoAways : Type 0 where
   pub sent : Option ℕ
   pub received : Option ℕ
 
--- what was read so far: whether the first frame has come, the field block that has begun, and the peer's table
+-- what was read so far: whether the first frame has come, the field block that has begun, and the
+-- peer's table
 pub record Reading : Type 0 where
   pub started : Bool
   pub begun : Option Begun
@@ -119,12 +121,14 @@ state_by_entry (Some reset_entry) idle above = ClosedByUs
 state_by_entry None idle above = if idle then Idle else if above then ClosedByUs else Closed
 
 abbrev pub state_at : End → ℕ → State
-state_at e i = state_by_entry (map.get e.streams.entries i) (i % 2 == 0 || nat_lt e.streams.highest i) (is_above e i)
+state_at e i = state_by_entry (map.get e.streams.entries i) (i % 2 == 0 || nat_lt e.streams.highest
+    i) (is_above e i)
 
 -- Whether another initial window brings a stream's send window above the greatest (section 6.9.2).
 abbrev pub above_by_shift : (old new : ℕ) → Entry → Bool
 above_by_shift old new reset_entry = false
-above_by_shift old new (active_entry stream) = int_lt (pos (greatest_window + old)) (stream.send_window +ℤ pos new)
+above_by_shift old new (active_entry stream) = int_lt (pos (greatest_window + old))
+    (stream.send_window +ℤ pos new)
 
 unfoldable pub any_above : (old new : ℕ) → List (ℕ × Entry) → Bool
 any_above old new [] = false
@@ -144,7 +148,8 @@ end_view e =
       begun = e.reading.begun;
       state = state_at e;
       stream = stream_at e;
-      overflows = λ initial. any_above e.peer.initial_window initial (map.entries e.streams.entries);
+      overflows = λ initial. any_above e.peer.initial_window initial
+          (map.entries e.streams.entries);
       active_count = e.streams.active_count;
       max_streams = if is_server e.role then e.own.in_force.max_streams else 0;
       streams_allowed = e.peer.max_streams;

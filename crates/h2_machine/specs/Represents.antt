@@ -1,6 +1,6 @@
 -- When an end as values represents a log: what it keeps is what the log says.
-use Rattle.std.specs.Prelude.{is_some, ◌≡◌, ℕ, ◌+◌, ◌<◌, ◌≤◌, ◌==◌, not, Bool, true, false, List, [], ◌∷◌, drop, length, Option, Some,
-    None}
+use Rattle.std.specs.Prelude.{is_some, ◌≡◌, ℕ, ◌+◌, ◌<◌, ◌≤◌, ◌==◌, not, Bool, true, false, List}
+use Rattle.std.specs.Prelude.{[], ◌∷◌, drop, length, Option, Some, None}
 use Rattle.std.specs.List.{list_any}
 use Rattle.std.specs.FinMap as map
 use Rattle.h2_frame.specs.Frames.{GoAway}
@@ -11,7 +11,9 @@ use Rattle.h2_log.specs.Settings.{is_server, value_read, settings_count, own_val
 use Rattle.h2_log.specs.States.{openings, when}
 use Rattle.h2_log.specs.Windows.{first_window, given_on_connection, granted_on_connection}
 use Rattle.h2_log.specs.View.{StreamView}
-use Rattle.h2_log.specs.Log.{Log, acked, active, active_count, last_processed, max_streams, allowed_by, least_goaway, settings_wait, newest_ping, ping_waits, output, resets_written}
+use Rattle.h2_log.specs.Log.{Log, acked, active, active_count, last_processed, max_streams}
+use Rattle.h2_log.specs.Log.{allowed_by, least_goaway, settings_wait, newest_ping, ping_waits}
+use Rattle.h2_log.specs.Log.{output, resets_written}
 use Rattle.h2_log.specs.LogView.{stream_of_log}
 use Rattle.h2_log.specs.Histories.{IsLog}
 use Rattle.h2_machine.specs.End.{Entry, active_entry, reset_entry, StreamMap, End, owed_total}
@@ -28,24 +30,31 @@ goaway_sent_last [] = 0
 goaway_sent_last (alone (GoAway last code debug) ∷ items) = last
 goaway_sent_last (_ ∷ items) = goaway_sent_last items
 
--- The connection's receive window is conserved: what the peer may send, what is owed on all streams, and what is unreturned, are
+-- The connection's receive window is conserved: what the peer may send, what is owed on all
+-- streams, and what is unreturned, are
 -- what it was at first (RFC 9113, section 6.9).
 abbrev pub ConservesConnectionWindow : End → Type 0
-ConservesConnectionWindow e = e.windows.recv + (owed_total e.streams.entries + e.windows.unreturned) ≡ first_window
+ConservesConnectionWindow e = e.windows.recv + (owed_total e.streams.entries + e.windows.unreturned)
+    ≡ first_window
 
 -- Nothing is kept of a number above the greatest that was used.
 abbrev pub NoneAboveHighest : End → Type 0
 NoneAboveHighest e = (i : ℕ) → e.streams.highest < i → map.get e.streams.entries i ≡ None
 
--- The entries are those of active numbers and of those that were reset, with the streams that are said.
-abbrev pub StreamsRepresent : StreamMap → (active was_reset : ℕ → Bool) → (said : ℕ → StreamView) → Type 0
-StreamsRepresent streams active was_reset said = (i : ℕ) → map.get streams i ≡ entry_by (active i) (was_reset i) (said i)
+-- The entries are those of active numbers and of those that were reset, with the streams that are
+-- said.
+abbrev pub StreamsRepresent : StreamMap → (active was_reset : ℕ → Bool) → (said : ℕ → StreamView)
+    → Type 0
+StreamsRepresent streams active was_reset said = (i : ℕ) → map.get streams i ≡ entry_by (active i)
+    (was_reset i) (said i)
 
 -- These are the values of the newest own SETTINGS.
 pub record AwaitsValues (log : Log) (values : Values) : Type 0 where
   pub table_limit : own_value 1 4096 (settings_count log.sent) log.sent ≡ values.table_limit
-  pub initial_window : own_value 4 first_window (settings_count log.sent) log.sent ≡ values.initial_window
-  pub max_streams : is_server log.role ≡ true → own_value 3 100 (settings_count log.sent) log.sent ≡ values.max_streams
+  pub initial_window : own_value 4 first_window (settings_count log.sent) log.sent
+      ≡ values.initial_window
+  pub max_streams : is_server log.role ≡ true → own_value 3 100 (settings_count log.sent) log.sent
+      ≡ values.max_streams
 
 -- An end that hasn't failed keeps what its log says.
 pub record RepresentsWhileUp (e : End) (log : Log) : Type 0 where
@@ -53,12 +62,14 @@ pub record RepresentsWhileUp (e : End) (log : Log) : Type 0 where
   pub begun : e.reading.begun ≡ log.begun
   pub table : e.reading.table ≡ log.table
   pub encoder : e.output.encoder ≡ log.encoder
-  pub streams : StreamsRepresent e.streams.entries (active log) (λ i. list_any (resets i) log.sent) (stream_of_log log)
+  pub streams : StreamsRepresent e.streams.entries (active log) (λ i. list_any (resets i) log.sent)
+      (stream_of_log log)
   pub active_count : e.streams.active_count ≡ active_count log
   pub highest : e.streams.highest ≡ greatest_block (openings log.role log.received log.sent)
   pub last_processed : e.streams.last_processed ≡ last_processed log
   pub goaway_sent : e.goaway.sent ≡ when (list_any is_goaway log.sent) (goaway_sent_last log.sent)
-  pub goaway_received : e.goaway.received ≡ when (list_any is_goaway log.received) (least_goaway log.received)
+  pub goaway_received : e.goaway.received ≡ when (list_any is_goaway log.received)
+      (least_goaway log.received)
   -- additive: nothing is subtracted
   pub send_window : e.windows.send + total data_of log.sent ≡ given_on_connection log.received
   pub recv_window : e.windows.recv + total data_of log.received ≡ granted_on_connection log.sent

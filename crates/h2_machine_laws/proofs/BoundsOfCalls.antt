@@ -1,8 +1,9 @@
 -- What is bounded at one end stays so after each call that isn't refused; and it is so at first.
-use Rattle.std.proofs.Common.{subst, ◌≡◌, ℕ, suc, ◌+◌, ◌-◌, ◌*◌, ◌<◌, ◌≤◌, ◌==◌, nat_lt, nat_le,
-    not, ◌&&◌, ◌||◌, if◌then◌else◌, Bool, true, false, List, [], ◌∷◌, ◌++◌, length, take, drop, pos,
-    ◌-ℤ◌, Option, Some, None, is_some, refl, arith, length-append, length-take, length-drop,
-    ltb-true, ltb-false, leb-false}
+use Rattle.std.proofs.Common.{subst, ◌≡◌, ℕ, suc, ◌+◌, ◌-◌, ◌*◌, ◌<◌, ◌≤◌, ◌==◌, nat_lt, nat_le}
+use Rattle.std.proofs.Common.{not, ◌&&◌, ◌||◌, if◌then◌else◌, Bool, true, false, List, [], ◌∷◌}
+use Rattle.std.proofs.Common.{◌++◌, length, take, drop, pos, ◌-ℤ◌, Option, Some, None, is_some}
+use Rattle.std.proofs.Common.{refl, arith, length-append, length-take, length-drop, ltb-true}
+use Rattle.std.proofs.Common.{ltb-false, leb-false}
 use Rattle.hpack.specs.declared.types.field.Field.{Field}
 use Rattle.hpack.specs.Lists.{list_size}
 use Rattle.hpack.specs.Choice.{block_of, after_block}
@@ -14,20 +15,30 @@ use Rattle.h2_wire.specs.Streams.{expected_preface, preface}
 use Rattle.h2_block.specs.Grouping.{Item, alone, block}
 use Rattle.h2_machine.specs.End.{end_view, End, stream_at}
 use Rattle.h2_log.specs.Items.{encoding_of_items}
-use Rattle.h2_log.specs.Acts.{Values, Act, Open, SendFields, SendData, Release, ResetStream, Refuse, SendPing, SendGoAway, PutOut, ChangeSettings, Number, Done, AreInRange, IsTypedAct}
+use Rattle.h2_log.specs.Acts.{Values, Act, Open, SendFields, SendData, Release, ResetStream, Refuse}
+use Rattle.h2_log.specs.Acts.{SendPing, SendGoAway, PutOut, ChangeSettings, Number, Done}
+use Rattle.h2_log.specs.Acts.{AreInRange, IsTypedAct}
 use Rattle.h2_log.specs.Settings.{is_server}
 use Rattle.h2_log.specs.States.{greatest_number}
 use Rattle.h2_log.specs.Limits.{max_list, full_output, max_output, max_resets}
-use Rattle.h2_log.specs.CallRules.{opening_pairs, changed_pairs, data_frames, data_items, is_full, conditions, refusal_of, data_count, items_of, encoder_after_call, refuse_fault, returns_before_put_out}
+use Rattle.h2_log.specs.CallRules.{opening_pairs, changed_pairs, data_frames, data_items, is_full}
+use Rattle.h2_log.specs.CallRules.{conditions, refusal_of, data_count, items_of, encoder_after_call}
+use Rattle.h2_log.specs.CallRules.{refuse_fault, returns_before_put_out}
 use Rattle.h2_log.specs.View.{StreamView, ended_in}
-use Rattle.h2_machine.specs.Machine.{with_encoder, return_credit, queue_output, queue_call, reset_stream, update_stream, after_data, after_fields_sent, open_stream, after_release, after_refuse, before_put_out_at, after_call, new_end}
+use Rattle.h2_machine.specs.Machine.{with_encoder, return_credit, queue_output, queue_call}
+use Rattle.h2_machine.specs.Machine.{reset_stream, update_stream, after_data, after_fields_sent}
+use Rattle.h2_machine.specs.Machine.{open_stream, after_release, after_refuse, before_put_out_at}
+use Rattle.h2_machine.specs.Machine.{after_call, new_end}
 use Rattle.h2_log.specs.declared.role.Role.{Role}
 use Rattle.h2_machine_laws.specs.Bounds.{IsBounded}
 use Rattle.h2_log_laws.proofs.BlockSizes.{block_is_gathered}
-use Rattle.h2_log_laws.proofs.ItemSizes.{size_of, size-reset, size-update, size-updates, size-goaway, size-ping, size-opening, size-change, size-block, size-data}
+use Rattle.h2_log_laws.proofs.ItemSizes.{size_of, size-reset, size-update, size-updates}
+use Rattle.h2_log_laws.proofs.ItemSizes.{size-goaway, size-ping, size-opening, size-change}
+use Rattle.h2_log_laws.proofs.ItemSizes.{size-block, size-data}
 use Rattle.h2_log_laws.proofs.CallConditions.{AreFalse, none_holds, neither_one, neither_other}
-use Rattle.h2_machine_laws.proofs.BoundsOfSteps.{Up, is_up, is_bounded, failed_bounded, with_active,
-    other_encoder, joined, credit_returned, reset_up, changed_up}
+use Rattle.h2_machine_laws.proofs.BoundsOfSteps.{Up, is_up, is_bounded, failed_bounded, with_active}
+use Rattle.h2_machine_laws.proofs.BoundsOfSteps.{other_encoder, joined, credit_returned, reset_up}
+use Rattle.h2_machine_laws.proofs.BoundsOfSteps.{changed_up}
 
 -- A connection hasn't failed where it isn't that it has.
 is_running : (x : Option Code) → is_some x ≡ false → x ≡ None

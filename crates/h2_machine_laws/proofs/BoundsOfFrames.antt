@@ -1,31 +1,39 @@
 -- What is bounded at one end stays so after each item, by its verdict, and after each frame.
-use Rattle.std.proofs.Common.{◌∙◌, ◌≡◌, ℕ, ◌+◌, ◌<◌, ◌≤◌, ◌==◌, ◌%◌, nat_lt, nat_le, ◌&&◌, ◌||◌,
-    if◌then◌else◌, max, Bool, true, false, List, [], ◌∷◌, length, Option, Some, None, is_some, refl,
-    sym, ap, arith, ltb-false, leb-false}
+use Rattle.std.proofs.Common.{◌∙◌, ◌≡◌, ℕ, ◌+◌, ◌<◌, ◌≤◌, ◌==◌, ◌%◌, nat_lt, nat_le, ◌&&◌, ◌||◌}
+use Rattle.std.proofs.Common.{if◌then◌else◌, max, Bool, true, false, List, [], ◌∷◌, length, Option}
+use Rattle.std.proofs.Common.{Some, None, is_some, refl, sym, ap, arith, ltb-false, leb-false}
 use Rattle.std.specs.FinMap as map
 use Rattle.hpack.specs.Lists.{list_size}
 use Rattle.h2_frame.specs.declared.code.Code.{Code}
 use Rattle.h2_frame.specs.declared.code.Code.TheVariants.{EnhanceYourCalm}
 use Rattle.h2_frame.specs.Frames.{Frame, Data, Reset, Settings, Ping, GoAway, WindowUpdate}
 use Rattle.h2_block.specs.Grouping.{Item, alone, block}
-use Rattle.h2_machine.specs.End.{end_view, End, Entry, active_entry, reset_entry, stream_in, stream_at, state_by_entry, is_above}
+use Rattle.h2_machine.specs.End.{end_view, End, Entry, active_entry, reset_entry, stream_in}
+use Rattle.h2_machine.specs.End.{stream_at, state_by_entry, is_above}
 use Rattle.h2_log.specs.Items.{stream_of_item}
 use Rattle.h2_log.specs.Settings.{is_server}
 use Rattle.h2_frame.specs.Codes.{code_number}
-use Rattle.h2_log.specs.Verdicts.{Verdict, ConnectionFault, StreamFault, NoEvent, Reported, opening_verdict, block_verdict}
-use Rattle.h2_log.specs.ItemRules.{Decoded, FrameStep, fails_with, begins_block, completes, frame_step, is_at_capacity, is_stream_fault, over_limits, replies_to, verdict_by_rules, verdict_of, opened_by}
+use Rattle.h2_log.specs.Verdicts.{Verdict, ConnectionFault, StreamFault, NoEvent, Reported}
+use Rattle.h2_log.specs.Verdicts.{opening_verdict, block_verdict}
+use Rattle.h2_log.specs.ItemRules.{Decoded, FrameStep, fails_with, begins_block, completes}
+use Rattle.h2_log.specs.ItemRules.{frame_step, is_at_capacity, is_stream_fault, over_limits}
+use Rattle.h2_log.specs.ItemRules.{replies_to, verdict_by_rules, verdict_of, opened_by}
 use Rattle.h2_log.specs.Limits.{max_list, max_output, max_resets}
 use Rattle.h2_log.specs.ItemEffects.{encoder_after_settings, encoder_after_item}
 use Rattle.h2_log.specs.View.{ended_in}
-use Rattle.h2_machine.specs.Machine.{queue_output, mark_used, is_fresh, is_calm, with_begun, after_step, after_reported, after_ignored, after_stream_fault, after_verdict, after_frame, narrow_recv_window, with_encoder, with_table_after}
+use Rattle.h2_machine.specs.Machine.{queue_output, mark_used, is_fresh, is_calm, with_begun}
+use Rattle.h2_machine.specs.Machine.{after_step, after_reported, after_ignored, after_stream_fault}
+use Rattle.h2_machine.specs.Machine.{after_verdict, after_frame, narrow_recv_window, with_encoder}
+use Rattle.h2_machine.specs.Machine.{with_table_after}
 use Rattle.h2_machine_laws.specs.Bounds.{IsBounded}
 use Rattle.h2_log_laws.proofs.ItemSizes.{size_of, size-reset}
 use Rattle.h2_log_laws.proofs.CallConditions.{neither_one, neither_other}
-use Rattle.h2_machine_laws.proofs.ConservedByFrames.{NoConnectionFault, within_limits, flow_of,
-    verdict_within_limits}
-use Rattle.h2_machine_laws.proofs.BoundsOfSteps.{Up, is_up, is_bounded, failed_bounded,
-    other_encoder, joined, returned_up, ended_up, reset_up, data_up, block_up, limited, values_up,
-    enforced_up, widened_up}
+use Rattle.h2_machine_laws.proofs.ConservedByFrames.{NoConnectionFault, within_limits, flow_of}
+use Rattle.h2_machine_laws.proofs.ConservedByFrames.{verdict_within_limits}
+use Rattle.h2_machine_laws.proofs.BoundsOfSteps.{Up, is_up, is_bounded, failed_bounded}
+use Rattle.h2_machine_laws.proofs.BoundsOfSteps.{other_encoder, joined, returned_up, ended_up}
+use Rattle.h2_machine_laws.proofs.BoundsOfSteps.{reset_up, data_up, block_up, limited, values_up}
+use Rattle.h2_machine_laws.proofs.BoundsOfSteps.{enforced_up, widened_up}
 
 -- Where the limits leave a verdict as it is, neither is reached, by their test.
 limits_not_reached : (b : Bool) (v u : Verdict)

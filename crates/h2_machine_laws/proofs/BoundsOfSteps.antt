@@ -1,7 +1,7 @@
 -- What is bounded at one end stays so: step by step.
-use Rattle.std.proofs.Common.{◌≡◌, ℕ, ◌+◌, ◌-◌, ◌<◌, ◌≤◌, ◌==◌, nat_lt, min, ◌&&◌, ◌||◌,
-    if◌then◌else◌, Bool, true, false, List, [], ◌∷◌, ◌++◌, length, Option, Some, None, refl, arith,
-    length-append, ltb-true}
+use Rattle.std.proofs.Common.{◌≡◌, ℕ, ◌+◌, ◌-◌, ◌<◌, ◌≤◌, ◌==◌, nat_lt, min, ◌&&◌, ◌||◌}
+use Rattle.std.proofs.Common.{if◌then◌else◌, Bool, true, false, List, [], ◌∷◌, ◌++◌, length, Option}
+use Rattle.std.proofs.Common.{Some, None, refl, arith, length-append, ltb-true}
 use Rattle.std.specs.FinMap as map
 use Rattle.hpack.specs.Lists.{EncoderState}
 use Rattle.hpack.specs.Written.{IsValidEncoder}
@@ -17,7 +17,11 @@ use Rattle.h2_log.specs.Limits.{full_output, max_output, max_resets}
 use Rattle.h2_log.specs.ItemEffects.{encoder_after_settings}
 use Rattle.h2_machine.specs.End.{End, owed_entry}
 use Rattle.h2_log.specs.View.{StreamView}
-use Rattle.h2_machine.specs.Machine.{queue_output, return_credit, add_unreturned, set_stream, close_stream, reset_stream, update_stream, fail, with_flow, receive_data, receive_block, apply_settings, apply_own_settings, widen_send_window, more_unreturned, narrow_recv_window}
+use Rattle.h2_machine.specs.Machine.{queue_output, return_credit, add_unreturned, set_stream}
+use Rattle.h2_machine.specs.Machine.{close_stream, reset_stream, update_stream, fail, with_flow}
+use Rattle.h2_machine.specs.Machine.{receive_data, receive_block, apply_settings}
+use Rattle.h2_machine.specs.Machine.{apply_own_settings, widen_send_window, more_unreturned}
+use Rattle.h2_machine.specs.Machine.{narrow_recv_window}
 use Rattle.h2_machine_laws.specs.Bounds.{max_active, IsBounded}
 use Rattle.h2_log_laws.proofs.ItemSizes.{size_of, size-update, size-goaway}
 
@@ -232,7 +236,8 @@ block_up e i end (Some stream) few h =
 -- The limits that SETTINGS set leave the encoder valid, by whether a pair sets one.
 limited_by : (encoder : EncoderState) (value : ℕ) (b : Bool) → IsValidEncoder encoder
     → IsValidEncoder (if b then after_limit encoder (min value 4096) else encoder)
-limited_by encoder value true writing = limit_preserves encoder (min value 4096) (omega arith) writing
+limited_by encoder value true writing = limit_preserves encoder (min value 4096) (omega arith)
+    writing
 limited_by encoder value false writing = writing
 
 -- The limits that SETTINGS set leave the encoder valid.

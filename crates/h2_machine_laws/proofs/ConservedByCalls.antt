@@ -1,8 +1,8 @@
 -- The connection's receive window is conserved by each call that isn't refused; and it is so at
 -- first.
-use Rattle.std.proofs.Common.{◌≡◌, ℕ, ◌+◌, ◌-◌, ◌<◌, ◌≤◌, ◌==◌, nat_lt, not, ◌&&◌, ◌||◌,
-    if◌then◌else◌, Bool, true, false, List, [], ◌∷◌, length, pos, ◌+ℤ◌, ◌-ℤ◌, Option, Some, None,
-    is_some, refl, arith, ltb-false, eqb-true}
+use Rattle.std.proofs.Common.{◌≡◌, ℕ, ◌+◌, ◌-◌, ◌<◌, ◌≤◌, ◌==◌, nat_lt, not, ◌&&◌, ◌||◌}
+use Rattle.std.proofs.Common.{if◌then◌else◌, Bool, true, false, List, [], ◌∷◌, length, pos, ◌+ℤ◌}
+use Rattle.std.proofs.Common.{◌-ℤ◌, Option, Some, None, is_some, refl, arith, ltb-false, eqb-true}
 use Rattle.std.specs.Ordering.{nat_cmp}
 use Rattle.std.specs.FinMap as map
 use Rattle.h2_frame.specs.declared.code.Code.{Code}
@@ -10,17 +10,24 @@ use Rattle.h2_frame.specs.declared.code.Code.TheVariants.{InternalError, Enhance
 use Rattle.h2_frame.specs.Frames.{Reset}
 use Rattle.h2_block.specs.Grouping.{alone}
 use Rattle.h2_machine.specs.End.{end_view, End, active_entry, stream_at, number_after}
-use Rattle.h2_log.specs.Acts.{Values, Act, Open, SendFields, SendData, Release, ResetStream, Refuse, SendPing, SendGoAway, PutOut, ChangeSettings, Answer}
+use Rattle.h2_log.specs.Acts.{Values, Act, Open, SendFields, SendData, Release, ResetStream, Refuse}
+use Rattle.h2_log.specs.Acts.{SendPing, SendGoAway, PutOut, ChangeSettings, Answer}
 use Rattle.h2_log.specs.Settings.{is_server}
 use Rattle.h2_log.specs.States.{greatest_number}
-use Rattle.h2_log.specs.CallRules.{data_items, is_no_stream, has_all_resets, conditions, refusal_of, data_count, answer_of, refuse_fault, reset_size, returns_before_put_out}
+use Rattle.h2_log.specs.CallRules.{data_items, is_no_stream, has_all_resets, conditions, refusal_of}
+use Rattle.h2_log.specs.CallRules.{data_count, answer_of, refuse_fault, reset_size}
+use Rattle.h2_log.specs.CallRules.{returns_before_put_out}
 use Rattle.h2_log.specs.Limits.{max_output}
-use Rattle.h2_machine.specs.Machine.{reset_stream, return_credit, queue_output, queue_call, update_stream, new_stream, after_data, after_fields_sent, open_stream, after_release, after_refuse, before_put_out_at, after_call, new_end}
+use Rattle.h2_machine.specs.Machine.{reset_stream, return_credit, queue_output, queue_call}
+use Rattle.h2_machine.specs.Machine.{update_stream, new_stream, after_data, after_fields_sent}
+use Rattle.h2_machine.specs.Machine.{open_stream, after_release, after_refuse, before_put_out_at}
+use Rattle.h2_machine.specs.Machine.{after_call, new_end}
 use Rattle.h2_log.specs.View.{StreamView, owed_on}
 use Rattle.h2_log.specs.declared.role.Role.{Role}
 use Rattle.h2_machine_laws.proofs.OwedSums.{total-empty}
-use Rattle.h2_machine_laws.proofs.ConservedBySteps.{Holds, lacks_none, was_reset, stream_set,
-    changed, active_is_kept, active_set, active_used}
+use Rattle.h2_machine_laws.proofs.ConservedBySteps.{Holds, lacks_none, was_reset, stream_set}
+use Rattle.h2_machine_laws.proofs.ConservedBySteps.{changed, active_is_kept, active_set}
+use Rattle.h2_machine_laws.proofs.ConservedBySteps.{active_used}
 use Rattle.h2_log_laws.proofs.CallConditions.{AreFalse, none_holds, neither_one, neither_other}
 
 -- A stream is active where it isn't that none is.

@@ -1,29 +1,41 @@
 -- The connection's receive window is conserved by each item, by its verdict, and by each frame.
-use Rattle.std.proofs.Common.{◌≡◌, ◌≢◌, ◌⊎◌, ℕ, ◌+◌, ◌<◌, ◌≤◌, ◌==◌, ◌%◌, nat_lt, nat_le, ◌&&◌,
-    ◌||◌, if◌then◌else◌, Bool, true, false, List, pos, int_lt, [], ◌∷◌, length, Option, Some, None,
-    is_some, refl, sym, inl, inr, arith, ltb-true, ltb-false, eqb-true, ne_eqb}
+use Rattle.std.proofs.Common.{◌≡◌, ◌≢◌, ◌⊎◌, ℕ, ◌+◌, ◌<◌, ◌≤◌, ◌==◌, ◌%◌, nat_lt, nat_le, ◌&&◌}
+use Rattle.std.proofs.Common.{◌||◌, if◌then◌else◌, Bool, true, false, List, pos, int_lt, [], ◌∷◌}
+use Rattle.std.proofs.Common.{length, Option, Some, None, is_some, refl, sym, inl, inr, arith}
+use Rattle.std.proofs.Common.{ltb-true, ltb-false, eqb-true, ne_eqb}
 use Rattle.std.proofs.lemmas.Int.{ints}
 use Rattle.std.specs.FinMap as map
 use Rattle.h2_frame.specs.declared.code.Code.{Code}
-use Rattle.h2_frame.specs.declared.code.Code.TheVariants.{ProtocolError, FlowControlError,
-    StreamClosed, EnhanceYourCalm}
-use Rattle.h2_frame.specs.Frames.{Frame, Data, Headers, Priority, Reset, Settings, Ping, GoAway, WindowUpdate, Continuation, Unknown}
+use Rattle.h2_frame.specs.declared.code.Code.TheVariants.{ProtocolError, FlowControlError}
+use Rattle.h2_frame.specs.declared.code.Code.TheVariants.{StreamClosed, EnhanceYourCalm}
+use Rattle.h2_frame.specs.Frames.{Frame, Data, Headers, Priority, Reset, Settings, Ping, GoAway}
+use Rattle.h2_frame.specs.Frames.{WindowUpdate, Continuation, Unknown}
 use Rattle.h2_frame.specs.Encoding.{payload_of, stream_of}
 use Rattle.h2_block.specs.Grouping.{Item, alone, block}
-use Rattle.h2_machine.specs.End.{end_view, End, Entry, stream_at, state_by_entry, state_at, is_above}
+use Rattle.h2_machine.specs.End.{end_view, End, Entry, stream_at, state_by_entry, state_at}
+use Rattle.h2_machine.specs.End.{is_above}
 use Rattle.h2_log.specs.Items.{stream_of_item}
 use Rattle.h2_log.specs.Settings.{is_server}
 use Rattle.h2_log.specs.States.{State, Idle, Active, ClosedByUs, Closed}
-use Rattle.h2_log.specs.Verdicts.{Verdict, ConnectionFault, StreamFault, NoEvent, Reported, data_verdict, reset_verdict, connection_update_verdict, update_verdict, block_verdict}
-use Rattle.h2_log.specs.ItemRules.{Decoded, FrameStep, fails_with, begins_block, completes, frame_step, exceeds, overflows_by, is_at_capacity, is_stream_fault, verdict_of_fault, over_limits, replies_to, exceeds_stream, overflows_stream, verdict_by_rules, verdict_of}
+use Rattle.h2_log.specs.Verdicts.{Verdict, ConnectionFault, StreamFault, NoEvent, Reported}
+use Rattle.h2_log.specs.Verdicts.{data_verdict, reset_verdict, connection_update_verdict}
+use Rattle.h2_log.specs.Verdicts.{update_verdict, block_verdict}
+use Rattle.h2_log.specs.ItemRules.{Decoded, FrameStep, fails_with, begins_block, completes}
+use Rattle.h2_log.specs.ItemRules.{frame_step, exceeds, overflows_by, is_at_capacity}
+use Rattle.h2_log.specs.ItemRules.{is_stream_fault, verdict_of_fault, over_limits, replies_to}
+use Rattle.h2_log.specs.ItemRules.{exceeds_stream, overflows_stream, verdict_by_rules, verdict_of}
 use Rattle.h2_log.specs.Limits.{max_list, max_resets, max_output}
 use Rattle.h2_log.specs.ItemEffects.{encoder_after_item}
 use Rattle.h2_log.specs.View.{ended_in}
-use Rattle.h2_machine.specs.Machine.{with_begun, after_step, queue_output, is_fresh, after_reported, after_ignored, after_stream_fault, after_verdict, after_frame, narrow_recv_window, with_encoder, with_table_after}
+use Rattle.h2_machine.specs.Machine.{with_begun, after_step, queue_output, is_fresh, after_reported}
+use Rattle.h2_machine.specs.Machine.{after_ignored, after_stream_fault, after_verdict, after_frame}
+use Rattle.h2_machine.specs.Machine.{narrow_recv_window, with_encoder, with_table_after}
 use Rattle.hpack.specs.Lists.{list_size}
 use Rattle.h2_log_laws.proofs.ItemSizes.{size_of}
-use Rattle.h2_machine_laws.proofs.ConservedBySteps.{Sums, Holds, lacks_none, returned, ended,
-    was_reset, was_used, data_reported, block_reported, more_used, values_set, enforced, widened}
+use Rattle.h2_machine_laws.proofs.ConservedBySteps.{Sums, Holds, lacks_none, returned, ended}
+use Rattle.h2_machine_laws.proofs.ConservedBySteps.{was_reset, was_used, data_reported}
+use Rattle.h2_machine_laws.proofs.ConservedBySteps.{block_reported, more_used, values_set, enforced}
+use Rattle.h2_machine_laws.proofs.ConservedBySteps.{widened}
 
 -- The verdict is no fault of the connection.
 abbrev pub NoConnectionFault : Verdict → Type 0

@@ -1,19 +1,24 @@
 -- The connection's receive window is conserved, and nothing is kept of numbers that weren't used:
 -- step by step.
-use Rattle.std.proofs.Common.{◌≡◌, ◌≢◌, ℕ, ◌+◌, ◌-◌, ◌<◌, ◌≤◌, ◌==◌, nat_lt, max, ◌&&◌, ◌||◌,
-    if◌then◌else◌, Bool, true, false, List, length, pos, ◌+ℤ◌, Option, Some, None, refl, ap, ◌∙◌,
-    arith, ltb-true, ltb-false}
+use Rattle.std.proofs.Common.{◌≡◌, ◌≢◌, ℕ, ◌+◌, ◌-◌, ◌<◌, ◌≤◌, ◌==◌, nat_lt, max, ◌&&◌, ◌||◌}
+use Rattle.std.proofs.Common.{if◌then◌else◌, Bool, true, false, List, length, pos, ◌+ℤ◌, Option}
+use Rattle.std.proofs.Common.{Some, None, refl, ap, ◌∙◌, arith, ltb-true, ltb-false}
 use Rattle.std.specs.FinMap as map
 use Rattle.h2_log.specs.Acts.{Values}
 use Rattle.h2_log.specs.Settings.{value_after}
 use Rattle.h2_log.specs.Windows.{first_window}
 use Rattle.h2_log.specs.Limits.{full_output}
-use Rattle.h2_machine.specs.End.{End, Entry, StreamMap, active_entry, reset_entry, stream_in, stream_at, owed_entry, owed_total}
+use Rattle.h2_machine.specs.End.{End, Entry, StreamMap, active_entry, reset_entry, stream_in}
+use Rattle.h2_machine.specs.End.{stream_at, owed_entry, owed_total}
 use Rattle.h2_log.specs.View.{StreamView}
-use Rattle.h2_machine.specs.Machine.{return_credit, add_unreturned, set_stream, close_stream, reset_stream, update_stream, with_flow, receive_data, receive_block, shifted_entry, recv_shifted_entry, each_entry, apply_settings, apply_own_settings, widen_send_window, new_stream, more_unreturned, narrow_recv_window}
+use Rattle.h2_machine.specs.Machine.{return_credit, add_unreturned, set_stream, close_stream}
+use Rattle.h2_machine.specs.Machine.{reset_stream, update_stream, with_flow, receive_data}
+use Rattle.h2_machine.specs.Machine.{receive_block, shifted_entry, recv_shifted_entry, each_entry}
+use Rattle.h2_machine.specs.Machine.{apply_settings, apply_own_settings, widen_send_window}
+use Rattle.h2_machine.specs.Machine.{new_stream, more_unreturned, narrow_recv_window}
 use Rattle.h2_machine_laws.specs.Bounds.{KeepsConnectionWindow}
-use Rattle.h2_machine_laws.proofs.OwedSums.{total-insert, total-remove, total-each, get_set_other,
-    get_removed_none, get_each_none}
+use Rattle.h2_machine_laws.proofs.OwedSums.{total-insert, total-remove, total-each, get_set_other}
+use Rattle.h2_machine_laws.proofs.OwedSums.{get_removed_none, get_each_none}
 
 -- The sum of a receive window, of what is owed on streams, and of what is unreturned, is the first
 -- window; and nothing is kept of numbers above one.

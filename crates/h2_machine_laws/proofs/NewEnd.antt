@@ -7,10 +7,12 @@ use Rattle.h2_frame.specs.Frames.{Settings}
 use Rattle.h2_block.specs.Grouping.{alone}
 use Rattle.h2_log.specs.declared.role.Role.{Role}
 use Rattle.h2_log.specs.declared.role.Role.TheVariants.{Client, Server}
-use Rattle.h2_log.specs.Items.{data_on, data_of, increment_on, is_block_on, ends, resets, is_goaway, one_ping, one_reset, total, greatest_block}
+use Rattle.h2_log.specs.Items.{data_on, data_of, increment_on, is_block_on, ends, resets, is_goaway}
+use Rattle.h2_log.specs.Items.{one_ping, one_reset, total, greatest_block}
 use Rattle.h2_log.specs.Events.{one_acked, one_pong, reported_total, greatest_processed}
 use Rattle.h2_log.specs.Acts.{Values, AreInRange}
-use Rattle.h2_log.specs.Settings.{is_server, value_after, value_read, one_settings, settings_count, up_to_settings}
+use Rattle.h2_log.specs.Settings.{is_server, value_after, value_read, one_settings, settings_count}
+use Rattle.h2_log.specs.Settings.{up_to_settings}
 use Rattle.h2_log.specs.States.{openings, is_active, count_below}
 use Rattle.h2_log.specs.Windows.{given_on_connection, granted_on_connection}
 use Rattle.h2_log.specs.Log.{active, active_count, last_processed, max_streams, allowed_by, output}
@@ -20,7 +22,8 @@ use Rattle.h2_log.specs.LogCalls.{opened}
 use Rattle.h2_log.specs.Histories.{begins}
 use Rattle.h2_machine.specs.Machine.{new_end}
 use Rattle.h2_machine.specs.End.{owed_sum}
-use Rattle.h2_machine.specs.Represents.{Represents, RepresentsWhileUp, AwaitsValues, goaway_sent_last}
+use Rattle.h2_machine.specs.Represents.{Represents, RepresentsWhileUp, AwaitsValues}
+use Rattle.h2_machine.specs.Represents.{goaway_sent_last}
 use Rattle.h2_machine_laws.proofs.ConservedBySteps.{is_whole}
 use Rattle.h2_machine_laws.proofs.ConservedByCalls.{new_holds}
 

@@ -1,11 +1,15 @@
--- The next stream that is to be reported as unprocessed is the same at an end as at its log: the least active number above the last one.
-use Rattle.std.proofs.Common.{◌≡◌, ◌≢◌, ℕ, zero, suc, ◌≤◌, ◌<◌, Bool, true, false, nat_lt, ◌&&◌, cond, T, if◌then◌else◌, List, [], ◌∷◌, Some, None, Less, Equal, Greater, Ordering, refl, sym, ◌∙◌, arith}
+-- The next stream that is to be reported as unprocessed is the same at an end as at its log: the
+-- least active number above the last one.
+use Rattle.std.proofs.Common.{◌≡◌, ◌≢◌, ℕ, zero, suc, ◌≤◌, ◌<◌, Bool, true, false, nat_lt, ◌&&◌}
+use Rattle.std.proofs.Common.{cond, T, if◌then◌else◌, List, [], ◌∷◌, Some, None, Less, Equal}
+use Rattle.std.proofs.Common.{Greater, Ordering, refl, sym, ◌∙◌, arith}
 use Rattle.std.specs.List.{list_any}
 use Rattle.std.specs.FinMap as map
 use Rattle.std.specs.FinMap.Entries.{below_all}
 use Rattle.std.specs.Ordering.{nat_cmp, is_eq}
 use Rattle.std.specs.Cmp.{ranked}
-use Rattle.std.proofs.lemmas.Bool.{both_ways, and_parts, and_from, and_right, ltb-true, lt-ltb, le-ltb}
+use Rattle.std.proofs.lemmas.Bool.{both_ways, and_parts, and_from, and_right, ltb-true, lt-ltb}
+use Rattle.std.proofs.lemmas.Bool.{le-ltb}
 use Rattle.h2_block.specs.Grouping.{Item}
 use Rattle.h2_log.specs.Log.{least_goaway, Log, active, next_unprocessed}
 use Rattle.h2_log.specs.Acts.{Values}
@@ -36,42 +40,59 @@ record Found (above n : ℕ) (es : List (ℕ × Entry)) : Type 0 where
   pub higher : nat_lt above n ≡ true
 
 -- The first active number is found, by the test of the first entry.
-first_by : (above : ℕ) (e : ℕ × Entry) (es : List (ℕ × Entry)) (b : Bool) → (is_active_entry e.1 && nat_lt above e.0) ≡ b → T (below_all nat_cmp e.0 es)
-    → (first_active above es ≢ 0 → Found above (first_active above es) es) → (if b then e.0 else first_active above es) ≢ 0
+first_by : (above : ℕ) (e : ℕ × Entry) (es : List (ℕ × Entry)) (b : Bool)
+    → (is_active_entry e.1 && nat_lt above e.0) ≡ b → T (below_all nat_cmp e.0 es)
+    → (first_active above es ≢ 0 → Found above (first_active above es) es)
+    → (if b then e.0 else first_active above es) ≢ 0
     → Found above (if b then e.0 else first_active above es) (e ∷ es)
 first_by above e es true is h after some =
     let both = and_parts (is_active_entry e.1) (nat_lt above e.0) is in
     record { x = e.1; found = found_first e es; active_by_items = both.0; higher = both.1 }
 first_by above e es false is h after some =
     let unparsed = after some in
-    record { x = unparsed.x; found = found_after (first_active above es) e es unparsed.x h unparsed.found; active_by_items = unparsed.active_by_items; higher = unparsed.higher }
+    record {
+      x = unparsed.x;
+      found = found_after (first_active above es) e es unparsed.x h
+          unparsed.found;
+      active_by_items = unparsed.active_by_items;
+      higher = unparsed.higher;
+    }
 
 -- The first active number is found.
-first_found : (above : ℕ) (es : List (ℕ × Entry)) → T (map.is_sorted nat_cmp es) → first_active above es ≢ 0 → Found above (first_active above es) es
+first_found : (above : ℕ) (es : List (ℕ × Entry)) → T (map.is_sorted nat_cmp es)
+    → first_active above es ≢ 0 → Found above (first_active above es) es
 unfolding first_active
 first_found above [] h some = absurd (some refl)
 first_found above (e ∷ es) h some =
-    first_by above e es (is_active_entry e.1 && nat_lt above e.0) refl (first (below_all nat_cmp e.0 es) (map.is_sorted nat_cmp es) h)
+    first_by above e es (is_active_entry e.1 && nat_lt above e.0) refl
+    (first (below_all nat_cmp e.0 es) (map.is_sorted nat_cmp es) h)
     (first_found above es (second (below_all nat_cmp e.0 es) (map.is_sorted nat_cmp es) h)) some
 
 -- A number after the first entry: the first active one is there, or no greater.
-least_by : (above i : ℕ) (e : ℕ × Entry) (es : List (ℕ × Entry)) (b : Bool) → (is_active_entry e.1 && nat_lt above e.0) ≡ b → e.0 < i
+least_by : (above i : ℕ) (e : ℕ × Entry) (es : List (ℕ × Entry)) (b : Bool)
+    → (is_active_entry e.1 && nat_lt above e.0) ≡ b → e.0 < i
     → (first_active above es ≢ 0) × (first_active above es ≤ i)
-    → ((if b then e.0 else first_active above es) ≢ 0) × ((if b then e.0 else first_active above es) ≤ i)
+    → ((if b then e.0 else first_active above es) ≢ 0) × ((if b then e.0 else first_active above es)
+    ≤ i)
 least_by above i e es true is below unparsed =
-    let higher : above < e.0 = ltb-true above e.0 (and_parts (is_active_entry e.1) (nat_lt above e.0) is).1 in (omega arith, omega arith)
+    let higher : above < e.0 = ltb-true above e.0 (and_parts (is_active_entry e.1)
+    (nat_lt above e.0) is).1 in (omega arith, omega arith)
 least_by above i e es false is below unparsed = unparsed
 
--- An active number above another: the first active one is there and no greater, by how it compares with the first entry.
-least_at : (above i : ℕ) (e : ℕ × Entry) (es : List (ℕ × Entry)) (x : Entry) (r : Ordering) → nat_cmp i e.0 ≡ r → T (below_all nat_cmp e.0 es)
+-- An active number above another: the first active one is there and no greater, by how it compares
+-- with the first entry.
+least_at : (above i : ℕ) (e : ℕ × Entry) (es : List (ℕ × Entry)) (x : Entry) (r : Ordering)
+    → nat_cmp i e.0 ≡ r → T (below_all nat_cmp e.0 es)
     → (map.find nat_cmp i es ≡ Some x → (first_active above es ≢ 0) × (first_active above es ≤ i))
-    → cond (is_eq r) (Some e.1) (map.find nat_cmp i es) ≡ Some x → is_active_entry x ≡ true → above < i
+    → cond (is_eq r) (Some e.1) (map.find nat_cmp i es) ≡ Some x → is_active_entry x ≡ true
+    → above < i
     → ((if is_active_entry e.1 && nat_lt above e.0 then e.0 else first_active above es) ≢ 0)
     × ((if is_active_entry e.1 && nat_lt above e.0 then e.0 else first_active above es) ≤ i)
 least_at above i e es x Less is h after found alive higher =
     let none : map.find nat_cmp i es ≡ None = not_found i e.0 es is h in absurd (cc)
 least_at above i e es x Greater is h after found alive higher =
-    least_by above i e es (is_active_entry e.1 && nat_lt above e.0) refl (ranked i e.0 Greater (sym is)) (after found)
+    least_by above i e es (is_active_entry e.1 && nat_lt above e.0) refl (ranked i e.0 Greater
+    (sym is)) (after found)
 least_at above i e es x Equal is h after found alive higher =
     let same : e.1 ≡ x = cc in
     let at : i ≡ e.0 = map.nat_cmp-IsAntisymmetric i e.0 is in
@@ -79,18 +100,23 @@ least_at above i e es x Equal is h after found alive higher =
     rw (same, alive, lt-ltb above e.0 here) (omega (arith, here), omega (arith, at))
 
 -- An active number above another: the first active one is there and no greater.
-first_least : (above i : ℕ) (es : List (ℕ × Entry)) (x : Entry) → T (map.is_sorted nat_cmp es) → map.find nat_cmp i es ≡ Some x → is_active_entry x ≡ true → above < i
+first_least : (above i : ℕ) (es : List (ℕ × Entry)) (x : Entry) → T (map.is_sorted nat_cmp es)
+    → map.find nat_cmp i es ≡ Some x → is_active_entry x ≡ true → above < i
     → (first_active above es ≢ 0) × (first_active above es ≤ i)
 unfolding first_active
 first_least above i [] x h found alive higher = absurd (cc)
 first_least above i (e ∷ es) x h found alive higher =
-    least_at above i e es x (nat_cmp i e.0) refl (first (below_all nat_cmp e.0 es) (map.is_sorted nat_cmp es) h)
-    (λ after. first_least above i es x (second (below_all nat_cmp e.0 es) (map.is_sorted nat_cmp es) h) after alive higher) found alive higher
+    least_at above i e es x (nat_cmp i e.0) refl (first (below_all nat_cmp e.0 es)
+    (map.is_sorted nat_cmp es) h)
+    (λ after. first_least above i es x (second (below_all nat_cmp e.0 es) (map.is_sorted nat_cmp es)
+    h) after alive higher) found alive higher
 
 -- what is kept and living is an active stream
-living_is_active : (active was : Bool) (s : StreamView) (x : Entry) → entry_by active was s ≡ Some x → is_active_entry x ≡ true → active ≡ true
+living_is_active : (active was : Bool) (s : StreamView) (x : Entry) → entry_by active was s ≡ Some x
+    → is_active_entry x ≡ true → active ≡ true
 living_is_active true was s x is alive = refl
-living_is_active false true s x is alive = let same : reset_entry ≡ x = cc in absurd (both_ways false refl (rw (← same) at alive))
+living_is_active false true s x is alive = let same : reset_entry ≡ x = cc in
+    absurd (both_ways false refl (rw (← same) at alive))
 living_is_active false false s x is alive = absurd (cc)
 
 -- Two numbers that are there just where the other is and no greater are the same.
@@ -98,58 +124,88 @@ two_least : (m n : ℕ) → (m ≢ 0 → (n ≢ 0) × (n ≤ m)) → (n ≢ 0 �
 two_least zero zero one two = refl
 two_least (suc m) zero one two = absurd ((one (λ is. absurd (omega (arith, is)))).0 refl)
 two_least zero (suc n) one two = absurd ((two (λ is. absurd (omega (arith, is)))).0 refl)
-two_least (suc m) (suc n) one two = omega (arith, (one (λ is. absurd (omega (arith, is)))).1, (two (λ is. absurd (omega (arith, is)))).1)
+two_least (suc m) (suc n) one two = omega (
+  arith,
+  (one (λ is. absurd (omega (arith, is)))).1,
+  (two (λ is. absurd (omega (arith, is)))).1,
+)
 
 -- an active stream's block is among those that a client wrote
-client_block_of : (role : Role) (n : ℕ) (received sent : List Item) → role ≡ Client → list_any (is_block_on n) (openings role received sent) ≡ true
+client_block_of : (role : Role) (n : ℕ) (received sent : List Item) → role ≡ Client
+    → list_any (is_block_on n) (openings role received sent) ≡ true
     → list_any (is_block_on n) sent ≡ true
 client_block_of Client n received sent client here = here
 client_block_of Server n received sent client here = absurd (cc)
 
 -- An active stream's block is among those that a client wrote.
-client_block : (log : Log) (n : ℕ) → log.role ≡ Client → active log n ≡ true → list_any (is_block_on n) log.sent ≡ true
+client_block : (log : Log) (n : ℕ) → log.role ≡ Client → active log n ≡ true
+    → list_any (is_block_on n) log.sent ≡ true
 client_block log n client alive =
-    client_block_of log.role n log.received log.sent client (active_parts log.role n log.received log.sent log.reported alive).opened
+    client_block_of log.role n log.received log.sent client (active_parts log.role n log.received
+    log.sent log.reported alive).opened
 
 -- The first active number above the last one is the least one.
 least_same : (e : End) (log : Log) (last : ℕ) → log.role ≡ Client → Going e (core log)
-    → first_active last (map.entries e.streams.entries) ≡ least_block (λ j. active log j && nat_lt last j) log.sent
+    → first_active last (map.entries e.streams.entries) ≡ least_block (λ j. active log j && nat_lt
+    last j) log.sent
 least_same e log last client g =
     two_least _ _
     (λ some.
-    let f = first_found last (map.entries e.streams.entries) (map.entries_sorted e.streams.entries) some in
+    let f = first_found last (map.entries e.streams.entries) (map.entries_sorted e.streams.entries)
+    some in
     let n : ℕ = first_active last (map.entries e.streams.entries) in
-    let kept : map.get e.streams.entries n ≡ Some f.x = map.get-entries e.streams.entries n ∙ f.found in
-    let alive : active log n ≡ true = living_is_active (active log n) (list_any (resets n) log.sent) (said (core log) n) f.x (sym (g.streams n) ∙ kept) f.active_by_items in
+    let kept : map.get e.streams.entries n ≡ Some f.x = map.get-entries e.streams.entries n
+    ∙ f.found in
+    let alive : active log n ≡ true = living_is_active (active log n) (list_any (resets n) log.sent)
+    (said (core log) n) f.x (sym (g.streams n) ∙ kept) f.active_by_items in
     least_found (λ j. active log j && nat_lt last j) n log.sent
-    (λ j both none. absurd (omega (arith, none, ltb-true last j (and_parts (active log j) (nat_lt last j) both).1)))
+    (λ j both none. absurd (omega (
+      arith,
+      none,
+      ltb-true last j (and_parts (active log j)
+          (nat_lt last j) both).1,
+    )))
     (and_from (active log n) (nat_lt last n) alive f.higher)
     (client_block log n client alive))
     (λ some.
     let n : ℕ = least_block (λ j. active log j && nat_lt last j) log.sent in
-    let both = and_parts (active log n) (nat_lt last n) (least_passes (λ j. active log j && nat_lt last j) log.sent some) in
-    first_least last n (map.entries e.streams.entries) (active_entry (said (core log) n)) (map.entries_sorted e.streams.entries)
-    (sym (map.get-entries e.streams.entries n) ∙ active_said e (core log) n g both.0) refl (ltb-true last n both.1))
+    let both = and_parts (active log n) (nat_lt last n) (least_passes (λ j. active log j && nat_lt
+    last j) log.sent some) in
+    first_least last n (map.entries e.streams.entries) (active_entry (said (core log) n))
+    (map.entries_sorted e.streams.entries)
+    (sym (map.get-entries e.streams.entries n) ∙ active_said e (core log) n g both.0) refl
+    (ltb-true last n both.1))
 
 -- The next stream at an end, by its role, and by whether a GOAWAY was read.
-next_by : (e : End) (log : Log) (role : Role) (b : Bool) → e.role ≡ role → log.role ≡ role → list_any is_goaway log.received ≡ b
+next_by : (e : End) (log : Log) (role : Role) (b : Bool) → e.role ≡ role → log.role ≡ role
+    → list_any is_goaway log.received ≡ b
     → AllowedHistory log.role log.received log.sent → Going e (core log)
     → unprocessed_of_end role e.streams.entries (when b (least_goaway log.received))
-    ≡ (if is_server role then 0 else least_block (λ j. active log j && nat_lt (least_goaway log.received) j) log.sent)
+    ≡ (if is_server role then 0 else least_block (λ j. active log j && nat_lt
+    (least_goaway log.received) j) log.sent)
 next_by e log Server true same is goaway with_sent g = refl
 next_by e log Server false same is goaway with_sent g = refl
-next_by e log Client true same is goaway with_sent g = least_same e log (least_goaway log.received) is g
+next_by e log Client true same is goaway with_sent g = least_same e log (least_goaway log.received)
+    is g
 next_by e log Client false same is goaway with_sent g =
     let client : AllowedHistory Client log.received log.sent = rw is at with_sent in
     sym (least_none (λ j. active log j && nat_lt (least_goaway log.received) j) log.sent (λ j below.
     and_right (active log j) (nat_lt (least_goaway log.received) j)
-    (le-ltb (least_goaway log.received) j (omega (arith, last_none log.received goaway, client_low log.received log.sent client, below)))))
+    (le-ltb (least_goaway log.received) j (omega (
+      arith,
+      last_none log.received goaway,
+      client_low log.received log.sent client,
+      below,
+    )))))
 
 -- The next stream that is to be reported as unprocessed is the same.
-pub next_same : (values : Values) (e : End) (log : Log) → Represents values e log → log.failed ≡ None
+pub next_same : (values : Values) (e : End) (log : Log) → Represents values e log
+    → log.failed ≡ None
     → unprocessed_of_end e.role e.streams.entries e.goaway.received ≡ next_unprocessed log
 unfolding next_unprocessed
 next_same values e log s up =
     let r = s.running (s.failed ∙ up) in
-    let with_sent : AllowedHistory log.role log.received log.sent = rw (s.role) at (written_is_allowed e.role values log s.came) in
-    rw (r.goaway_received, s.role) (next_by e log log.role (list_any is_goaway log.received) s.role refl refl with_sent (going e log r))
+    let with_sent : AllowedHistory log.role log.received log.sent = rw (s.role) at
+    (written_is_allowed e.role values log s.came) in
+    rw (r.goaway_received, s.role) (next_by e log log.role (list_any is_goaway log.received) s.role
+    refl refl with_sent (going e log r))

@@ -1,14 +1,15 @@
 -- What is owed on all streams, by what an end's log says of each; and the connection's window, by
 -- its log.
-use Rattle.std.proofs.Common.{◌≡◌, ℕ, ◌+◌, ◌<◌, Bool, true, false, if◌then◌else◌, List, ◌++◌, ℤ,
-    pos, ◌+ℤ◌, ◌-ℤ◌, None, refl, ap, ◌∙◌, arith}
+use Rattle.std.proofs.Common.{◌≡◌, ℕ, ◌+◌, ◌<◌, Bool, true, false, if◌then◌else◌, List, ◌++◌, ℤ}
+use Rattle.std.proofs.Common.{pos, ◌+ℤ◌, ◌-ℤ◌, None, refl, ap, ◌∙◌, arith}
 use Rattle.std.proofs.lemmas.Int.{ints}
 use Rattle.std.specs.List.{list_any}
 use Rattle.std.specs.FinMap as map
 use Rattle.h2_block.specs.Grouping.{Item}
 use Rattle.h2_log.specs.Items.{data_of, increment_on, ends, resets, total}
 use Rattle.h2_log.specs.Acts.{Values}
-use Rattle.h2_log.specs.Windows.{first_window, granted_on_connection, connection_send_window, connection_recv_window}
+use Rattle.h2_log.specs.Windows.{first_window, granted_on_connection, connection_send_window}
+use Rattle.h2_log.specs.Windows.{connection_recv_window}
 use Rattle.h2_log.specs.Log.{Log, active, send_window, recv_window, unreleased, owed}
 use Rattle.h2_machine.specs.End.{End, owed_entry, owed_total}
 use Rattle.h2_log.specs.View.{StreamView}

@@ -1,8 +1,9 @@
 -- Sums over the streams that are kept: what an entry that is set, removed or changed makes of what
 -- is owed on all streams.
-use Rattle.std.proofs.Common.{zero, suc, ◌<◌, ◌≤◌, ap₂, length, ◌==◌, ◌≢◌, if◌then◌else◌, eq-eqb,
-    ne_eqb, eqb-true, ◌≡◌, ℕ, ◌+◌, ◌&&◌, Bool, true, false, cond, T, List, [], ◌∷◌, map as each,
-    Option, Some, None, Less, Equal, Greater, Ordering, refl, sym, ap, subst, ◌∙◌, arith}
+use Rattle.std.proofs.Common.{zero, suc, ◌<◌, ◌≤◌, ap₂, length, ◌==◌, ◌≢◌, if◌then◌else◌, eq-eqb}
+use Rattle.std.proofs.Common.{ne_eqb, eqb-true, ◌≡◌, ℕ, ◌+◌, ◌&&◌, Bool, true, false, cond, T, List}
+use Rattle.std.proofs.Common.{[], ◌∷◌, map as each, Option, Some, None, Less, Equal, Greater}
+use Rattle.std.proofs.Common.{Ordering, refl, sym, ap, subst, ◌∙◌, arith}
 use Rattle.std.specs.Ordering.{nat_cmp, is_lt, is_eq}
 use Rattle.std.specs.Cmp.{nat_cmp_total, unsigned_tied}
 use Rattle.std.proofs.lemmas.Bool.{eqb-false}

@@ -17,23 +17,35 @@ use Rattle.h2_machine_laws.proofs.RecvVerdict.{Sound, when_some, state_same, all
 use Rattle.h2_machine_laws.proofs.RecvReturnedCredit.{After}
 
 -- The number that an item opens is the same.
-opened_same : (e : End) (log : Log) (decoded : Option Decoded) (item : Item) → e.role ≡ log.role → Sound (core log)
-    → Going e (core log) → opened_by (end_view e) decoded item ≡ opened_by (log_view log) decoded item
+opened_same : (e : End) (log : Log) (decoded : Option Decoded) (item : Item) → e.role ≡ log.role
+    → Sound (core log)
+    → Going e (core log) → opened_by (end_view e) decoded item ≡ opened_by (log_view log) decoded
+    item
 unfolding opened_by active_count max_streams
 opened_same e log None item role sound g = refl
 opened_same e log (Some decoded) (alone frame) role sound g = refl
 opened_same e log (Some decoded) (block i end octets) role sound g =
-    rw (state_same e (core log) i role sound g, role,
+    rw (
+      state_same e (core log) i role sound g,
+      role,
       allowed_same log.role e.own.in_force.max_streams (max_streams log) (g.in_force).max_streams,
-      g.active_count, g.goaway_sent, when_some (list_any is_goaway log.sent) (goaway_sent_last log.sent)) refl
+      g.active_count,
+      g.goaway_sent,
+      when_some (list_any is_goaway log.sent)
+          (goaway_sent_last log.sent),
+    ) refl
 
 -- An item that is a fault of the connection makes it fail at an end as at its log.
-pub fault_after : (e : End) (log : Log) (decoded : Option Decoded) (item : Item) (code : Code) → Waits e log → Sound (core log) → Going e (core log)
-    → After (after_verdict e decoded item (ConnectionFault code)) (with_verdict log decoded item (ConnectionFault code))
+pub fault_after : (e : End) (log : Log) (decoded : Option Decoded) (item : Item) (code : Code)
+    → Waits e log → Sound (core log) → Going e (core log)
+    → After (after_verdict e decoded item (ConnectionFault code)) (with_verdict log decoded item
+    (ConnectionFault code))
 unfolding after_verdict with_verdict last_processed
 fault_after e log decoded item code w sound g =
     record {
-      waits = fails_connection e.role e.failed e.output.waiting log code (max e.streams.last_processed (opened_by (end_view e) decoded item)) (max (last_processed log) (opened_by (log_view log) decoded item))
+      waits = fails_connection e.role e.failed e.output.waiting log code
+          (max e.streams.last_processed (opened_by (end_view e) decoded item))
+          (max (last_processed log) (opened_by (log_view log) decoded item))
           (ap₂ max g.last_processed (opened_same e log decoded item w.same_role sound g)) w;
       going = λ up. absurd (cc);
     }

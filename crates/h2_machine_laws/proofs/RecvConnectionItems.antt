@@ -1,11 +1,15 @@
 -- What items make of an end and of its log that change nothing of its streams, but perhaps windows.
-use Rattle.std.proofs.Common.{◌≡◌, ℕ, Bool, true, false, not, ◌&&◌, if◌then◌else◌, List, [], ◌∷◌, Option, refl, arith}
+use Rattle.std.proofs.Common.{◌≡◌, ℕ, Bool, true, false, not, ◌&&◌, if◌then◌else◌, List, [], ◌∷◌}
+use Rattle.std.proofs.Common.{Option, refl, arith}
 use Rattle.std.proofs.lemmas.Bool.{both_ways, false_from_ne_true}
-use Rattle.h2_frame.specs.Frames.{Frame, Data, Headers, Priority, Reset, Settings, Ping, GoAway, WindowUpdate, Continuation, Unknown}
+use Rattle.h2_frame.specs.Frames.{Frame, Data, Headers, Priority, Reset, Settings, Ping, GoAway}
+use Rattle.h2_frame.specs.Frames.{WindowUpdate, Continuation, Unknown}
 use Rattle.h2_frame.specs.Encoding.{stream_of}
 use Rattle.h2_block.specs.Grouping.{Item, alone}
 use Rattle.h2_log.specs.Log.{least_goaway, Log, active, newest_ping, unreleased}
-use Rattle.h2_log.specs.Items.{stream_of_item, data_on, data_of, increment_on, is_block_on, ends, resets, one_reset, one_ping, is_goaway, is_goaway_below, greatest_block}
+use Rattle.h2_log.specs.Items.{stream_of_item, data_on, data_of, increment_on, is_block_on, ends}
+use Rattle.h2_log.specs.Items.{resets, one_reset, one_ping, is_goaway, is_goaway_below}
+use Rattle.h2_log.specs.Items.{greatest_block}
 use Rattle.h2_log.specs.Settings.{one_settings}
 use Rattle.h2_log.specs.Verdicts.{NoEvent}
 use Rattle.h2_log.specs.ItemRules.{Decoded, replies_to}
@@ -14,8 +18,10 @@ use Rattle.h2_log.specs.ItemEffects.{events_of, discarded_flow}
 use Rattle.h2_machine.specs.End.{End}
 use Rattle.h2_machine.specs.Machine.{queue_output, after_ignored}
 use Rattle.h2_machine.specs.Represents.{goaway_sent_last}
-use Rattle.h2_machine_laws.proofs.RecvWithoutFrame.{Core, core, core_facts, Going, Waits, wrote_connection, active_by_items}
-use Rattle.h2_machine_laws.proofs.RecvLittleChanges.{IsQuietIn, quiet_read, IsQuietOut, quiet_wrote, active_read, active_some}
+use Rattle.h2_machine_laws.proofs.RecvWithoutFrame.{Core, core, core_facts, Going, Waits}
+use Rattle.h2_machine_laws.proofs.RecvWithoutFrame.{wrote_connection, active_by_items}
+use Rattle.h2_machine_laws.proofs.RecvLittleChanges.{IsQuietIn, quiet_read, IsQuietOut, quiet_wrote}
+use Rattle.h2_machine_laws.proofs.RecvLittleChanges.{active_read, active_some}
 use Rattle.h2_machine_laws.proofs.RecvReturnedCredit.{After, unsettled}
 use Rattle.h2_machine_laws.proofs.RecvRead.{reads}
 
@@ -34,7 +40,8 @@ is_plain (Unknown kind flags stream payload) = true
 
 -- Such a frame changes nothing.
 pub plain_quiet : (frame : Frame) → is_plain frame ≡ true → IsQuietIn (alone frame)
-unfolding is_block_on greatest_block ends resets is_goaway least_goaway one_settings data_on data_of increment_on
+unfolding is_block_on greatest_block ends resets is_goaway least_goaway one_settings data_on data_of
+    increment_on
 plain_quiet (Data stream end octets pad) is = absurd (both_ways false refl is)
 plain_quiet (Reset stream code) is = absurd (both_ways false refl is)
 plain_quiet (Settings false pairs) is = absurd (both_ways false refl is)
@@ -55,15 +62,18 @@ plain_quiet frame is =
     }
 
 -- A stream that is as active as before leaves nothing owing, by the tests.
-none_owing_by : (before after : Bool) (n : ℕ) → after ≡ before → (if before && not after then n else 0) ≡ 0
+none_owing_by : (before after : Bool) (n : ℕ) → after ≡ before
+    → (if before && not after then n else 0) ≡ 0
 none_owing_by true true n same = refl
 none_owing_by false after n same = refl
 none_owing_by true false n same = absurd (cc)
 
 -- A stream that is as active as before leaves nothing owing.
-pub none_owing : (log after : Log) (i : ℕ) → active after i ≡ active log i → owed_at_close log after i ≡ 0
+pub none_owing : (log after : Log) (i : ℕ) → active after i ≡ active log i → owed_at_close log after
+    i ≡ 0
 unfolding owed_at_close
-none_owing log after i same = none_owing_by (active log i) (active after i) (unreleased after i) same
+none_owing log after i same = none_owing_by (active log i) (active after i) (unreleased after i)
+    same
 
 -- A stream that wasn't active leaves nothing owing.
 pub dead_owing : (log after : Log) (i : ℕ) → active log i ≡ false → owed_at_close log after i ≡ 0
@@ -75,18 +85,29 @@ pub zero_dead : (c : Core) → active_by_items c 0 ≡ false
 zero_dead c = false_from_ne_true (active_by_items c 0) (λ alive. active_some c 0 alive refl)
 
 -- What waits is as before, where an item is read.
-pub read_waits : (e : End) (log : Log) (decoded : Option Decoded) (item : Item) → Waits e log → Waits e (read log decoded item)
-read_waits e log decoded item w = record { same_role = w.same_role; same_failed = w.same_failed; waiting = w.waiting; given = w.given }
+pub read_waits : (e : End) (log : Log) (decoded : Option Decoded) (item : Item) → Waits e log
+    → Waits e (read log decoded item)
+read_waits e log decoded item w = record {
+  same_role = w.same_role;
+  same_failed = w.same_failed;
+  waiting = w.waiting;
+  given = w.given;
+}
 
 -- What plain frames that need no answer make of an end.
-pub plain_ignored : (e : End) (log : Log) (decoded : Option Decoded) (frame : Frame) → is_plain frame ≡ true → replies_to NoEvent (alone frame) ≡ []
-    → Waits e log → Going e (core log) → After (after_ignored e decoded (alone frame)) (with_verdict log decoded (alone frame) NoEvent)
-unfolding with_verdict after_ignored replies_to events_of discarded_flow data_of with_sent with_reported
-plain_ignored e log decoded (Data stream end octets pad) is none w g = absurd (both_ways false refl is)
+pub plain_ignored : (e : End) (log : Log) (decoded : Option Decoded) (frame : Frame)
+    → is_plain frame ≡ true → replies_to NoEvent (alone frame) ≡ []
+    → Waits e log → Going e (core log) → After (after_ignored e decoded (alone frame))
+    (with_verdict log decoded (alone frame) NoEvent)
+unfolding with_verdict after_ignored replies_to events_of discarded_flow data_of with_sent
+    with_reported
+plain_ignored e log decoded (Data stream end octets pad) is none w g =
+    absurd (both_ways false refl is)
 plain_ignored e log decoded (Reset stream code) is none w g = absurd (both_ways false refl is)
 plain_ignored e log decoded (Settings false pairs) is none w g = absurd (both_ways false refl is)
 plain_ignored e log decoded (GoAway last code debug) is none w g = absurd (both_ways false refl is)
-plain_ignored e log decoded (WindowUpdate stream increment) is none w g = absurd (both_ways false refl is)
+plain_ignored e log decoded (WindowUpdate stream increment) is none w g =
+    absurd (both_ways false refl is)
 plain_ignored e log decoded (Ping false octets) is none w g = absurd (cc)
 plain_ignored e log decoded frame is none w g =
     let q = plain_quiet frame is in
@@ -94,13 +115,16 @@ plain_ignored e log decoded frame is none w g =
     (omega (
       arith,
       none_owing log (read log decoded (alone frame)) (stream_of_item (alone frame))
-          (active_read log.role (stream_of_item (alone frame)) (alone frame) log.received log.sent log.reported (q.blocks _) (q.ended _) (q.was_reset _)),
+          (active_read log.role (stream_of_item (alone frame)) (alone frame) log.received log.sent
+          log.reported (q.blocks _) (q.ended _) (q.was_reset _)),
     ))
-    (read_waits e log decoded (alone frame) w) g.unreturned (λ up. quiet_read (core_facts e) (core log) (alone frame) q g)
+    (read_waits e log decoded (alone frame) w) g.unreturned (λ up. quiet_read (core_facts e)
+    (core log) (alone frame) q g)
 
 -- the answer to a PING changes nothing more
 pong_quiet : (octets : List ℕ) → IsQuietOut (alone (Ping true octets))
-unfolding is_block_on greatest_block ends resets is_goaway is_goaway_below goaway_sent_last newest_ping one_ping one_settings data_on data_of one_reset increment_on
+unfolding is_block_on greatest_block ends resets is_goaway is_goaway_below goaway_sent_last
+    newest_ping one_ping one_settings data_on data_of one_reset increment_on
 pong_quiet octets =
     record {
       blocks = λ i. refl;
@@ -125,14 +149,24 @@ unfolding increment_on
 pong_none octets = refl
 
 -- What an end makes of a PING that it answers.
-pub ping_ignored : (e : End) (log : Log) (decoded : Option Decoded) (octets : List ℕ) → Waits e log → Going e (core log)
-    → After (after_ignored e decoded (alone (Ping false octets))) (with_verdict log decoded (alone (Ping false octets)) NoEvent)
-unfolding with_verdict after_ignored replies_to events_of discarded_flow data_of stream_of_item stream_of with_sent
+pub ping_ignored : (e : End) (log : Log) (decoded : Option Decoded) (octets : List ℕ) → Waits e log
+    → Going e (core log)
+    → After (after_ignored e decoded (alone (Ping false octets))) (with_verdict log decoded
+    (alone (Ping false octets)) NoEvent)
+unfolding with_verdict after_ignored replies_to events_of discarded_flow data_of stream_of_item
+    stream_of with_sent
 ping_ignored e log decoded octets w g =
     let q = plain_quiet (Ping false octets) refl in
     let item : Item = alone (Ping false octets) in
-    unsettled (queue_output e (alone (Ping true octets) ∷ [])) (with_sent (read log decoded item) (alone (Ping true octets) ∷ [])) [] _
-    (omega (arith, dead_owing log (with_reported (with_sent (read log decoded item) (alone (Ping true octets) ∷ [])) []) 0 (zero_dead (core log))))
-    (wrote_connection e.role e.failed e.output.waiting (read log decoded item) (alone (Ping true octets)) [] (read_waits e log decoded item w)) g.unreturned
-    (λ up. quiet_wrote (core_facts e) (reads (core log) item) (alone (Ping true octets)) e.windows.recv e.windows.unreturned log.unreturned (pong_quiet octets)
+    unsettled (queue_output e (alone (Ping true octets) ∷ [])) (with_sent (read log decoded item)
+    (alone (Ping true octets) ∷ [])) [] _
+    (omega (
+      arith,
+      dead_owing log (with_reported (with_sent (read log decoded item)
+          (alone (Ping true octets) ∷ [])) []) 0 (zero_dead (core log)),
+    ))
+    (wrote_connection e.role e.failed e.output.waiting (read log decoded item)
+    (alone (Ping true octets)) [] (read_waits e log decoded item w)) g.unreturned
+    (λ up. quiet_wrote (core_facts e) (reads (core log) item) (alone (Ping true octets))
+    e.windows.recv e.windows.unreturned log.unreturned (pong_quiet octets)
     (omega (arith, pong_none octets)) g.unreturned (quiet_read (core_facts e) (core log) item q g))

@@ -1,86 +1,111 @@
 -- What DATA that is reported makes of an end and of its log.
-use Rattle.std.proofs.Common.{◌≡◌, ◌≢◌, ℕ, ◌≤◌, ◌+◌, ◌-◌, Bool, true, false, ◌&&◌, ◌||◌, if◌then◌else◌, pos, ◌-ℤ◌, List, [], ◌∷◌, length, Option, refl, ap, sym, ◌∙◌, inl, inr, arith, zero-add}
+use Rattle.std.proofs.Common.{◌≡◌, ◌≢◌, ℕ, ◌≤◌, ◌+◌, ◌-◌, Bool, true, false, ◌&&◌, ◌||◌}
+use Rattle.std.proofs.Common.{if◌then◌else◌, pos, ◌-ℤ◌, List, [], ◌∷◌, length, Option, refl, ap}
+use Rattle.std.proofs.Common.{sym, ◌∙◌, inl, inr, arith, zero-add}
 use Rattle.std.specs.List.{list_any}
 use Rattle.std.specs.FinMap as map
 use Rattle.std.proofs.lemmas.Int.{ints}
-use Rattle.std.proofs.lemmas.Bool.{cases_eq, both_ways, ne_eqb, eq-eqb, or_right, false_from_ne_true}
+use Rattle.std.proofs.lemmas.Bool.{cases_eq, both_ways, ne_eqb, eq-eqb, or_right}
+use Rattle.std.proofs.lemmas.Bool.{false_from_ne_true}
 use Rattle.h2_frame.specs.Frames.{Data}
 use Rattle.h2_frame.specs.Encoding.{stream_of, payload_of}
 use Rattle.h2_block.specs.Grouping.{Item, alone}
-use Rattle.h2_log.specs.Items.{stream_of_item, data_on, increment_on, is_block_on, ends, resets, total}
-use Rattle.h2_log.specs.Events.{Event, DataEvent, flow_on, one_acked, one_pong, reported_total, reports_unprocessed, processed_by}
+use Rattle.h2_log.specs.Items.{stream_of_item, data_on, increment_on, is_block_on, ends, resets}
+use Rattle.h2_log.specs.Items.{total}
+use Rattle.h2_log.specs.Events.{Event, DataEvent, flow_on, one_acked, one_pong, reported_total}
+use Rattle.h2_log.specs.Events.{reports_unprocessed, processed_by}
 use Rattle.h2_log.specs.Settings.{is_server, value_read}
 use Rattle.h2_log.specs.States.{openings, count_below}
 use Rattle.h2_log.specs.Windows.{given_on, granted_on}
 use Rattle.h2_log.specs.Log.{Log, unreleased, released}
 use Rattle.h2_log.specs.Verdicts.{Reported}
 use Rattle.h2_log.specs.ItemRules.{Decoded, replies_to}
-use Rattle.h2_log.specs.LogSteps.{read, with_sent, with_reported, with_unreturned, owed_at_close, with_verdict}
+use Rattle.h2_log.specs.LogSteps.{read, with_sent, with_reported, with_unreturned, owed_at_close}
+use Rattle.h2_log.specs.LogSteps.{with_verdict}
 use Rattle.h2_log.specs.ItemEffects.{events_of, discarded_flow}
 use Rattle.h2_machine.specs.End.{End, StreamMap, Entry, active_entry, owed_entry}
 use Rattle.h2_log.specs.View.{StreamView}
 use Rattle.h2_machine.specs.Machine.{set_stream, close_stream, with_flow, after_reported}
 use Rattle.h2_log.specs.declared.role.Role.{Role}
 use Rattle.h2_log.specs.declared.role.Role.TheVariants.{Client, Server}
-use Rattle.h2_machine_laws.proofs.OwedSums.{get_set_same, get_set_other, get_removed_same, get_removed_other}
+use Rattle.h2_machine_laws.proofs.OwedSums.{get_set_same, get_set_other, get_removed_same}
+use Rattle.h2_machine_laws.proofs.OwedSums.{get_removed_other}
 use Rattle.h2_log_laws.proofs.ReaderStates.{active_parts, active_from, lasts_parts, lasts_from}
-use Rattle.h2_machine_laws.proofs.RecvWithoutFrame.{said, Core, core, CoreFacts, core_facts, Advances, Going, AreSaid, Waits, confirmed, active_by_items, greatest_used}
+use Rattle.h2_machine_laws.proofs.RecvWithoutFrame.{said, Core, core, CoreFacts, core_facts}
+use Rattle.h2_machine_laws.proofs.RecvWithoutFrame.{Advances, Going, AreSaid, Waits, confirmed}
+use Rattle.h2_machine_laws.proofs.RecvWithoutFrame.{active_by_items, greatest_used}
 use Rattle.h2_machine_laws.proofs.RecvVerdict.{stream_said}
 use Rattle.h2_machine_laws.proofs.RecvLittleChanges.{SameAt, kept_at, count_same, stream_same}
 use Rattle.h2_machine_laws.proofs.RecvReturnedCredit.{After, returned, unsettled}
 use Rattle.h2_machine_laws.proofs.RecvRead.{reads, read_step, said_set, same_read}
-use Rattle.h2_machine_laws.proofs.RecvEvents.{report, ChangesNoStream, reported_step, active_reported, same_reported, same_both, taken_kept}
+use Rattle.h2_machine_laws.proofs.RecvEvents.{report, ChangesNoStream, reported_step}
+use Rattle.h2_machine_laws.proofs.RecvEvents.{active_reported, same_reported, same_both, taken_kept}
 use Rattle.h2_machine_laws.proofs.RecvConnectionItems.{none_owing}
 use Rattle.h2_machine_laws.proofs.RecvUnprocessed.{full_owing}
-use Rattle.h2_machine_laws.proofs.RecvReset.{one_less, data_common, data_apart, data_used, data_gives, data_takes}
+use Rattle.h2_machine_laws.proofs.RecvReset.{one_less, data_common, data_apart, data_used}
+use Rattle.h2_machine_laws.proofs.RecvReset.{data_gives, data_takes}
 
--- A stream is set and removed at once: it isn't active and wasn't reset, and others are as they were.
-pub said_over : (streams : StreamMap) (i : ℕ) (x : Entry) (c d : Core) → AreSaid streams c → ((j : ℕ) → j ≢ i → SameAt j c d)
-    → active_by_items d i ≡ false → list_any (resets i) d.sent ≡ false → AreSaid (map.remove (map.insert streams i x) i) d
+-- A stream is set and removed at once: it isn't active and wasn't reset, and others are as they
+-- were.
+pub said_over : (streams : StreamMap) (i : ℕ) (x : Entry) (c d : Core) → AreSaid streams c
+    → ((j : ℕ) → j ≢ i → SameAt j c d)
+    → active_by_items d i ≡ false → list_any (resets i) d.sent ≡ false
+    → AreSaid (map.remove (map.insert streams i x) i) d
 said_over streams i x c d are same dead kept j = elim (cases_eq j i) [
   | inl here ↦ rw (here, dead, kept) (get_removed_same (map.insert streams i x) i)
   | inr other ↦
-      get_removed_other (map.insert streams i x) i j other ∙ get_set_other streams i x j other ∙ kept_at streams j c d (same j other) (are j)
+      get_removed_other (map.insert streams i x) i j other ∙ get_set_other streams i x j other
+      ∙ kept_at streams j c d (same j other) (are j)
 ]
 
 -- the event of DATA is harmless, and shows nothing taken
-reported_harmless : (i : ℕ) (octets : List ℕ) (n : ℕ) (end : Bool) → ChangesNoStream (DataEvent i octets n end)
+reported_harmless : (i : ℕ) (octets : List ℕ) (n : ℕ) (end : Bool)
+    → ChangesNoStream (DataEvent i octets n end)
 unfolding one_acked one_pong reports_unprocessed
 reported_harmless i octets n end = record { acks = refl; pongs = refl; names = λ j. refl }
 
-reported_shows : (i : ℕ) (octets : List ℕ) (n : ℕ) (end : Bool) → processed_by (DataEvent i octets n end) ≡ 0
+reported_shows : (i : ℕ) (octets : List ℕ) (n : ℕ) (end : Bool)
+    → processed_by (DataEvent i octets n end) ≡ 0
 unfolding processed_by
 reported_shows i octets n end = refl
 
 -- its flow elsewhere, and on its stream
-reported_elsewhere : (i : ℕ) (octets : List ℕ) (n : ℕ) (end : Bool) (j : ℕ) → j ≢ i → flow_on j (DataEvent i octets n end) ≡ 0
+reported_elsewhere : (i : ℕ) (octets : List ℕ) (n : ℕ) (end : Bool) (j : ℕ) → j ≢ i
+    → flow_on j (DataEvent i octets n end) ≡ 0
 unfolding flow_on
 reported_elsewhere i octets n end j other = rw (ne_eqb i j (λ is. other (sym is))) refl
 
-reported_here : (i : ℕ) (octets : List ℕ) (n : ℕ) (end : Bool) → flow_on i (DataEvent i octets n end) ≡ n
+reported_here : (i : ℕ) (octets : List ℕ) (n : ℕ) (end : Bool)
+    → flow_on i (DataEvent i octets n end) ≡ n
 unfolding flow_on
 reported_here i octets n end = rw (eq-eqb i i refl) refl
 
 -- DATA takes its payload of its stream's window, and ends it if it says so
-data_here : (i : ℕ) (end : Bool) (octets : List ℕ) (pad : Option ℕ) → data_on i (alone (Data i end octets pad)) ≡ length (payload_of (Data i end octets pad))
+data_here : (i : ℕ) (end : Bool) (octets : List ℕ) (pad : Option ℕ)
+    → data_on i (alone (Data i end octets pad)) ≡ length (payload_of (Data i end octets pad))
 unfolding data_on
 data_here i end octets pad = rw (eq-eqb i i refl) refl
 
-data_ends : (i : ℕ) (end : Bool) (octets : List ℕ) (pad : Option ℕ) → ends i (alone (Data i end octets pad)) ≡ end
+data_ends : (i : ℕ) (end : Bool) (octets : List ℕ) (pad : Option ℕ)
+    → ends i (alone (Data i end octets pad)) ≡ end
 unfolding ends
 data_ends i end octets pad = rw (eq-eqb i i refl) refl
 
-data_still : (i : ℕ) (end : Bool) (octets : List ℕ) (pad : Option ℕ) (j : ℕ) → increment_on j (alone (Data i end octets pad)) ≡ 0
+data_still : (i : ℕ) (end : Bool) (octets : List ℕ) (pad : Option ℕ) (j : ℕ)
+    → increment_on j (alone (Data i end octets pad)) ≡ 0
 unfolding increment_on
 data_still i end octets pad j = refl
 
-data_unreset : (i : ℕ) (end : Bool) (octets : List ℕ) (pad : Option ℕ) (j : ℕ) → resets j (alone (Data i end octets pad)) ≡ false
+data_unreset : (i : ℕ) (end : Bool) (octets : List ℕ) (pad : Option ℕ) (j : ℕ)
+    → resets j (alone (Data i end octets pad)) ≡ false
 unfolding resets
 data_unreset i end octets pad j = refl
 
 -- the core with DATA that was read and reported
 abbrev after_data : Core → ℕ → Bool → List ℕ → Option ℕ → Core
-after_data c i end octets pad = reads (report c (DataEvent i octets (length (payload_of (Data i end octets pad))) end)) (alone (Data i end octets pad))
+after_data c i end octets pad =
+    reads (report c (DataEvent i octets (length (payload_of (Data i end octets pad))) end))
+    (alone (Data i end octets pad))
 
 -- a receive window that is used, by signed numbers
 used_recv_window : (g t n : ℕ) → (pos g -ℤ pos t) -ℤ pos n ≡ pos g -ℤ pos (n + t)
@@ -98,42 +123,55 @@ more_kept : (n reported rel : ℕ) → rel ≤ reported → (reported - rel) + n
 more_kept n reported rel within = omega (arith, within)
 
 -- The stream with its flow is what the log says.
-flow_said : (c : Core) (i : ℕ) (end : Bool) (octets : List ℕ) (pad : Option ℕ) → released i c.calls ≤ reported_total (flow_on i) c.reported
-    → with_flow (said c i) (length (payload_of (Data i end octets pad))) end ≡ said (after_data c i end octets pad) i
+flow_said : (c : Core) (i : ℕ) (end : Bool) (octets : List ℕ) (pad : Option ℕ)
+    → released i c.calls ≤ reported_total (flow_on i) c.reported
+    → with_flow (said c i) (length (payload_of (Data i end octets pad))) end ≡ said
+    (after_data c i end octets pad) i
 unfolding given_on total reported_total value_read one_acked
 flow_said c i end octets pad within =
     let n : ℕ = length (payload_of (Data i end octets pad)) in
     let d : Core = after_data c i end octets pad in
     stream_same (with_flow (said c i) n end) (said d i)
     (rw (data_still i end octets pad i, zero-add) refl)
-    (rw (data_here i end octets pad, zero-add) (used_recv_window (granted_on i (confirmed c) c.sent) (total (data_on i) c.received) n))
-    (rw (reported_here i octets n end) (more_kept n (reported_total (flow_on i) c.reported) (released i c.calls) within))
+    (rw (data_here i end octets pad, zero-add) (used_recv_window (granted_on i (confirmed c) c.sent)
+    (total (data_on i) c.received) n))
+    (rw (reported_here i octets n end) (more_kept n (reported_total (flow_on i) c.reported)
+    (released i c.calls) within))
     (rw (data_ends i end octets pad) (or_swapped (list_any (ends i) c.received) end)) refl
 
 -- Others are as they were.
-data_same : (c : Core) (i : ℕ) (end : Bool) (octets : List ℕ) (pad : Option ℕ) (j : ℕ) → j ≢ i → SameAt j c (after_data c i end octets pad)
+data_same : (c : Core) (i : ℕ) (end : Bool) (octets : List ℕ) (pad : Option ℕ) (j : ℕ) → j ≢ i
+    → SameAt j c (after_data c i end octets pad)
 data_same c i end octets pad j other =
     let n : ℕ = length (payload_of (Data i end octets pad)) in
     let c1 : Core = report c (DataEvent i octets n end) in
     same_both j c c1 (after_data c i end octets pad)
-    (same_reported j c (DataEvent i octets n end) (reported_harmless i octets n end) (reported_elsewhere i octets n end j other))
-    (same_read j c1 (alone (Data i end octets pad)) (data_common i end octets pad).settings (data_apart i end octets pad j other))
+    (same_reported j c (DataEvent i octets n end) (reported_harmless i octets n end)
+    (reported_elsewhere i octets n end j other))
+    (same_read j c1 (alone (Data i end octets pad)) (data_common i end octets pad).settings
+    (data_apart i end octets pad j other))
 
 -- what stands among the openings stands among more
-opened_more : (role : Role) (i : ℕ) (item : Item) (received sent : List Item) → list_any (is_block_on i) (openings role received sent) ≡ true
+opened_more : (role : Role) (i : ℕ) (item : Item) (received sent : List Item)
+    → list_any (is_block_on i) (openings role received sent) ≡ true
     → list_any (is_block_on i) (openings role (item ∷ received) sent) ≡ true
 opened_more Client i item received sent here = here
-opened_more Server i item received sent here = or_right (is_block_on i item) (list_any (is_block_on i) received) here
+opened_more Server i item received sent here = or_right (is_block_on i item)
+    (list_any (is_block_on i) received) here
 
--- DATA that comes after its sender's or before the receiver's end leaves its stream active, by the flags after it.
-data_is_active : (c : Core) (i : ℕ) (end : Bool) (octets : List ℕ) (pad : Option ℕ) → active_by_items c i ≡ true
-    → ((list_any (ends i) c.received || end) && list_any (ends i) c.sent) ≡ false → active_by_items (after_data c i end octets pad) i ≡ true
+-- DATA that comes after its sender's or before the receiver's end leaves its stream active, by the
+-- flags after it.
+data_is_active : (c : Core) (i : ℕ) (end : Bool) (octets : List ℕ) (pad : Option ℕ)
+    → active_by_items c i ≡ true
+    → ((list_any (ends i) c.received || end) && list_any (ends i) c.sent) ≡ false
+    → active_by_items (after_data c i end octets pad) i ≡ true
 data_is_active c i end octets pad alive goes =
     let n : ℕ = length (payload_of (Data i end octets pad)) in
     let item : Item = alone (Data i end octets pad) in
     let parts = active_parts c.role i c.received c.sent c.reported alive in
     let lasts = lasts_parts i c.received c.sent parts.lasts in
-    active_reported c.role i (item ∷ c.received) c.sent (DataEvent i octets n end) c.reported ((reported_harmless i octets n end).names i)
+    active_reported c.role i (item ∷ c.received) c.sent (DataEvent i octets n end) c.reported
+    ((reported_harmless i octets n end).names i)
     ∙ active_from c.role i (item ∷ c.received) c.sent c.reported (record {
       odd = parts.odd;
       opened = opened_more c.role i item c.received c.sent parts.opened;
@@ -148,48 +186,97 @@ data_is_active c i end octets pad alive goes =
 
 -- DATA after which both sides have ended its stream ends it, by the flags after it.
 data_dead : (c : Core) (i : ℕ) (end : Bool) (octets : List ℕ) (pad : Option ℕ)
-    → ((list_any (ends i) c.received || end) && list_any (ends i) c.sent) ≡ true → active_by_items (after_data c i end octets pad) i ≡ false
+    → ((list_any (ends i) c.received || end) && list_any (ends i) c.sent) ≡ true
+    → active_by_items (after_data c i end octets pad) i ≡ false
 data_dead c i end octets pad over =
     let d : Core = after_data c i end octets pad in
     false_from_ne_true (active_by_items d i) (λ alive.
     both_ways (list_any (ends i) d.received && list_any (ends i) d.sent)
-    (lasts_parts i d.received d.sent (active_parts d.role i d.received d.sent d.reported alive).lasts).ended
+    (lasts_parts i d.received d.sent (active_parts d.role i d.received d.sent d.reported
+    alive).lasts).ended
     (rw (data_ends i end octets pad, or_swapped end (list_any (ends i) c.received)) over))
 
--- What an end keeps where DATA is reported on an active stream, by what it makes of the streams and their count.
-data_advances : (h : CoreFacts) (c : Core) (i : ℕ) (end : Bool) (octets : List ℕ) (pad : Option ℕ) (streams : StreamMap) (count : ℕ)
-    → active_by_items c i ≡ true → length (payload_of (Data i end octets pad)) ≤ h.windows.recv → AreSaid streams (after_data c i end octets pad)
-    → count ≡ count_below (greatest_used c + 1) (active_by_items (after_data c i end octets pad)) → Advances h c
-    → Advances (record h { streams = record h.streams { entries = streams; active_count = count }; windows = record h.windows { recv = h.windows.recv - length (payload_of (Data i end octets pad)) } }) (after_data c i end octets pad)
+-- What an end keeps where DATA is reported on an active stream, by what it makes of the streams and
+-- their count.
+data_advances : (h : CoreFacts) (c : Core) (i : ℕ) (end : Bool) (octets : List ℕ) (pad : Option ℕ)
+    (streams : StreamMap) (count : ℕ)
+    → active_by_items c i ≡ true → length (payload_of (Data i end octets pad)) ≤ h.windows.recv
+    → AreSaid streams (after_data c i end octets pad)
+    → count ≡ count_below (greatest_used c + 1) (active_by_items (after_data c i end octets pad))
+    → Advances h c
+    → Advances (record h {
+      streams = record h.streams { entries = streams; active_count = count };
+      windows = record h.windows {
+        recv = h.windows.recv - length
+            (payload_of (Data i end octets pad));
+      };
+    }) (after_data c i end octets pad)
 data_advances h c i end octets pad streams count alive within are counts g =
     let n : ℕ = length (payload_of (Data i end octets pad)) in
     let event : Event = DataEvent i octets n end in
     let c1 : Core = report c event in
-    let alive1 : active_by_items c1 i ≡ true = active_reported c.role i c.received c.sent event c.reported ((reported_harmless i octets n end).names i) ∙ alive in
-    let one = reported_step h c event (map.insert h.streams.entries i (active_entry (said c1 i))) h.streams.last_processed (reported_harmless i octets n end)
+    let alive1 : active_by_items c1 i ≡ true = active_reported c.role i c.received c.sent event
+    c.reported ((reported_harmless i octets n end).names i) ∙ alive in
+    let one = reported_step h c event (map.insert h.streams.entries i (active_entry (said c1 i)))
+    h.streams.last_processed (reported_harmless i octets n end)
     (said_set h.streams.entries i (said c1 i) c c1 g.streams
-    (λ j other. same_reported j c event (reported_harmless i octets n end) (reported_elsewhere i octets n end j other)) alive1 refl)
-    (g.last_processed ∙ sym (taken_kept (is_server c.role) event c.reported (reported_shows i octets n end))) g in
-    read_step _ c1 (alone (Data i end octets pad)) streams count h.streams.highest h.windows.send (h.windows.recv - n) (data_common i end octets pad) are
+    (λ j other. same_reported j c event (reported_harmless i octets n end) (reported_elsewhere i
+    octets n end j other)) alive1 refl)
+    (g.last_processed ∙ sym (taken_kept (is_server c.role) event c.reported (reported_shows i octets
+    n end))) g in
+    read_step _ c1 (alone (Data i end octets pad)) streams count h.streams.highest h.windows.send
+    (h.windows.recv - n) (data_common i end octets pad) are
     (rw (data_used c1 i end octets pad) counts) (g.highest ∙ sym (data_used c1 i end octets pad))
-    (omega (arith, data_gives i end octets pad)) (omega (arith, within, data_takes i end octets pad)) one
+    (omega (arith, data_gives i end octets pad)) (omega (
+      arith,
+      within,
+      data_takes i end octets
+          pad,
+    )) one
 
 -- what waits, where an end's streams and numbers change
-still_waits : (e : End) (log : Log) (decoded : Option Decoded) (item : Item) (streams : StreamMap) (count recv_window : ℕ) → Waits e log
-    → Waits (record e { streams = record e.streams { entries = streams; active_count = count }; windows = record e.windows { recv = recv_window } }) (read log decoded item)
+still_waits : (e : End) (log : Log) (decoded : Option Decoded) (item : Item) (streams : StreamMap)
+    (count recv_window : ℕ) → Waits e log
+    → Waits (record e {
+      streams = record e.streams { entries = streams; active_count = count };
+      windows = record e.windows { recv = recv_window };
+    }) (read log decoded item)
 still_waits e log decoded item streams count recv_window w =
-    record { same_role = w.same_role; same_failed = w.same_failed; waiting = w.waiting; given = w.given }
+    record {
+      same_role = w.same_role;
+      same_failed = w.same_failed;
+      waiting = w.waiting;
+      given = w.given;
+    }
 
 -- What DATA on an active stream makes of an end, by the test whether the stream is over.
-data_reported_by : (e : End) (log : Log) (decoded : Option Decoded) (i : ℕ) (end : Bool) (octets : List ℕ) (pad : Option ℕ) (b : Bool)
+data_reported_by : (e : End) (log : Log) (decoded : Option Decoded) (i : ℕ) (end : Bool)
+    (octets : List ℕ) (pad : Option ℕ) (b : Bool)
     → ((list_any (ends i) log.received || end) && list_any (ends i) log.sent) ≡ b
-    → active_by_items (core log) i ≡ true → length (payload_of (Data i end octets pad)) ≤ e.windows.recv
-    → released i log.calls ≤ reported_total (flow_on i) log.reported → Waits e log → Going e (core log)
-    → After (if b then close_stream (set_stream (record e { windows = record e.windows { recv = e.windows.recv - length (payload_of (Data i end octets pad)) } }) i
+    → active_by_items (core log) i ≡ true → length (payload_of (Data i end octets pad)) ≤
+    e.windows.recv
+    → released i log.calls ≤ reported_total (flow_on i) log.reported → Waits e log
+    → Going e (core log)
+    → After (if b then close_stream
+    (set_stream (record e {
+      windows = record e.windows {
+        recv = e.windows.recv - length
+            (payload_of (Data i end octets pad));
+      };
+    }) i
     (with_flow (said (core log) i) (length (payload_of (Data i end octets pad))) end)) i 0
-    else set_stream (record e { windows = record e.windows { recv = e.windows.recv - length (payload_of (Data i end octets pad)) } }) i (with_flow (said (core log) i) (length (payload_of (Data i end octets pad))) end))
-    (with_reported (with_unreturned (0 + owed_at_close log (with_reported (read log decoded (alone (Data i end octets pad))) (DataEvent i octets (length (payload_of (Data i end octets pad))) end ∷ [])) i)
-    (read log decoded (alone (Data i end octets pad)))) (DataEvent i octets (length (payload_of (Data i end octets pad))) end ∷ []))
+    else set_stream (record e {
+      windows = record e.windows {
+        recv = e.windows.recv - length
+            (payload_of (Data i end octets pad));
+      };
+    }) i (with_flow (said (core log) i)
+    (length (payload_of (Data i end octets pad))) end))
+    (with_reported (with_unreturned (0 + owed_at_close log
+    (with_reported (read log decoded (alone (Data i end octets pad))) (DataEvent i octets
+    (length (payload_of (Data i end octets pad))) end ∷ [])) i)
+    (read log decoded (alone (Data i end octets pad)))) (DataEvent i octets
+    (length (payload_of (Data i end octets pad))) end ∷ []))
 unfolding with_reported unreleased
 data_reported_by e log decoded i end octets pad true over alive within rel w g =
     let c : Core = core log in
@@ -202,13 +289,28 @@ data_reported_by e log decoded i end octets pad true over alive within rel w g =
     let dead : active_by_items d i ≡ false = data_dead c i end octets pad over in
     let owing = full_owing log (with_reported (read log decoded item) (event ∷ [])) i alive dead in
     let streams : StreamMap = map.remove (map.insert e.streams.entries i (active_entry s)) i in
-    returned (record e { streams = record e.streams { entries = streams; active_count = e.streams.active_count - 1 }; windows = record e.windows { recv = e.windows.recv - n } }) (read log decoded item) (event ∷ []) _ _
-    (ap (λ (m : ℕ). 0 + m) (ap owed_entry (get_set_same e.streams.entries i (active_entry s)) ∙ ap (λ (t : StreamView). t.owed) is ∙ sym owing))
-    (still_waits e log decoded item streams (e.streams.active_count - 1) (e.windows.recv - n) w) g.unreturned
-    (λ up. data_advances (core_facts e) c i end octets pad streams (e.streams.active_count - 1) alive within
-    (said_over e.streams.entries i (active_entry s) c d g.streams (data_same c i end octets pad) dead
-    (lasts_parts i c.received c.sent (active_parts c.role i c.received c.sent c.reported alive).lasts).kept)
-    (rw (← (data_used (report c event) i end octets pad)) (one_less c d i e.streams.active_count (data_used (report c event) i end octets pad) (data_same c i end octets pad) alive dead g.active_count)) g)
+    returned (record e {
+      streams = record e.streams {
+        entries = streams;
+        active_count =
+            e.streams.active_count - 1;
+      };
+      windows = record e.windows { recv = e.windows.recv - n };
+    })
+    (read log decoded item) (event ∷ []) _ _
+    (ap (λ (m : ℕ). 0 + m) (ap owed_entry (get_set_same e.streams.entries i (active_entry s))
+    ∙ ap (λ (t : StreamView). t.owed) is ∙ sym owing))
+    (still_waits e log decoded item streams (e.streams.active_count - 1) (e.windows.recv - n) w)
+    g.unreturned
+    (λ up. data_advances (core_facts e) c i end octets pad streams (e.streams.active_count - 1)
+    alive within
+    (said_over e.streams.entries i (active_entry s) c d g.streams (data_same c i end octets pad)
+    dead
+    (lasts_parts i c.received c.sent (active_parts c.role i c.received c.sent c.reported
+    alive).lasts).kept)
+    (rw (← (data_used (report c event) i end octets pad)) (one_less c d i e.streams.active_count
+    (data_used (report c event) i end octets pad) (data_same c i end octets pad) alive dead
+    g.active_count)) g)
 data_reported_by e log decoded i end octets pad false goes alive within rel w g =
     let c : Core = core log in
     let n : ℕ = length (payload_of (Data i end octets pad)) in
@@ -218,21 +320,37 @@ data_reported_by e log decoded i end octets pad false goes alive within rel w g 
     let s : StreamView = with_flow (said c i) n end in
     let still : active_by_items d i ≡ true = data_is_active c i end octets pad alive goes in
     let streams : StreamMap = map.insert e.streams.entries i (active_entry s) in
-    unsettled (record e { streams = record e.streams { entries = streams }; windows = record e.windows { recv = e.windows.recv - n } }) (read log decoded item) (event ∷ []) _
-    (omega (arith, none_owing log (with_reported (read log decoded item) (event ∷ [])) i (still ∙ sym alive)))
-    (still_waits e log decoded item streams e.streams.active_count (e.windows.recv - n) w) g.unreturned
-    (λ up. data_advances (core_facts e) c i end octets pad streams e.streams.active_count alive within
-    (said_set e.streams.entries i s c d g.streams (data_same c i end octets pad) still (flow_said c i end octets pad rel))
+    unsettled (record e {
+      streams = record e.streams { entries = streams };
+      windows =
+          record e.windows { recv = e.windows.recv - n };
+    }) (read log decoded item) (event ∷ []) _
+    (omega (
+      arith,
+      none_owing log (with_reported (read log decoded item) (event ∷ [])) i (still
+          ∙ sym alive),
+    ))
+    (still_waits e log decoded item streams e.streams.active_count (e.windows.recv - n) w)
+    g.unreturned
+    (λ up. data_advances (core_facts e) c i end octets pad streams e.streams.active_count alive
+    within
+    (said_set e.streams.entries i s c d g.streams (data_same c i end octets pad) still
+    (flow_said c i end octets pad rel))
     (g.active_count ∙ sym (count_same _ _ _ (λ j. elim (cases_eq j i) [
       | inl here ↦ rw here (still ∙ sym alive)
       | inr other ↦ (data_same c i end octets pad j other).active
     ]))) g)
 
 -- What DATA on an active stream makes of an end.
-pub data_reported : (e : End) (log : Log) (decoded : Option Decoded) (i : ℕ) (end : Bool) (octets : List ℕ) (pad : Option ℕ) → active_by_items (core log) i ≡ true
-    → length (payload_of (Data i end octets pad)) ≤ e.windows.recv → released i log.calls ≤ reported_total (flow_on i) log.reported → Waits e log → Going e (core log)
-    → After (after_reported e decoded (alone (Data i end octets pad))) (with_verdict log decoded (alone (Data i end octets pad)) Reported)
-unfolding with_verdict after_reported replies_to events_of discarded_flow stream_of_item stream_of with_sent
+pub data_reported : (e : End) (log : Log) (decoded : Option Decoded) (i : ℕ) (end : Bool)
+    (octets : List ℕ) (pad : Option ℕ) → active_by_items (core log) i ≡ true
+    → length (payload_of (Data i end octets pad)) ≤ e.windows.recv → released i log.calls ≤
+    reported_total (flow_on i) log.reported → Waits e log → Going e (core log)
+    → After (after_reported e decoded (alone (Data i end octets pad))) (with_verdict log decoded
+    (alone (Data i end octets pad)) Reported)
+unfolding with_verdict after_reported replies_to events_of discarded_flow stream_of_item stream_of
+    with_sent
 data_reported e log decoded i end octets pad alive within rel w g =
     rw (stream_said e (core log) i g alive)
-    (data_reported_by e log decoded i end octets pad ((list_any (ends i) log.received || end) && list_any (ends i) log.sent) refl alive within rel w g)
+    (data_reported_by e log decoded i end octets pad ((list_any (ends i) log.received || end) &&
+    list_any (ends i) log.sent) refl alive within rel w g)

@@ -1,14 +1,18 @@
 -- What RST_STREAM, and DATA that is ignored, make of an end and of its log.
-use Rattle.std.proofs.Common.{◌≡◌, ◌≢◌, ℕ, ◌≤◌, ◌+◌, ◌-◌, Bool, true, false, ◌==◌, List, [], ◌∷◌, length, Option, refl, ap, sym, ◌∙◌, inl, inr, arith, zero-add}
+use Rattle.std.proofs.Common.{◌≡◌, ◌≢◌, ℕ, ◌≤◌, ◌+◌, ◌-◌, Bool, true, false, ◌==◌, List, [], ◌∷◌}
+use Rattle.std.proofs.Common.{length, Option, refl, ap, sym, ◌∙◌, inl, inr, arith, zero-add}
 use Rattle.std.specs.List.{list_any}
 use Rattle.std.specs.FinMap as map
-use Rattle.std.proofs.lemmas.Bool.{cases_eq, both_ways, and_left, ne_eqb, eq-eqb, or_left, false_from_ne_true}
+use Rattle.std.proofs.lemmas.Bool.{cases_eq, both_ways, and_left, ne_eqb, eq-eqb, or_left}
+use Rattle.std.proofs.lemmas.Bool.{false_from_ne_true}
 use Rattle.h2_frame.specs.Frames.{Data, Reset}
 use Rattle.h2_frame.specs.Encoding.{stream_of, payload_of}
 use Rattle.h2_block.specs.Grouping.{Item, alone}
 use Rattle.h2_log.specs.Log.{least_goaway, Log, active, unreleased, released}
-use Rattle.h2_log.specs.Items.{stream_of_item, data_on, data_of, increment_on, is_block_on, ends, resets, is_goaway, greatest_block}
-use Rattle.h2_log.specs.Events.{ResetEvent, flow_on, one_acked, one_pong, reported_total, reports_unprocessed, processed_by}
+use Rattle.h2_log.specs.Items.{stream_of_item, data_on, data_of, increment_on, is_block_on, ends}
+use Rattle.h2_log.specs.Items.{resets, is_goaway, greatest_block}
+use Rattle.h2_log.specs.Events.{ResetEvent, flow_on, one_acked, one_pong, reported_total}
+use Rattle.h2_log.specs.Events.{reports_unprocessed, processed_by}
 use Rattle.h2_log.specs.Settings.{one_settings}
 use Rattle.h2_log.specs.States.{openings, count_below}
 use Rattle.h2_log.specs.Verdicts.{NoEvent, Reported}
@@ -19,27 +23,35 @@ use Rattle.h2_machine.specs.End.{End, owed_entry}
 use Rattle.h2_machine.specs.Machine.{after_ignored, after_reported}
 use Rattle.h2_log_laws.proofs.ReaderStates.{active_parts, lasts_parts}
 use Rattle.h2_log_laws.proofs.NextStreams.{greatest_above}
-use Rattle.h2_machine_laws.proofs.RecvWithoutFrame.{Core, core, CoreFacts, core_facts, Advances, Going, Waits, active_by_items, kept_back, greatest_used}
+use Rattle.h2_machine_laws.proofs.RecvWithoutFrame.{Core, core, CoreFacts, core_facts, Advances}
+use Rattle.h2_machine_laws.proofs.RecvWithoutFrame.{Going, Waits, active_by_items, kept_back}
+use Rattle.h2_machine_laws.proofs.RecvWithoutFrame.{greatest_used}
 use Rattle.h2_machine_laws.proofs.RecvVerdict.{active_said}
 use Rattle.h2_machine_laws.proofs.RecvLittleChanges.{SameAt, kept_at, count_same, used_read}
 use Rattle.h2_machine_laws.proofs.RecvReturnedCredit.{After, returned, unsettled}
-use Rattle.h2_machine_laws.proofs.RecvRead.{reads, IsCommon, read_step, said_removed, count_less, IsApart, same_read, same_dead, stays_dead}
+use Rattle.h2_machine_laws.proofs.RecvRead.{reads, IsCommon, read_step, said_removed, count_less}
+use Rattle.h2_machine_laws.proofs.RecvRead.{IsApart, same_read, same_dead, stays_dead}
 use Rattle.h2_machine_laws.proofs.RecvEvents.{ChangesNoStream, quiet_reported, active_reported}
 use Rattle.h2_machine_laws.proofs.RecvConnectionItems.{dead_owing, read_waits}
 use Rattle.h2_machine_laws.proofs.RecvUnprocessed.{full_owing}
 
--- What an end keeps where an item on a stream that isn't active is read, which gives nothing and may take of the connection's window.
-pub dead_read : (h : CoreFacts) (c : Core) (item : Item) (i recv_window : ℕ) → IsCommon item → ((j : ℕ) → j ≢ i → IsApart j item) → is_block_on i item ≡ false
-    → greatest_used (reads c item) ≡ greatest_used c → increment_on 0 item ≡ 0 → recv_window + data_of item ≡ h.windows.recv → active_by_items c i ≡ false → Advances h c
+-- What an end keeps where an item on a stream that isn't active is read, which gives nothing and
+-- may take of the connection's window.
+pub dead_read : (h : CoreFacts) (c : Core) (item : Item) (i recv_window : ℕ) → IsCommon item
+    → ((j : ℕ) → j ≢ i → IsApart j item) → is_block_on i item ≡ false
+    → greatest_used (reads c item) ≡ greatest_used c → increment_on 0 item ≡ 0
+    → recv_window + data_of item ≡ h.windows.recv → active_by_items c i ≡ false → Advances h c
     → Advances (record h { windows = record h.windows { recv = recv_window } }) (reads c item)
 dead_read h c item i recv_window common apart opens greatest gives takes dead g =
     let same : (j : ℕ) → SameAt j c (reads c item) = λ j. elim (cases_eq j i) [
       | inl here ↦ rw here (same_dead i c item dead (stays_dead c i item opens dead))
       | inr other ↦ same_read j c item common.settings (apart j other)
     ] in
-    read_step h c item h.streams.entries h.streams.active_count h.streams.highest h.windows.send recv_window common
+    read_step h c item h.streams.entries h.streams.active_count h.streams.highest h.windows.send
+    recv_window common
     (λ j. kept_at h.streams.entries j c (reads c item) (same j) (g.streams j))
-    (rw greatest (g.active_count ∙ sym (count_same _ _ _ (λ j. (same j).active)))) (g.highest ∙ sym greatest) (omega (arith, gives)) takes g
+    (rw greatest (g.active_count ∙ sym (count_same _ _ _ (λ j. (same j).active)))) (g.highest
+    ∙ sym greatest) (omega (arith, gives)) takes g
 
 -- RST_STREAM is neither SETTINGS nor GOAWAY.
 reset_common : (i code : ℕ) → IsCommon (alone (Reset i code))
@@ -50,14 +62,21 @@ reset_common i code = record { leaves = refl; least = λ items. refl; settings =
 reset_apart : (i code j : ℕ) → j ≢ i → IsApart j (alone (Reset i code))
 unfolding is_block_on ends resets data_on increment_on
 reset_apart i code j other =
-    record { blocks = refl; ended = refl; was_reset = ne_eqb i j (λ is. other (sym is)); flow = refl; gives = refl }
+    record {
+      blocks = refl;
+      ended = refl;
+      was_reset = ne_eqb i j (λ is. other (sym is));
+      flow = refl;
+      gives = refl;
+    }
 
 -- It opens nothing, gives nothing, and takes nothing.
 reset_opens : (i code j : ℕ) → is_block_on j (alone (Reset i code)) ≡ false
 unfolding is_block_on
 reset_opens i code j = refl
 
-reset_used : (c : Core) (i code : ℕ) → greatest_used (reads c (alone (Reset i code))) ≡ greatest_used c
+reset_used : (c : Core) (i code : ℕ) → greatest_used (reads c (alone (Reset i code)))
+    ≡ greatest_used c
 unfolding greatest_block
 reset_used c i code = used_read c.role (alone (Reset i code)) c.received c.sent (λ items. refl)
 
@@ -70,14 +89,22 @@ unfolding data_of
 reset_takes i code = refl
 
 -- What RST_STREAM on a stream that isn't active makes of an end.
-pub reset_ignored : (e : End) (log : Log) (decoded : Option Decoded) (i code : ℕ) → active_by_items (core log) i ≡ false → Waits e log → Going e (core log)
-    → After (after_ignored e decoded (alone (Reset i code))) (with_verdict log decoded (alone (Reset i code)) NoEvent)
-unfolding with_verdict after_ignored replies_to events_of discarded_flow data_of stream_of_item stream_of with_sent with_reported
+pub reset_ignored : (e : End) (log : Log) (decoded : Option Decoded) (i code : ℕ)
+    → active_by_items (core log) i ≡ false → Waits e log → Going e (core log)
+    → After (after_ignored e decoded (alone (Reset i code))) (with_verdict log decoded
+    (alone (Reset i code)) NoEvent)
+unfolding with_verdict after_ignored replies_to events_of discarded_flow data_of stream_of_item
+    stream_of with_sent with_reported
 reset_ignored e log decoded i code dead w g =
     let item : Item = alone (Reset i code) in
-    unsettled e (read log decoded item) [] _ (omega (arith, dead_owing log (read log decoded item) i dead))
+    unsettled e (read log decoded item) [] _ (omega (
+      arith,
+      dead_owing log (read log decoded item) i
+          dead,
+    ))
     (read_waits e log decoded item w) g.unreturned
-    (λ up. dead_read (core_facts e) (core log) item i e.windows.recv (reset_common i code) (reset_apart i code) (reset_opens i code i) (reset_used (core log) i code)
+    (λ up. dead_read (core_facts e) (core log) item i e.windows.recv (reset_common i code)
+    (reset_apart i code) (reset_opens i code i) (reset_used (core log) i code)
     (reset_gives i code) (omega (arith, reset_takes i code)) dead g)
 
 -- A stream on which RST_STREAM was read isn't active.
@@ -86,7 +113,8 @@ unfolding resets
 reset_dead c i code =
     false_from_ne_true (active_by_items (reads c (alone (Reset i code))) i) (λ alive.
     both_ways (list_any (resets i) (alone (Reset i code) ∷ c.received))
-    (lasts_parts i (alone (Reset i code) ∷ c.received) c.sent (active_parts c.role i (alone (Reset i code) ∷ c.received) c.sent c.reported alive).lasts).unreset
+    (lasts_parts i (alone (Reset i code) ∷ c.received) c.sent (active_parts c.role i
+    (alone (Reset i code) ∷ c.received) c.sent c.reported alive).lasts).unreset
     (or_left _ _ (eq-eqb i i refl)))
 
 -- the event of an RST_STREAM that was read is harmless, reports no flow and shows nothing taken
@@ -103,95 +131,161 @@ unfolding processed_by
 reset_shows i code = refl
 
 -- Where a stream was active and isn't, the count is one less.
-pub one_less : (c d : Core) (i n : ℕ) → greatest_used d ≡ greatest_used c → ((j : ℕ) → j ≢ i → SameAt j c d) → active_by_items c i ≡ true → active_by_items d i ≡ false
-    → n ≡ count_below (greatest_used c + 1) (active_by_items c) → n - 1 ≡ count_below (greatest_used d + 1) (active_by_items d)
+pub one_less : (c d : Core) (i n : ℕ) → greatest_used d ≡ greatest_used c
+    → ((j : ℕ) → j ≢ i → SameAt j c d) → active_by_items c i ≡ true → active_by_items d i ≡ false
+    → n ≡ count_below (greatest_used c + 1) (active_by_items c)
+    → n - 1 ≡ count_below (greatest_used d + 1) (active_by_items d)
 one_less c d i n greatest same alive dead is =
-    let less : count_below (greatest_used c + 1) (active_by_items d) + 1 ≡ count_below (greatest_used c + 1) (active_by_items c) =
+    let less : count_below (greatest_used c + 1) (active_by_items d) + 1 ≡ count_below
+    (greatest_used c + 1) (active_by_items c) =
     count_less (greatest_used c + 1) i (active_by_items d) (active_by_items c)
-    (omega (arith, greatest_above i (openings c.role c.received c.sent) (active_parts c.role i c.received c.sent c.reported alive).opened))
+    (omega (
+      arith,
+      greatest_above i (openings c.role c.received c.sent) (active_parts c.role i
+          c.received c.sent c.reported alive).opened,
+    ))
     (λ j other. (same j other).active) alive dead in
     rw greatest (omega (arith, less, is))
 
 -- What an end keeps where RST_STREAM on an active stream is read.
-reset_active_read : (h : CoreFacts) (c : Core) (i code : ℕ) → active_by_items c i ≡ true → Advances h c
-    → Advances (record h { streams = record h.streams { entries = map.remove h.streams.entries i; active_count = h.streams.active_count - 1 } }) (reads c (alone (Reset i code)))
+reset_active_read : (h : CoreFacts) (c : Core) (i code : ℕ) → active_by_items c i ≡ true
+    → Advances h c
+    → Advances (record h {
+      streams = record h.streams {
+        entries = map.remove h.streams.entries i;
+        active_count = h.streams.active_count - 1;
+      };
+    }) (reads c (alone (Reset i code)))
 reset_active_read h c i code alive g =
     let item : Item = alone (Reset i code) in
-    let same : (j : ℕ) → j ≢ i → SameAt j c (reads c item) = λ j other. same_read j c item (reset_common i code).settings (reset_apart i code j other) in
-    read_step h c item (map.remove h.streams.entries i) (h.streams.active_count - 1) h.streams.highest h.windows.send h.windows.recv (reset_common i code)
+    let same : (j : ℕ) → j ≢ i → SameAt j c (reads c item) = λ j other. same_read j c item
+    (reset_common i code).settings (reset_apart i code j other) in
+    read_step h c item (map.remove h.streams.entries i) (h.streams.active_count - 1)
+    h.streams.highest h.windows.send h.windows.recv (reset_common i code)
     (said_removed h.streams.entries i c (reads c item) g.streams same (reset_dead c i code)
-    (lasts_parts i c.received c.sent (active_parts c.role i c.received c.sent c.reported alive).lasts).kept)
-    (one_less c (reads c item) i h.streams.active_count (reset_used c i code) same alive (reset_dead c i code) g.active_count)
-    (g.highest ∙ sym (reset_used c i code)) (omega (arith, reset_gives i code)) (omega (arith, reset_takes i code)) g
+    (lasts_parts i c.received c.sent (active_parts c.role i c.received c.sent c.reported
+    alive).lasts).kept)
+    (one_less c (reads c item) i h.streams.active_count (reset_used c i code) same alive
+    (reset_dead c i code) g.active_count)
+    (g.highest ∙ sym (reset_used c i code)) (omega (arith, reset_gives i code))
+    (omega (arith, reset_takes i code)) g
 
 -- The stream isn't active then, once that was reported.
 reset_reported_dead : (log : Log) (decoded : Option Decoded) (i code : ℕ)
-    → active (with_reported (read log decoded (alone (Reset i code))) (ResetEvent i code false ∷ [])) i ≡ false
+    → active (with_reported (read log decoded (alone (Reset i code))) (ResetEvent i code false ∷
+    [])) i ≡ false
 unfolding with_reported
 reset_reported_dead log decoded i code =
-    active_reported log.role i (alone (Reset i code) ∷ log.received) log.sent (ResetEvent i code false) log.reported ((reset_harmless i code).names i) ∙ reset_dead (core log) i code
+    active_reported log.role i (alone (Reset i code) ∷ log.received) log.sent
+    (ResetEvent i code false) log.reported ((reset_harmless i code).names i)
+    ∙ reset_dead (core log) i code
 
 -- What the stream leaves owing.
-reset_owing : (e : End) (log : Log) (decoded : Option Decoded) (i code : ℕ) → active_by_items (core log) i ≡ true → Going e (core log)
+reset_owing : (e : End) (log : Log) (decoded : Option Decoded) (i code : ℕ)
+    → active_by_items (core log) i ≡ true → Going e (core log)
     → 0 + owed_entry (map.get e.streams.entries i)
-    ≡ 0 + owed_at_close log (with_reported (read log decoded (alone (Reset i code))) (ResetEvent i code false ∷ [])) i
+    ≡ 0 + owed_at_close log (with_reported (read log decoded (alone (Reset i code)))
+    (ResetEvent i code false ∷ [])) i
 unfolding with_reported unreleased reported_total flow_on
 reset_owing e log decoded i code alive g =
-    let owed : owed_entry (map.get e.streams.entries i) ≡ kept_back (core log) i = ap owed_entry (active_said e (core log) i g alive) in
-    let owing = full_owing log (with_reported (read log decoded (alone (Reset i code))) (ResetEvent i code false ∷ [])) i alive (reset_reported_dead log decoded i code) in
-    ap (λ (n : ℕ). 0 + n) (owed ∙ sym (owing ∙ ap (λ (x : ℕ). x - released i log.calls) (zero-add _)))
+    let owed : owed_entry (map.get e.streams.entries i) ≡ kept_back (core log) i = ap owed_entry
+    (active_said e (core log) i g alive) in
+    let owing = full_owing log (with_reported (read log decoded (alone (Reset i code)))
+    (ResetEvent i code false ∷ [])) i alive (reset_reported_dead log decoded i code) in
+    ap (λ (n : ℕ). 0 + n) (owed ∙ sym (owing ∙ ap (λ (x : ℕ). x - released i log.calls)
+    (zero-add _)))
 
 -- What RST_STREAM on an active stream makes of an end.
-pub reset_reported : (e : End) (log : Log) (decoded : Option Decoded) (i code : ℕ) → active_by_items (core log) i ≡ true → Waits e log → Going e (core log)
-    → After (after_reported e decoded (alone (Reset i code))) (with_verdict log decoded (alone (Reset i code)) Reported)
-unfolding with_verdict after_reported replies_to events_of discarded_flow stream_of_item stream_of with_sent
+pub reset_reported : (e : End) (log : Log) (decoded : Option Decoded) (i code : ℕ)
+    → active_by_items (core log) i ≡ true → Waits e log → Going e (core log)
+    → After (after_reported e decoded (alone (Reset i code))) (with_verdict log decoded
+    (alone (Reset i code)) Reported)
+unfolding with_verdict after_reported replies_to events_of discarded_flow stream_of_item stream_of
+    with_sent
 reset_reported e log decoded i code alive w g =
     let item : Item = alone (Reset i code) in
-    returned (record e { streams = record e.streams { entries = map.remove e.streams.entries i; active_count = e.streams.active_count - 1 } }) (read log decoded item) (ResetEvent i code false ∷ []) _ _
+    returned (record e {
+      streams = record e.streams {
+        entries = map.remove e.streams.entries i;
+        active_count = e.streams.active_count - 1;
+      };
+    }) (read log decoded item)
+    (ResetEvent i code false ∷ []) _ _
     (reset_owing e log decoded i code alive g)
-    (record { same_role = w.same_role; same_failed = w.same_failed; waiting = w.waiting; given = w.given }) g.unreturned
-    (λ up. quiet_reported _ (reads (core log) item) (ResetEvent i code false) (reset_harmless i code) (reset_flow i code) (reset_shows i code)
+    (record {
+      same_role = w.same_role;
+      same_failed = w.same_failed;
+      waiting = w.waiting;
+      given = w.given;
+    }) g.unreturned
+    (λ up. quiet_reported _ (reads (core log) item) (ResetEvent i code false)
+    (reset_harmless i code) (reset_flow i code) (reset_shows i code)
     (reset_active_read (core_facts e) (core log) i code alive g))
 
 -- DATA is neither SETTINGS nor GOAWAY.
-pub data_common : (i : ℕ) (end : Bool) (octets : List ℕ) (pad : Option ℕ) → IsCommon (alone (Data i end octets pad))
+pub data_common : (i : ℕ) (end : Bool) (octets : List ℕ) (pad : Option ℕ)
+    → IsCommon (alone (Data i end octets pad))
 unfolding is_goaway least_goaway one_settings
 data_common i end octets pad = record { leaves = refl; least = λ items. refl; settings = refl }
 
 -- It touches nothing of other streams.
-pub data_apart : (i : ℕ) (end : Bool) (octets : List ℕ) (pad : Option ℕ) (j : ℕ) → j ≢ i → IsApart j (alone (Data i end octets pad))
+pub data_apart : (i : ℕ) (end : Bool) (octets : List ℕ) (pad : Option ℕ) (j : ℕ) → j ≢ i
+    → IsApart j (alone (Data i end octets pad))
 unfolding is_block_on ends resets data_on increment_on
 data_apart i end octets pad j other =
     let apart : i == j ≡ false = ne_eqb i j (λ is. other (sym is)) in
-    record { blocks = refl; ended = and_left (i == j) end apart; was_reset = refl; flow = rw apart refl; gives = refl }
+    record {
+      blocks = refl;
+      ended = and_left (i == j) end apart;
+      was_reset = refl;
+      flow = rw apart refl;
+      gives = refl;
+    }
 
 -- It opens nothing, gives nothing, and takes its payload.
-pub data_opens : (i : ℕ) (end : Bool) (octets : List ℕ) (pad : Option ℕ) (j : ℕ) → is_block_on j (alone (Data i end octets pad)) ≡ false
+pub data_opens : (i : ℕ) (end : Bool) (octets : List ℕ) (pad : Option ℕ) (j : ℕ)
+    → is_block_on j (alone (Data i end octets pad)) ≡ false
 unfolding is_block_on
 data_opens i end octets pad j = refl
 
-pub data_used : (c : Core) (i : ℕ) (end : Bool) (octets : List ℕ) (pad : Option ℕ) → greatest_used (reads c (alone (Data i end octets pad))) ≡ greatest_used c
+pub data_used : (c : Core) (i : ℕ) (end : Bool) (octets : List ℕ) (pad : Option ℕ)
+    → greatest_used (reads c (alone (Data i end octets pad))) ≡ greatest_used c
 unfolding greatest_block
-data_used c i end octets pad = used_read c.role (alone (Data i end octets pad)) c.received c.sent (λ items. refl)
+data_used c i end octets pad = used_read c.role (alone (Data i end octets pad)) c.received c.sent
+    (λ items. refl)
 
-pub data_gives : (i : ℕ) (end : Bool) (octets : List ℕ) (pad : Option ℕ) → increment_on 0 (alone (Data i end octets pad)) ≡ 0
+pub data_gives : (i : ℕ) (end : Bool) (octets : List ℕ) (pad : Option ℕ)
+    → increment_on 0 (alone (Data i end octets pad)) ≡ 0
 unfolding increment_on
 data_gives i end octets pad = refl
 
-pub data_takes : (i : ℕ) (end : Bool) (octets : List ℕ) (pad : Option ℕ) → data_of (alone (Data i end octets pad)) ≡ length (payload_of (Data i end octets pad))
+pub data_takes : (i : ℕ) (end : Bool) (octets : List ℕ) (pad : Option ℕ)
+    → data_of (alone (Data i end octets pad)) ≡ length (payload_of (Data i end octets pad))
 unfolding data_of
 data_takes i end octets pad = refl
 
 -- What DATA on a stream that isn't active makes of an end.
-pub data_ignored : (e : End) (log : Log) (decoded : Option Decoded) (i : ℕ) (end : Bool) (octets : List ℕ) (pad : Option ℕ) → active_by_items (core log) i ≡ false
-    → length (payload_of (Data i end octets pad)) ≤ e.windows.recv → Waits e log → Going e (core log)
-    → After (after_ignored e decoded (alone (Data i end octets pad))) (with_verdict log decoded (alone (Data i end octets pad)) NoEvent)
-unfolding with_verdict after_ignored replies_to events_of discarded_flow stream_of_item stream_of with_sent with_reported
+pub data_ignored : (e : End) (log : Log) (decoded : Option Decoded) (i : ℕ) (end : Bool)
+    (octets : List ℕ) (pad : Option ℕ) → active_by_items (core log) i ≡ false
+    → length (payload_of (Data i end octets pad)) ≤ e.windows.recv → Waits e log
+    → Going e (core log)
+    → After (after_ignored e decoded (alone (Data i end octets pad))) (with_verdict log decoded
+    (alone (Data i end octets pad)) NoEvent)
+unfolding with_verdict after_ignored replies_to events_of discarded_flow stream_of_item stream_of
+    with_sent with_reported
 data_ignored e log decoded i end octets pad dead within w g =
     let item : Item = alone (Data i end octets pad) in
     let n : ℕ = length (payload_of (Data i end octets pad)) in
-    returned (record e { windows = record e.windows { recv = e.windows.recv - n } }) (read log decoded item) [] n _
+    returned (record e { windows = record e.windows { recv = e.windows.recv - n } })
+    (read log decoded item) [] n _
     (omega (arith, dead_owing log (read log decoded item) i dead, data_takes i end octets pad))
-    (record { same_role = w.same_role; same_failed = w.same_failed; waiting = w.waiting; given = w.given }) g.unreturned
-    (λ up. dead_read (core_facts e) (core log) item i (e.windows.recv - n) (data_common i end octets pad) (data_apart i end octets pad) (data_opens i end octets pad i)
-    (data_used (core log) i end octets pad) (data_gives i end octets pad) (omega (arith, within, data_takes i end octets pad)) dead g)
+    (record {
+      same_role = w.same_role;
+      same_failed = w.same_failed;
+      waiting = w.waiting;
+      given = w.given;
+    }) g.unreturned
+    (λ up. dead_read (core_facts e) (core log) item i (e.windows.recv - n) (data_common i end octets
+    pad) (data_apart i end octets pad) (data_opens i end octets pad i)
+    (data_used (core log) i end octets pad) (data_gives i end octets pad)
+    (omega (arith, within, data_takes i end octets pad)) dead g)

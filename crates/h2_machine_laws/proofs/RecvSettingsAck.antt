@@ -1,12 +1,15 @@
 -- Own values come into force where their SETTINGS are acknowledged.
-use Rattle.std.proofs.Common.{◌≡◌, ℕ, ◌≤◌, ◌<◌, ◌+◌, ◌-◌, Bool, true, false, nat_lt, max, pos, ◌+ℤ◌, ◌-ℤ◌, List, [], ◌∷◌, Option, Some, None, is_some, refl, ap, sym, ◌∙◌, arith}
+use Rattle.std.proofs.Common.{◌≡◌, ℕ, ◌≤◌, ◌<◌, ◌+◌, ◌-◌, Bool, true, false, nat_lt, max, pos, ◌+ℤ◌}
+use Rattle.std.proofs.Common.{◌-ℤ◌, List, [], ◌∷◌, Option, Some, None, is_some, refl, ap, sym, ◌∙◌}
+use Rattle.std.proofs.Common.{arith}
 use Rattle.std.specs.List.{list_any}
 use Rattle.std.proofs.lemmas.Bool.{ltb-true, le-ltb}
 use Rattle.h2_frame.specs.Frames.{Settings}
 use Rattle.h2_frame.specs.Encoding.{stream_of}
 use Rattle.h2_block.specs.Grouping.{Item, alone}
 use Rattle.h2_log.specs.Items.{stream_of_item, resets, total, increment_on, data_on}
-use Rattle.h2_log.specs.Events.{Event, AckedEvent, flow_on, one_acked, one_pong, reported_total, reports_unprocessed, processed_by}
+use Rattle.h2_log.specs.Events.{Event, AckedEvent, flow_on, one_acked, one_pong, reported_total}
+use Rattle.h2_log.specs.Events.{reports_unprocessed, processed_by}
 use Rattle.h2_log.specs.Acts.{Values}
 use Rattle.h2_log.specs.Settings.{is_server, settings_count, own_value}
 use Rattle.h2_log.specs.Windows.{first_window, granted_on}
@@ -17,10 +20,12 @@ use Rattle.h2_log.specs.LogSteps.{read, with_sent, with_reported, with_verdict}
 use Rattle.h2_log.specs.ItemEffects.{events_of, discarded_flow}
 use Rattle.h2_machine.specs.End.{End, Entry, active_entry}
 use Rattle.h2_log.specs.View.{StreamView}
-use Rattle.h2_machine.specs.Machine.{each_entry, recv_shifted_entry, apply_own_settings, after_reported}
+use Rattle.h2_machine.specs.Machine.{each_entry, recv_shifted_entry, apply_own_settings}
+use Rattle.h2_machine.specs.Machine.{after_reported}
 use Rattle.h2_machine.specs.Represents.{entry_by}
-use Rattle.h2_machine_laws.proofs.RecvWithoutFrame.{said, Core, core, CoreFacts, core_facts, Advances, Going, Waits, WillBe, confirmed, active_by_items}
-
+use Rattle.h2_machine_laws.proofs.RecvWithoutFrame.{said, Core, core, CoreFacts, core_facts}
+use Rattle.h2_machine_laws.proofs.RecvWithoutFrame.{Advances, Going, Waits, WillBe, confirmed}
+use Rattle.h2_machine_laws.proofs.RecvWithoutFrame.{active_by_items}
 use Rattle.h2_machine_laws.proofs.RecvLittleChanges.{quiet_read, count_same, stream_same}
 use Rattle.h2_machine_laws.proofs.RecvReturnedCredit.{After, unsettled}
 use Rattle.h2_machine_laws.proofs.RecvRead.{reads}
@@ -29,7 +34,8 @@ use Rattle.h2_machine_laws.proofs.RecvConnectionItems.{dead_owing, zero_dead, pl
 use Rattle.h2_machine_laws.proofs.EachStream.{changed_entry, get_each, each_by, shifted}
 
 -- One more is acknowledged.
-ack_one : (reported : List Event) → reported_total one_acked (AckedEvent ∷ reported) ≡ 1 + reported_total one_acked reported
+ack_one : (reported : List Event) → reported_total one_acked (AckedEvent ∷ reported)
+    ≡ 1 + reported_total one_acked reported
 unfolding reported_total one_acked
 ack_one reported = refl
 
@@ -51,41 +57,70 @@ unfolding processed_by
 ack_shows = refl
 
 -- The stream with its shifted receive window is what the log says.
-ack_said : (c : Core) (i old new count : ℕ) → old ≡ own_value 4 first_window (confirmed c) c.sent → new ≡ own_value 4 first_window count c.sent
+ack_said : (c : Core) (i old new count : ℕ) → old ≡ own_value 4 first_window (confirmed c) c.sent
+    → new ≡ own_value 4 first_window count c.sent
     → confirmed (report c AckedEvent) ≡ count
-    → record (said c i) { recv_window = ((said c i).recv_window +ℤ pos new) -ℤ pos old } ≡ said (report c AckedEvent) i
+    → record (said c i) { recv_window = ((said c i).recv_window +ℤ pos new) -ℤ pos old } ≡ said
+    (report c AckedEvent) i
 unfolding granted_on
 ack_said c i old new count was is all =
-    stream_same (record (said c i) { recv_window = ((said c i).recv_window +ℤ pos new) -ℤ pos old }) (said (report c AckedEvent) i) refl
-    (rw (was, is, all) (shifted (own_value 4 first_window (confirmed c) c.sent) (own_value 4 first_window count c.sent) (total (increment_on i) c.sent) (total (data_on i) c.received)))
-    (ap (λ (n : ℕ). n - released i c.calls) (sym (reported_kept (flow_on i) AckedEvent c.reported (ack_flow i)))) refl refl
+    stream_same (record (said c i) { recv_window = ((said c i).recv_window +ℤ pos new) -ℤ pos old })
+    (said (report c AckedEvent) i) refl
+    (rw (was, is, all) (shifted (own_value 4 first_window (confirmed c) c.sent)
+    (own_value 4 first_window count c.sent) (total (increment_on i) c.sent)
+    (total (data_on i) c.received)))
+    (ap (λ (n : ℕ). n - released i c.calls) (sym (reported_kept (flow_on i) AckedEvent c.reported
+    (ack_flow i)))) refl refl
 
 -- What an end keeps where the values that it awaited come into force.
-ack_advances : (h : CoreFacts) (c : Core) (values : Values) → h.own.awaited ≡ Some values → settings_count c.sent ≤ confirmed c + 1 → Advances h c
-    → Advances (record h { streams = record h.streams { entries = each_entry (recv_shifted_entry h.own.in_force.initial_window values.initial_window) h.streams.entries }; own = record h.own { in_force = values; awaited = None } })
+ack_advances : (h : CoreFacts) (c : Core) (values : Values) → h.own.awaited ≡ Some values
+    → settings_count c.sent ≤ confirmed c + 1 → Advances h c
+    → Advances (record h {
+      streams = record h.streams {
+        entries = each_entry (recv_shifted_entry
+            h.own.in_force.initial_window values.initial_window) h.streams.entries;
+      };
+      own = record h.own { in_force = values; awaited = None };
+    })
     (report c AckedEvent)
 ack_advances h c values waits most g =
     let w : WillBe c values = g.awaited values waits in
-    let some : nat_lt (confirmed c) (settings_count c.sent) ≡ true = sym g.awaits ∙ ap is_some waits in
-    let above : confirmed c < settings_count c.sent = ltb-true (confirmed c) (settings_count c.sent) some in
-    let all : confirmed (report c AckedEvent) ≡ settings_count c.sent = omega (arith, above, most, ack_one c.reported) in
-    let pongs : reported_total one_pong (AckedEvent ∷ c.reported) ≡ reported_total one_pong c.reported = reported_kept one_pong AckedEvent c.reported ack_pong in
-    let active : (i : ℕ) → active_by_items (report c AckedEvent) i ≡ active_by_items c i = λ i. active_reported c.role i c.received c.sent AckedEvent c.reported (ack_names i) in
+    let some : nat_lt (confirmed c) (settings_count c.sent) ≡ true = sym g.awaits
+    ∙ ap is_some waits in
+    let above : confirmed c < settings_count c.sent = ltb-true (confirmed c) (settings_count c.sent)
+    some in
+    let all : confirmed (report c AckedEvent) ≡ settings_count c.sent = omega (
+      arith,
+      above,
+      most,
+      ack_one c.reported,
+    ) in
+    let pongs : reported_total one_pong (AckedEvent ∷ c.reported) ≡ reported_total one_pong
+    c.reported = reported_kept one_pong AckedEvent c.reported ack_pong in
+    let active : (i : ℕ) → active_by_items (report c AckedEvent) i ≡ active_by_items c i =
+    λ i. active_reported c.role i c.received c.sent AckedEvent c.reported (ack_names i) in
     let first : max 1 (settings_count c.sent) ≡ settings_count c.sent = omega (arith, above) in
     record {
       begun = g.begun;
       table = g.table;
       encoder = g.encoder;
       streams = λ i.
-          get_each (recv_shifted_entry h.own.in_force.initial_window values.initial_window) h.streams.entries i
-          ∙ ap (λ (x : Option Entry). changed_entry (recv_shifted_entry h.own.in_force.initial_window values.initial_window) x) (g.streams i)
-          ∙ each_by (recv_shifted_entry h.own.in_force.initial_window values.initial_window) (active_by_items c i) (list_any (resets i) c.sent) (said c i)
+          get_each (recv_shifted_entry h.own.in_force.initial_window values.initial_window)
+          h.streams.entries i
+          ∙ ap (λ (x : Option Entry). changed_entry (recv_shifted_entry
+          h.own.in_force.initial_window values.initial_window) x) (g.streams i)
+          ∙ each_by (recv_shifted_entry h.own.in_force.initial_window values.initial_window)
+          (active_by_items c i) (list_any (resets i) c.sent) (said c i)
           (said (report c AckedEvent) i) refl
-          (ap (λ (s : StreamView). active_entry s) (ack_said c i h.own.in_force.initial_window values.initial_window (settings_count c.sent) (g.in_force).own_window (sym w.initial_window) all))
-          ∙ ap (λ (b : Bool). entry_by b (list_any (resets i) c.sent) (said (report c AckedEvent) i)) (sym (active i));
+          (ap (λ (s : StreamView). active_entry s) (ack_said c i h.own.in_force.initial_window
+          values.initial_window (settings_count c.sent) (g.in_force).own_window
+          (sym w.initial_window) all))
+          ∙ ap (λ (b : Bool). entry_by b (list_any (resets i) c.sent) (said (report c AckedEvent)
+          i)) (sym (active i));
       active_count = g.active_count ∙ sym (count_same _ _ _ active);
       highest = g.highest;
-      last_processed = g.last_processed ∙ sym (taken_kept (is_server c.role) AckedEvent c.reported ack_shows);
+      last_processed = g.last_processed ∙ sym (taken_kept (is_server c.role) AckedEvent c.reported
+          ack_shows);
       goaway_sent = g.goaway_sent;
       goaway_received = g.goaway_received;
       send_window = g.send_window;
@@ -96,7 +131,8 @@ ack_advances h c values waits most g =
       in_force = rw all (record {
         table_limit = sym w.table_limit;
         own_window = sym w.initial_window;
-        max_streams = λ server. sym (ap (λ (n : ℕ). own_value 3 100 n c.sent) first ∙ w.max_streams server);
+        max_streams = λ server. sym (ap (λ (n : ℕ). own_value 3 100 n c.sent) first
+            ∙ w.max_streams server);
       });
       awaits = sym (rw all (le-ltb (settings_count c.sent) (settings_count c.sent) (omega arith)));
       awaited = λ others is. absurd (cc);
@@ -105,14 +141,27 @@ ack_advances h c values waits most g =
     }
 
 -- What an end makes of an acknowledgment that it awaits.
-pub ack_reported : (e : End) (log : Log) (decoded : Option Decoded) (pairs : List (ℕ × ℕ)) (values : Values) → e.own.awaited ≡ Some values
+pub ack_reported : (e : End) (log : Log) (decoded : Option Decoded) (pairs : List (ℕ × ℕ))
+    (values : Values) → e.own.awaited ≡ Some values
     → settings_count log.sent ≤ confirmed (core log) + 1 → Waits e log → Going e (core log)
-    → After (after_reported e decoded (alone (Settings true pairs))) (with_verdict log decoded (alone (Settings true pairs)) Reported)
-unfolding with_verdict after_reported replies_to events_of discarded_flow stream_of_item stream_of with_sent
+    → After (after_reported e decoded (alone (Settings true pairs))) (with_verdict log decoded
+    (alone (Settings true pairs)) Reported)
+unfolding with_verdict after_reported replies_to events_of discarded_flow stream_of_item stream_of
+    with_sent
 ack_reported e log decoded pairs values waits most w g =
     let item : Item = alone (Settings true pairs) in
     rw waits
     (unsettled (apply_own_settings e (Some values)) (read log decoded item) (AckedEvent ∷ []) _
-    (omega (arith, dead_owing log (with_reported (read log decoded item) (AckedEvent ∷ [])) 0 (zero_dead (core log))))
-    (record { same_role = w.same_role; same_failed = w.same_failed; waiting = w.waiting; given = w.given }) g.unreturned
-    (λ up. ack_advances (core_facts e) (reads (core log) item) values waits most (quiet_read (core_facts e) (core log) item (plain_quiet (Settings true pairs) refl) g)))
+    (omega (
+      arith,
+      dead_owing log (with_reported (read log decoded item) (AckedEvent ∷ [])) 0
+          (zero_dead (core log)),
+    ))
+    (record {
+      same_role = w.same_role;
+      same_failed = w.same_failed;
+      waiting = w.waiting;
+      given = w.given;
+    }) g.unreturned
+    (λ up. ack_advances (core_facts e) (reads (core log) item) values waits most
+    (quiet_read (core_facts e) (core log) item (plain_quiet (Settings true pairs) refl) g)))

@@ -1,5 +1,7 @@
 -- What GOAWAY, WINDOW_UPDATE and RST_STREAM make of an end and of its log.
-use Rattle.std.proofs.Common.{◌≡◌, ◌≢◌, ℕ, ◌≤◌, ◌+◌, Bool, true, false, ◌==◌, min, if◌then◌else◌, pos, ◌+ℤ◌, ◌-ℤ◌, List, [], ◌∷◌, Option, Some, refl, ap, sym, ◌∙◌, inl, inr, arith, zero-add}
+use Rattle.std.proofs.Common.{◌≡◌, ◌≢◌, ℕ, ◌≤◌, ◌+◌, Bool, true, false, ◌==◌, min, if◌then◌else◌}
+use Rattle.std.proofs.Common.{pos, ◌+ℤ◌, ◌-ℤ◌, List, [], ◌∷◌, Option, Some, refl, ap, sym, ◌∙◌, inl}
+use Rattle.std.proofs.Common.{inr, arith, zero-add}
 use Rattle.std.specs.List.{list_any}
 use Rattle.std.specs.FinMap as map
 use Rattle.std.proofs.lemmas.Int.{ints}
@@ -8,62 +10,89 @@ use Rattle.h2_frame.specs.Frames.{GoAway, WindowUpdate}
 use Rattle.h2_frame.specs.Encoding.{stream_of}
 use Rattle.h2_block.specs.Grouping.{Item, alone}
 use Rattle.h2_log.specs.LogView.{log_view}
-use Rattle.h2_log.specs.Items.{stream_of_item, data_on, data_of, increment_on, is_block_on, ends, resets, is_goaway, total, greatest_block}
-use Rattle.h2_log.specs.Events.{Event, GoAwayEvent, flow_on, one_acked, one_pong, reports_unprocessed, processed_by}
+use Rattle.h2_log.specs.Items.{stream_of_item, data_on, data_of, increment_on, is_block_on, ends}
+use Rattle.h2_log.specs.Items.{resets, is_goaway, total, greatest_block}
+use Rattle.h2_log.specs.Events.{Event, GoAwayEvent, flow_on, one_acked, one_pong}
+use Rattle.h2_log.specs.Events.{reports_unprocessed, processed_by}
 use Rattle.h2_log.specs.Settings.{value_read, one_settings, settings_count}
 use Rattle.h2_log.specs.Windows.{first_window, given_on, given_on_connection}
 use Rattle.h2_log.specs.Log.{least_goaway, Log, allowed_by}
 use Rattle.h2_log.specs.States.{greatest_number, when}
 use Rattle.h2_log.specs.Verdicts.{NoEvent, Reported}
 use Rattle.h2_log.specs.ItemRules.{Decoded, replies_to}
-use Rattle.h2_log.specs.LogSteps.{read, with_sent, with_reported, with_unreturned, owed_at_close, with_verdict}
+use Rattle.h2_log.specs.LogSteps.{read, with_sent, with_reported, with_unreturned, owed_at_close}
+use Rattle.h2_log.specs.LogSteps.{with_verdict}
 use Rattle.h2_log.specs.ItemEffects.{events_of, discarded_flow, least_last}
 use Rattle.h2_machine.specs.End.{End, active_entry, stream_at}
 use Rattle.h2_machine.specs.Machine.{widen_send_window, set_stream, after_ignored, after_reported}
 use Rattle.h2_log_laws.proofs.StreamNumbers.{last_none}
-use Rattle.h2_machine_laws.proofs.RecvWithoutFrame.{said, Core, core, CoreFacts, core_facts, Advances, Going, Waits, active_by_items, greatest_used}
+use Rattle.h2_machine_laws.proofs.RecvWithoutFrame.{said, Core, core, CoreFacts, core_facts}
+use Rattle.h2_machine_laws.proofs.RecvWithoutFrame.{Advances, Going, Waits, active_by_items}
+use Rattle.h2_machine_laws.proofs.RecvWithoutFrame.{greatest_used}
 use Rattle.h2_machine_laws.proofs.RecvVerdict.{stream_said, none_said}
-use Rattle.h2_machine_laws.proofs.RecvLittleChanges.{SameAt, kept_at, count_same, active_read, active_some, used_read, stream_same}
+use Rattle.h2_machine_laws.proofs.RecvLittleChanges.{SameAt, kept_at, count_same, active_read}
+use Rattle.h2_machine_laws.proofs.RecvLittleChanges.{active_some, used_read, stream_same}
 use Rattle.h2_machine_laws.proofs.RecvReturnedCredit.{After, unsettled}
-use Rattle.h2_machine_laws.proofs.RecvRead.{reads, IsCommon, read_step, said_set, IsApart, same_read, same_dead}
+use Rattle.h2_machine_laws.proofs.RecvRead.{reads, IsCommon, read_step, said_set, IsApart}
+use Rattle.h2_machine_laws.proofs.RecvRead.{same_read, same_dead}
 use Rattle.h2_machine_laws.proofs.RecvEvents.{ChangesNoStream, quiet_reported}
 use Rattle.h2_machine_laws.proofs.RecvConnectionItems.{none_owing, dead_owing, zero_dead}
 
 -- the least last stream with one more, by whether there was one
-least_by : (b : Bool) (last n : ℕ) → last ≤ greatest_number → (b ≡ false → n ≡ greatest_number) → least_last last (when b n) ≡ min last n
+least_by : (b : Bool) (last n : ℕ) → last ≤ greatest_number → (b ≡ false → n ≡ greatest_number)
+    → least_last last (when b n) ≡ min last n
 least_by true last n low none = refl
 least_by false last n low none = omega (arith, low, none refl)
 
 -- GOAWAY touches nothing of any stream.
-goaway_same : (i : ℕ) (c : Core) (last code : ℕ) (debug : List ℕ) → SameAt i c (reads c (alone (GoAway last code debug)))
+goaway_same : (i : ℕ) (c : Core) (last code : ℕ) (debug : List ℕ)
+    → SameAt i c (reads c (alone (GoAway last code debug)))
 unfolding one_settings is_block_on ends resets data_on increment_on
 goaway_same i c last code debug =
-    same_read i c (alone (GoAway last code debug)) refl (record { blocks = refl; ended = refl; was_reset = refl; flow = refl; gives = refl })
+    same_read i c (alone (GoAway last code debug)) refl (record {
+      blocks = refl;
+      ended = refl;
+      was_reset = refl;
+      flow = refl;
+      gives = refl;
+    })
 
 -- It opens nothing.
-goaway_used : (c : Core) (last code : ℕ) (debug : List ℕ) → greatest_used (reads c (alone (GoAway last code debug))) ≡ greatest_used c
+goaway_used : (c : Core) (last code : ℕ) (debug : List ℕ)
+    → greatest_used (reads c (alone (GoAway last code debug))) ≡ greatest_used c
 unfolding greatest_block
-goaway_used c last code debug = used_read c.role (alone (GoAway last code debug)) c.received c.sent (λ items. refl)
+goaway_used c last code debug = used_read c.role (alone (GoAway last code debug)) c.received c.sent
+    (λ items. refl)
 
 -- What an end keeps where GOAWAY is read.
-goaway_read : (h : CoreFacts) (c : Core) (last code : ℕ) (debug : List ℕ) → last ≤ greatest_number → Advances h c
-    → Advances (record h { goaway = record h.goaway { received = Some (least_last last h.goaway.received) } }) (reads c (alone (GoAway last code debug)))
-unfolding total given_on given_on_connection settings_count allowed_by least_goaway one_settings value_read data_of increment_on is_goaway
+goaway_read : (h : CoreFacts) (c : Core) (last code : ℕ) (debug : List ℕ) → last ≤ greatest_number
+    → Advances h c
+    → Advances (record h {
+      goaway = record h.goaway {
+        received =
+            Some (least_last last h.goaway.received);
+      };
+    }) (reads c (alone (GoAway last code debug)))
+unfolding total given_on given_on_connection settings_count allowed_by least_goaway one_settings
+    value_read data_of increment_on is_goaway
 goaway_read h c last code debug low g =
     let item : Item = alone (GoAway last code debug) in
-    let active : (i : ℕ) → active_by_items (reads c item) i ≡ active_by_items c i = λ i. (goaway_same i c last code debug).active in
+    let active : (i : ℕ) → active_by_items (reads c item) i ≡ active_by_items c i =
+    λ i. (goaway_same i c last code debug).active in
     let greatest : greatest_used (reads c item) ≡ greatest_used c = goaway_used c last code debug in
     record {
       begun = g.begun;
       table = g.table;
       encoder = g.encoder;
-      streams = λ i. kept_at h.streams.entries i c (reads c item) (goaway_same i c last code debug) (g.streams i);
+      streams = λ i. kept_at h.streams.entries i c (reads c item) (goaway_same i c last code debug)
+          (g.streams i);
       active_count = rw greatest (g.active_count ∙ sym (count_same _ _ _ active));
       highest = g.highest ∙ sym greatest;
       last_processed = g.last_processed;
       goaway_sent = g.goaway_sent;
       goaway_received = ap (λ (x : Option ℕ). Some (least_last last x)) g.goaway_received
-          ∙ ap (λ (n : ℕ). Some n) (least_by (list_any is_goaway c.received) last (least_goaway c.received) low (last_none c.received));
+          ∙ ap (λ (n : ℕ). Some n) (least_by (list_any is_goaway c.received) last
+          (least_goaway c.received) low (last_none c.received));
       send_window = omega (arith, g.send_window);
       recv_window = omega (arith, g.recv_window);
       unreturned = g.unreturned;
@@ -71,7 +100,11 @@ goaway_read h c last code debug low g =
       streams_allowed = rw zero-add g.streams_allowed;
       in_force = g.in_force;
       awaits = g.awaits;
-      awaited = λ values is. let w = g.awaited values is in record { table_limit = w.table_limit; initial_window = w.initial_window; max_streams = w.max_streams };
+      awaited = λ values is. let w = g.awaited values is in record {
+        table_limit = w.table_limit;
+        initial_window = w.initial_window;
+        max_streams = w.max_streams;
+      };
       ping = g.ping;
       resets = g.resets;
     }
@@ -91,16 +124,34 @@ unfolding processed_by
 goaway_shows last code = refl
 
 -- What GOAWAY makes of an end.
-pub goaway_reported : (e : End) (log : Log) (decoded : Option Decoded) (last code : ℕ) (debug : List ℕ) → last ≤ greatest_number → Waits e log → Going e (core log)
-    → After (after_reported e decoded (alone (GoAway last code debug))) (with_verdict log decoded (alone (GoAway last code debug)) Reported)
-unfolding with_verdict after_reported replies_to events_of discarded_flow stream_of_item stream_of with_sent
+pub goaway_reported : (e : End) (log : Log) (decoded : Option Decoded) (last code : ℕ)
+    (debug : List ℕ) → last ≤ greatest_number → Waits e log → Going e (core log)
+    → After (after_reported e decoded (alone (GoAway last code debug))) (with_verdict log decoded
+    (alone (GoAway last code debug)) Reported)
+unfolding with_verdict after_reported replies_to events_of discarded_flow stream_of_item stream_of
+    with_sent
 goaway_reported e log decoded last code debug low w g =
     let item : Item = alone (GoAway last code debug) in
     let event : Event = GoAwayEvent (least_last last (log_view log).goaway_received) code in
-    unsettled (record e { goaway = record e.goaway { received = Some (least_last last e.goaway.received) } }) (read log decoded item) (event ∷ []) _
-    (omega (arith, dead_owing log (with_reported (read log decoded item) (event ∷ [])) 0 (zero_dead (core log))))
-    (record { same_role = w.same_role; same_failed = w.same_failed; waiting = w.waiting; given = w.given }) g.unreturned
-    (λ up. quiet_reported _ (reads (core log) item) event (goaway_harmless _ code) (goaway_flow _ code) (goaway_shows _ code)
+    unsettled (record e {
+      goaway = record e.goaway {
+        received =
+            Some (least_last last e.goaway.received);
+      };
+    }) (read log decoded item) (event ∷ []) _
+    (omega (
+      arith,
+      dead_owing log (with_reported (read log decoded item) (event ∷ [])) 0
+          (zero_dead (core log)),
+    ))
+    (record {
+      same_role = w.same_role;
+      same_failed = w.same_failed;
+      waiting = w.waiting;
+      given = w.given;
+    }) g.unreturned
+    (λ up. quiet_reported _ (reads (core log) item) event (goaway_harmless _ code)
+    (goaway_flow _ code) (goaway_shows _ code)
     (goaway_read (core_facts e) (core log) last code debug low g))
 
 -- A WINDOW_UPDATE is neither SETTINGS nor GOAWAY.
@@ -112,7 +163,13 @@ update_common i n = record { leaves = refl; least = λ items. refl; settings = r
 update_apart : (i n j : ℕ) → j ≢ i → IsApart j (alone (WindowUpdate i n))
 unfolding is_block_on ends resets data_on increment_on
 update_apart i n j other =
-    record { blocks = refl; ended = refl; was_reset = refl; flow = refl; gives = rw (ne_eqb i j (λ is. other (sym is))) refl }
+    record {
+      blocks = refl;
+      ended = refl;
+      was_reset = refl;
+      flow = refl;
+      gives = rw (ne_eqb i j (λ is. other (sym is))) refl;
+    }
 
 -- its increment on its own stream
 update_here : (i n : ℕ) → increment_on i (alone (WindowUpdate i n)) ≡ n
@@ -129,93 +186,155 @@ update_none : (i n : ℕ) → data_of (alone (WindowUpdate i n)) ≡ 0
 unfolding data_of
 update_none i n = refl
 
-update_used : (c : Core) (i n : ℕ) → greatest_used (reads c (alone (WindowUpdate i n))) ≡ greatest_used c
+update_used : (c : Core) (i n : ℕ) → greatest_used (reads c (alone (WindowUpdate i n)))
+    ≡ greatest_used c
 unfolding greatest_block
 update_used c i n = used_read c.role (alone (WindowUpdate i n)) c.received c.sent (λ items. refl)
 
 -- streams are as active as before
-update_active : (c : Core) (i n j : ℕ) → active_by_items (reads c (alone (WindowUpdate i n))) j ≡ active_by_items c j
+update_active : (c : Core) (i n j : ℕ) → active_by_items (reads c (alone (WindowUpdate i n))) j
+    ≡ active_by_items c j
 unfolding is_block_on ends resets
-update_active c i n j = active_read c.role j (alone (WindowUpdate i n)) c.received c.sent c.reported refl refl refl
+update_active c i n j = active_read c.role j (alone (WindowUpdate i n)) c.received c.sent c.reported
+    refl refl refl
 
 -- a send window that is widened, by signed numbers
 wider : (v n t s : ℕ) → (pos (v + t) -ℤ pos s) +ℤ pos n ≡ pos (v + (n + t)) -ℤ pos s
 wider v n t s = omega (arith, ints)
 
 -- the stream that is widened is what the log says
-update_said : (c : Core) (i n : ℕ) → record (said c i) { send_window = (said c i).send_window +ℤ pos n } ≡ said (reads c (alone (WindowUpdate i n))) i
+update_said : (c : Core) (i n : ℕ) → record (said c i) {
+  send_window = (said c i).send_window +ℤ pos
+      n;
+} ≡ said (reads c (alone (WindowUpdate i n))) i
 unfolding given_on total data_on ends value_read
 update_said c i n =
-    stream_same (record (said c i) { send_window = (said c i).send_window +ℤ pos n }) (said (reads c (alone (WindowUpdate i n))) i)
-    (wider (value_read 4 first_window c.received) n (total (increment_on i) c.received) (total (data_on i) c.sent)
-    ∙ sym (ap (λ (k : ℕ). pos (value_read 4 first_window c.received + (k + total (increment_on i) c.received)) -ℤ pos (total (data_on i) c.sent)) (update_here i n)))
+    stream_same (record (said c i) { send_window = (said c i).send_window +ℤ pos n })
+    (said (reads c (alone (WindowUpdate i n))) i)
+    (wider (value_read 4 first_window c.received) n (total (increment_on i) c.received)
+    (total (data_on i) c.sent)
+    ∙ sym (ap (λ (k : ℕ). pos (value_read 4 first_window c.received + (k + total (increment_on i)
+    c.received)) -ℤ pos (total (data_on i) c.sent)) (update_here i n)))
     (rw zero-add refl) refl refl refl
 
 -- What an end keeps where a WINDOW_UPDATE of an active stream is read.
-update_active_read : (h : CoreFacts) (c : Core) (i n : ℕ) → active_by_items c i ≡ true → Advances h c
-    → Advances (record h { streams = record h.streams { entries = map.insert h.streams.entries i (active_entry (record (said c i) { send_window = (said c i).send_window +ℤ pos n })) } }) (reads c (alone (WindowUpdate i n)))
+update_active_read : (h : CoreFacts) (c : Core) (i n : ℕ) → active_by_items c i ≡ true
+    → Advances h c
+    → Advances (record h {
+      streams = record h.streams {
+        entries = map.insert h.streams.entries i
+            (active_entry (record (said c i) { send_window = (said c i).send_window +ℤ pos n }));
+      };
+    })
+    (reads c (alone (WindowUpdate i n)))
 unfolding one_settings
 update_active_read h c i n alive g =
     let item : Item = alone (WindowUpdate i n) in
-    let zero_i : increment_on 0 item ≡ 0 = update_all i n ∙ ap (λ (b : Bool). if b then n else 0) (ne_eqb i 0 (active_some c i alive)) in
-    read_step h c item _ h.streams.active_count h.streams.highest h.windows.send h.windows.recv (update_common i n)
-    (said_set h.streams.entries i (record (said c i) { send_window = (said c i).send_window +ℤ pos n }) c (reads c item) g.streams
-    (λ j other. same_read j c item refl (update_apart i n j other)) (update_active c i n i ∙ alive) (update_said c i n))
-    (rw (update_used c i n) (g.active_count ∙ sym (count_same _ _ _ (update_active c i n)))) (g.highest ∙ sym (update_used c i n))
+    let zero_i : increment_on 0 item ≡ 0 = update_all i n ∙ ap (λ (b : Bool). if b then n else 0)
+    (ne_eqb i 0 (active_some c i alive)) in
+    read_step h c item _ h.streams.active_count h.streams.highest h.windows.send h.windows.recv
+    (update_common i n)
+    (said_set h.streams.entries i (record (said c i) {
+      send_window = (said c i).send_window +ℤ pos n;
+    }) c (reads c item) g.streams
+    (λ j other. same_read j c item refl (update_apart i n j other)) (update_active c i n i ∙ alive)
+    (update_said c i n))
+    (rw (update_used c i n) (g.active_count ∙ sym (count_same _ _ _ (update_active c i n))))
+    (g.highest ∙ sym (update_used c i n))
     (omega (arith, zero_i)) (omega (arith, update_none i n)) g
 
 -- What an end keeps where a WINDOW_UPDATE of no active stream is read.
-update_dead_read : (h : CoreFacts) (c : Core) (i n send_window : ℕ) → active_by_items c i ≡ false → send_window ≡ h.windows.send + (if i == 0 then n else 0) → Advances h c
-    → Advances (record h { windows = record h.windows { send = send_window } }) (reads c (alone (WindowUpdate i n)))
+update_dead_read : (h : CoreFacts) (c : Core) (i n send_window : ℕ) → active_by_items c i ≡ false
+    → send_window ≡ h.windows.send + (if i == 0 then n else 0) → Advances h c
+    → Advances (record h { windows = record h.windows { send = send_window } })
+    (reads c (alone (WindowUpdate i n)))
 unfolding one_settings
 update_dead_read h c i n send_window dead wide g =
     let item : Item = alone (WindowUpdate i n) in
-    read_step h c item h.streams.entries h.streams.active_count h.streams.highest send_window h.windows.recv (update_common i n)
+    read_step h c item h.streams.entries h.streams.active_count h.streams.highest send_window
+    h.windows.recv (update_common i n)
     (λ j. kept_at h.streams.entries j c (reads c item) (elim (cases_eq j i) [
       | inl here ↦ same_dead j c item (rw here dead) (update_active c i n j ∙ rw here dead)
       | inr other ↦ same_read j c item refl (update_apart i n j other)
     ]) (g.streams j))
-    (rw (update_used c i n) (g.active_count ∙ sym (count_same _ _ _ (update_active c i n)))) (g.highest ∙ sym (update_used c i n))
+    (rw (update_used c i n) (g.active_count ∙ sym (count_same _ _ _ (update_active c i n))))
+    (g.highest ∙ sym (update_used c i n))
     (omega (arith, wide, update_all i n)) (omega (arith, update_none i n)) g
 
 -- A send window is widened by the test whether it is the connection's.
-widened_by : (e : End) (log : Log) (i n : ℕ) (b : Bool) → i == 0 ≡ b → active_by_items (core log) i ≡ false → Going e (core log)
-    → Going (if b then record e { windows = record e.windows { send = e.windows.send + n } } else e) (reads (core log) (alone (WindowUpdate i n)))
+widened_by : (e : End) (log : Log) (i n : ℕ) (b : Bool) → i == 0 ≡ b → active_by_items (core log) i
+    ≡ false → Going e (core log)
+    → Going (if b then record e { windows = record e.windows { send = e.windows.send + n } } else e)
+    (reads (core log) (alone (WindowUpdate i n)))
 widened_by e log i n true is dead g =
-    update_dead_read (core_facts e) (core log) i n (e.windows.send + n) dead (ap (λ (b : Bool). e.windows.send + (if b then n else 0)) (sym is)) g
+    update_dead_read (core_facts e) (core log) i n (e.windows.send + n) dead
+    (ap (λ (b : Bool). e.windows.send + (if b then n else 0)) (sym is)) g
 widened_by e log i n false is dead g =
     update_dead_read (core_facts e) (core log) i n e.windows.send dead (rw is (omega arith)) g
 
 -- what waits and is unreturned doesn't change, by the test
-widened_waits : (e : End) (log : Log) (decoded : Option Decoded) (item : Item) (n : ℕ) (b : Bool) → Waits e log
-    → Waits (if b then record e { windows = record e.windows { send = e.windows.send + n } } else e) (read log decoded item)
-widened_waits e log decoded item n true w = record { same_role = w.same_role; same_failed = w.same_failed; waiting = w.waiting; given = w.given }
-widened_waits e log decoded item n false w = record { same_role = w.same_role; same_failed = w.same_failed; waiting = w.waiting; given = w.given }
+widened_waits : (e : End) (log : Log) (decoded : Option Decoded) (item : Item) (n : ℕ) (b : Bool)
+    → Waits e log
+    → Waits (if b then record e { windows = record e.windows { send = e.windows.send + n } } else e)
+    (read log decoded item)
+widened_waits e log decoded item n true w = record {
+  same_role = w.same_role;
+  same_failed =
+      w.same_failed;
+  waiting = w.waiting;
+  given = w.given;
+}
+widened_waits e log decoded item n false w = record {
+  same_role = w.same_role;
+  same_failed =
+      w.same_failed;
+  waiting = w.waiting;
+  given = w.given;
+}
 
-widened_unreturned : (e : End) (n : ℕ) (b : Bool) → (if b then record e { windows = record e.windows { send = e.windows.send + n } } else e).windows.unreturned ≡ e.windows.unreturned
+widened_unreturned : (e : End) (n : ℕ) (b : Bool)
+    → (if b then record e { windows = record e.windows { send = e.windows.send + n } } else
+    e).windows.unreturned ≡ e.windows.unreturned
 widened_unreturned e n true = refl
 widened_unreturned e n false = refl
 
 -- What a WINDOW_UPDATE makes of an end, by the stream that is kept.
-update_by : (e : End) (log : Log) (decoded : Option Decoded) (i n : ℕ) (b : Bool) → active_by_items (core log) i ≡ b → Waits e log → Going e (core log)
-    → After (widen_send_window e i n (stream_at e i)) (with_reported (with_unreturned (0 + owed_at_close log (read log decoded (alone (WindowUpdate i n))) i) (read log decoded (alone (WindowUpdate i n)))) [])
+update_by : (e : End) (log : Log) (decoded : Option Decoded) (i n : ℕ) (b : Bool)
+    → active_by_items (core log) i ≡ b → Waits e log → Going e (core log)
+    → After (widen_send_window e i n (stream_at e i))
+    (with_reported (with_unreturned (0 + owed_at_close log
+    (read log decoded (alone (WindowUpdate i n))) i)
+    (read log decoded (alone (WindowUpdate i n)))) [])
 update_by e log decoded i n true alive w g =
     let item : Item = alone (WindowUpdate i n) in
     rw (stream_said e (core log) i g alive)
-    (unsettled (set_stream e i (record (said (core log) i) { send_window = (said (core log) i).send_window +ℤ pos n })) (read log decoded item) [] _
+    (unsettled (set_stream e i (record (said (core log) i) {
+      send_window =
+          (said (core log) i).send_window +ℤ pos n;
+    })) (read log decoded item) [] _
     (omega (arith, none_owing log (read log decoded item) i (update_active (core log) i n i)))
-    (record { same_role = w.same_role; same_failed = w.same_failed; waiting = w.waiting; given = w.given }) g.unreturned
+    (record {
+      same_role = w.same_role;
+      same_failed = w.same_failed;
+      waiting = w.waiting;
+      given = w.given;
+    }) g.unreturned
     (λ up. update_active_read (core_facts e) (core log) i n alive g))
 update_by e log decoded i n false dead w g =
     let item : Item = alone (WindowUpdate i n) in
     rw (none_said e (core log) i g dead)
-    (unsettled (if i == 0 then record e { windows = record e.windows { send = e.windows.send + n } } else e) (read log decoded item) [] _
+    (unsettled (if i == 0 then record e { windows = record e.windows { send = e.windows.send + n } }
+    else e) (read log decoded item) [] _
     (omega (arith, none_owing log (read log decoded item) i (update_active (core log) i n i)))
     (widened_waits e log decoded item n (i == 0) w) (widened_unreturned e n (i == 0) ∙ g.unreturned)
     (λ up. widened_by e log i n (i == 0) refl dead g))
 
 -- What a WINDOW_UPDATE makes of an end.
-pub update_ignored : (e : End) (log : Log) (decoded : Option Decoded) (i n : ℕ) → Waits e log → Going e (core log)
-    → After (after_ignored e decoded (alone (WindowUpdate i n))) (with_verdict log decoded (alone (WindowUpdate i n)) NoEvent)
-unfolding with_verdict after_ignored replies_to events_of discarded_flow data_of stream_of_item stream_of with_sent with_reported
-update_ignored e log decoded i n w g = update_by e log decoded i n (active_by_items (core log) i) refl w g
+pub update_ignored : (e : End) (log : Log) (decoded : Option Decoded) (i n : ℕ) → Waits e log
+    → Going e (core log)
+    → After (after_ignored e decoded (alone (WindowUpdate i n))) (with_verdict log decoded
+    (alone (WindowUpdate i n)) NoEvent)
+unfolding with_verdict after_ignored replies_to events_of discarded_flow data_of stream_of_item
+    stream_of with_sent with_reported
+update_ignored e log decoded i n w g = update_by e log decoded i n (active_by_items (core log) i)
+    refl w g

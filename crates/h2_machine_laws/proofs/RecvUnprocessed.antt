@@ -1,14 +1,20 @@
 -- A stream that the peer doesn't process is reported at an end as at its log.
-use Rattle.std.proofs.Common.{◌≡◌, ◌≢◌, ℕ, ◌+◌, ◌-◌, Bool, true, false, not, ◌==◌, nat_lt, ◌&&◌, if◌then◌else◌, List, [], ◌∷◌, length, None, refl, ap, sym, ◌∙◌, arith, zero-add}
+use Rattle.std.proofs.Common.{◌≡◌, ◌≢◌, ℕ, ◌+◌, ◌-◌, Bool, true, false, not, ◌==◌, nat_lt, ◌&&◌}
+use Rattle.std.proofs.Common.{if◌then◌else◌, List, [], ◌∷◌, length, None, refl, ap, sym, ◌∙◌, arith}
+use Rattle.std.proofs.Common.{zero-add}
 use Rattle.std.specs.List.{list_any}
 use Rattle.std.specs.FinMap as map
-use Rattle.std.proofs.lemmas.Bool.{both_ways, and_parts, eq-eqb, ne_eqb, false_from_ne_true, or_left}
-use Rattle.h2_log.specs.Log.{least_goaway, Log, active, unreleased, released, next_unprocessed, waiting}
+use Rattle.std.proofs.lemmas.Bool.{both_ways, and_parts, eq-eqb, ne_eqb, false_from_ne_true}
+use Rattle.std.proofs.lemmas.Bool.{or_left}
+use Rattle.h2_log.specs.Log.{least_goaway, Log, active, unreleased, released, next_unprocessed}
+use Rattle.h2_log.specs.Log.{waiting}
 use Rattle.h2_log.specs.Acts.{Values}
-use Rattle.h2_log.specs.Events.{Event, UnprocessedEvent, flow_on, one_acked, one_pong, reported_total, reports_unprocessed, processed_by}
+use Rattle.h2_log.specs.Events.{Event, UnprocessedEvent, flow_on, one_acked, one_pong}
+use Rattle.h2_log.specs.Events.{reported_total, reports_unprocessed, processed_by}
 use Rattle.h2_log.specs.Settings.{is_server}
 use Rattle.h2_log.specs.States.{openings, count_below, least_block}
-use Rattle.h2_log.specs.LogSteps.{took_none, with_reported, with_sent, with_unreturned, with_credit_returned, owed_at_close}
+use Rattle.h2_log.specs.LogSteps.{took_none, with_reported, with_sent, with_unreturned}
+use Rattle.h2_log.specs.LogSteps.{with_credit_returned, owed_at_close}
 use Rattle.h2_log.specs.Limits.{full_output}
 use Rattle.h2_log.specs.CallRules.{returns_credit}
 use Rattle.h2_log.specs.Histories.{reported_one}
@@ -18,14 +24,18 @@ use Rattle.h2_machine.specs.Represents.{Represents, RepresentsWhileUp}
 use Rattle.h2_log_laws.proofs.ReaderStates.{active_parts, lasts_parts}
 use Rattle.h2_log_laws.proofs.NextStreams.{greatest_above, least_passes}
 use Rattle.h2_machine_laws.proofs.ConservedBySteps.{holds, is_whole, ended, lacks_none}
-use Rattle.h2_machine_laws.proofs.RecvWithoutFrame.{Core, core, CoreFacts, core_facts, Advances, Going, active_by_items, kept_back, greatest_used, waits_of, represents_by, going, runs}
+use Rattle.h2_machine_laws.proofs.RecvWithoutFrame.{Core, core, CoreFacts, core_facts, Advances}
+use Rattle.h2_machine_laws.proofs.RecvWithoutFrame.{Going, active_by_items, kept_back}
+use Rattle.h2_machine_laws.proofs.RecvWithoutFrame.{greatest_used, waits_of, represents_by, going}
+use Rattle.h2_machine_laws.proofs.RecvWithoutFrame.{runs}
 use Rattle.h2_machine_laws.proofs.RecvVerdict.{active_said}
 use Rattle.h2_machine_laws.proofs.RecvReturnedCredit.{After, returned}
 use Rattle.h2_machine_laws.specs.Bounds.{KeepsConnectionWindow}
 use Rattle.h2_frame.specs.Frames.{Frame}
 use Rattle.h2_machine_laws.proofs.RecvLittleChanges.{SameAt}
 use Rattle.h2_machine_laws.proofs.RecvRead.{said_removed, count_less}
-use Rattle.h2_machine_laws.proofs.RecvEvents.{report, reported_by, reported_kept, active_reported, taken_kept}
+use Rattle.h2_machine_laws.proofs.RecvEvents.{report, reported_by, reported_kept, active_reported}
+use Rattle.h2_machine_laws.proofs.RecvEvents.{taken_kept}
 
 -- The event that names a stream unprocessed names it.
 names_it : (n : ℕ) → reports_unprocessed n (UnprocessedEvent n) ≡ true
@@ -59,46 +69,83 @@ named_dead : (c : Core) (n : ℕ) → active_by_items (report c (UnprocessedEven
 named_dead c n =
     false_from_ne_true (active_by_items (report c (UnprocessedEvent n)) n) (λ alive.
     both_ways (list_any (reports_unprocessed n) (UnprocessedEvent n ∷ c.reported))
-    (active_parts c.role n c.received c.sent (UnprocessedEvent n ∷ c.reported) alive).unnamed (or_left _ _ (names_it n)))
+    (active_parts c.role n c.received c.sent (UnprocessedEvent n ∷ c.reported) alive).unnamed
+    (or_left _ _ (names_it n)))
 
 -- Others are as they were.
 others_same : (c : Core) (n j : ℕ) → j ≢ n → SameAt j c (report c (UnprocessedEvent n))
 others_same c n j other =
-    let acks : reported_total one_acked (UnprocessedEvent n ∷ c.reported) ≡ reported_total one_acked c.reported = reported_kept one_acked (UnprocessedEvent n) c.reported (no_ack n) in
-    let flow : reported_total (flow_on j) (UnprocessedEvent n ∷ c.reported) ≡ reported_total (flow_on j) c.reported = reported_kept (flow_on j) (UnprocessedEvent n) c.reported (no_flow n j) in
+    let acks : reported_total one_acked (UnprocessedEvent n ∷ c.reported) ≡ reported_total one_acked
+    c.reported = reported_kept one_acked (UnprocessedEvent n) c.reported (no_ack n) in
+    let flow : reported_total (flow_on j) (UnprocessedEvent n ∷ c.reported) ≡ reported_total
+    (flow_on j) c.reported = reported_kept (flow_on j) (UnprocessedEvent n) c.reported
+    (no_flow n j) in
     record {
-      active = active_reported c.role j c.received c.sent (UnprocessedEvent n) c.reported (names_other n j other);
+      active = active_reported c.role j c.received c.sent (UnprocessedEvent n) c.reported
+          (names_other n j other);
       was_reset = refl;
       stream = λ alive. rw (acks, flow) refl;
     }
 
 -- What an end keeps, once an active stream was named unprocessed.
-unprocessed_advances : (h : CoreFacts) (c : Core) (n : ℕ) → active_by_items c n ≡ true → Advances h c
-    → Advances (record h { streams = record h.streams { entries = map.remove h.streams.entries n; active_count = h.streams.active_count - 1 } }) (report c (UnprocessedEvent n))
+unprocessed_advances : (h : CoreFacts) (c : Core) (n : ℕ) → active_by_items c n ≡ true
+    → Advances h c
+    → Advances (record h {
+      streams = record h.streams {
+        entries = map.remove h.streams.entries n;
+        active_count = h.streams.active_count - 1;
+      };
+    }) (report c (UnprocessedEvent n))
 unprocessed_advances h c n alive g =
     let parts = active_parts c.role n c.received c.sent c.reported alive in
-    let less : count_below (greatest_used c + 1) (active_by_items (report c (UnprocessedEvent n))) + 1 ≡ count_below (greatest_used c + 1) (active_by_items c) =
-    count_less (greatest_used c + 1) n (active_by_items (report c (UnprocessedEvent n))) (active_by_items c)
+    let less : count_below (greatest_used c + 1) (active_by_items (report c (UnprocessedEvent n))) +
+    1 ≡ count_below (greatest_used c + 1) (active_by_items c) =
+    count_less (greatest_used c + 1) n (active_by_items (report c (UnprocessedEvent n)))
+    (active_by_items c)
     (omega (arith, greatest_above n (openings c.role c.received c.sent) parts.opened))
     (λ j other. (others_same c n j other).active) alive (named_dead c n) in
-    reported_by h c (UnprocessedEvent n) (map.remove h.streams.entries n) (h.streams.active_count - 1) h.streams.last_processed (no_ack n) (no_pong n)
-    (said_removed h.streams.entries n c (report c (UnprocessedEvent n)) g.streams (others_same c n) (named_dead c n) (lasts_parts n c.received c.sent parts.lasts).kept)
-    (omega (arith, less, g.active_count)) (g.last_processed ∙ sym (taken_kept (is_server c.role) (UnprocessedEvent n) c.reported (not_taken n))) g
+    reported_by h c (UnprocessedEvent n) (map.remove h.streams.entries n) (h.streams.active_count -
+    1) h.streams.last_processed (no_ack n) (no_pong n)
+    (said_removed h.streams.entries n c (report c (UnprocessedEvent n)) g.streams (others_same c n)
+    (named_dead c n) (lasts_parts n c.received c.sent parts.lasts).kept)
+    (omega (arith, less, g.active_count)) (g.last_processed
+    ∙ sym (taken_kept (is_server c.role) (UnprocessedEvent n) c.reported (not_taken n))) g
 
 -- Whether an end has begun doesn't hang on what is unreturned, by the test whether it is returned.
 returned_started_by : (e : End) (more : ℕ) (b : Bool)
-    → (if b then return_credit (record e { windows = record e.windows { unreturned = e.windows.unreturned + more } }) else record e { windows = record e.windows { unreturned = e.windows.unreturned + more } }).reading.started ≡ e.reading.started
+    → (if b then return_credit (record e {
+      windows = record e.windows {
+        unreturned =
+            e.windows.unreturned + more;
+      };
+    }) else record e {
+      windows = record e.windows {
+        unreturned =
+            e.windows.unreturned + more;
+      };
+    }).reading.started ≡ e.reading.started
 returned_started_by e more true = refl
 returned_started_by e more false = refl
 
 -- Whether an end has begun doesn't hang on what is unreturned.
-pub returned_started : (e : End) (more : ℕ) → (add_unreturned more e).reading.started ≡ e.reading.started
+pub returned_started : (e : End) (more : ℕ) → (add_unreturned more e).reading.started
+    ≡ e.reading.started
 unfolding add_unreturned
 returned_started e more = returned_started_by e more (returns_credit more (length e.output.waiting))
 
 -- Nor does its role, by the test.
 returned_role_by : (e : End) (more : ℕ) (b : Bool)
-    → (if b then return_credit (record e { windows = record e.windows { unreturned = e.windows.unreturned + more } }) else record e { windows = record e.windows { unreturned = e.windows.unreturned + more } }).role ≡ e.role
+    → (if b then return_credit (record e {
+      windows = record e.windows {
+        unreturned =
+            e.windows.unreturned + more;
+      };
+    }) else record e {
+      windows = record e.windows {
+        unreturned =
+            e.windows.unreturned + more;
+      };
+    }).role ≡ e.role
 returned_role_by e more true = refl
 returned_role_by e more false = refl
 
@@ -109,7 +156,8 @@ returned_role e more = returned_role_by e more (returns_credit more (length e.ou
 
 -- Nor do the frames of a log, by the test.
 returned_frames_by : (log : Log) (more : ℕ) (b : Bool)
-    → (if b then with_credit_returned (record log { unreturned = log.unreturned + more }) else record log { unreturned = log.unreturned + more }).frames ≡ log.frames
+    → (if b then with_credit_returned (record log { unreturned = log.unreturned + more }) else
+    record log { unreturned = log.unreturned + more }).frames ≡ log.frames
 unfolding with_sent
 returned_frames_by log more true = refl
 returned_frames_by log more false = refl
@@ -117,36 +165,44 @@ returned_frames_by log more false = refl
 -- Nor do the frames of a log.
 pub returned_frames : (log : Log) (more : ℕ) → (with_unreturned more log).frames ≡ log.frames
 unfolding with_unreturned
-returned_frames log more = returned_frames_by log more (nat_lt 0 more && nat_lt (waiting log) full_output)
+returned_frames log more = returned_frames_by log more (nat_lt 0 more && nat_lt (waiting log)
+    full_output)
 
 -- The frames of a log don't hang on events.
-pub reported_frames : (log : Log) (events : List Event) → (with_reported log events).frames ≡ log.frames
+pub reported_frames : (log : Log) (events : List Event) → (with_reported log events).frames
+    ≡ log.frames
 unfolding with_reported
 reported_frames log [] = refl
 reported_frames log (event ∷ events) = refl
 
 -- what a stream leaves owing that is active before and not after, by the tests
-owing_by : (before after : Bool) (n : ℕ) → before ≡ true → after ≡ false → (if before && not after then n else 0) ≡ n
+owing_by : (before after : Bool) (n : ℕ) → before ≡ true → after ≡ false
+    → (if before && not after then n else 0) ≡ n
 owing_by true false n was is = refl
 owing_by false after n was is = absurd (both_ways false refl was)
 owing_by true true n was is = absurd (both_ways true is refl)
 
 -- What a stream leaves owing that is active before and not after.
-pub full_owing : (log after : Log) (i : ℕ) → active log i ≡ true → active after i ≡ false → owed_at_close log after i ≡ unreleased after i
+pub full_owing : (log after : Log) (i : ℕ) → active log i ≡ true → active after i ≡ false
+    → owed_at_close log after i ≡ unreleased after i
 unfolding owed_at_close
 full_owing log after i was is = owing_by (active log i) (active after i) (unreleased after i) was is
 
 -- What the stream that is named leaves owing.
 named_owing : (e : End) (log : Log) (n : ℕ) → active log n ≡ true → Going e (core log)
-    → 0 + owed_entry (map.get e.streams.entries n) ≡ owed_at_close log (with_reported log (UnprocessedEvent n ∷ [])) n
+    → 0 + owed_entry (map.get e.streams.entries n) ≡ owed_at_close log
+    (with_reported log (UnprocessedEvent n ∷ [])) n
 unfolding with_reported unreleased reported_total flow_on
 named_owing e log n alive g =
-    let owed : owed_entry (map.get e.streams.entries n) ≡ kept_back (core log) n = ap owed_entry (active_said e (core log) n g alive) in
-    let owing = full_owing log (with_reported log (UnprocessedEvent n ∷ [])) n alive (named_dead (core log) n) in
+    let owed : owed_entry (map.get e.streams.entries n) ≡ kept_back (core log) n = ap owed_entry
+    (active_said e (core log) n g alive) in
+    let owing = full_owing log (with_reported log (UnprocessedEvent n ∷ [])) n alive
+    (named_dead (core log) n) in
     zero-add _ ∙ owed ∙ sym (owing ∙ ap (λ (x : ℕ). x - released n log.calls) (zero-add _))
 
 -- the next stream that is reported is active, by the role
-next_is_active_by : (b : Bool) (least_last : ℕ) (test : ℕ → Bool) → (if b then 0 else least_last) ≢ 0 → (least_last ≢ 0 → test least_last ≡ true) → test (if b then 0 else least_last) ≡ true
+next_is_active_by : (b : Bool) (least_last : ℕ) (test : ℕ → Bool) → (if b then 0 else least_last) ≢
+    0 → (least_last ≢ 0 → test least_last ≡ true) → test (if b then 0 else least_last) ≡ true
 next_is_active_by true least_last test some passes = absurd (some refl)
 next_is_active_by false least_last test some passes = passes some
 
@@ -154,12 +210,14 @@ next_is_active_by false least_last test some passes = passes some
 next_is_active : (log : Log) → next_unprocessed log ≢ 0 → active log (next_unprocessed log) ≡ true
 unfolding next_unprocessed
 next_is_active log some =
-    (and_parts _ _ (next_is_active_by (is_server log.role) (least_block (λ j. active log j && nat_lt (least_goaway log.received) j) log.sent)
+    (and_parts _ _ (next_is_active_by (is_server log.role) (least_block (λ j. active log j && nat_lt
+    (least_goaway log.received) j) log.sent)
     (λ j. active log j && nat_lt (least_goaway log.received) j) some
     (least_passes (λ j. active log j && nat_lt (least_goaway log.received) j) log.sent))).0
 
 -- A machine that reports a stream as unprocessed represents the log with it.
-pub unprocessed_represents : (values : Values) (e : End) (log : Log) → Represents values e log → log.failed ≡ None → next_unprocessed log ≢ 0
+pub unprocessed_represents : (values : Values) (e : End) (log : Log) → Represents values e log
+    → log.failed ≡ None → next_unprocessed log ≢ 0
     → Represents values (close_unprocessed e (next_unprocessed log)) (took_none log)
 unprocessed_represents values e log s up some =
     let n : ℕ = next_unprocessed log in
@@ -168,14 +226,29 @@ unprocessed_represents values e log s up some =
     let alive : active log n ≡ true = next_is_active log some in
     let waits = waits_of values e log s in
     let owed : ℕ = 0 + owed_entry (map.get e.streams.entries n) in
-    let next : End = record e { streams = record e.streams { entries = map.remove e.streams.entries n; active_count = e.streams.active_count - 1 } } in
+    let next : End = record e {
+      streams = record e.streams {
+        entries = map.remove e.streams.entries
+            n;
+        active_count = e.streams.active_count - 1;
+      };
+    } in
     let more : ℕ = owed_at_close log (with_reported log (UnprocessedEvent n ∷ [])) n in
     let b : After (close_unprocessed e n) (took_none log) =
     returned next log (UnprocessedEvent n ∷ []) owed more (named_owing e log n alive g)
-    (record { same_role = waits.same_role; same_failed = waits.same_failed; waiting = waits.waiting; given = waits.given }) g.unreturned
+    (record {
+      same_role = waits.same_role;
+      same_failed = waits.same_failed;
+      waiting = waits.waiting;
+      given = waits.given;
+    }) g.unreturned
     (λ still. unprocessed_advances (core_facts e) (core log) n alive g) in
     let whole : KeepsConnectionWindow e = record { whole = s.whole; used = s.used } in
-    represents_by values (close_unprocessed e n) (took_none log) (rw (returned_role next owed) (reported_one s.came up some)) b.waits
+    represents_by values (close_unprocessed e n) (took_none log) (rw (returned_role next owed)
+    (reported_one s.came up some)) b.waits
     (λ still. runs (close_unprocessed e n) (took_none log) (returned_started next owed ∙ r.started
-    ∙ ap (λ (fs : List Frame). not (length fs == 0)) (sym (reported_frames (with_unreturned more log) (UnprocessedEvent n ∷ []) ∙ returned_frames log more))) (b.going still))
-    (is_whole (close_unprocessed e n) (ended e n 0 (lacks_none e.windows.recv e.windows.unreturned e.streams.highest e.streams.entries (holds e whole))))
+    ∙ ap (λ (fs : List Frame). not (length fs == 0))
+    (sym (reported_frames (with_unreturned more log) (UnprocessedEvent n ∷ [])
+    ∙ returned_frames log more))) (b.going still))
+    (is_whole (close_unprocessed e n) (ended e n 0 (lacks_none e.windows.recv e.windows.unreturned
+    e.streams.highest e.streams.entries (holds e whole))))

@@ -1,17 +1,24 @@
 -- The verdict of an item is the same at an end as at its log.
-use Rattle.std.proofs.Common.{◌≡◌, ◌≢◌, ℕ, ◌≤◌, ◌+◌, ◌%◌, Bool, true, false, not, if◌then◌else◌, ◌==◌, nat_lt, nat_le, ◌&&◌, ◌||◌, pos, ◌+ℤ◌, ◌-ℤ◌, Option, Some, None, is_some, refl, ap, sym, ◌∙◌, arith}
+use Rattle.std.proofs.Common.{◌≡◌, ◌≢◌, ℕ, ◌≤◌, ◌+◌, ◌%◌, Bool, true, false, not, if◌then◌else◌}
+use Rattle.std.proofs.Common.{◌==◌, nat_lt, nat_le, ◌&&◌, ◌||◌, pos, ◌+ℤ◌, ◌-ℤ◌, Option, Some, None}
+use Rattle.std.proofs.Common.{is_some, refl, ap, sym, ◌∙◌, arith}
 use Rattle.std.specs.Prelude.{int_lt}
 use Rattle.std.specs.List.{list_any}
 use Rattle.std.specs.FinMap as map
 use Rattle.std.proofs.lemmas.Int.{ints}
 use Rattle.std.proofs.lemmas.Bool.Decides.{nat_tests}
-use Rattle.h2_machine.specs.End.{end_view, End, active_entry, stream_in, stream_at, is_beyond, state_by_entry, state_at}
+use Rattle.h2_machine.specs.End.{end_view, End, active_entry, stream_in, stream_at, is_beyond}
+use Rattle.h2_machine.specs.End.{state_by_entry, state_at}
 use Rattle.h2_log.specs.LogView.{log_view}
-use Rattle.h2_log.specs.Items.{data_on, data_of, ends, resets, increment_on, is_block_on, one_ping, is_goaway, total}
-use Rattle.h2_log.specs.Events.{flow_on, one_pong, reported_total, greatest_processed, reports_unprocessed}
+use Rattle.h2_log.specs.Items.{data_on, data_of, ends, resets, increment_on, is_block_on, one_ping}
+use Rattle.h2_log.specs.Items.{is_goaway, total}
+use Rattle.h2_log.specs.Events.{flow_on, one_pong, reported_total, greatest_processed}
+use Rattle.h2_log.specs.Events.{reports_unprocessed}
 use Rattle.h2_log.specs.Settings.{is_server, settings_count}
-use Rattle.h2_log.specs.States.{openings, is_used, is_above, is_closed_by_us, state_by, state_of, when}
-use Rattle.h2_log.specs.Windows.{given_on_connection, granted_on_connection, connection_send_window, connection_recv_window, window}
+use Rattle.h2_log.specs.States.{openings, is_used, is_above, is_closed_by_us, state_by, state_of}
+use Rattle.h2_log.specs.States.{when}
+use Rattle.h2_log.specs.Windows.{given_on_connection, granted_on_connection, connection_send_window}
+use Rattle.h2_log.specs.Windows.{connection_recv_window, window}
 use Rattle.h2_log.specs.Log.{Log, active, released, unreleased, active_count, max_streams}
 use Rattle.h2_log.specs.ItemRules.{Decoded, verdict_of_block}
 use Rattle.h2_log.specs.Allowed.{AllowedHistory}
@@ -21,8 +28,8 @@ use Rattle.h2_log_laws.proofs.ReplyInvariant.{resets_used}
 use Rattle.h2_log.specs.declared.role.Role.{Role}
 use Rattle.h2_log.specs.declared.role.Role.TheVariants.{Client, Server}
 use Rattle.h2_log_laws.proofs.ReaderStates.{active_used}
-
-use Rattle.h2_machine_laws.proofs.RecvWithoutFrame.{said, Core, core, Going, confirmed, active_by_items, greatest_used}
+use Rattle.h2_machine_laws.proofs.RecvWithoutFrame.{said, Core, core, Going, confirmed}
+use Rattle.h2_machine_laws.proofs.RecvWithoutFrame.{active_by_items, greatest_used}
 
 -- Nothing was read of a number, nor written but perhaps increments.
 pub record IsUnread (i : ℕ) (c : Core) : Type 0 where
@@ -36,29 +43,40 @@ pub record IsUnread (i : ℕ) (c : Core) : Type 0 where
 -- What every log has that comes about, as long as the connection hasn't failed.
 pub record Sound (c : Core) : Type 0 where
   pub with_sent : AllowedHistory c.role c.received c.sent
-  -- all openings have odd numbers, so that a number is used just if it is odd and no greater than the greatest
-  pub used : (i : ℕ) → is_used c.role i c.received c.sent ≡ (i % 2 == 1 && nat_le i (greatest_used c))
+  -- all openings have odd numbers, so that a number is used just if it is odd and no greater than
+  -- the greatest
+  pub used : (i : ℕ) → is_used c.role i c.received c.sent
+      ≡ (i % 2 == 1 && nat_le i (greatest_used c))
   -- there is one own GOAWAY at most
-  pub above : (i : ℕ) → is_above c.role i c.sent ≡ (is_server c.role && is_beyond i (when (list_any is_goaway c.sent) (goaway_sent_last c.sent)))
+  pub above : (i : ℕ) → is_above c.role i c.sent ≡ (is_server c.role && is_beyond i
+      (when (list_any is_goaway c.sent) (goaway_sent_last c.sent)))
   -- what comes on an idle stream is a fault
   pub unread : (i : ℕ) → i ≢ 0 → is_used c.role i c.received c.sent ≡ false → IsUnread i c
-  pub unnamed : is_server c.role ≡ true → (i : ℕ) → list_any (reports_unprocessed i) c.reported ≡ false
-  -- at a server: the last stream of the GOAWAY was used, and so was each that was taken; each active one was taken
-  pub last : is_server c.role ≡ true → list_any is_goaway c.sent ≡ true → goaway_sent_last c.sent ≤ greatest_used c
+  pub unnamed : is_server c.role ≡ true → (i : ℕ) → list_any (reports_unprocessed i) c.reported
+      ≡ false
+  -- at a server: the last stream of the GOAWAY was used, and so was each that was taken; each
+  -- active one was taken
+  pub last : is_server c.role ≡ true → list_any is_goaway c.sent ≡ true → goaway_sent_last c.sent ≤
+      greatest_used c
   pub last_processed : is_server c.role ≡ true → greatest_processed c.reported ≤ greatest_used c
-  pub active_taken : is_server c.role ≡ true → (i : ℕ) → active_by_items c i ≡ true → i ≤ greatest_processed c.reported
+  pub active_taken : is_server c.role ≡ true → (i : ℕ) → active_by_items c i ≡ true
+      → i ≤ greatest_processed c.reported
   -- one PING awaits its answer at most, and one SETTINGS their acknowledgment
   pub pings : total one_ping c.sent ≤ reported_total one_pong c.reported + 1
   pub settings : settings_count c.sent ≤ confirmed c + 1
   pub released : (i : ℕ) → released i c.calls ≤ reported_total (flow_on i) c.reported
-  pub unopened : (i : ℕ) → list_any (is_block_on i) (openings c.role c.received c.sent) ≡ false → reported_total (flow_on i) c.reported ≡ 0
+  pub unopened : (i : ℕ) → list_any (is_block_on i) (openings c.role c.received c.sent) ≡ false
+      → reported_total (flow_on i) c.reported ≡ 0
 
 -- What is kept of an active stream is what the log says of it.
-pub active_said : (e : End) (c : Core) (i : ℕ) → Going e c → active_by_items c i ≡ true → map.get e.streams.entries i ≡ Some (active_entry (said c i))
-active_said e c i g active = g.streams i ∙ ap (λ (b : Bool). entry_by b (list_any (resets i) c.sent) (said c i)) active
+pub active_said : (e : End) (c : Core) (i : ℕ) → Going e c → active_by_items c i ≡ true
+    → map.get e.streams.entries i ≡ Some (active_entry (said c i))
+active_said e c i g active = g.streams i ∙ ap (λ (b : Bool). entry_by b (list_any (resets i) c.sent)
+    (said c i)) active
 
 -- The same of the stream.
-pub stream_said : (e : End) (c : Core) (i : ℕ) → Going e c → active_by_items c i ≡ true → stream_at e i ≡ Some (said c i)
+pub stream_said : (e : End) (c : Core) (i : ℕ) → Going e c → active_by_items c i ≡ true
+    → stream_at e i ≡ Some (said c i)
 stream_said e c i g active = ap stream_in (active_said e c i g active)
 
 -- where no stream is active, no stream is kept
@@ -67,18 +85,24 @@ none_in true s = refl
 none_in false s = refl
 
 -- Where a stream isn't active, none is kept.
-pub none_said : (e : End) (c : Core) (i : ℕ) → Going e c → active_by_items c i ≡ false → stream_at e i ≡ None
+pub none_said : (e : End) (c : Core) (i : ℕ) → Going e c → active_by_items c i ≡ false
+    → stream_at e i ≡ None
 none_said e c i g dead =
-    ap stream_in (g.streams i ∙ ap (λ (b : Bool). entry_by b (list_any (resets i) c.sent) (said c i)) dead)
+    ap stream_in (g.streams i ∙ ap (λ (b : Bool). entry_by b (list_any (resets i) c.sent)
+    (said c i)) dead)
     ∙ none_in (list_any (resets i) c.sent) (said c i)
 
 -- the state by the entry is that by what was read and written
-state_parts : (active was_reset used above idle : Bool) (s : StreamView) → (active ≡ true → used ≡ true) → (was_reset ≡ true → used ≡ true)
-    → idle ≡ not used → state_by_entry (entry_by active was_reset s) idle above ≡ state_by used active (was_reset || above)
+state_parts : (active was_reset used above idle : Bool) (s : StreamView)
+    → (active ≡ true → used ≡ true) → (was_reset ≡ true → used ≡ true)
+    → idle ≡ not used → state_by_entry (entry_by active was_reset s) idle above ≡ state_by used
+    active (was_reset || above)
 state_parts true w true above idle s active resets is = refl
-state_parts true w false above idle s active resets is = let wrong : false ≡ true = active refl in cc
+state_parts true w false above idle s active resets is = let wrong : false ≡ true = active refl in
+    cc
 state_parts false true true above idle s active resets is = refl
-state_parts false true false above idle s active resets is = let wrong : false ≡ true = resets refl in cc
+state_parts false true false above idle s active resets is = let wrong : false ≡ true = resets refl
+    in cc
 state_parts false false true true idle s active resets is = rw is refl
 state_parts false false true false idle s active resets is = rw is refl
 state_parts false false false above idle s active resets is = rw is refl
@@ -93,12 +117,15 @@ pub state_same : (e : End) (c : Core) (i : ℕ) → e.role ≡ c.role → Sound 
 unfolding is_closed_by_us
 state_same e c i role sound g =
     rw (g.streams i, g.highest, g.goaway_sent, role, ← (sound.above i))
-    (state_parts (active_by_items c i) (list_any (resets i) c.sent) (is_used c.role i c.received c.sent) (is_above c.role i c.sent)
-    (i % 2 == 0 || nat_lt (greatest_used c) i) (said c i) (active_used c.role i c.received c.sent c.reported) (resets_used c.role i c.received c.sent sound.with_sent)
+    (state_parts (active_by_items c i) (list_any (resets i) c.sent) (is_used c.role i c.received
+    c.sent) (is_above c.role i c.sent)
+    (i % 2 == 0 || nat_lt (greatest_used c) i) (said c i) (active_used c.role i c.received c.sent
+    c.reported) (resets_used c.role i c.received c.sent sound.with_sent)
     (idle_by i (greatest_used c) ∙ ap not (sym (sound.used i))))
 
 -- An offset that is brought above a bound, by natural numbers.
-pub int_above : (top g t n : ℕ) → int_lt (pos top) ((pos g -ℤ pos t) +ℤ pos n) ≡ nat_lt (top + t) (g + n)
+pub int_above : (top g t n : ℕ) → int_lt (pos top) ((pos g -ℤ pos t) +ℤ pos n) ≡ nat_lt (top + t)
+    (g + n)
 int_above top g t n = grind (arith, nat_tests, ints)
 
 -- A window is what was given, less what was taken.
@@ -111,21 +138,28 @@ when_some true a = refl
 when_some false a = refl
 
 -- An entry has a stream where it is active.
-entry_stream : (active was_reset : Bool) (s : StreamView) → stream_in (entry_by active was_reset s) ≡ when active s
+entry_stream : (active was_reset : Bool) (s : StreamView) → stream_in (entry_by active was_reset s)
+    ≡ when active s
 entry_stream true was_reset s = refl
 entry_stream false true s = refl
 entry_stream false false s = refl
 
 -- An end has the stream that its log says, where it is active.
-pub stream_same : (e : End) (c : Core) (i : ℕ) → Going e c → stream_at e i ≡ when (active_by_items c i) (said c i)
-stream_same e c i g = ap stream_in (g.streams i) ∙ entry_stream (active_by_items c i) (list_any (resets i) c.sent) (said c i)
+pub stream_same : (e : End) (c : Core) (i : ℕ) → Going e c
+    → stream_at e i ≡ when (active_by_items c i) (said c i)
+stream_same e c i g = ap stream_in (g.streams i) ∙ entry_stream (active_by_items c i)
+    (list_any (resets i) c.sent) (said c i)
 
 -- The peer may send as much on the connection as the log says; and so may this end.
-pub recv_same : (e : End) (c : Core) → Going e c → pos e.windows.recv ≡ connection_recv_window c.received c.sent
-recv_same e c g = window_same e.windows.recv (total data_of c.received) (granted_on_connection c.sent) g.recv_window
+pub recv_same : (e : End) (c : Core) → Going e c → pos e.windows.recv ≡ connection_recv_window
+    c.received c.sent
+recv_same e c g = window_same e.windows.recv (total data_of c.received) (granted_on_connection
+    c.sent) g.recv_window
 
-pub send_same : (e : End) (c : Core) → Going e c → pos e.windows.send ≡ connection_send_window c.received c.sent
-send_same e c g = window_same e.windows.send (total data_of c.sent) (given_on_connection c.received) g.send_window
+pub send_same : (e : End) (c : Core) → Going e c → pos e.windows.send ≡ connection_send_window
+    c.received c.sent
+send_same e c g = window_same e.windows.send (total data_of c.sent) (given_on_connection c.received)
+    g.send_window
 
 -- As many streams are allowed as the log says, at a server.
 pub allowed_same : (role : Role) (ours logs : ℕ) → (is_server role ≡ true → ours ≡ logs)
@@ -134,11 +168,20 @@ allowed_same Client ours logs same = refl
 allowed_same Server ours logs same = same refl
 
 -- The verdict on a field block is the same at an end as at its log.
-pub block_verdict_same : (e : End) (log : Log) (i : ℕ) (decoded : Option Decoded) → e.role ≡ log.role → Sound (core log)
-    → Going e (core log) → verdict_of_block (end_view e) i decoded ≡ verdict_of_block (log_view log) i decoded
+pub block_verdict_same : (e : End) (log : Log) (i : ℕ) (decoded : Option Decoded)
+    → e.role ≡ log.role → Sound (core log)
+    → Going e (core log) → verdict_of_block (end_view e) i decoded ≡ verdict_of_block (log_view log)
+    i decoded
 unfolding max_streams active_count unreleased
 block_verdict_same e log i None role sound g = refl
 block_verdict_same e log i (Some decoded) role sound g =
-    rw (state_same e (core log) i role sound g, stream_same e (core log) i g, role,
+    rw (
+      state_same e (core log) i role sound g,
+      stream_same e (core log) i g,
+      role,
       allowed_same log.role e.own.in_force.max_streams (max_streams log) (g.in_force).max_streams,
-      g.active_count, g.goaway_sent, when_some (list_any is_goaway log.sent) (goaway_sent_last log.sent)) refl
+      g.active_count,
+      g.goaway_sent,
+      when_some (list_any is_goaway log.sent)
+          (goaway_sent_last log.sent),
+    ) refl

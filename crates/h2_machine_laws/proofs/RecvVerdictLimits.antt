@@ -1,30 +1,40 @@
--- The verdict of an item after the limits, and the number that it opens, are the same at an end as at its log.
-use Rattle.std.proofs.Common.{ℤ, ◌∙◌, ◌≡◌, ℕ, ◌+◌, Bool, true, false, ◌==◌, nat_lt, ◌||◌, cond, T, if◌then◌else◌, List, [], ◌∷◌, length, Option, Some, None, Less, Equal, Greater, Ordering, refl, ap, ap₂, sym, ◌∙◌, inl, inr, arith}
+-- The verdict of an item after the limits, and the number that it opens, are the same at an end as
+-- at its log.
+use Rattle.std.proofs.Common.{ℤ, ◌∙◌, ◌≡◌, ℕ, ◌+◌, Bool, true, false, ◌==◌, nat_lt, ◌||◌, cond, T}
+use Rattle.std.proofs.Common.{if◌then◌else◌, List, [], ◌∷◌, length, Option, Some, None, Less, Equal}
+use Rattle.std.proofs.Common.{Greater, Ordering, refl, ap, ap₂, sym, ◌∙◌, inl, inr, arith}
 use Rattle.std.specs.List.{list_any}
 use Rattle.std.specs.FinMap as map
 use Rattle.std.specs.FinMap.Entries.{below_all}
 use Rattle.std.specs.Ordering.{nat_cmp, is_lt, is_eq}
 use Rattle.std.specs.Cmp.{unsigned_tied}
-use Rattle.std.proofs.lemmas.Bool.{and_parts, and_from, or_cases, or_left, or_right, both_ways, eqb-true, eq-eqb}
+use Rattle.std.proofs.lemmas.Bool.{and_parts, and_from, or_cases, or_left, or_right, both_ways}
+use Rattle.std.proofs.lemmas.Bool.{eqb-true, eq-eqb}
 use Rattle.std.proofs.lemmas.Bool.Decides.{nat_tests}
-use Rattle.h2_frame.specs.Frames.{Data, Headers, Priority, Reset, Settings, Ping, GoAway, WindowUpdate, Continuation, Unknown}
+use Rattle.h2_frame.specs.Frames.{Data, Headers, Priority, Reset, Settings, Ping, GoAway}
+use Rattle.h2_frame.specs.Frames.{WindowUpdate, Continuation, Unknown}
 use Rattle.h2_frame.specs.Encoding.{payload_of}
 use Rattle.h2_block.specs.Grouping.{Item, alone, block}
-use Rattle.h2_machine.specs.End.{end_view, End, stream_at, state_at, Entry, active_entry, reset_entry, any_above, above_by_shift}
+use Rattle.h2_machine.specs.End.{end_view, End, stream_at, state_at, Entry, active_entry}
+use Rattle.h2_machine.specs.End.{reset_entry, any_above, above_by_shift}
 use Rattle.h2_log.specs.LogView.{log_view, overflows}
 use Rattle.h2_log.specs.Items.{data_on, increment_on, is_block_on, resets, total}
 use Rattle.h2_log.specs.Settings.{value_read}
 use Rattle.h2_log.specs.States.{State, openings, any_block}
 use Rattle.h2_log.specs.Windows.{greatest_window, first_window, given_on, is_above_greatest}
 use Rattle.h2_log.specs.Log.{Log, active, state, unreleased}
-use Rattle.h2_log.specs.Verdicts.{Verdict, data_verdict, reset_verdict, connection_update_verdict, update_verdict, Reported, NoEvent}
-use Rattle.h2_log.specs.ItemRules.{Decoded, exceeds, exceeds_stream, overflows_by, overflows_stream, settings_fault, verdict_of_fault, verdict_by_rules, verdict_of, is_awaited_ping}
+use Rattle.h2_log.specs.Verdicts.{Verdict, data_verdict, reset_verdict, connection_update_verdict}
+use Rattle.h2_log.specs.Verdicts.{update_verdict, Reported, NoEvent}
+use Rattle.h2_log.specs.ItemRules.{Decoded, exceeds, exceeds_stream, overflows_by, overflows_stream}
+use Rattle.h2_log.specs.ItemRules.{settings_fault, verdict_of_fault, verdict_by_rules, verdict_of}
+use Rattle.h2_log.specs.ItemRules.{is_awaited_ping}
 use Rattle.h2_log.specs.View.{StreamView, ended_in}
 use Rattle.h2_machine.specs.Represents.{entry_by}
 use Rattle.h2_machine_laws.proofs.OwedSums.{first, second, less}
 use Rattle.h2_log_laws.proofs.ReaderStates.{active_parts}
 use Rattle.h2_machine_laws.proofs.RecvWithoutFrame.{said, Core, core, Going, Waits, same_length}
-use Rattle.h2_machine_laws.proofs.RecvVerdict.{Sound, active_said, state_same, block_verdict_same, stream_same, recv_same, send_same, int_above}
+use Rattle.h2_machine_laws.proofs.RecvVerdict.{Sound, active_said, state_same, block_verdict_same}
+use Rattle.h2_machine_laws.proofs.RecvVerdict.{stream_same, recv_same, send_same, int_above}
 
 -- Two tests that hold where the other does are the same.
 pub both_same : (a b : Bool) → (a ≡ true → b ≡ true) → (b ≡ true → a ≡ true) → a ≡ b
@@ -33,14 +43,17 @@ both_same false true there back = back refl
 both_same false false there back = refl
 
 -- A key that is below all others isn't found among them.
-not_itself : (x : ℕ) (es : List (ℕ × Entry)) → T (below_all nat_cmp x es) → map.find nat_cmp x es ≡ None
+not_itself : (x : ℕ) (es : List (ℕ × Entry)) → T (below_all nat_cmp x es) → map.find nat_cmp x es
+    ≡ None
 not_itself x [] h = refl
 not_itself x (e ∷ es) h =
-    ap (λ (r : Ordering). cond (is_eq r) (Some e.1) (map.find nat_cmp x es)) (less (nat_cmp x e.0) (first (is_lt (nat_cmp x e.0)) (below_all nat_cmp x es) h))
+    ap (λ (r : Ordering). cond (is_eq r) (Some e.1) (map.find nat_cmp x es)) (less (nat_cmp x e.0)
+    (first (is_lt (nat_cmp x e.0)) (below_all nat_cmp x es) h))
     ∙ not_itself x es (second (is_lt (nat_cmp x e.0)) (below_all nat_cmp x es) h)
 
 -- What is found after an entry is found with it, by how its key compares.
-found_by : (i : ℕ) (e : ℕ × Entry) (es : List (ℕ × Entry)) (x : Entry) (r : Ordering) → nat_cmp i e.0 ≡ r → T (below_all nat_cmp e.0 es)
+found_by : (i : ℕ) (e : ℕ × Entry) (es : List (ℕ × Entry)) (x : Entry) (r : Ordering)
+    → nat_cmp i e.0 ≡ r → T (below_all nat_cmp e.0 es)
     → map.find nat_cmp i es ≡ Some x → cond (is_eq r) (Some e.1) (map.find nat_cmp i es) ≡ Some x
 found_by i e es x Less is h found = found
 found_by i e es x Greater is h found = found
@@ -50,13 +63,15 @@ found_by i e es x Equal is h found =
     cc
 
 -- What is found after an entry is found with it.
-pub found_after : (i : ℕ) (e : ℕ × Entry) (es : List (ℕ × Entry)) (x : Entry) → T (below_all nat_cmp e.0 es)
+pub found_after : (i : ℕ) (e : ℕ × Entry) (es : List (ℕ × Entry)) (x : Entry)
+    → T (below_all nat_cmp e.0 es)
     → map.find nat_cmp i es ≡ Some x → map.find nat_cmp i (e ∷ es) ≡ Some x
 found_after i e es x h found = found_by i e es x (nat_cmp i e.0) refl h found
 
 -- The first entry is found.
 pub found_first : (e : ℕ × Entry) (es : List (ℕ × Entry)) → map.find nat_cmp e.0 (e ∷ es) ≡ Some e.1
-found_first e es = ap (λ (b : Bool). cond b (Some e.1) (map.find nat_cmp e.0 es)) (unsigned_tied e.0 e.0 ∙ eq-eqb e.0 e.0 refl)
+found_first e es = ap (λ (b : Bool). cond b (Some e.1) (map.find nat_cmp e.0 es))
+    (unsigned_tied e.0 e.0 ∙ eq-eqb e.0 e.0 refl)
 
 -- An entry that is brought above the greatest window.
 record Above (old new : ℕ) (es : List (ℕ × Entry)) : Type 0 where
@@ -66,38 +81,47 @@ record Above (old new : ℕ) (es : List (ℕ × Entry)) : Type 0 where
   pub above : above_by_shift old new x ≡ true
 
 -- Where some entry is brought above the greatest window, it is found.
-above_found : (old new : ℕ) (es : List (ℕ × Entry)) → T (map.is_sorted nat_cmp es) → any_above old new es ≡ true → Above old new es
+above_found : (old new : ℕ) (es : List (ℕ × Entry)) → T (map.is_sorted nat_cmp es)
+    → any_above old new es ≡ true → Above old new es
 unfolding any_above
 above_found old new [] h some = absurd (both_ways false refl some)
-above_found old new (e ∷ es) h some = elim (or_cases (above_by_shift old new e.1) (any_above old new es) some) [
-  | inl here ↦ record { i = e.0; x = e.1; found = found_first e es; above = here }
-  | inr after ↦
-      let unparsed = above_found old new es (second (below_all nat_cmp e.0 es) (map.is_sorted nat_cmp es) h) after in
-      record {
-        i = unparsed.i;
-        x = unparsed.x;
-        found = found_after unparsed.i e es unparsed.x (first (below_all nat_cmp e.0 es) (map.is_sorted nat_cmp es) h) unparsed.found;
-        above = unparsed.above;
-      }
-]
+above_found old new (e ∷ es) h some = elim (or_cases (above_by_shift old new e.1)
+    (any_above old new es) some) [
+      | inl here ↦ record { i = e.0; x = e.1; found = found_first e es; above = here }
+      | inr after ↦
+          let unparsed = above_found old new es (second (below_all nat_cmp e.0 es)
+          (map.is_sorted nat_cmp es) h) after in
+          record {
+            i = unparsed.i;
+            x = unparsed.x;
+            found = found_after unparsed.i e es unparsed.x (first (below_all nat_cmp e.0 es)
+                (map.is_sorted nat_cmp es) h) unparsed.found;
+            above = unparsed.above;
+          }
+    ]
 
 -- An entry that is found is brought above the greatest window, by how its key compares.
 any_found_by : (old new i : ℕ) (e : ℕ × Entry) (es : List (ℕ × Entry)) (x : Entry) (r : Ordering)
     → (map.find nat_cmp i es ≡ Some x → any_above old new es ≡ true)
     → cond (is_eq r) (Some e.1) (map.find nat_cmp i es) ≡ Some x → above_by_shift old new x ≡ true
     → (above_by_shift old new e.1 || any_above old new es) ≡ true
-any_found_by old new i e es x Less after found above = or_right (above_by_shift old new e.1) (any_above old new es) (after found)
-any_found_by old new i e es x Greater after found above = or_right (above_by_shift old new e.1) (any_above old new es) (after found)
+any_found_by old new i e es x Less after found above = or_right (above_by_shift old new e.1)
+    (any_above old new es) (after found)
+any_found_by old new i e es x Greater after found above = or_right (above_by_shift old new e.1)
+    (any_above old new es) (after found)
 any_found_by old new i e es x Equal after found above =
-    let same : e.1 ≡ x = cc in or_left (above_by_shift old new e.1) (any_above old new es) (rw same above)
+    let same : e.1 ≡ x = cc in or_left (above_by_shift old new e.1) (any_above old new es)
+    (rw same above)
 
 -- An entry that is found is brought above the greatest window.
-any_found : (old new i : ℕ) (es : List (ℕ × Entry)) (x : Entry) → map.find nat_cmp i es ≡ Some x → above_by_shift old new x ≡ true
+any_found : (old new i : ℕ) (es : List (ℕ × Entry)) (x : Entry) → map.find nat_cmp i es ≡ Some x
+    → above_by_shift old new x ≡ true
     → any_above old new es ≡ true
 unfolding any_above
 any_found old new i [] x found above = absurd (cc)
 any_found old new i (e ∷ es) x found above =
-    any_found_by old new i e es x (nat_cmp i e.0) (λ after. any_found old new i es x after above) found above
+    any_found_by old new i e es x (nat_cmp i e.0) (λ after. any_found old new i es x after above)
+    found above
 
 -- A number among the blocks that passes.
 record Passing (test : ℕ → Bool) : Type 0 where
@@ -109,35 +133,45 @@ block_passes : (test : ℕ → Bool) (items : List Item) → any_block test item
 unfolding any_block
 block_passes test [] some = absurd (both_ways false refl some)
 block_passes test (alone frame ∷ items) some = block_passes test items some
-block_passes test (block stream end octets ∷ items) some = elim (or_cases (test stream) (any_block test items) some) [
-  | inl here ↦ record { i = stream; passes = here }
-  | inr after ↦ block_passes test items after
-]
+block_passes test (block stream end octets ∷ items) some =
+    elim (or_cases (test stream) (any_block test items) some) [
+      | inl here ↦ record { i = stream; passes = here }
+      | inr after ↦ block_passes test items after
+    ]
 
 -- A block's number that passes is found.
-passing_block : (test : ℕ → Bool) (i : ℕ) (items : List Item) → list_any (is_block_on i) items ≡ true → test i ≡ true → any_block test items ≡ true
+passing_block : (test : ℕ → Bool) (i : ℕ) (items : List Item) → list_any (is_block_on i) items
+    ≡ true → test i ≡ true → any_block test items ≡ true
 unfolding any_block is_block_on
 passing_block test i [] here passes = absurd (both_ways false refl here)
 passing_block test i (alone frame ∷ items) here passes = passing_block test i items here passes
-passing_block test i (block stream end octets ∷ items) here passes = elim (or_cases (stream == i) (list_any (is_block_on i) items) here) [
-  | inl same ↦ or_left (test stream) (any_block test items) (rw (eqb-true stream i same) passes)
-  | inr after ↦ or_right (test stream) (any_block test items) (passing_block test i items after passes)
-]
+passing_block test i (block stream end octets ∷ items) here passes =
+    elim (or_cases (stream == i) (list_any (is_block_on i) items) here) [
+      | inl same ↦ or_left (test stream) (any_block test items) (rw (eqb-true stream i same) passes)
+      | inr after ↦ or_right (test stream) (any_block test items) (passing_block test i items after
+          passes)
+    ]
 
--- A send window is brought above the greatest window by another initial window just where what is given then is above it.
-shift_above : (old new more sent_data : ℕ) → nat_lt ((greatest_window + old) + sent_data) ((old + more) + new) ≡ nat_lt (greatest_window + sent_data) (new + more)
+-- A send window is brought above the greatest window by another initial window just where what is
+-- given then is above it.
+shift_above : (old new more sent_data : ℕ) → nat_lt ((greatest_window + old) + sent_data)
+    ((old + more) + new) ≡ nat_lt (greatest_window + sent_data) (new + more)
 shift_above old new more sent_data = grind (arith, nat_tests)
 
 -- An active stream is brought above the greatest window just where the log says so.
-said_above : (c : Core) (i new : ℕ) → above_by_shift (value_read 4 first_window c.received) new (active_entry (said c i))
+said_above : (c : Core) (i new : ℕ) → above_by_shift (value_read 4 first_window c.received) new
+    (active_entry (said c i))
     ≡ is_above_greatest (new + total (increment_on i) c.received) (total (data_on i) c.sent)
 unfolding given_on
 said_above c i new =
-    int_above (greatest_window + value_read 4 first_window c.received) (given_on i c.received) (total (data_on i) c.sent) new
-    ∙ shift_above (value_read 4 first_window c.received) new (total (increment_on i) c.received) (total (data_on i) c.sent)
+    int_above (greatest_window + value_read 4 first_window c.received) (given_on i c.received)
+    (total (data_on i) c.sent) new
+    ∙ shift_above (value_read 4 first_window c.received) new (total (increment_on i) c.received)
+    (total (data_on i) c.sent)
 
 -- what is kept and above the greatest window is an active stream's
-kept_is_active : (active was : Bool) (s : StreamView) (x : Entry) (old new : ℕ) → entry_by active was s ≡ Some x → above_by_shift old new x ≡ true
+kept_is_active : (active was : Bool) (s : StreamView) (x : Entry) (old new : ℕ)
+    → entry_by active was s ≡ Some x → above_by_shift old new x ≡ true
     → (active ≡ true) × (x ≡ active_entry s)
 kept_is_active true was s x old new is above = (refl, cc)
 kept_is_active false true s x old new is above =
@@ -145,67 +179,102 @@ kept_is_active false true s x old new is above =
 kept_is_active false false s x old new is above = absurd (cc)
 
 -- Some stream is brought above the greatest window at an end just where it is at its log.
-above_same : (e : End) (log : Log) (new : ℕ) → Going e (core log) → any_above e.peer.initial_window new (map.entries e.streams.entries) ≡ overflows log new
+above_same : (e : End) (log : Log) (new : ℕ) → Going e (core log) → any_above e.peer.initial_window
+    new (map.entries e.streams.entries) ≡ overflows log new
 unfolding overflows
 above_same e log new g =
     both_same _ _
     (λ some.
-    let from = above_found e.peer.initial_window new (map.entries e.streams.entries) (map.entries_sorted e.streams.entries) some in
-    let kept : map.get e.streams.entries from.i ≡ Some from.x = map.get-entries e.streams.entries from.i ∙ from.found in
-    let active_by_items = kept_is_active (active log from.i) (list_any (resets from.i) log.sent) (said (core log) from.i) from.x e.peer.initial_window new
+    let from = above_found e.peer.initial_window new (map.entries e.streams.entries)
+    (map.entries_sorted e.streams.entries) some in
+    let kept : map.get e.streams.entries from.i ≡ Some from.x = map.get-entries e.streams.entries
+    from.i ∙ from.found in
+    let active_by_items = kept_is_active (active log from.i) (list_any (resets from.i) log.sent)
+    (said (core log) from.i) from.x e.peer.initial_window new
     (sym (g.streams from.i) ∙ kept) from.above in
-    let above : is_above_greatest (new + total (increment_on from.i) log.received) (total (data_on from.i) log.sent) ≡ true =
-    sym (said_above (core log) from.i new) ∙ sym (ap₂ (λ (o : ℕ) (y : Entry). above_by_shift o new y) g.initial_window active_by_items.1) ∙ from.above in
-    passing_block _ from.i (openings log.role log.received log.sent) (active_parts log.role from.i log.received log.sent log.reported active_by_items.0).opened
+    let above : is_above_greatest (new + total (increment_on from.i) log.received)
+    (total (data_on from.i) log.sent) ≡ true =
+    sym (said_above (core log) from.i new)
+    ∙ sym (ap₂ (λ (o : ℕ) (y : Entry). above_by_shift o new y) g.initial_window
+    active_by_items.1) ∙ from.above in
+    passing_block _ from.i (openings log.role log.received log.sent) (active_parts log.role from.i
+    log.received log.sent log.reported active_by_items.0).opened
     (and_from (active log from.i) _ active_by_items.0 above))
     (λ some.
     let from = block_passes _ (openings log.role log.received log.sent) some in
     let both = and_parts (active log from.i) _ from.passes in
-    any_found e.peer.initial_window new from.i (map.entries e.streams.entries) (active_entry (said (core log) from.i))
+    any_found e.peer.initial_window new from.i (map.entries e.streams.entries)
+    (active_entry (said (core log) from.i))
     (sym (map.get-entries e.streams.entries from.i) ∙ active_said e (core log) from.i g both.0)
-    (ap (λ (o : ℕ). above_by_shift o new (active_entry (said (core log) from.i))) g.initial_window ∙ said_above (core log) from.i new ∙ both.1))
+    (ap (λ (o : ℕ). above_by_shift o new (active_entry (said (core log) from.i))) g.initial_window
+    ∙ said_above (core log) from.i new ∙ both.1))
 
 -- The fault of SETTINGS is the same.
-faults_same : (e : End) (log : Log) (pairs : List (ℕ × ℕ)) → e.role ≡ log.role → Going e (core log) → settings_fault (end_view e) pairs ≡ settings_fault (log_view log) pairs
+faults_same : (e : End) (log : Log) (pairs : List (ℕ × ℕ)) → e.role ≡ log.role → Going e (core log)
+    → settings_fault (end_view e) pairs ≡ settings_fault (log_view log) pairs
 unfolding settings_fault
 faults_same e log [] role g = refl
-faults_same e log (pair ∷ pairs) role g = rw (role, above_same e log pair.1 g, faults_same e log pairs role g) refl
+faults_same e log (pair ∷ pairs) role g = rw (
+  role,
+  above_same e log pair.1 g,
+  faults_same e log
+      pairs role g,
+) refl
 
 -- The verdict on an item is the same before the limits.
-pub verdict_same : (e : End) (log : Log) (decoded : Option Decoded) (item : Item) → e.role ≡ log.role → Sound (core log)
-    → Going e (core log) → verdict_by_rules (end_view e) decoded item ≡ verdict_by_rules (log_view log) decoded item
+pub verdict_same : (e : End) (log : Log) (decoded : Option Decoded) (item : Item)
+    → e.role ≡ log.role → Sound (core log)
+    → Going e (core log) → verdict_by_rules (end_view e) decoded item ≡ verdict_by_rules
+    (log_view log) decoded item
 unfolding verdict_by_rules unreleased
-verdict_same e log decoded (block stream end octets) role sound g = block_verdict_same e log stream decoded role sound g
+verdict_same e log decoded (block stream end octets) role sound g = block_verdict_same e log stream
+    decoded role sound g
 verdict_same e log decoded (alone (Data stream end octets pad)) role sound g =
     let n = length (payload_of (Data stream end octets pad)) in
-    ap (λ (window : ℤ). data_verdict (state_at e stream) (exceeds n window) (ended_in (stream_at e stream))
-      (exceeds_stream n (stream_at e stream))) (recv_same e (core log) g)
-    ∙ ap (λ (s : State). data_verdict s (exceeds n (log_view log).recv_window) (ended_in (stream_at e stream))
-      (exceeds_stream n (stream_at e stream))) (state_same e (core log) stream role sound g)
-    ∙ ap (λ (s : Option StreamView). data_verdict (state log stream) (exceeds n (log_view log).recv_window) (ended_in s)
-      (exceeds_stream n s)) (stream_same e (core log) stream g)
-verdict_same e log decoded (alone (Headers stream end last fragment pad priority)) role sound g = refl
+    ap (λ (window : ℤ). data_verdict (state_at e stream) (exceeds n window)
+    (ended_in (stream_at e stream))
+    (exceeds_stream n (stream_at e stream))) (recv_same e (core log) g)
+    ∙ ap (λ (s : State). data_verdict s (exceeds n (log_view log).recv_window)
+    (ended_in (stream_at e stream))
+    (exceeds_stream n (stream_at e stream))) (state_same e (core log) stream role sound g)
+    ∙ ap (λ (s : Option StreamView). data_verdict (state log stream)
+    (exceeds n (log_view log).recv_window) (ended_in s)
+    (exceeds_stream n s)) (stream_same e (core log) stream g)
+verdict_same e log decoded (alone (Headers stream end last fragment pad priority)) role sound g =
+    refl
 verdict_same e log decoded (alone (Priority stream octets)) role sound g = refl
-verdict_same e log decoded (alone (Reset stream code)) role sound g = ap reset_verdict (state_same e (core log) stream role sound g)
-verdict_same e log decoded (alone (Settings false pairs)) role sound g = ap verdict_of_fault (faults_same e log pairs role g)
+verdict_same e log decoded (alone (Reset stream code)) role sound g = ap reset_verdict
+    (state_same e (core log) stream role sound g)
+verdict_same e log decoded (alone (Settings false pairs)) role sound g = ap verdict_of_fault
+    (faults_same e log pairs role g)
 verdict_same e log decoded (alone (Settings true pairs)) role sound g = rw (g.awaits) refl
 verdict_same e log decoded (alone (Ping false octets)) role sound g = refl
 verdict_same e log decoded (alone (Ping true octets)) role sound g =
-    ap (λ (ping : Option (List ℕ)). if is_awaited_ping octets ping then Reported else NoEvent) g.ping
+    ap (λ (ping : Option (List ℕ)). if is_awaited_ping octets ping then Reported else NoEvent)
+    g.ping
 verdict_same e log decoded (alone (GoAway last code debug)) role sound g = refl
 verdict_same e log decoded (alone (WindowUpdate stream increment)) role sound g =
     ap₂ (λ (a b : Verdict). if stream == 0 then a else b)
-    (ap (λ (window : ℤ). connection_update_verdict increment (overflows_by increment window)) (send_same e (core log) g))
-    (ap (λ (s : State). update_verdict s increment (overflows_stream increment (stream_at e stream)))
-      (state_same e (core log) stream role sound g)
-    ∙ ap (λ (s : Option StreamView). update_verdict (state log stream) increment (overflows_stream increment s))
-      (stream_same e (core log) stream g))
+    (ap (λ (window : ℤ). connection_update_verdict increment (overflows_by increment window))
+    (send_same e (core log) g))
+    (ap (λ (s : State). update_verdict s increment (overflows_stream increment
+    (stream_at e stream)))
+    (state_same e (core log) stream role sound g)
+    ∙ ap (λ (s : Option StreamView). update_verdict (state log stream) increment
+    (overflows_stream increment s))
+    (stream_same e (core log) stream g))
 verdict_same e log decoded (alone (Continuation stream last fragment)) role sound g = refl
 verdict_same e log decoded (alone (Unknown kind flags stream payload)) role sound g = refl
 
 -- The verdict of an item is the same after the limits.
-pub over_limits_same : (e : End) (log : Log) (decoded : Option Decoded) (item : Item) → Waits e log → Sound (core log) → Going e (core log)
+pub over_limits_same : (e : End) (log : Log) (decoded : Option Decoded) (item : Item) → Waits e log
+    → Sound (core log) → Going e (core log)
     → verdict_of (end_view e) decoded item ≡ verdict_of (log_view log) decoded item
 unfolding verdict_of
 over_limits_same e log decoded item waits sound g =
-    rw (verdict_same e log decoded item waits.same_role sound g, g.resets, same_length e.role e.failed e.output.waiting log waits) refl
+    rw (
+      verdict_same e log decoded item waits.same_role sound g,
+      g.resets,
+      same_length e.role
+          e.failed e.output.waiting log waits,
+    ) refl

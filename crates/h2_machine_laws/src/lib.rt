@@ -1,4 +1,5 @@
-//! Laws of the machine: what is bounded, that receive window is conserved, and that it represents the logs of the calls that are made. Each is
+//! Laws of the machine: what is bounded, that receive window is conserved, and that it represents
+//! the logs of the calls that are made. Each is
 //! the contract of a function that does nothing.
 #![tactic(auto)]
 
@@ -10,8 +11,7 @@ mod windows;
 
 pub use bounds::{connection_window_is_kept, everything_is_bounded};
 pub use machine::{
-    calls_preserve_representation, new_end_represents,
-    steps_without_frames_preserve_representation,
+    calls_preserve_representation, new_end_represents, steps_without_frames_preserve_representation,
 };
 pub use windows::{
     connection_window_is_conserved, connection_window_of_a_log, owed_on_all_streams,

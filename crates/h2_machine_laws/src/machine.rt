@@ -19,27 +19,40 @@ ghost use Rattle.h2_machine_laws.specs.Machines.{end_after};
 
 /// A new machine represents the log of a new end.
 pub fn new_end_represents()
-    ensures { (role : Role) (values : Values) → AreInRange values → Represents values (new_end role values) (opened role values) }
+    ensures { (role : Role) (values : Values) → AreInRange values
+        → Represents values (new_end role values) (opened role values) }
 {}
 
-/// A machine refuses a call just where the log that it represents does, and after the call it represents the log with the call.
+/// A machine refuses a call just where the log that it represents does, and after the call it
+/// represents the log with the call.
 pub fn calls_preserve_representation()
-    ensures refusal { (values : Values) (e : End) (log : Log) (act : Act) → Represents values e log → refusal_of (end_view e) act ≡ refusal_of (log_view log) act }
-    ensures call { (values : Values) (e : End) (log : Log) (act : Act) (answer : Answer) → Represents values e log → IsTypedAct act → MayAnswer log act answer
+    ensures refusal { (values : Values) (e : End) (log : Log) (act : Act) → Represents values e log
+        → refusal_of (end_view e) act ≡ refusal_of (log_view log) act }
+    ensures call { (values : Values) (e : End) (log : Log) (act : Act) (answer : Answer)
+        → Represents values e log → IsTypedAct act → MayAnswer log act answer
         → Represents values (end_after e act answer) (with_call log act answer) }
 {}
 
-/// After each step in which no frame ends a machine represents the log with it: octets that end none, octets that make a fault, being out of memory,
+/// After each step in which no frame ends a machine represents the log with it: octets that end
+/// none, octets that make a fault, being out of memory,
 /// and a stream that is reported as unprocessed, which is the one that the log says.
 pub fn steps_without_frames_preserve_representation()
-    ensures part { (values : Values) (e : End) (log : Log) (octets unparsed : List ℕ) → Represents values e log → TakesOctets log
+    ensures part { (values : Values) (e : End) (log : Log) (octets unparsed : List ℕ)
+        → Represents values e log → TakesOctets log
         → TakesPart e.role log octets unparsed → Represents values e (took_part log octets unparsed) }
-    ensures fault { (values : Values) (e : End) (log : Log) (octets : List ℕ) (fault : WireFault) → Represents values e log → TakesOctets log
-        → TakesFault e.role log octets fault → Represents values (fail (wire_fault_code fault) e.streams.last_processed e) (took_fault log octets fault) }
-    ensures out_of_memory { (values : Values) (e : End) (log : Log) (octets : List ℕ) → Represents values e log → log.failed ≡ None
-        → MayRunOutOfMemory e.role log octets → Represents values (fail InternalError e.streams.last_processed e) (took_out_of_memory log octets) }
-    ensures next { (values : Values) (e : End) (log : Log) → Represents values e log → log.failed ≡ None
+    ensures fault { (values : Values) (e : End) (log : Log) (octets : List ℕ) (fault : WireFault)
+        → Represents values e log → TakesOctets log
+        → TakesFault e.role log octets fault → Represents values (fail (wire_fault_code fault)
+        e.streams.last_processed e) (took_fault log octets fault) }
+    ensures out_of_memory { (values : Values) (e : End) (log : Log) (octets : List ℕ)
+        → Represents values e log → log.failed ≡ None
+        → MayRunOutOfMemory e.role log octets
+        → Represents values (fail InternalError e.streams.last_processed e) (took_out_of_memory
+        log octets) }
+    ensures next { (values : Values) (e : End) (log : Log) → Represents values e log
+        → log.failed ≡ None
         → unprocessed_of_end e.role e.streams.entries e.goaway.received ≡ next_unprocessed log }
-    ensures unprocessed { (values : Values) (e : End) (log : Log) → Represents values e log → log.failed ≡ None → next_unprocessed log ≢ 0
+    ensures unprocessed { (values : Values) (e : End) (log : Log) → Represents values e log
+        → log.failed ≡ None → next_unprocessed log ≢ 0
         → Represents values (close_unprocessed e (next_unprocessed log)) (took_none log) }
 {}

@@ -64,7 +64,7 @@ pub end_reports_after : (expects : Bool) (limits : Limits) (cutter new_cutter : 
     (blocks new_blocks : Blocks) (stream octets : List ℕ) (status : Status)
     → ViewerRepresents cutter blocks expects limits stream
     → ViewerContinues cutter blocks octets new_cutter new_blocks
-    → status ≡ (if length new_cutter.rest == 0 && not (is_some new_blocks.gather.begun)
+    → status ≡ (if length new_cutter.unparsed == 0 && not (is_some new_blocks.gather.begun)
     then Good else Fault)
     → StatusReports expects limits (stream ++ octets) status
 end_reports_after expects limits cutter new_cutter blocks new_blocks stream octets status
@@ -72,7 +72,7 @@ end_reports_after expects limits cutter new_cutter blocks new_blocks stream octe
     let after = continues expects limits stream represents in
     subst (λ (reported : Status). StatusReports expects limits (stream ++ octets) reported)
     (sym known)
-    (end_reports expects limits (stream ++ octets) after.frames new_cutter.rest
+    (end_reports expects limits (stream ++ octets) after.frames new_cutter.unparsed
     new_blocks.gather.begun new_blocks.decoder.table after.cut.split
     after.blocks_represent.decoded)
 
@@ -151,7 +151,7 @@ pub end_reports_all : (cutter new_cutter : CutterState) (blocks new_blocks : Blo
     (before mid after : Option (List ℕ)) (octets buffer : List ℕ) (count : ℕ) (status : Status)
     → Consumes before mid octets → Consumes mid after (take count buffer) → count ≡ 0
     → IsAtEnd after → ViewerContinues cutter blocks octets new_cutter new_blocks
-    → status ≡ (if length new_cutter.rest == 0 && not (is_some new_blocks.gather.begun)
+    → status ≡ (if length new_cutter.unparsed == 0 && not (is_some new_blocks.gather.begun)
     then Good else Fault)
     → IfSome before (λ all. StatusReportsAfter cutter blocks all status)
 end_reports_all cutter new_cutter blocks new_blocks before mid after octets buffer count status

@@ -63,7 +63,7 @@ step_continues cutter new_cutter blocks new_blocks used frames continues blocks_
     limits stream represents =
     record {
       frames = represents.frames ++ frames;
-      cut = continues.stands expects limits stream represents.frames represents.cut;
+      cut = continues.represents expects limits stream represents.frames represents.cut;
       blocks_represent = blocks_continue represents.frames represents.blocks_represent;
     }
 
@@ -77,7 +77,7 @@ continues_without_frame cutter mid_cutter new_cutter blocks mid_blocks piece don
     none advances =
     let cuts : CutterContinues mid_cutter
     (take cut.used (take (length piece - done) (drop done piece))) [] new_cutter =
-    rw none at advances.goes_on in
+    rw none at advances.continues in
     subst (λ (octets : List ℕ). ViewerContinues cutter blocks octets new_cutter mid_blocks)
     (prefix_append piece done cut.used)
     (continues_append cutter mid_cutter new_cutter blocks mid_blocks mid_blocks (take done piece) _
@@ -101,7 +101,7 @@ continues_with_frame cutter mid_cutter new_cutter blocks mid_blocks new_blocks p
     let cuts : CutterContinues mid_cutter
     (take cut.used (take (length piece - done) (drop done piece)))
     (frame_of frame ∷ []) new_cutter =
-    rw some at advances.goes_on in
+    rw some at advances.continues in
     subst (λ (octets : List ℕ). ViewerContinues cutter blocks octets new_cutter new_blocks)
     (prefix_append piece done cut.used)
     (continues_append cutter mid_cutter new_cutter blocks mid_blocks new_blocks (take done piece) _
@@ -207,7 +207,7 @@ fails_at_frame (errors.Fault code) cutter mid_cutter new_cutter blocks mid_block
     let cuts : CutterContinues mid_cutter
     (take cut.used (take (length piece - done) (drop done piece)))
     (frame_of frame ∷ []) new_cutter =
-    rw some at advances.goes_on in
+    rw some at advances.continues in
     let prefix : List ℕ = stream ++ take (done + cut.used) piece in
     let frames : List Frame = after.frames ++ frame_of frame ∷ [] in
     let same : (stream ++ take done piece)
@@ -216,8 +216,8 @@ fails_at_frame (errors.Fault code) cutter mid_cutter new_cutter blocks mid_block
     ∙ ap (λ (octets : List ℕ). stream ++ octets) (prefix_append piece done cut.used) in
     let cut_after : CutterRepresents new_cutter expects limits prefix frames =
     subst (λ (octets : List ℕ). CutterRepresents new_cutter expects limits octets frames) same
-    (cuts.stands expects limits (stream ++ take done piece) after.frames after.cut) in
-    let nothing : new_cutter.rest ≡ [] = advances.nothing_behind_a_frame (rw some refl) in
+    (cuts.represents expects limits (stream ++ take done piece) after.frames after.cut) in
+    let nothing : new_cutter.unparsed ≡ [] = advances.none_unparsed_after_a_frame (rw some refl) in
     let reading : Frames expects limits prefix frames [] = rw nothing at cut_after.split in (
       length prefix,
       record {

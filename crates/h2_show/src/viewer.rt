@@ -194,7 +194,7 @@ impl Viewer {
     /// Those of the writer.
     pub(crate) fn show_end<W: Write>(&self, out: &mut W) -> io::Result<Status>
         ensures { IfOk result (λ status. status ≡
-            (if length self.now.cutter.rest == 0 && not (is_some self.now.blocks.gather.begun)
+            (if length self.now.cutter.unparsed == 0 && not (is_some self.now.blocks.gather.begun)
             then Status.Good else Status.Fault)) }
     {
         let held = self.cutter.held();

@@ -1,31 +1,7 @@
 -- Any body of 70,000 octets goes like the one of the example, cut into DATA.
-use Rattle.std.proofs.Common.{
-  ◌≡◌,
-  ℕ,
-  suc,
-  ◌<◌,
-  ◌≤◌,
-  nat_le,
-  Bool,
-  true,
-  false,
-  List,
-  [],
-  ◌∷◌,
-  ◌++◌,
-  length,
-  take,
-  drop,
-  None,
-  refl,
-  sym,
-  ap,
-  ◌∙◌,
-  arith,
-  append_assoc,
-  length-take,
-  length-drop,
-}
+use Rattle.std.proofs.Common.{◌≡◌, ℕ, suc, ◌<◌, ◌≤◌, nat_le, Bool, true, false, List, [], ◌∷◌, ◌++◌}
+use Rattle.std.proofs.Common.{length, take, drop, None, refl, sym, ap, ◌∙◌, arith, append_assoc}
+use Rattle.std.proofs.Common.{length-take, length-drop}
 use Rattle.std.proofs.lemmas.Bool.Decides.{nat_tests}
 use Rattle.std.proofs.lemmas.List.{take-append-drop}
 use Rattle.h2_frame.specs.Frames.{Data}

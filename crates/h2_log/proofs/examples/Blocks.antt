@@ -1,45 +1,18 @@
 -- Field blocks: how they are gathered, and the verdicts on them.
-use Rattle.std.specs.Prelude.{
-  List,
-  None,
-  Option,
-  Some,
-  [],
-  codes,
-  false,
-  map,
-  refl,
-  replicate,
-  true,
-  ℕ,
-  ◌++◌,
-  ◌+◌,
-  ◌-◌,
-  ◌∷◌,
-  ◌≡◌,
-}
+use Rattle.std.specs.Prelude.{List, None, Option, Some, [], codes, false, map, refl, replicate}
+use Rattle.std.specs.Prelude.{true, ℕ, ◌++◌, ◌+◌, ◌-◌, ◌∷◌, ◌≡◌}
 use Rattle.hpack.specs.Lists.{empty_table}
 use Rattle.hpack.specs.Tables.{Entries}
 use Rattle.hpack.specs.declared.types.field.Field.{Field}
 use Rattle.h2_frame.specs.Frames.{Continuation, Data, Headers, Ping, Priority, Settings, Unknown}
-use Rattle.h2_frame.specs.declared.code.Code.TheVariants.{
-  CompressionError,
-  EnhanceYourCalm,
-  ProtocolError,
-  RefusedStream,
-  StreamClosed,
-}
+use Rattle.h2_frame.specs.declared.code.Code.TheVariants.{CompressionError, EnhanceYourCalm}
+use Rattle.h2_frame.specs.declared.code.Code.TheVariants.{ProtocolError, RefusedStream}
+use Rattle.h2_frame.specs.declared.code.Code.TheVariants.{StreamClosed}
 use Rattle.h2_block.specs.Grouping.{Begun, alone, block}
 use Rattle.h2_log.specs.Acts.{Done, ResetStream}
 use Rattle.h2_log.specs.Events.{FieldsEvent, ResetEvent}
-use Rattle.h2_log.specs.ItemRules.{
-  Decoded,
-  begins_block,
-  completes,
-  fails_with,
-  frame_step,
-  opened_by,
-}
+use Rattle.h2_log.specs.ItemRules.{Decoded, begins_block, completes, fails_with, frame_step}
+use Rattle.h2_log.specs.ItemRules.{opened_by}
 use Rattle.h2_log.specs.Log.{Log, active_count, state}
 use Rattle.h2_log.specs.LogCalls.{with_call}
 use Rattle.h2_log.specs.LogSteps.{took_frame}
@@ -48,37 +21,14 @@ use Rattle.h2_log.specs.States.{Active, Closed, ClosedByUs, Idle}
 use Rattle.h2_log.specs.Verdicts.{ConnectionFault, NoEvent, Reported, StreamFault}
 use Rattle.h2_log.specs.WrittenFrames.{takes, takes_block}
 use Rattle.h2_log.proofs.Computing.{computing}
-use Rattle.h2_log.proofs.examples.Ends.{
-  active_output,
-  active_server,
-  active_view,
-  asking_view,
-  server_with_request,
-  settled_server,
-}
+use Rattle.h2_log.proofs.examples.Ends.{active_output, active_server, active_view, asking_view}
+use Rattle.h2_log.proofs.examples.Ends.{server_with_request, settled_server}
 use Rattle.h2_log.proofs.examples.Octets.{octets}
-use Rattle.h2_log.proofs.examples.Words.{
-  abcd,
-  acknowledgment,
-  block_verdicts,
-  client_settings,
-  come_to,
-  empty_settings,
-  get_block,
-  goaway_frame,
-  one_to_eight,
-  outcome,
-  plain,
-  preface_octets,
-  request,
-  request_octets,
-  reset_frame,
-  server_settings,
-  short_answer,
-  short_request,
-  table_with_authority,
-  verdicts,
-}
+use Rattle.h2_log.proofs.examples.Words.{abcd, acknowledgment, block_verdicts, client_settings}
+use Rattle.h2_log.proofs.examples.Words.{come_to, empty_settings, get_block, goaway_frame}
+use Rattle.h2_log.proofs.examples.Words.{one_to_eight, outcome, plain, preface_octets, request}
+use Rattle.h2_log.proofs.examples.Words.{request_octets, reset_frame, server_settings, short_answer}
+use Rattle.h2_log.proofs.examples.Words.{short_request, table_with_authority, verdicts}
 
 -- HEADERS that doesn't end its block
 abbrev pub begun_server : Log

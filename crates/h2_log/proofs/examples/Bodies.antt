@@ -1,32 +1,11 @@
 -- DATA: the verdicts on it, and what it takes of windows.
 use Rattle.std.proofs.Common.{arith}
-use Rattle.std.specs.Prelude.{
-  Bool,
-  List,
-  None,
-  Some,
-  [],
-  codes,
-  false,
-  negsuc,
-  pos,
-  refl,
-  replicate,
-  true,
-  ℕ,
-  ℤ,
-  ◌++◌,
-  ◌∷◌,
-  ◌≡◌,
-}
+use Rattle.std.specs.Prelude.{Bool, List, None, Some, [], codes, false, negsuc, pos, refl}
+use Rattle.std.specs.Prelude.{replicate, true, ℕ, ℤ, ◌++◌, ◌∷◌, ◌≡◌}
 use Rattle.hpack.specs.Lists.{empty_table}
 use Rattle.h2_frame.specs.Frames.{Data, Settings}
-use Rattle.h2_frame.specs.declared.code.Code.TheVariants.{
-  FlowControlError,
-  FrameSizeError,
-  ProtocolError,
-  StreamClosed,
-}
+use Rattle.h2_frame.specs.declared.code.Code.TheVariants.{FlowControlError, FrameSizeError}
+use Rattle.h2_frame.specs.declared.code.Code.TheVariants.{ProtocolError, StreamClosed}
 use Rattle.h2_wire.specs.Streams.{WireFaultAt}
 use Rattle.h2_wire.specs.declared.fault.WireFault.TheVariants.{HeadFault, PayloadFault}
 use Rattle.h2_block.specs.Grouping.{Item, alone}
@@ -40,33 +19,13 @@ use Rattle.h2_log.specs.WrittenFrames.{takes, takes_block}
 use Rattle.h2_log.specs.declared.role.Role.TheVariants.{Server}
 use Rattle.h2_log.proofs.Computing.{computing}
 use Rattle.h2_log.proofs.examples.Blocks.{resetting_server, server_with_third}
-use Rattle.h2_log.proofs.examples.Ends.{
-  active_octets,
-  active_output,
-  active_server,
-  active_view,
-  server_with_body,
-}
+use Rattle.h2_log.proofs.examples.Ends.{active_octets, active_output, active_server, active_view}
+use Rattle.h2_log.proofs.examples.Ends.{server_with_body}
 use Rattle.h2_log.proofs.examples.Octets.{octets}
-use Rattle.h2_log.proofs.examples.Words.{
-  abcd,
-  acknowledgment,
-  come_to,
-  eleven,
-  eleven_frame,
-  empty_frame,
-  empty_settings,
-  get_block,
-  goaway_frame,
-  increment_frame,
-  outcome,
-  preface_octets,
-  reset_frame,
-  short_request,
-  small_settings,
-  small_values,
-  verdicts,
-}
+use Rattle.h2_log.proofs.examples.Words.{abcd, acknowledgment, come_to, eleven, eleven_frame}
+use Rattle.h2_log.proofs.examples.Words.{empty_frame, empty_settings, get_block, goaway_frame}
+use Rattle.h2_log.proofs.examples.Words.{increment_frame, outcome, preface_octets, reset_frame}
+use Rattle.h2_log.proofs.examples.Words.{short_request, small_settings, small_values, verdicts}
 
 -- an active stream with this window for the peer
 abbrev pub stream_with : ℤ → Bool → StreamView

@@ -2,17 +2,8 @@
 use Rattle.std.specs.Prelude.{None, [], codes, false, refl, replicate, true, ℕ, ◌∷◌}
 use Rattle.hpack.specs.Lists.{empty_table}
 use Rattle.h2_frame.specs.Frames.{Data, GoAway, Ping, Reset, Settings, WindowUpdate}
-use Rattle.h2_log.specs.Acts.{
-  ChangeSettings,
-  Count,
-  Done,
-  Number,
-  Open,
-  PutOut,
-  SendData,
-  SendGoAway,
-  SendPing,
-}
+use Rattle.h2_log.specs.Acts.{ChangeSettings, Count, Done, Number, Open, PutOut, SendData}
+use Rattle.h2_log.specs.Acts.{SendGoAway, SendPing}
 use Rattle.h2_log.specs.Histories.{IsLog, begins, called_one, reported_one}
 use Rattle.h2_log.specs.LogCalls.{accepts}
 use Rattle.h2_log.specs.LogSteps.{took_none}
@@ -20,56 +11,24 @@ use Rattle.h2_log.specs.WrittenFrames.{takes}
 use Rattle.h2_log.specs.declared.role.Role.TheVariants.{Client}
 use Rattle.h2_log.proofs.Computing.{computing}
 use Rattle.h2_log.proofs.EncodingLemmas.{takes_block_comes}
-use Rattle.h2_log.proofs.examples.Coming.{
-  answer_block,
-  are_octets,
-  are_pairs,
-  below,
-  comes,
-  fields_are,
-  fields_are_octets,
-  octets_are,
-  pairs_are,
-  values_are,
-  within,
-  zeros_are,
-}
-use Rattle.h2_log.proofs.examples.Credit.{
-  client_with_unprocessed_body,
-  emptied_client,
-  fuller_client,
-  held_client,
-  less_full_client,
-}
+use Rattle.h2_log.proofs.examples.Coming.{answer_block, are_octets, are_pairs, below, comes}
+use Rattle.h2_log.proofs.examples.Coming.{fields_are, fields_are_octets, octets_are, pairs_are}
+use Rattle.h2_log.proofs.examples.Coming.{values_are, within, zeros_are}
+use Rattle.h2_log.proofs.examples.Credit.{client_with_unprocessed_body, emptied_client}
+use Rattle.h2_log.proofs.examples.Credit.{fuller_client, held_client, less_full_client}
 use Rattle.h2_log.proofs.examples.Ends.{asking_client, client_with_two, new_client}
-use Rattle.h2_log.proofs.examples.GoAways.{
-  client_after_goaway,
-  client_at_goaway,
-  client_with_answer,
-  client_with_end,
-  client_with_nothing,
-  leaving_client,
-}
-use Rattle.h2_log.proofs.examples.LongBodies.{
-  client_with_all,
-  client_with_body,
-  client_with_output,
-  client_with_send_window,
-  client_without_send_window,
-}
+use Rattle.h2_log.proofs.examples.GoAways.{client_after_goaway, client_at_goaway}
+use Rattle.h2_log.proofs.examples.GoAways.{client_with_answer, client_with_end, client_with_nothing}
+use Rattle.h2_log.proofs.examples.GoAways.{leaving_client}
+use Rattle.h2_log.proofs.examples.LongBodies.{client_with_all, client_with_body, client_with_output}
+use Rattle.h2_log.proofs.examples.LongBodies.{client_with_send_window, client_without_send_window}
 use Rattle.h2_log.proofs.examples.Octets.{octets}
 use Rattle.h2_log.proofs.examples.Opening.{client_with_request}
 use Rattle.h2_log.proofs.examples.Pings.{answered_client, pinging_client}
 use Rattle.h2_log.proofs.examples.Settings.{changed_client, tableless_values}
 use Rattle.h2_log.proofs.examples.Updates.{client_with_hundred, ended_client, lowered_client}
-use Rattle.h2_log.proofs.examples.Words.{
-  abcd,
-  default_values,
-  one_to_eight,
-  request,
-  short_answer,
-  short_request,
-}
+use Rattle.h2_log.proofs.examples.Words.{abcd, default_values, one_to_eight, request, short_answer}
+use Rattle.h2_log.proofs.examples.Words.{short_request}
 
 pub new_client_comes : IsLog Client default_values new_client
 unfolding computing are_pairs are_octets fields_are_octets

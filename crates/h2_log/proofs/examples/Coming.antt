@@ -1,28 +1,6 @@
 -- What shows that the logs of the examples come about: numbers, octets and blocks that are tested.
-use Rattle.std.proofs.Common.{
-  ◌≡◌,
-  ℕ,
-  zero,
-  suc,
-  replicate,
-  ◌^◌,
-  ◌≤◌,
-  ◌<◌,
-  nat_lt,
-  nat_le,
-  ◌&&◌,
-  Bool,
-  true,
-  false,
-  List,
-  [],
-  ◌∷◌,
-  length,
-  Some,
-  None,
-  refl,
-  arith,
-}
+use Rattle.std.proofs.Common.{◌≡◌, ℕ, zero, suc, replicate, ◌^◌, ◌≤◌, ◌<◌, nat_lt, nat_le, ◌&&◌}
+use Rattle.std.proofs.Common.{Bool, true, false, List, [], ◌∷◌, length, Some, None, refl, arith}
 use Rattle.std.specs.Prelude.{codes}
 use Rattle.std.specs.List.{AllByRecursion}
 use Rattle.std.proofs.lemmas.Bool.{ltb-true, leb-true}
@@ -44,14 +22,8 @@ use Rattle.h2_log.specs.WrittenFrames.{takes}
 use Rattle.h2_log.proofs.Computing.{computing}
 use Rattle.h2_log.proofs.EncodingLemmas.{takes_comes}
 use Rattle.h2_log.proofs.examples.Octets.{octets}
-use Rattle.h2_log.proofs.examples.Words.{
-  short_request,
-  get_block,
-  request,
-  request_block,
-  table_with_authority,
-  short_answer,
-}
+use Rattle.h2_log.proofs.examples.Words.{short_request, get_block, request, request_block}
+use Rattle.h2_log.proofs.examples.Words.{table_with_authority, short_answer}
 
 -- a number that is tested to be within another
 pub within : (count bound : ℕ) → nat_le count bound ≡ true → count ≤ bound

@@ -10,28 +10,13 @@ use Rattle.h2_log.specs.LogView.{log_view}
 use Rattle.h2_log.specs.WrittenFrames.{takes}
 use Rattle.h2_log.specs.declared.refusal.Refusal.TheVariants.{NotOwed}
 use Rattle.h2_log.proofs.Computing.{computing}
-use Rattle.h2_log.proofs.examples.Ends.{
-  active_octets,
-  active_output,
-  client_with_two,
-  server_with_body,
-  server_with_release,
-  two_asked_output,
-}
+use Rattle.h2_log.proofs.examples.Ends.{active_octets, active_output, client_with_two}
+use Rattle.h2_log.proofs.examples.Ends.{server_with_body, server_with_release, two_asked_output}
 use Rattle.h2_log.proofs.examples.LongBodies.{client_with_body, first_body_output}
 use Rattle.h2_log.proofs.examples.Octets.{octets}
-use Rattle.h2_log.proofs.examples.Words.{
-  abcd,
-  answered,
-  answers,
-  body_frame,
-  come_to,
-  empty_settings,
-  goaway_frame,
-  increment_frame,
-  outcome,
-  short_request,
-}
+use Rattle.h2_log.proofs.examples.Words.{abcd, answered, answers, body_frame, come_to}
+use Rattle.h2_log.proofs.examples.Words.{empty_settings, goaway_frame, increment_frame, outcome}
+use Rattle.h2_log.proofs.examples.Words.{short_request}
 
 -- DATA is reported with the octets that it took of the windows. No more of these are released than
 -- were reported, and not none. What is released goes back to the stream, and to the connection (RFC

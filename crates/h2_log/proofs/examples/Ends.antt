@@ -10,21 +10,10 @@ use Rattle.h2_log.specs.LogView.{log_view}
 use Rattle.h2_log.specs.LogCalls.{with_call, opened}
 use Rattle.h2_log.specs.WrittenFrames.{takes, takes_block}
 use Rattle.h2_log.proofs.examples.Octets.{octets}
-use Rattle.h2_log.proofs.examples.Words.{
-  default_values,
-  short_request,
-  get_block,
-  request,
-  request_block,
-  table_with_authority,
-  abcd,
-  preface_octets,
-  client_settings,
-  server_settings,
-  empty_settings,
-  acknowledgment,
-  short_request_octets,
-}
+use Rattle.h2_log.proofs.examples.Words.{default_values, short_request, get_block, request}
+use Rattle.h2_log.proofs.examples.Words.{request_block, table_with_authority, abcd, preface_octets}
+use Rattle.h2_log.proofs.examples.Words.{client_settings, server_settings, empty_settings}
+use Rattle.h2_log.proofs.examples.Words.{acknowledgment, short_request_octets}
 
 -- a new client, and a new server
 abbrev pub new_client : Log

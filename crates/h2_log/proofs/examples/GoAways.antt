@@ -12,31 +12,13 @@ use Rattle.h2_log.specs.States.{Active, Closed, ClosedByUs, Idle}
 use Rattle.h2_log.specs.WrittenFrames.{takes, takes_block}
 use Rattle.h2_log.specs.declared.refusal.Refusal.TheVariants.{GoingAway}
 use Rattle.h2_log.proofs.Computing.{computing}
-use Rattle.h2_log.proofs.examples.Ends.{
-  active_octets,
-  active_output,
-  active_server,
-  asked_output,
-  asking_client,
-  asking_view,
-  client_with_two,
-  two_asked_output,
-}
+use Rattle.h2_log.proofs.examples.Ends.{active_octets, active_output, active_server, asked_output}
+use Rattle.h2_log.proofs.examples.Ends.{asking_client, asking_view, client_with_two}
+use Rattle.h2_log.proofs.examples.Ends.{two_asked_output}
 use Rattle.h2_log.proofs.examples.Octets.{octets}
-use Rattle.h2_log.proofs.examples.Words.{
-  abcd,
-  answered,
-  answers,
-  come_to,
-  empty_settings,
-  get_block,
-  goaway_frame,
-  increment_frame,
-  last_empty_frame,
-  outcome,
-  short_answer,
-  short_request,
-}
+use Rattle.h2_log.proofs.examples.Words.{abcd, answered, answers, come_to, empty_settings}
+use Rattle.h2_log.proofs.examples.Words.{get_block, goaway_frame, increment_frame, last_empty_frame}
+use Rattle.h2_log.proofs.examples.Words.{outcome, short_answer, short_request}
 
 -- the server processes no stream above stream 1
 abbrev pub client_at_goaway : Log

@@ -1,22 +1,6 @@
 -- The limits on replies and on resets.
-use Rattle.std.specs.Prelude.{
-  List,
-  None,
-  Some,
-  [],
-  false,
-  length,
-  map,
-  refl,
-  true,
-  ℕ,
-  ◌*◌,
-  ◌++◌,
-  ◌+◌,
-  ◌-◌,
-  ◌∷◌,
-  ◌≡◌,
-}
+use Rattle.std.specs.Prelude.{List, None, Some, [], false, length, map, refl, true, ℕ, ◌*◌, ◌++◌}
+use Rattle.std.specs.Prelude.{◌+◌, ◌-◌, ◌∷◌, ◌≡◌}
 use Rattle.h2_frame.specs.Frames.{Data, Ping, Priority, Settings, WindowUpdate}
 use Rattle.h2_frame.specs.declared.code.Code.TheVariants.{EnhanceYourCalm, ProtocolError}
 use Rattle.h2_block.specs.Grouping.{alone, block}
@@ -29,17 +13,8 @@ use Rattle.h2_log.specs.View.{View}
 use Rattle.h2_log.proofs.Computing.{computing}
 use Rattle.h2_log.proofs.examples.Blocks.{decoded_request}
 use Rattle.h2_log.proofs.examples.Ends.{active_output, active_view, settled_server}
-use Rattle.h2_log.proofs.examples.Words.{
-  abcd,
-  come_to,
-  empty_settings,
-  get_block,
-  goaway_frame,
-  one_to_eight,
-  outcome,
-  preface_octets,
-  verdicts,
-}
+use Rattle.h2_log.proofs.examples.Words.{abcd, come_to, empty_settings, get_block, goaway_frame}
+use Rattle.h2_log.proofs.examples.Words.{one_to_eight, outcome, preface_octets, verdicts}
 
 -- The answer to PING has 17 octets, an acknowledgment 9 and RST_STREAM 13.
 size_of_a_pong : (a b c d e f g h : ℕ) → length (encoding_of_items

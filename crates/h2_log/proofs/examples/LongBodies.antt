@@ -1,25 +1,6 @@
 -- Bodies that are longer than the windows.
-use Rattle.std.specs.Prelude.{
-  List,
-  None,
-  Some,
-  [],
-  codes,
-  false,
-  length,
-  map,
-  negsuc,
-  pos,
-  refl,
-  replicate,
-  take,
-  true,
-  ℕ,
-  ℤ,
-  ◌++◌,
-  ◌∷◌,
-  ◌≡◌,
-}
+use Rattle.std.specs.Prelude.{List, None, Some, [], codes, false, length, map, negsuc, pos, refl}
+use Rattle.std.specs.Prelude.{replicate, take, true, ℕ, ℤ, ◌++◌, ◌∷◌, ◌≡◌}
 use Rattle.h2_frame.specs.Frames.{Data, WindowUpdate}
 use Rattle.h2_block.specs.Grouping.{alone}
 use Rattle.h2_log.specs.Acts.{Count, PutOut, Refused, SendData}

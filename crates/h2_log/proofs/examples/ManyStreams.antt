@@ -1,22 +1,6 @@
 -- As many streams as a server allows, and one more.
-use Rattle.std.specs.Prelude.{
-  List,
-  None,
-  [],
-  codes,
-  false,
-  map,
-  refl,
-  suc,
-  true,
-  zero,
-  ℕ,
-  ◌*◌,
-  ◌++◌,
-  ◌+◌,
-  ◌∷◌,
-  ◌≡◌,
-}
+use Rattle.std.specs.Prelude.{List, None, [], codes, false, map, refl, suc, true, zero, ℕ, ◌*◌}
+use Rattle.std.specs.Prelude.{◌++◌, ◌+◌, ◌∷◌, ◌≡◌}
 use Rattle.hpack.specs.Lists.{empty_table}
 use Rattle.h2_frame.specs.Frames.{Data}
 use Rattle.h2_log.specs.Events.{Event, FieldsEvent, ResetEvent}
@@ -25,17 +9,8 @@ use Rattle.h2_log.specs.WrittenFrames.{takes, takes_block}
 use Rattle.h2_log.proofs.Computing.{computing}
 use Rattle.h2_log.proofs.examples.Ends.{active_output, settled_server}
 use Rattle.h2_log.proofs.examples.Octets.{octets}
-use Rattle.h2_log.proofs.examples.Words.{
-  abcd,
-  come_to,
-  empty_settings,
-  get_block,
-  increment_frame,
-  outcome,
-  preface_octets,
-  reset_frame,
-  short_request,
-}
+use Rattle.h2_log.proofs.examples.Words.{abcd, come_to, empty_settings, get_block, increment_frame}
+use Rattle.h2_log.proofs.examples.Words.{outcome, preface_octets, reset_frame, short_request}
 
 -- a server that has read so many short requests, on streams 1, 3, 5, ..
 unfoldable pub server_with_streams : ℕ → Log

@@ -1,31 +1,7 @@
 -- The logs of servers with many streams come about.
-use Rattle.std.proofs.Common.{
-  ◌≡◌,
-  ℕ,
-  zero,
-  suc,
-  ◌+◌,
-  ◌*◌,
-  ◌==◌,
-  nat_le,
-  ◌&&◌,
-  Bool,
-  true,
-  false,
-  List,
-  [],
-  ◌∷◌,
-  length,
-  Option,
-  Some,
-  None,
-  is_none,
-  refl,
-  ap,
-  ◌∙◌,
-  subst,
-  not,
-}
+use Rattle.std.proofs.Common.{◌≡◌, ℕ, zero, suc, ◌+◌, ◌*◌, ◌==◌, nat_le, ◌&&◌, Bool, true, false}
+use Rattle.std.proofs.Common.{List, [], ◌∷◌, length, Option, Some, None, is_none, refl, ap, ◌∙◌}
+use Rattle.std.proofs.Common.{subst, not}
 use Rattle.std.proofs.lemmas.Bool.{eqb-true, not-true}
 use Rattle.std.proofs.lemmas.List.{nil_from_length}
 use Rattle.hpack.specs.declared.types.entry.Entry.{Entry}
@@ -45,19 +21,10 @@ use Rattle.h2_log.proofs.EncodingLemmas.{takes_comes, takes_block_comes}
 use Rattle.h2_log.proofs.examples.Octets.{octets_after}
 use Rattle.h2_log.proofs.examples.Words.{default_values, short_request, get_block, abcd}
 use Rattle.h2_log.proofs.examples.Ends.{settled_server}
-use Rattle.h2_log.proofs.examples.ManyStreams.{
-  server_with_streams,
-  server_with_one_too_many,
-  server_with_refused_body,
-}
-use Rattle.h2_log.proofs.examples.Coming.{
-  within,
-  both,
-  are_octets,
-  fields_are_octets,
-  are_pairs,
-  short_block,
-}
+use Rattle.h2_log.proofs.examples.ManyStreams.{server_with_streams, server_with_one_too_many}
+use Rattle.h2_log.proofs.examples.ManyStreams.{server_with_refused_body}
+use Rattle.h2_log.proofs.examples.Coming.{within, both, are_octets, fields_are_octets, are_pairs}
+use Rattle.h2_log.proofs.examples.Coming.{short_block}
 use Rattle.h2_log.proofs.examples.ServersCome.{settled_server_comes}
 
 -- Whether a server takes the short request on a stream, with nothing else to do before it, and with

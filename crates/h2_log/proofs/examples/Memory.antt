@@ -8,22 +8,11 @@ use Rattle.h2_log.specs.LogCalls.{MayAnswer, fails, lacks, with_call}
 use Rattle.h2_log.specs.LogSteps.{took_out_of_memory}
 use Rattle.h2_log.specs.declared.refusal.Refusal.TheVariants.{Memory}
 use Rattle.h2_log.proofs.Computing.{computing}
-use Rattle.h2_log.proofs.examples.Ends.{
-  active_octets,
-  active_output,
-  active_server,
-  server_with_body,
-}
+use Rattle.h2_log.proofs.examples.Ends.{active_octets, active_output, active_server}
+use Rattle.h2_log.proofs.examples.Ends.{server_with_body}
 use Rattle.h2_log.proofs.examples.Refusals.{connection_calls, stream_calls}
-use Rattle.h2_log.proofs.examples.Words.{
-  abcd,
-  body_frame,
-  come_to,
-  goaway_frame,
-  one_to_eight,
-  outcome,
-  short_request,
-}
+use Rattle.h2_log.proofs.examples.Words.{abcd, body_frame, come_to, goaway_frame, one_to_eight}
+use Rattle.h2_log.proofs.examples.Words.{outcome, short_request}
 
 -- Out of memory while octets are taken, the connection fails with INTERNAL_ERROR (RFC 9113, section
 -- 5.4.1).

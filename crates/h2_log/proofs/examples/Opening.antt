@@ -1,20 +1,7 @@
 -- How connections open.
 use Rattle.std.proofs.Common.{arith}
-use Rattle.std.specs.Prelude.{
-  List,
-  None,
-  Some,
-  [],
-  codes,
-  false,
-  map,
-  refl,
-  true,
-  ℕ,
-  ◌++◌,
-  ◌∷◌,
-  ◌≡◌,
-}
+use Rattle.std.specs.Prelude.{List, None, Some, [], codes, false, map, refl, true, ℕ, ◌++◌, ◌∷◌}
+use Rattle.std.specs.Prelude.{◌≡◌}
 use Rattle.h2_frame.specs.Frames.{Continuation, Headers, Ping, Settings}
 use Rattle.h2_frame.specs.declared.code.Code.TheVariants.{ProtocolError}
 use Rattle.h2_wire.specs.Streams.{Limits, WireFaultAt}
@@ -30,30 +17,12 @@ use Rattle.h2_log.specs.LogView.{log_view}
 use Rattle.h2_log.specs.States.{Active, Idle}
 use Rattle.h2_log.specs.WrittenFrames.{takes}
 use Rattle.h2_log.proofs.Computing.{computing}
-use Rattle.h2_log.proofs.examples.Ends.{
-  active_octets,
-  active_output,
-  active_server,
-  new_client,
-  new_server,
-  server_with_request,
-  settled_server,
-}
+use Rattle.h2_log.proofs.examples.Ends.{active_octets, active_output, active_server, new_client}
+use Rattle.h2_log.proofs.examples.Ends.{new_server, server_with_request, settled_server}
 use Rattle.h2_log.proofs.examples.Octets.{octets}
-use Rattle.h2_log.proofs.examples.Words.{
-  acknowledgment,
-  answered,
-  client_settings,
-  come_to,
-  get_block,
-  goaway_frame,
-  outcome,
-  preface_octets,
-  request,
-  request_octets,
-  server_settings,
-  short_request,
-}
+use Rattle.h2_log.proofs.examples.Words.{acknowledgment, answered, client_settings, come_to}
+use Rattle.h2_log.proofs.examples.Words.{get_block, goaway_frame, outcome, preface_octets, request}
+use Rattle.h2_log.proofs.examples.Words.{request_octets, server_settings, short_request}
 
 -- A new client's output is the preface and its SETTINGS, a new server's its SETTINGS (RFC 9113,
 -- sections 3.4 and 6.5).

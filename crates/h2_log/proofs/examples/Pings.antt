@@ -9,26 +9,12 @@ use Rattle.h2_log.specs.LogView.{log_view}
 use Rattle.h2_log.specs.WrittenFrames.{takes}
 use Rattle.h2_log.specs.declared.refusal.Refusal.TheVariants.{PingWaits}
 use Rattle.h2_log.proofs.Computing.{computing}
-use Rattle.h2_log.proofs.examples.Ends.{
-  asked_output,
-  asking_client,
-  asking_view,
-  server_with_request,
-}
+use Rattle.h2_log.proofs.examples.Ends.{asked_output, asking_client, asking_view}
+use Rattle.h2_log.proofs.examples.Ends.{server_with_request}
 use Rattle.h2_log.proofs.examples.Octets.{octets}
-use Rattle.h2_log.proofs.examples.Words.{
-  acknowledgment,
-  answered,
-  client_settings,
-  come_to,
-  empty_settings,
-  one_to_eight,
-  outcome,
-  preface_octets,
-  request,
-  request_octets,
-  server_settings,
-}
+use Rattle.h2_log.proofs.examples.Words.{acknowledgment, answered, client_settings, come_to}
+use Rattle.h2_log.proofs.examples.Words.{empty_settings, one_to_eight, outcome, preface_octets}
+use Rattle.h2_log.proofs.examples.Words.{request, request_octets, server_settings}
 
 -- PING, and its answer
 abbrev pub ping_frame : List ℕ

@@ -1,77 +1,27 @@
 -- The conditions that refuse calls, each with a call that just isn't refused.
-use Rattle.std.specs.Prelude.{
-  List,
-  None,
-  Some,
-  [],
-  false,
-  map,
-  pos,
-  refl,
-  replicate,
-  true,
-  ℕ,
-  ◌++◌,
-  ◌∷◌,
-  ◌≡◌,
-}
+use Rattle.std.specs.Prelude.{List, None, Some, [], false, map, pos, refl, replicate, true, ℕ, ◌++◌}
+use Rattle.std.specs.Prelude.{◌∷◌, ◌≡◌}
 use Rattle.h2_frame.specs.Frames.{Settings}
 use Rattle.h2_frame.specs.declared.code.Code.TheVariants.{NoError}
-use Rattle.h2_log.specs.Acts.{
-  Act,
-  ChangeSettings,
-  Count,
-  Done,
-  Number,
-  Open,
-  PutOut,
-  Refuse,
-  Refused,
-  Release,
-  ResetStream,
-  SendData,
-  SendFields,
-  SendGoAway,
-  SendPing,
-}
+use Rattle.h2_log.specs.Acts.{Act, ChangeSettings, Count, Done, Number, Open, PutOut, Refuse}
+use Rattle.h2_log.specs.Acts.{Refused, Release, ResetStream, SendData, SendFields, SendGoAway}
+use Rattle.h2_log.specs.Acts.{SendPing}
 use Rattle.h2_log.specs.Log.{active_count, recv_window, send_window, waiting}
 use Rattle.h2_log.specs.LogCalls.{with_call}
 use Rattle.h2_log.specs.LogView.{log_view}
 use Rattle.h2_log.specs.View.{View}
 use Rattle.h2_log.specs.WrittenFrames.{takes}
-use Rattle.h2_log.specs.declared.refusal.Refusal.TheVariants.{
-  Closed,
-  Ended,
-  GoingAway,
-  ListTooLarge,
-  NoSuchStream,
-  NotOwed,
-  OutputFull,
-  PingWaits,
-  SettingsWait,
-  StreamsExhausted,
-  TooManyResets,
-  TooManyStreams,
-}
+use Rattle.h2_log.specs.declared.refusal.Refusal.TheVariants.{Closed, Ended, GoingAway}
+use Rattle.h2_log.specs.declared.refusal.Refusal.TheVariants.{ListTooLarge, NoSuchStream, NotOwed}
+use Rattle.h2_log.specs.declared.refusal.Refusal.TheVariants.{OutputFull, PingWaits, SettingsWait}
+use Rattle.h2_log.specs.declared.refusal.Refusal.TheVariants.{StreamsExhausted, TooManyResets}
+use Rattle.h2_log.specs.declared.refusal.Refusal.TheVariants.{TooManyStreams}
 use Rattle.h2_log.proofs.Computing.{computing}
 use Rattle.h2_log.proofs.examples.Blocks.{list_of_size}
-use Rattle.h2_log.proofs.examples.Ends.{
-  active_server,
-  active_view,
-  asking_view,
-  new_client,
-  server_with_body,
-}
-use Rattle.h2_log.proofs.examples.Words.{
-  abcd,
-  answered,
-  answers,
-  one_to_eight,
-  outcome,
-  short_answer,
-  short_request,
-  small_values,
-}
+use Rattle.h2_log.proofs.examples.Ends.{active_server, active_view, asking_view, new_client}
+use Rattle.h2_log.proofs.examples.Ends.{server_with_body}
+use Rattle.h2_log.proofs.examples.Words.{abcd, answered, answers, one_to_eight, outcome}
+use Rattle.h2_log.proofs.examples.Words.{short_answer, short_request, small_values}
 
 -- a server with four octets of a body on stream 1, whose SETTINGS are acknowledged
 abbrev pub body_view : View

@@ -1,25 +1,9 @@
 -- RST_STREAM of either end, and streams that the layer above refuses.
-use Rattle.std.specs.Prelude.{
-  List,
-  None,
-  Some,
-  [],
-  codes,
-  false,
-  map,
-  refl,
-  replicate,
-  true,
-  ◌++◌,
-  ◌∷◌,
-  ◌≡◌,
-}
+use Rattle.std.specs.Prelude.{List, None, Some, [], codes, false, map, refl, replicate, true, ◌++◌}
+use Rattle.std.specs.Prelude.{◌∷◌, ◌≡◌}
 use Rattle.h2_frame.specs.Frames.{Data, Reset}
-use Rattle.h2_frame.specs.declared.code.Code.TheVariants.{
-  EnhanceYourCalm,
-  InternalError,
-  ProtocolError,
-}
+use Rattle.h2_frame.specs.declared.code.Code.TheVariants.{EnhanceYourCalm, InternalError}
+use Rattle.h2_frame.specs.declared.code.Code.TheVariants.{ProtocolError}
 use Rattle.h2_block.specs.Grouping.{Item, alone}
 use Rattle.h2_log.specs.Acts.{Done, Refuse, Refused, ResetStream}
 use Rattle.h2_log.specs.CallRules.{refuse_fault}
@@ -35,18 +19,9 @@ use Rattle.h2_log.proofs.Computing.{computing}
 use Rattle.h2_log.proofs.examples.Blocks.{resetting_server, server_with_third}
 use Rattle.h2_log.proofs.examples.Ends.{active_octets, active_output, active_view, server_with_body}
 use Rattle.h2_log.proofs.examples.Octets.{octets}
-use Rattle.h2_log.proofs.examples.Words.{
-  abcd,
-  answers,
-  body_frame,
-  come_to,
-  goaway_frame,
-  increment_frame,
-  outcome,
-  reset_frame,
-  short_request,
-  verdicts,
-}
+use Rattle.h2_log.proofs.examples.Words.{abcd, answers, body_frame, come_to, goaway_frame}
+use Rattle.h2_log.proofs.examples.Words.{increment_frame, outcome, reset_frame, short_request}
+use Rattle.h2_log.proofs.examples.Words.{verdicts}
 
 -- RST_STREAM on streams 1, 2 and 3
 abbrev pub three_resets : List Item

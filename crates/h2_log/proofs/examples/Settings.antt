@@ -1,20 +1,6 @@
 -- SETTINGS: faults of values, and how they change what an end does.
-use Rattle.std.specs.Prelude.{
-  List,
-  None,
-  Some,
-  [],
-  codes,
-  false,
-  map,
-  pos,
-  refl,
-  true,
-  ℕ,
-  ◌++◌,
-  ◌∷◌,
-  ◌≡◌,
-}
+use Rattle.std.specs.Prelude.{List, None, Some, [], codes, false, map, pos, refl, true, ℕ, ◌++◌}
+use Rattle.std.specs.Prelude.{◌∷◌, ◌≡◌}
 use Rattle.hpack.specs.Lists.{EncoderState, empty_table}
 use Rattle.hpack.specs.declared.types.field.Field.{Field}
 use Rattle.h2_frame.specs.Frames.{Settings}
@@ -30,34 +16,14 @@ use Rattle.h2_log.specs.WrittenFrames.{takes, takes_block}
 use Rattle.h2_log.specs.declared.refusal.Refusal.TheVariants.{SettingsWait}
 use Rattle.h2_log.specs.declared.role.Role.TheVariants.{Server}
 use Rattle.h2_log.proofs.Computing.{computing}
-use Rattle.h2_log.proofs.examples.Ends.{
-  active_octets,
-  active_output,
-  active_server,
-  active_view,
-  asked_output,
-  asking_client,
-  new_client,
-  new_server,
-}
+use Rattle.h2_log.proofs.examples.Ends.{active_octets, active_output, active_server, active_view}
+use Rattle.h2_log.proofs.examples.Ends.{asked_output, asking_client, new_client, new_server}
 use Rattle.h2_log.proofs.examples.Octets.{octets}
 use Rattle.h2_log.proofs.examples.Updates.{server_with_send_window}
-use Rattle.h2_log.proofs.examples.Words.{
-  acknowledgment,
-  answered,
-  client_settings,
-  come_to,
-  default_values,
-  get_block,
-  goaway_frame,
-  outcome,
-  plain,
-  preface_octets,
-  server_settings,
-  short_answer,
-  short_request,
-  small_values,
-}
+use Rattle.h2_log.proofs.examples.Words.{acknowledgment, answered, client_settings, come_to}
+use Rattle.h2_log.proofs.examples.Words.{default_values, get_block, goaway_frame, outcome, plain}
+use Rattle.h2_log.proofs.examples.Words.{preface_octets, server_settings, short_answer}
+use Rattle.h2_log.proofs.examples.Words.{short_request, small_values}
 
 -- ENABLE_PUSH is 0 or 1, and 0 from a server (RFC 9113, section 6.5.2).
 values_of_push :

@@ -1,21 +1,6 @@
 -- WINDOW_UPDATE, and windows that SETTINGS change.
-use Rattle.std.specs.Prelude.{
-  List,
-  None,
-  Some,
-  [],
-  codes,
-  false,
-  negsuc,
-  pos,
-  refl,
-  replicate,
-  true,
-  ℕ,
-  ◌++◌,
-  ◌∷◌,
-  ◌≡◌,
-}
+use Rattle.std.specs.Prelude.{List, None, Some, [], codes, false, negsuc, pos, refl, replicate}
+use Rattle.std.specs.Prelude.{true, ℕ, ◌++◌, ◌∷◌, ◌≡◌}
 use Rattle.h2_frame.specs.Frames.{Settings, WindowUpdate}
 use Rattle.h2_frame.specs.declared.code.Code.TheVariants.{FlowControlError, ProtocolError}
 use Rattle.h2_block.specs.Grouping.{Item, alone}
@@ -29,32 +14,12 @@ use Rattle.h2_log.specs.Verdicts.{ConnectionFault, NoEvent, StreamFault}
 use Rattle.h2_log.specs.WrittenFrames.{takes}
 use Rattle.h2_log.proofs.Computing.{computing}
 use Rattle.h2_log.proofs.examples.Blocks.{resetting_server, server_with_third}
-use Rattle.h2_log.proofs.examples.Ends.{
-  active_octets,
-  active_output,
-  active_server,
-  active_view,
-  asked_output,
-  asking_client,
-  asking_view,
-  settled_server,
-}
+use Rattle.h2_log.proofs.examples.Ends.{active_octets, active_output, active_server, active_view}
+use Rattle.h2_log.proofs.examples.Ends.{asked_output, asking_client, asking_view, settled_server}
 use Rattle.h2_log.proofs.examples.Octets.{octets}
-use Rattle.h2_log.proofs.examples.Words.{
-  acknowledgment,
-  answered,
-  answers,
-  come_to,
-  empty_settings,
-  goaway_frame,
-  increment_frame,
-  last_empty_frame,
-  outcome,
-  preface_octets,
-  reset_frame,
-  short_request,
-  verdicts,
-}
+use Rattle.h2_log.proofs.examples.Words.{acknowledgment, answered, answers, come_to, empty_settings}
+use Rattle.h2_log.proofs.examples.Words.{goaway_frame, increment_frame, last_empty_frame, outcome}
+use Rattle.h2_log.proofs.examples.Words.{preface_octets, reset_frame, short_request, verdicts}
 
 -- WINDOW_UPDATE of none, of as many as bring a first window to the greatest, and of one more
 abbrev pub updates : ℕ → List Item

@@ -1,11 +1,6 @@
 -- By the states' order, and since an active stream is used.
-use Rattle.h2_log_laws.proofs.ReaderStates.{
-  not_idle,
-  active_used,
-  state_idle,
-  state_active,
-  state_is_active,
-}
+use Rattle.h2_log_laws.proofs.ReaderStates.{not_idle, active_used, state_idle, state_active}
+use Rattle.h2_log_laws.proofs.ReaderStates.{state_is_active}
 use Rattle.h2_log_laws.proofs.states.states_of_streams.Goals as goal
 
 pub returns : goal.returns

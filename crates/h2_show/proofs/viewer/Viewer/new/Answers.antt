@@ -6,6 +6,6 @@ pub returns : goal.returns
 returns c =
     record {
       frames = [];
-      cut = rw c.begins_with_preface-expect_preface.ensures at c.new.ensures.stands;
+      cut = rw c.begins_with_preface-expect_preface.ensures at c.new.ensures.represents;
       blocks_represent = c.in_ok-new.ensures;
     }
