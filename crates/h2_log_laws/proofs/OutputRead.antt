@@ -125,7 +125,7 @@ pub items_grouped : (items : List Item) → AllByRecursion IsSendable items
     → Groups (frames_of_items items) (oldest_first items) None
 items_grouped items sendable =
     record {
-      whole = frames_of_items items;
+      complete = frames_of_items items;
       left = [];
       joined = sym (append-nil (frames_of_items items));
       grouped = items_are items sendable;

@@ -189,7 +189,7 @@ accepted_law values e log SendGoAway represents typed may none sound =
     plain_law values e log SendGoAway represents typed may none sound (λ count same. cc)
     (λ id code same. cc)
 accepted_law values e log (PutOut count) represents typed may none sound = put_out_represents values
-    e log count represents may
+    e log count represents typed may
 accepted_law values e log (ChangeSettings others) represents typed may none sound =
     plain_law values e log (ChangeSettings others) represents typed may none sound
     (λ count same. cc) (λ id code same. cc)

@@ -193,14 +193,14 @@ never_refused e count = refl
 -- Octets are put out, by whether the end has failed.
 put_out_by : (values : Values) (e : End) (log : Log) (count n : ℕ) (x : Option Code) → e.failed ≡ x
     → n ≡ min count (waiting (before_put_out log))
-    → Represents values e log → MayAnswer log (PutOut count) (Count n)
+    → Represents values e log → IsTypedAct (PutOut count) → MayAnswer log (PutOut count) (Count n)
     → Represents values (after_call e (PutOut count)) (with_call log (PutOut count) (Count n))
-unfolding after_call with_call IsTypedAct
-put_out_by values e log count n None up is represents may =
+unfolding after_call with_call
+put_out_by values e log count n None up is represents typed may =
     let made = put_out_up e log count n is (up_of values e log represents up) in
-    represents_made values e log (PutOut count) (Count n) represents tt may (never_refused e count)
+    represents_made values e log (PutOut count) (Count n) represents typed may (never_refused e count)
     made.role (made.up ∙ sym made.same) made.waits (λ up. made.running)
-put_out_by values e log count n (Some code) failed is represents may =
+put_out_by values e log count n (Some code) failed is represents typed may =
     let base = called log (PutOut count) (Count n) in
     let here = ready_failed_at e code failed in
     let with_failure : log.failed ≡ Some code = sym represents.failed ∙ failed in
@@ -213,7 +213,7 @@ put_out_by values e log count n (Some code) failed is represents may =
     put_out_waits e base count n (is ∙ ap (min count) (sym same))
     (called_waits e log (PutOut count) (Count n)
     (record { waiting = represents.waiting; given = represents.given })) in
-    represents_made values e log (PutOut count) (Count n) represents tt may (never_refused e count)
+    represents_made values e log (PutOut count) (Count n) represents typed may (never_refused e count)
     (ap (λ (x : End). x.role) here ∙ represents.role ∙ sym (ap (λ (x : Log). x.role) there))
     (ap (λ (x : End). x.failed) here ∙ represents.failed ∙ sym (ap (λ (x : Log). x.failed) there))
     (rw (here, there) waits)
@@ -222,10 +222,10 @@ put_out_by values e log count n (Some code) failed is represents may =
 
 -- Octets are put out, as many as the rules say.
 pub put_out_represents : (values : Values) (e : End) (log : Log) (count : ℕ)
-    → Represents values e log
+    → Represents values e log → IsTypedAct (PutOut count)
     → MayAnswer log (PutOut count) (answer_of (log_view log) (PutOut count))
     → Represents values (after_call e (PutOut count))
     (with_call log (PutOut count) (answer_of (log_view log) (PutOut count)))
-put_out_represents values e log count represents may =
+put_out_represents values e log count represents typed may =
     put_out_by values e log count _ e.failed refl
-    (ap (min count) (sym (ready_size log represents.given))) represents may
+    (ap (min count) (sym (ready_size log represents.given))) represents typed may

@@ -172,7 +172,7 @@ faults_of_padding = (
       last = long_pad;
       joined = refl;
       sound = record { body = []; opened = refl; framed = refl };
-      whole = refl;
+      complete = refl;
       sound_head = refl;
       faulty = refl;
     };

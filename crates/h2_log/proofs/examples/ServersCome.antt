@@ -2,13 +2,28 @@
 -- with its answer.
 use Rattle.std.specs.Prelude.{None, Some, [], codes, false, refl, replicate, true, ℕ, ◌∷◌}
 use Rattle.hpack.specs.Lists.{empty_table}
-use Rattle.h2_frame.specs.Frames.{Continuation, Data, GoAway, Headers, Ping, Reset, Settings}
-use Rattle.h2_frame.specs.Frames.{WindowUpdate}
+use Rattle.h2_frame.specs.Frames.{Continuation, Data, GoAway, Headers, Ping, Reset, Settings, WindowUpdate}
 use Rattle.h2_wire.specs.declared.fault.WireFault.TheVariants.{BadPreface}
-use Rattle.h2_log.specs.Acts.{ChangeSettings, Done, OutOfMemory, Refuse, Refused, Release}
-use Rattle.h2_log.specs.Acts.{ResetStream, SendFields, SendGoAway, SendPing}
-use Rattle.h2_log.specs.Histories.{IsLog, begins, called_one, met_fault, ran_out_of_memory}
-use Rattle.h2_log.specs.Histories.{with_none}
+use Rattle.h2_log.specs.Acts.{
+  ChangeSettings,
+  Done,
+  OutOfMemory,
+  Refuse,
+  Refused,
+  Release,
+  ResetStream,
+  SendFields,
+  SendGoAway,
+  SendPing,
+}
+use Rattle.h2_log.specs.Histories.{
+  IsLog,
+  begins,
+  called_one,
+  met_fault,
+  ran_out_of_memory,
+  with_none,
+}
 use Rattle.h2_log.specs.LogCalls.{accepts, fails, lacks, opened, refuses, with_call}
 use Rattle.h2_log.specs.LogSteps.{limits_from, took_out_of_memory}
 use Rattle.h2_log.specs.WrittenFrames.{takes}
@@ -16,35 +31,93 @@ use Rattle.h2_log.specs.declared.refusal.Refusal.TheVariants.{Memory, NotOwed}
 use Rattle.h2_log.specs.declared.role.Role.TheVariants.{Server}
 use Rattle.h2_log.proofs.Computing.{computing}
 use Rattle.h2_log.proofs.EncodingLemmas.{taken_frame, takes_block_comes}
-use Rattle.h2_log.proofs.examples.Blocks.{begun_server, longer_server, resetting_server}
-use Rattle.h2_log.proofs.examples.Blocks.{server_with_block_after_the_end, server_with_third}
-use Rattle.h2_log.proofs.examples.Blocks.{server_with_three_frames}
-use Rattle.h2_log.proofs.examples.Bodies.{after_the_acknowledgment, before_the_acknowledgment}
-use Rattle.h2_log.proofs.examples.Bodies.{no_octets_after_it, one_octet_after_it}
-use Rattle.h2_log.proofs.examples.Bodies.{server_with_body_after_the_end, server_with_padding}
-use Rattle.h2_log.proofs.examples.Bodies.{server_with_small_window}
-use Rattle.h2_log.proofs.examples.Coming.{are_octets, are_pairs, below, comes, fields_are}
-use Rattle.h2_log.proofs.examples.Coming.{fields_are_octets, later_block, long_block, octets_are}
-use Rattle.h2_log.proofs.examples.Coming.{pairs_are, short_block, values_are, within}
-use Rattle.h2_log.proofs.examples.Ends.{active_server, new_server, server_with_body}
-use Rattle.h2_log.proofs.examples.Ends.{server_with_release, server_with_request, settled_server}
-use Rattle.h2_log.proofs.examples.GoAways.{leaving_server, leaving_server_with_block}
-use Rattle.h2_log.proofs.examples.GoAways.{leaving_server_with_body}
+use Rattle.h2_log.proofs.examples.Blocks.{
+  begun_server,
+  longer_server,
+  resetting_server,
+  server_with_block_after_the_end,
+  server_with_third,
+  server_with_three_frames,
+}
+use Rattle.h2_log.proofs.examples.Bodies.{
+  after_the_acknowledgment,
+  before_the_acknowledgment,
+  no_octets_after_it,
+  one_octet_after_it,
+  server_with_body_after_the_end,
+  server_with_padding,
+  server_with_small_window,
+}
+use Rattle.h2_log.proofs.examples.Coming.{
+  are_octets,
+  are_pairs,
+  below,
+  comes,
+  fields_are,
+  fields_are_octets,
+  later_block,
+  long_block,
+  octets_are,
+  pairs_are,
+  short_block,
+  values_are,
+  within,
+}
+use Rattle.h2_log.proofs.examples.Ends.{
+  active_server,
+  new_server,
+  server_with_body,
+  server_with_release,
+  server_with_request,
+  settled_server,
+}
+use Rattle.h2_log.proofs.examples.GoAways.{
+  leaving_server,
+  leaving_server_with_block,
+  leaving_server_with_body,
+}
 use Rattle.h2_log.proofs.examples.Octets.{octets}
-use Rattle.h2_log.proofs.examples.Opening.{fault_of_the_preface, server_at_a_wrong_preface}
-use Rattle.h2_log.proofs.examples.Opening.{wrong_octets}
+use Rattle.h2_log.proofs.examples.Opening.{
+  fault_of_the_preface,
+  server_at_a_wrong_preface,
+  wrong_octets,
+}
 use Rattle.h2_log.proofs.examples.Pings.{server_with_ping}
-use Rattle.h2_log.proofs.examples.Resets.{server_refusing_for_memory, server_resetting_a_body}
-use Rattle.h2_log.proofs.examples.Resets.{server_with_late_body, server_with_refusal}
-use Rattle.h2_log.proofs.examples.Resets.{server_with_reset}
-use Rattle.h2_log.proofs.examples.Settings.{acknowledged_server, changed_server, remembered_answer}
-use Rattle.h2_log.proofs.examples.Settings.{server_with_limits, server_with_one_answer}
-use Rattle.h2_log.proofs.examples.Settings.{server_with_table_again, server_with_two}
-use Rattle.h2_log.proofs.examples.Settings.{server_with_two_answers, server_without_table}
+use Rattle.h2_log.proofs.examples.Resets.{
+  server_refusing_for_memory,
+  server_resetting_a_body,
+  server_with_late_body,
+  server_with_refusal,
+  server_with_reset,
+}
+use Rattle.h2_log.proofs.examples.Settings.{
+  acknowledged_server,
+  changed_server,
+  many_values,
+  remembered_answer,
+  server_of_fewer,
+  server_of_many,
+  server_with_limits,
+  server_with_one_answer,
+  server_with_table_again,
+  server_with_two,
+  server_with_two_answers,
+  server_without_table,
+}
 use Rattle.h2_log.proofs.examples.Updates.{server_above_the_greatest, server_with_send_window}
-use Rattle.h2_log.proofs.examples.Words.{abcd, default_values, eleven, get_block, one_to_eight}
-use Rattle.h2_log.proofs.examples.Words.{request, request_block, short_answer, short_request}
-use Rattle.h2_log.proofs.examples.Words.{small_values, table_with_authority}
+use Rattle.h2_log.proofs.examples.Words.{
+  abcd,
+  default_values,
+  eleven,
+  get_block,
+  one_to_eight,
+  request,
+  request_block,
+  short_answer,
+  short_request,
+  small_values,
+  table_with_authority,
+}
 
 pub new_server_comes : IsLog Server default_values new_server
 unfolding computing are_pairs are_octets fields_are_octets
@@ -501,4 +574,34 @@ unfolding computing are_pairs are_octets fields_are_octets
 one_octet_after_it_comes =
     comes Server small_values no_octets_after_it (Data 1 false (0x61 ∷
     []) None) no_octets_after_it_comes
+    (record { up = refl; all_reported = refl }) refl tt refl refl refl
+
+pub new_server_of_many_comes : IsLog Server many_values (opened Server many_values)
+unfolding computing are_pairs are_octets fields_are_octets
+new_server_of_many_comes = begins (values_are many_values refl refl refl refl refl)
+
+pub server_of_many_comes : IsLog Server many_values server_of_many
+unfolding computing are_pairs are_octets fields_are_octets
+server_of_many_comes =
+    comes Server many_values (opened Server many_values) (Settings false [])
+    new_server_of_many_comes (record { up = refl; all_reported = refl }) refl tt refl refl refl
+
+pub acknowledged_server_of_many_comes :
+    IsLog Server many_values (takes server_of_many (Settings true []))
+unfolding computing are_pairs are_octets fields_are_octets
+acknowledged_server_of_many_comes =
+    comes Server many_values server_of_many (Settings true []) server_of_many_comes
+    (record { up = refl; all_reported = refl }) refl tt refl refl refl
+
+pub server_of_fewer_comes : IsLog Server many_values server_of_fewer
+unfolding computing are_pairs are_octets fields_are_octets
+server_of_fewer_comes =
+    called_one acknowledged_server_of_many_comes (ChangeSettings default_values) Done
+    (values_are default_values refl refl refl refl refl) (accepts refl refl)
+
+pub acknowledged_server_of_fewer_comes :
+    IsLog Server many_values (takes server_of_fewer (Settings true []))
+unfolding computing are_pairs are_octets fields_are_octets
+acknowledged_server_of_fewer_comes =
+    comes Server many_values server_of_fewer (Settings true []) server_of_fewer_comes
     (record { up = refl; all_reported = refl }) refl tt refl refl refl

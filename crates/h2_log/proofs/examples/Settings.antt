@@ -1,6 +1,20 @@
 -- SETTINGS: faults of values, and how they change what an end does.
-use Rattle.std.specs.Prelude.{List, None, Some, [], codes, false, map, pos, refl, true, ℕ, ◌++◌}
-use Rattle.std.specs.Prelude.{◌∷◌, ◌≡◌}
+use Rattle.std.specs.Prelude.{
+  List,
+  None,
+  Some,
+  [],
+  codes,
+  false,
+  map,
+  pos,
+  refl,
+  true,
+  ℕ,
+  ◌++◌,
+  ◌∷◌,
+  ◌≡◌,
+}
 use Rattle.hpack.specs.Lists.{EncoderState, empty_table}
 use Rattle.hpack.specs.declared.types.field.Field.{Field}
 use Rattle.h2_frame.specs.Frames.{Settings}
@@ -16,14 +30,34 @@ use Rattle.h2_log.specs.WrittenFrames.{takes, takes_block}
 use Rattle.h2_log.specs.declared.refusal.Refusal.TheVariants.{SettingsWait}
 use Rattle.h2_log.specs.declared.role.Role.TheVariants.{Server}
 use Rattle.h2_log.proofs.Computing.{computing}
-use Rattle.h2_log.proofs.examples.Ends.{active_octets, active_output, active_server, active_view}
-use Rattle.h2_log.proofs.examples.Ends.{asked_output, asking_client, new_client, new_server}
+use Rattle.h2_log.proofs.examples.Ends.{
+  active_octets,
+  active_output,
+  active_server,
+  active_view,
+  asked_output,
+  asking_client,
+  new_client,
+  new_server,
+}
 use Rattle.h2_log.proofs.examples.Octets.{octets}
 use Rattle.h2_log.proofs.examples.Updates.{server_with_send_window}
-use Rattle.h2_log.proofs.examples.Words.{acknowledgment, answered, client_settings, come_to}
-use Rattle.h2_log.proofs.examples.Words.{default_values, get_block, goaway_frame, outcome, plain}
-use Rattle.h2_log.proofs.examples.Words.{preface_octets, server_settings, short_answer}
-use Rattle.h2_log.proofs.examples.Words.{short_request, small_values}
+use Rattle.h2_log.proofs.examples.Words.{
+  acknowledgment,
+  answered,
+  client_settings,
+  come_to,
+  default_values,
+  get_block,
+  goaway_frame,
+  outcome,
+  plain,
+  preface_octets,
+  server_settings,
+  short_answer,
+  short_request,
+  small_values,
+}
 
 -- ENABLE_PUSH is 0 or 1, and 0 from a server (RFC 9113, section 6.5.2).
 values_of_push :
@@ -37,9 +71,10 @@ values_of_push = (refl, refl)
 
 -- An initial window is at most 2^31 - 1, a frame size from 16,384 to 2^24 - 1.
 values_of_windows_and_frames :
-    (map (settings_fault active_view) (((4, 2147483647) ∷ []) ∷ ((4, 2147483648) ∷ []) ∷ [])
+    (map (settings_fault (log_view new_server))
+    (((4, 2147483647) ∷ []) ∷ ((4, 2147483648) ∷ []) ∷ [])
     ≡ None ∷ Some FlowControlError ∷ [])
-    × (map (settings_fault active_view)
+    × (map (settings_fault (log_view new_server))
     (((5, 16383) ∷ []) ∷ ((5, 16384) ∷ []) ∷ ((5, 16777215) ∷ []) ∷ ((5, 16777216) ∷ []) ∷ [])
     ≡ Some ProtocolError ∷ None ∷ None ∷ Some ProtocolError ∷ [])
 unfolding computing
@@ -189,10 +224,11 @@ unfolding computing
 client_changes_its_settings = refl
 
 -- a server that allows 200 streams
+abbrev pub many_values : Values
+many_values = record { table_limit = 4096; initial_window = 65535; max_streams = 200 }
+
 abbrev pub server_of_many : Log
-server_of_many =
-    takes (opened Server (record { table_limit = 4096; initial_window = 65535; max_streams = 200 }))
-    (Settings false [])
+server_of_many = takes (opened Server many_values) (Settings false [])
 
 -- and, its SETTINGS acknowledged, 100
 abbrev pub server_of_fewer : Log
