@@ -5,6 +5,7 @@ mod devices;
 mod examples;
 mod failing;
 mod hints;
+mod library;
 mod long;
 
 use crate::{Failure, ShowOptions, Shown, Side, Status, from_hex, show_input};
