@@ -1,11 +1,13 @@
 -- The definitions, computed on examples.
-use Rattle.std.specs.Prelude.{◌≡◌, ℕ, true, false, List, [], ◌∷◌, length, None, Some, refl}
-use Rattle.h2_frame.specs.Frames.{Data, Headers, Ping, Continuation, Unknown}
+use Rattle.std.specs.Prelude.{◌≡◌, ℕ, true, false, List, [], ◌∷◌, length, take, drop, None, Some}
+use Rattle.std.proofs.Common.{refl, ap, ◌∙◌, arith, length-drop}
+use Rattle.h2_frame.specs.Frames.{Frame, Data, Headers, Ping, Continuation, Unknown}
 use Rattle.h2_block.specs.declared.fault.BlockFault.TheVariants.{Interrupted, Stray, TooLong}
 use Rattle.h2_block.specs.Grouping.{block, Begun, is_standalone, fault_outside, fault_inside}
 use Rattle.h2_block.specs.Grouping.{next_fault, Groups}
-use Rattle.h2_block.specs.Spread.{continuations, spread_frames}
+use Rattle.h2_block.specs.Spread.{max_payload, continuations, spread_frames}
 use Rattle.h2_block.proofs.GroupLemmas.{Groups-step}
+use Rattle.h2_block.proofs.SpreadLemmas.{continuations-few, spread_frames-more}
 
 -- opens all that computes
 unfoldable computing : Unit {0}
@@ -17,15 +19,32 @@ begun_example : Begun
 begun_example = record { stream = 1; end = false; octets = 0x82 ∷ [] }
 
 -- an empty block is one empty HEADERS that ends it
-spread_none : spread_frames 1 true [] ≡ Headers 1 true true [] None None ∷ []
+spread_none : spread_frames 16384 1 true [] ≡ Headers 1 true true [] None None ∷ []
 unfolding computing
 spread_none = refl
 
 -- a small one is one HEADERS with all of it
-spread_small : spread_frames 3 false (0x82 ∷ 0x86 ∷ [])
+spread_small : spread_frames 16384 3 false (0x82 ∷ 0x86 ∷ [])
     ≡ Headers 3 false true (0x82 ∷ 0x86 ∷ []) None None ∷ []
 unfolding computing
 spread_small = refl
+
+-- 20,016 octets are two frames where payloads of 16,384 octets are the greatest
+spread_in_two : (octets : List ℕ) → length octets ≡ 20016
+    → spread_frames max_payload 1 false octets
+    ≡ Headers 1 false false (take 16384 octets) None None
+    ∷ Continuation 1 true (drop 16384 octets) ∷ []
+spread_in_two octets long =
+    spread_frames-more max_payload 1 false octets (omega (arith, long))
+    ∙ ap (λ (frames : List Frame). Headers 1 false false (take 16384 octets) None None ∷ frames)
+    (rw long (continuations-few max_payload 20015 1 (drop 16384 octets)
+    (omega (arith, long, length-drop 16384 octets))))
+
+-- and one where 65,536 octets are
+spread_in_one : (octets : List ℕ) → length octets ≡ 20016
+    → spread_frames 65536 1 false octets ≡ Headers 1 false true octets None None ∷ []
+unfolding computing
+spread_in_one octets long = rw long refl
 
 -- HEADERS, and a CONTINUATION that ends the block
 block_example : Groups (Headers 1 false false (0x82 ∷ []) None None

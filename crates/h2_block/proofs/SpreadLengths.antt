@@ -1,15 +1,16 @@
 -- How many octets the frames of a block have.
-use Rattle.std.proofs.Common.{◌≡◌, ℕ, zero, suc, ◌+◌, ◌-◌, ◌*◌, ◌/◌, ◌<◌, ◌≤◌, Bool, true, false}
+use Rattle.std.proofs.Common.{◌≡◌, ℕ, zero, suc, ◌+◌, ◌-◌, ◌*◌, ◌/◌, ◌%◌, ◌<◌, ◌≤◌, Bool, true, false}
 use Rattle.std.proofs.Common.{List, [], ◌∷◌}
 use Rattle.std.proofs.Common.{◌++◌, length, take, drop, None, ap, sym, ◌∙◌, inl, inr, arith}
 use Rattle.std.proofs.Common.{length-append}
 use Rattle.std.proofs.Common.{length-take, length-drop}
 use Rattle.std.proofs.lemmas.Bool.{cases_lt}
+use Rattle.std.proofs.lemmas.Nat.{div-add-mod', div-mul-add, div_below, mod_below}
 use Rattle.std.proofs.lemmas.List.Concat.{flat_map-cons}
 use Rattle.h2_frame.specs.Frames.{Frame, Headers, Continuation}
 use Rattle.h2_frame.specs.Encoding.{payload_of, encoding_of}
 use Rattle.h2_frame.proofs.FramePartsLemmas.{length-encoding_of}
-use Rattle.h2_block.specs.Spread.{max_payload, continuations, spread_frames, encoding_of_frames}
+use Rattle.h2_block.specs.Spread.{continuations, spread_frames, encoding_of_frames}
 use Rattle.h2_block.proofs.SpreadLemmas.{continuations-few, continuations-more, spread_frames-few}
 use Rattle.h2_block.proofs.SpreadLemmas.{spread_frames-more}
 
@@ -34,57 +35,80 @@ length-frames line frame frames split =
     ap length (ap encoding_of_frames split ∙ flat_map-cons encoding_of frame frames)
     ∙ length-append (encoding_of frame) (encoding_of_frames frames)
 
+-- `most` octets more are one frame more
+further : (most count after : ℕ) → 1 ≤ most → after + most ≡ count → 0 < after
+    → (count - 1) / most ≡ 1 + (after - 1) / most
+further most count after positive is some =
+    let whole = div-add-mod' (after - 1) most in
+    let more : (1 + (after - 1) / most) * most + (after - 1) % most ≡ count - 1 =
+    omega (arith, whole, is, some) in
+    sym (ap (λ (n : ℕ). n / most) more)
+    ∙ div-mul-add (1 + (after - 1) / most) most ((after - 1) % most)
+    (mod_below (after - 1) most positive)
+
+-- octets that fit one frame need no other
+none_more : (most count : ℕ) → 1 ≤ most → count ≤ most → (count - 1) / most ≡ 0
+none_more most count positive few = omega (
+  arith,
+  div_below (count - 1) most 1 positive
+      (omega (arith, few, positive)),
+)
+
 -- CONTINUATIONs have nine octets more each
-length-continuations : (count stream : ℕ) (octets : List ℕ) → 0 < length octets
+length-continuations : (most count stream : ℕ) (octets : List ℕ) → 1 ≤ most → 0 < length octets
     → length octets ≤ count
-    → length (encoding_of_frames (continuations count stream octets))
-    ≡ length octets + 9 * (1 + (length octets - 1) / 16384)
-length-continuations zero stream octets some enough = absurd (omega arith)
-length-continuations (suc count) stream octets some enough =
-    elim (cases_lt max_payload (length octets)) [
+    → length (encoding_of_frames (continuations most count stream octets))
+    ≡ length octets + 9 * (1 + (length octets - 1) / most)
+length-continuations most zero stream octets positive some enough = absurd (omega arith)
+length-continuations most (suc count) stream octets positive some enough =
+    elim (cases_lt most (length octets)) [
       | inl more ↦
-          let left : length (drop max_payload octets) + 16384 ≡ length octets =
-          omega (arith, length-drop max_payload octets, more) in
-          let full : length (take max_payload octets) ≡ 16384 =
-          length-take max_payload octets ∙ omega (arith, more) in
-          let first = length-continuation stream false (take max_payload octets) in
+          let left : length (drop most octets) + most ≡ length octets =
+          omega (arith, length-drop most octets, more) in
+          let full : length (take most octets) ≡ most =
+          length-take most octets ∙ omega (arith, more) in
+          let split = further most (length octets) (length (drop most octets)) positive left
+          (omega (arith, left, more)) in
+          let first = length-continuation stream false (take most octets) in
           let later =
-          length-continuations count stream (drop max_payload octets) (omega (arith, left, more))
-          (omega (arith, left, enough)) in
-          length-frames (continuations (suc count) stream octets)
-          (Continuation stream false (take max_payload octets))
-          (continuations count stream (drop max_payload octets))
-          (continuations-more count stream octets more)
-          ∙ omega (arith, first, later, left, full)
+          length-continuations most count stream (drop most octets) positive
+          (omega (arith, left, more)) (omega (arith, left, enough, positive)) in
+          length-frames (continuations most (suc count) stream octets)
+          (Continuation stream false (take most octets))
+          (continuations most count stream (drop most octets))
+          (continuations-more most count stream octets more)
+          ∙ omega (arith, first, later, left, full, split)
       | inr few ↦
-          length-frames (continuations (suc count) stream octets) (Continuation stream true octets)
-          [] (continuations-few count stream octets few)
-          ∙ omega (arith, length-continuation stream true octets, few, some)
+          length-frames (continuations most (suc count) stream octets) (Continuation stream true octets)
+          [] (continuations-few most count stream octets few)
+          ∙ omega (arith, length-continuation stream true octets, none_more most (length octets) positive few, some)
     ]
 
--- The frames of a block have nine octets more each: one frame, and one more for each 16,384 octets
+-- The frames of a block have nine octets more each: one frame, and one more for each `most` octets
 -- that more octets follow.
-pub length-spread_frames : (stream : ℕ) (end : Bool) (octets : List ℕ)
-    → length (encoding_of_frames (spread_frames stream end octets))
-    ≡ length octets + 9 * (1 + (length octets - 1) / 16384)
-length-spread_frames stream end octets =
-    elim (cases_lt max_payload (length octets)) [
+pub length-spread_frames : (most stream : ℕ) (end : Bool) (octets : List ℕ) → 1 ≤ most
+    → length (encoding_of_frames (spread_frames most stream end octets))
+    ≡ length octets + 9 * (1 + (length octets - 1) / most)
+length-spread_frames most stream end octets positive =
+    elim (cases_lt most (length octets)) [
       | inl more ↦
-          let left : length (drop max_payload octets) + 16384 ≡ length octets =
-          omega (arith, length-drop max_payload octets, more) in
-          let full : length (take max_payload octets) ≡ 16384 =
-          length-take max_payload octets ∙ omega (arith, more) in
-          let first = length-headers stream end false (take max_payload octets) in
+          let left : length (drop most octets) + most ≡ length octets =
+          omega (arith, length-drop most octets, more) in
+          let full : length (take most octets) ≡ most =
+          length-take most octets ∙ omega (arith, more) in
+          let split = further most (length octets) (length (drop most octets)) positive left
+          (omega (arith, left, more)) in
+          let first = length-headers stream end false (take most octets) in
           let later =
-          length-continuations (length octets) stream (drop max_payload octets)
-          (omega (arith, left, more)) (omega (arith, left)) in
-          length-frames (spread_frames stream end octets)
-          (Headers stream end false (take max_payload octets) None None)
-          (continuations (length octets) stream (drop max_payload octets))
-          (spread_frames-more stream end octets more)
-          ∙ omega (arith, first, later, left, full)
+          length-continuations most (length octets) stream (drop most octets) positive
+          (omega (arith, left, more)) (omega (arith, left, positive)) in
+          length-frames (spread_frames most stream end octets)
+          (Headers stream end false (take most octets) None None)
+          (continuations most (length octets) stream (drop most octets))
+          (spread_frames-more most stream end octets more)
+          ∙ omega (arith, first, later, left, full, split)
       | inr few ↦
-          length-frames (spread_frames stream end octets) (Headers stream end true octets None None)
-          [] (spread_frames-few stream end octets few)
-          ∙ omega (arith, length-headers stream end true octets, few)
+          length-frames (spread_frames most stream end octets) (Headers stream end true octets None None)
+          [] (spread_frames-few most stream end octets few)
+          ∙ omega (arith, length-headers stream end true octets, none_more most (length octets) positive few)
     ]

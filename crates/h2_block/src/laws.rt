@@ -28,12 +28,14 @@ pub fn no_grouping_past_a_fault()
         → (items ≡ others) × (fault ≡ other) × (more ≡ []) }
 {}
 
-/// The frames over which a block is spread are one block of its octets, can be written, and have
-/// payloads of 16,384 octets at most.
+/// The frames over which a block is spread are one block of its octets, whatever the greatest payload
+/// is; they can be written where a frame's length can say it, and have no greater payload.
 pub fn spread_block()
-    ensures grouped { (stream : ℕ) (end : Bool) (octets : List ℕ) → length octets ≤ 65552
-        → Groups (spread_frames stream end octets) (block stream end octets ∷ []) None }
-    ensures writable { (stream : ℕ) (end : Bool) (octets : List ℕ) → 1 ≤ stream → stream < 2 ^ 31
+    ensures grouped { (most stream : ℕ) (end : Bool) (octets : List ℕ) → 1 ≤ most
+        → length octets ≤ 65552
+        → Groups (spread_frames most stream end octets) (block stream end octets ∷ []) None }
+    ensures writable { (most stream : ℕ) (end : Bool) (octets : List ℕ) → most < 2 ^ 24
+        → 1 ≤ stream → stream < 2 ^ 31
         → AllByRecursion (λ frame. (refusal frame ≡ None) × IsTyped frame
-        × (length (payload_of frame) ≤ 16384)) (spread_frames stream end octets) }
+        × (length (payload_of frame) ≤ most)) (spread_frames most stream end octets) }
 {}

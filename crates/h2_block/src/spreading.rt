@@ -5,12 +5,12 @@ ghost use Rattle.std.specs.Prelude.{None, IfErr, OnOk, IsOk};
 ghost use Rattle.std.specs.Vec.{vec_capacity};
 ghost use Rattle.h2_frame.specs.Frames.{frame_of};
 ghost use Rattle.h2_frame.specs.Encoding.{encoding_of, refusal};
-ghost use Rattle.h2_block.specs.Spread.{spread_frames, encoding_of_frames};
+ghost use Rattle.h2_block.specs.Spread.{max_payload, spread_frames, encoding_of_frames};
 
 use crate::fault::BlockFault;
 use h2_frame::{FrameRef, write_ref};
 
-/// The limit of a frame's payload (RFC 9113, section 4.2).
+/// The greatest payload of the frames that are written (RFC 9113, section 4.2).
 const MAX_PAYLOAD: usize = 16_384;
 
 /// The octets of a frame's head (RFC 9113, section 4.1).
@@ -30,40 +30,45 @@ pub fn spread(stream: u32, end: bool, octets: &[u8], out: &mut Vec<u8>) -> Resul
     requires at_most { stream < 2 ^ 31 }
     requires length { length octets.now ≤ 65552 }
     ensures ok { OnOk result (out.new.items ≡ out.old.items
-        ++ encoding_of_frames (spread_frames stream end octets.now)) }
+        ++ encoding_of_frames (spread_frames max_payload stream end octets.now)) }
     ensures err { IfErr result (λ fault. (fault ≡ BlockFault.Memory)
         × (out.new.items ≡ out.old.items)) }
     ensures room { vec_len out.old
-        + length (encoding_of_frames (spread_frames stream end octets.now)) ≤ vec_capacity out.old
+        + length (encoding_of_frames (spread_frames max_payload stream end octets.now))
+        ≤ vec_capacity out.old
         → IsOk result }
     ensures capacity { vec_capacity out.old ≤ vec_capacity out.new }
 {
-    if out.reserve(encoded_len(octets.len())).is_err() {
+    if out.reserve(encoded_len(MAX_PAYLOAD, octets.len())).is_err() {
         return Err(BlockFault::Memory);
     }
-    append_block(stream, end, octets, out);
+    append_block(MAX_PAYLOAD, stream, end, octets, out);
     Ok(())
 }
 
 // How many octets the frames of a block of so many octets have: nine more for each frame's head.
-fn encoded_len(count: usize) -> usize
-    requires { count ≤ 65552 }
-    ensures { result ≡ count + 9 * (1 + (count - 1) / 16384) }
+fn encoded_len(most: usize, count: usize) -> usize
+    requires payload { 1 ≤ most }
+    requires length { count ≤ 65552 }
+    ensures { result ≡ count + 9 * (1 + (count - 1) / most) }
 {
-    count + HEAD * (1 + count.saturating_sub(1) / MAX_PAYLOAD)
+    count + HEAD * (1 + count.saturating_sub(1) / most)
 }
 
-// Appends the frames, for which there is capacity.
-fn append_block(stream: u32, end: bool, octets: &[u8], out: &mut Vec<u8>)
+// Appends the frames, with payloads of at most `most` octets, for which there is capacity.
+fn append_block(most: usize, stream: u32, end: bool, octets: &[u8], out: &mut Vec<u8>)
+    requires payload { 1 ≤ most }
+    requires payload_length { most < 2 ^ 24 }
     requires at_least { 1 ≤ stream }
     requires at_most { stream < 2 ^ 31 }
     requires room { vec_len out.old
-        + length (encoding_of_frames (spread_frames stream end octets.now)) ≤ vec_capacity out.old }
+        + length (encoding_of_frames (spread_frames most stream end octets.now))
+        ≤ vec_capacity out.old }
     ensures items { out.new.items ≡ out.old.items
-        ++ encoding_of_frames (spread_frames stream end octets.now) }
+        ++ encoding_of_frames (spread_frames most stream end octets.now) }
     ensures capacity { vec_capacity out.old ≤ vec_capacity out.new }
 {
-    let (first, mut rest) = octets.split_at(octets.len().min(MAX_PAYLOAD));
+    let (first, mut rest) = octets.split_at(octets.len().min(most));
     let headers = FrameRef::Headers {
         stream,
         end,
@@ -74,7 +79,7 @@ fn append_block(stream: u32, end: bool, octets: &[u8], out: &mut Vec<u8>)
     };
     append(headers, out);
     while !rest.is_empty() {
-        let (fragment, following) = rest.split_at(rest.len().min(MAX_PAYLOAD));
+        let (fragment, following) = rest.split_at(rest.len().min(most));
         let continuation = FrameRef::Continuation {
             stream,
             whole: following.is_empty(),

@@ -1,4 +1,5 @@
 pub mod Computing
 pub mod StreamLemmas
 pub mod EncodingLemmas
+pub mod SentPayloads
 pub mod examples

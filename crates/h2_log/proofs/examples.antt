@@ -20,6 +20,7 @@ pub mod Limits
 pub mod ManyStreams
 pub mod LongBodies
 pub mod AnyBody
+pub mod LargerFrames
 pub mod Coming
 pub mod ServersCome
 pub mod ClientsCome

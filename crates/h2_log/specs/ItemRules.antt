@@ -21,7 +21,7 @@ use Rattle.h2_log.specs.Items.{stream_of_item, encoding_of_items}
 use Rattle.h2_log.specs.Settings.{is_server, peer_of, value_fault}
 use Rattle.h2_log.specs.States.{State, Idle, Active, ClosedByUs, Closed}
 use Rattle.h2_log.specs.Windows.{greatest_window}
-use Rattle.h2_log.specs.Limits.{max_list, max_output, max_resets}
+use Rattle.h2_log.specs.Limits.{max_list, max_output, max_resets, max_frame_size_sent}
 use Rattle.h2_log.specs.View.{StreamView, View, ended_in}
 use Rattle.h2_frame.specs.Codes.{code_number}
 use Rattle.h2_log.specs.Verdicts.{Verdict, ConnectionFault, StreamFault, NoEvent, Reported}
@@ -142,11 +142,12 @@ over_limits resets waiting size verdict =
     ConnectionFault EnhanceYourCalm
     else verdict
 
--- the verdict on an item that comes next
+-- the verdict on an item that comes next. Replies are no field blocks, so that their octets are the
+-- same whatever the greatest payload is.
 unfoldable pub verdict_of : View → Option Decoded → Item → Verdict
 verdict_of view decoded item =
-    over_limits view.resets view.waiting (length (encoding_of_items (replies_to
-    (verdict_by_rules view decoded item) item)))
+    over_limits view.resets view.waiting (length (encoding_of_items max_frame_size_sent
+    (replies_to (verdict_by_rules view decoded item) item)))
     (verdict_by_rules view decoded item)
 
 abbrev pub is_idle : State → Bool

@@ -91,12 +91,13 @@ greatest_block (block stream end octets ∷ items) = max stream (greatest_block 
 greatest_block (alone frame ∷ items) = greatest_block items
 
 -- the octets that are written of an item: those of its frame, or of the frames over which its block
--- is spread
-unfoldable pub encoding_of_item : Item → List ℕ
-encoding_of_item (alone frame) = encoding_of frame
-encoding_of_item (block stream end octets) = encoding_of_frames (spread_frames stream end octets)
+-- is spread. `most` is the greatest payload in force as it is written.
+unfoldable pub encoding_of_item : (most : ℕ) → Item → List ℕ
+encoding_of_item most (alone frame) = encoding_of frame
+encoding_of_item most (block stream end octets) = encoding_of_frames
+    (spread_frames most stream end octets)
 
 -- the octets that are written of items, the oldest first
-unfoldable pub encoding_of_items : List Item → List ℕ
-encoding_of_items [] = []
-encoding_of_items (item ∷ items) = encoding_of_items items ++ encoding_of_item item
+unfoldable pub encoding_of_items : (most : ℕ) → List Item → List ℕ
+encoding_of_items most [] = []
+encoding_of_items most (item ∷ items) = encoding_of_items most items ++ encoding_of_item most item

@@ -17,6 +17,10 @@ max_output = 262144
 abbrev pub max_resets : ℕ
 max_resets = 1000
 
+-- the most octets of a frame's payload that an end sends, whatever its peer reads (section 4.2)
+abbrev pub max_frame_size_sent : ℕ
+max_frame_size_sent = 16384
+
 -- the most octets that one call sends of a body
 abbrev pub max_data : ℕ
 max_data = 65536

@@ -18,6 +18,7 @@ use Rattle.h2_log.specs.Acts.{Act, Answer, Turn, Release, Done}
 use Rattle.h2_log.specs.Settings.{is_server, value_read, settings_count, own_value}
 use Rattle.h2_log.specs.States.{greatest_number, State, is_active, state_of, openings, count_below}
 use Rattle.h2_log.specs.States.{least_block}
+use Rattle.h2_log.specs.Limits.{max_frame_size_sent}
 use Rattle.h2_log.specs.Windows.{send_window_of, connection_send_window, recv_window_of, given_on}
 use Rattle.h2_log.specs.Windows.{given_on_connection}
 
@@ -158,10 +159,11 @@ send_window log i = send_window_of i log.received log.sent
 abbrev pub recv_window : Log → ℕ → ℤ
 recv_window log i = recv_window_of i (acked log) log.received log.sent
 
--- the most octets of a payload that this end sends: those that the peer reads, and at most 16,384
--- (own)
+-- the most octets of a payload that this end sends: the SETTINGS_MAX_FRAME_SIZE that was received
+-- last, which is 16,384 at first and is never below that (section 6.5.2), and not more than the own
+-- limit (own)
 unfoldable pub max_payload_sent_by : List Item → ℕ
-max_payload_sent_by received = min 16384 (value_read 5 16384 received)
+max_payload_sent_by received = min max_frame_size_sent (max 16384 (value_read 5 16384 received))
 
 abbrev pub max_payload_sent : Log → ℕ
 max_payload_sent log = max_payload_sent_by log.received

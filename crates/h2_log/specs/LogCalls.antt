@@ -11,7 +11,7 @@ use Rattle.h2_log.specs.Items.{encoding_of_items}
 use Rattle.h2_log.specs.Acts.{shown, Values, Act, Answer, Out, Refuse, PutOut, Count, OutOfMemory}
 use Rattle.h2_log.specs.Acts.{Refused, Called, Answered}
 use Rattle.h2_log.specs.Settings.{is_server}
-use Rattle.h2_log.specs.Log.{Log, last_processed}
+use Rattle.h2_log.specs.Log.{Log, last_processed, max_payload_sent_by}
 use Rattle.h2_log.specs.LogView.{log_view}
 use Rattle.h2_log.specs.CallRules.{refusal_of, answer_of, items_of, refuse_fault, stream_of_act}
 use Rattle.h2_log.specs.CallRules.{encoder_after_call, may_lack_memory, returns_before_put_out}
@@ -101,6 +101,6 @@ unfoldable pub opened : Role → Values → Log
 opened role values =
     record (with_sent (before_opening role) (alone (Settings false
     (opening_pairs role values)) ∷ [])) {
-      turns = Out (expected_preface (not (is_server role)) ++ encoding_of_items (alone
-          (Settings false (opening_pairs role values)) ∷ [])) ∷ [];
+      turns = Out (expected_preface (not (is_server role)) ++ encoding_of_items
+          (max_payload_sent_by []) (alone (Settings false (opening_pairs role values)) ∷ [])) ∷ [];
     }

@@ -13,7 +13,7 @@ use Rattle.h2_log.specs.Events.{Event, UnprocessedEvent}
 use Rattle.h2_log.specs.Acts.{In, Out, Happened}
 use Rattle.h2_log.specs.Settings.{payload_limit}
 use Rattle.h2_log.specs.Log.{Log, acked, active, last_processed, waiting, unreleased}
-use Rattle.h2_log.specs.Log.{next_unprocessed}
+use Rattle.h2_log.specs.Log.{max_payload_sent, next_unprocessed}
 use Rattle.h2_log.specs.LogView.{log_view}
 use Rattle.h2_frame.specs.Codes.{code_number}
 use Rattle.h2_log.specs.Verdicts.{Verdict, ConnectionFault}
@@ -31,15 +31,14 @@ read log decoded item =
       encoder = encoder_after_item log.encoder item;
     }
 
--- the log with items that were written
+-- the log with items that were written, with the greatest payload in force now
 unfoldable pub with_sent : Log → List Item → Log
 with_sent log [] = log
 with_sent log (item ∷ items) =
     record log {
       sent = item ∷ items ++ log.sent;
-      written = log.written ++ encoding_of_items
-          (item ∷ items);
-      turns = Out (encoding_of_items (item ∷ items)) ∷ log.turns;
+      written = log.written ++ encoding_of_items (max_payload_sent log) (item ∷ items);
+      turns = Out (encoding_of_items (max_payload_sent log) (item ∷ items)) ∷ log.turns;
     }
 
 -- the log with events that were reported

@@ -8,16 +8,17 @@ use Rattle.h2_frame.specs.Frames.{Continuation}
 use Rattle.h2_frame.specs.Encoding.{payload_of, encoding_of}
 use Rattle.h2_frame.proofs.FramePartsLemmas.{length-encoding_of}
 use Rattle.h2_block.specs.Grouping.{Item, alone, block}
-use Rattle.h2_block.specs.Spread.{max_payload, continuations, spread_frames, encoding_of_frames}
+use Rattle.h2_block.specs.Spread.{continuations, spread_frames, encoding_of_frames}
 use Rattle.h2_log.specs.declared.role.Role.{Role}
 use Rattle.h2_log.specs.declared.role.Role.TheVariants.{Client, Server}
 use Rattle.h2_log.specs.Items.{encoding_of_item, encoding_of_items}
+use Rattle.h2_log.specs.Limits.{max_frame_size_sent}
 use Rattle.h2_log.specs.Acts.{Values}
 use Rattle.h2_log.specs.CallRules.{opening_pairs, changed_pairs, data_frames}
 
 -- how many octets are written of items
 abbrev pub size_of : List Item → ℕ
-size_of items = length (encoding_of_items items)
+size_of items = length (encoding_of_items max_frame_size_sent items)
 
 -- A frame alone takes nine octets and its payload.
 pub size-frame : (frame : Frame) → size_of (alone frame ∷ []) ≡ 9 + length (payload_of frame)
@@ -85,9 +86,9 @@ size-append (x ∷ xs) ys =
     omega (
       arith,
       size-append xs ys,
-      length-append (encoding_of_items (xs ++ ys))
-          (encoding_of_item x),
-      length-append (encoding_of_items xs) (encoding_of_item x),
+      length-append (encoding_of_items max_frame_size_sent (xs ++ ys))
+          (encoding_of_item max_frame_size_sent x),
+      length-append (encoding_of_items max_frame_size_sent xs) (encoding_of_item max_frame_size_sent x),
     )
 
 -- DATA frames take no more than nine octets and twice their octets, by the test whether one is
@@ -144,67 +145,70 @@ frames_size frame frames =
 
 -- CONTINUATIONs take no more than nine octets and twice their octets, by the test whether one is
 -- enough.
-continuations_size_by : (count stream : ℕ) (octets : List ℕ) (b : Bool)
-    → nat_le (length octets) max_payload ≡ b
-    → length (encoding_of_frames (continuations count stream
-    (drop max_payload octets))) ≤ 9 + 2 * length (drop max_payload octets)
+continuations_size_by : (most count stream : ℕ) (octets : List ℕ) (b : Bool) → 9 ≤ most
+    → nat_le (length octets) most ≡ b
+    → length (encoding_of_frames (continuations most count stream
+    (drop most octets))) ≤ 9 + 2 * length (drop most octets)
     → length (encoding_of_frames (if b then Continuation stream true octets ∷ []
-    else Continuation stream false (take max_payload octets) ∷ continuations count stream
-    (drop max_payload octets))) ≤ 9 + 2 * length octets
+    else Continuation stream false (take most octets) ∷ continuations most count stream
+    (drop most octets))) ≤ 9 + 2 * length octets
 unfolding payload_of
-continuations_size_by count stream octets true fits few = omega (
+continuations_size_by most count stream octets true big fits few = omega (
   arith,
   frames_size
       (Continuation stream true octets) [],
 )
-continuations_size_by count stream octets false fits few =
+continuations_size_by most count stream octets false big fits few =
     omega (
       arith,
       few,
-      leb-false (length octets) max_payload fits,
-      length-drop max_payload octets,
-      length-take max_payload octets,
-      frames_size (Continuation stream false (take max_payload octets))
-          (continuations count stream (drop max_payload octets)),
+      big,
+      leb-false (length octets) most fits,
+      length-drop most octets,
+      length-take most octets,
+      frames_size (Continuation stream false (take most octets))
+          (continuations most count stream (drop most octets)),
     )
 
 -- CONTINUATIONs take no more than nine octets and twice their octets.
-continuations_size : (count stream : ℕ) (octets : List ℕ)
-    → length (encoding_of_frames (continuations count stream octets)) ≤ 9 + 2 * length octets
+continuations_size : (most count stream : ℕ) (octets : List ℕ) → 9 ≤ most
+    → length (encoding_of_frames (continuations most count stream octets)) ≤ 9 + 2 * length octets
 unfolding continuations
-continuations_size zero stream octets = omega arith
-continuations_size (suc count) stream octets =
-    continuations_size_by count stream octets (nat_le (length octets) max_payload) refl
-    (continuations_size count stream (drop max_payload octets))
+continuations_size most zero stream octets big = omega arith
+continuations_size most (suc count) stream octets big =
+    continuations_size_by most count stream octets (nat_le (length octets) most) big refl
+    (continuations_size most count stream (drop most octets) big)
 
 -- A block takes no more than nine octets and twice its octets, by the test whether one frame is
 -- enough.
-spread_size_by : (stream : ℕ) (end : Bool) (octets : List ℕ) (b : Bool)
-    → nat_le (length octets) max_payload ≡ b
+spread_size_by : (most stream : ℕ) (end : Bool) (octets : List ℕ) (b : Bool) → 9 ≤ most
+    → nat_le (length octets) most ≡ b
     → length (encoding_of_frames (if b then Headers stream end true octets None None ∷ []
-    else Headers stream end false (take max_payload octets) None None ∷ continuations
-    (length octets) stream (drop max_payload octets)))
+    else Headers stream end false (take most octets) None None ∷ continuations most
+    (length octets) stream (drop most octets)))
     ≤ 9 + 2 * length octets
 unfolding payload_of
-spread_size_by stream end octets true fits = omega (
+spread_size_by most stream end octets true big fits = omega (
   arith,
   frames_size
       (Headers stream end true octets None None) [],
 )
-spread_size_by stream end octets false fits =
+spread_size_by most stream end octets false big fits =
     omega (
       arith,
-      leb-false (length octets) max_payload fits,
-      length-drop max_payload octets,
-      length-take max_payload octets,
-      continuations_size (length octets) stream (drop max_payload octets),
-      frames_size (Headers stream end false (take max_payload octets) None None) (continuations
-          (length octets) stream (drop max_payload octets)),
+      big,
+      leb-false (length octets) most fits,
+      length-drop most octets,
+      length-take most octets,
+      continuations_size most (length octets) stream (drop most octets) big,
+      frames_size (Headers stream end false (take most octets) None None) (continuations most
+          (length octets) stream (drop most octets)),
     )
 
 -- A block takes no more than nine octets and twice its octets.
 pub size-block : (stream : ℕ) (end : Bool) (octets : List ℕ)
     → size_of (block stream end octets ∷ []) ≤ 9 + 2 * length octets
 unfolding encoding_of_items encoding_of_item spread_frames
-size-block stream end octets = spread_size_by stream end octets (nat_le
-    (length octets) max_payload) refl
+size-block stream end octets =
+    spread_size_by max_frame_size_sent stream end octets
+    (nat_le (length octets) max_frame_size_sent) (omega arith) refl

@@ -8,22 +8,25 @@ use Rattle.h2_log.specs.Items.{encoding_of_item, encoding_of_items}
 use Rattle.h2_log.specs.Events.{Event}
 use Rattle.h2_log.specs.Acts.{Values, Act, Answer, shown, Turn, Happened}
 use Rattle.h2_log.specs.Settings.{is_server}
-use Rattle.h2_log.specs.Log.{Log}
+use Rattle.h2_log.specs.Limits.{max_frame_size_sent}
+use Rattle.h2_log.specs.Log.{Log, max_payload_sent}
 use Rattle.h2_log.specs.LogSteps.{used, with_sent, with_reported}
 use Rattle.h2_log.specs.LogCalls.{called, opened}
 use Rattle.h2_log.specs.Histories.{IsLog}
+use Rattle.h2_log.proofs.SentPayloads.{most_is_limit}
 use Rattle.h2_log_laws.specs.Turns.{octets_in, octets_out, events_in, acts_in, answers_in, acts_of}
 use Rattle.h2_log_laws.specs.Turns.{answers_of, TurnsRecord}
 use Rattle.h2_log_laws.proofs.EveryLog.{IsSteady, every_log}
 
 -- The octets of items after others.
-written_after : (newer older : List Item) → encoding_of_items (newer ++ older)
-    ≡ encoding_of_items older ++ encoding_of_items newer
+written_after : (most : ℕ) (newer older : List Item) → encoding_of_items most (newer ++ older)
+    ≡ encoding_of_items most older ++ encoding_of_items most newer
 unfolding encoding_of_items
-written_after [] older = sym (append-nil (encoding_of_items older))
-written_after (item ∷ newer) older =
-    ap (λ (octets : List ℕ). octets ++ encoding_of_item item) (written_after newer older)
-    ∙ append_assoc (encoding_of_items older) (encoding_of_items newer) (encoding_of_item item)
+written_after most [] older = sym (append-nil (encoding_of_items most older))
+written_after most (item ∷ newer) older =
+    ap (λ (octets : List ℕ). octets ++ encoding_of_item most item) (written_after most newer older)
+    ∙ append_assoc (encoding_of_items most older) (encoding_of_items most newer)
+    (encoding_of_item most item)
 
 -- Events that were reported are turns, and nothing else is reported by them.
 pub record HappenedOnly (happened : List Event) (turns : List Turn) : Type 0 where
@@ -60,16 +63,21 @@ wrote_reported log [] is = is
 wrote_reported log (item ∷ items) is =
     record {
       input = is.input;
-      output = ap (λ (octets : List ℕ). octets ++ encoding_of_items (item ∷ items)) is.output;
+      output = ap (λ (octets : List ℕ). octets ++ encoding_of_items (max_payload_sent log)
+          (item ∷ items)) is.output;
       events = is.events;
       acts = is.acts;
       answers = is.answers;
       items =
-          ap (λ (octets : List ℕ). octets ++ encoding_of_items (item ∷ items)) is.items
+          ap (λ (most : ℕ). log.written ++ encoding_of_items most (item ∷ items))
+          (most_is_limit log.received)
+          ∙ ap (λ (octets : List ℕ). octets ++ encoding_of_items max_frame_size_sent (item ∷ items))
+          is.items
           ∙ append_assoc (expected_preface (not (is_server log.role)))
-          (encoding_of_items log.sent) (encoding_of_items (item ∷ items))
+          (encoding_of_items max_frame_size_sent log.sent)
+          (encoding_of_items max_frame_size_sent (item ∷ items))
           ∙ ap (λ (octets : List ℕ). expected_preface (not (is_server log.role)) ++ octets) (sym
-          (written_after (item ∷ items) log.sent));
+          (written_after max_frame_size_sent (item ∷ items) log.sent));
     }
 
 -- Events that are reported.
@@ -177,7 +185,7 @@ turns_are_steady =
 -- The turns of a new end.
 begins_reported : (role : Role) (values : Values) → TurnsRecord (opened role values)
 unfolding opened with_sent octets_in octets_out events_in acts_in answers_in acts_of answers_of
-    encoding_of_items
+    encoding_of_items encoding_of_item
 begins_reported role values = record {
   input = refl;
   output = refl;

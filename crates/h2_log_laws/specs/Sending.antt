@@ -1,28 +1,28 @@
--- Items that can be sent, and the frames that are sent of them.
-use Rattle.std.specs.Prelude.{◌≡◌, ◌<◌, ◌≤◌, ◌^◌, true, List, [], ◌∷◌, ◌++◌, length, None}
+-- Items that can be sent, and the frames that are sent of them, where `most` is the greatest payload.
+use Rattle.std.specs.Prelude.{◌≡◌, ℕ, ◌<◌, ◌≤◌, ◌^◌, true, List, [], ◌∷◌, ◌++◌, length, None}
 use Rattle.h2_frame.specs.Frames.{Frame}
 use Rattle.h2_frame.specs.Encoding.{payload_of, refusal, IsTyped}
 use Rattle.h2_block.specs.Grouping.{Item, alone, block, is_standalone, max_block_octets}
-use Rattle.h2_block.specs.Spread.{spread_frames, max_payload}
+use Rattle.h2_block.specs.Spread.{spread_frames}
 
 -- A frame can be sent that no refusal of writing holds for, whose numbers are those that its types
--- hold, and whose payload has at most 16,384 octets; a block on a stream that there is, with as
--- many octets as may be gathered.
-abbrev pub IsSendable : Item → Type 0
-IsSendable (alone frame) = (is_standalone frame ≡ true) × (refusal frame ≡ None) × IsTyped frame
-    × (length (payload_of frame) ≤ max_payload)
-IsSendable (block stream end octets) = (1 ≤ stream) × (stream < 2 ^ 31)
+-- hold, and whose payload isn't greater; a block on a stream that there is, with as many octets as
+-- may be gathered.
+abbrev pub IsSendable : (most : ℕ) → Item → Type 0
+IsSendable most (alone frame) = (is_standalone frame ≡ true) × (refusal frame ≡ None)
+    × IsTyped frame × (length (payload_of frame) ≤ most)
+IsSendable most (block stream end octets) = (1 ≤ stream) × (stream < 2 ^ 31)
     × (length octets ≤ max_block_octets)
 
 -- the frames of an item
-abbrev pub frames_of_item : Item → List Frame
-frames_of_item (alone frame) = frame ∷ []
-frames_of_item (block stream end octets) = spread_frames stream end octets
+abbrev pub frames_of_item : (most : ℕ) → Item → List Frame
+frames_of_item most (alone frame) = frame ∷ []
+frames_of_item most (block stream end octets) = spread_frames most stream end octets
 
 -- the frames of items, those of the oldest first
-abbrev pub frames_of_items : List Item → List Frame
-frames_of_items [] = []
-frames_of_items (item ∷ items) = frames_of_items items ++ frames_of_item item
+abbrev pub frames_of_items : (most : ℕ) → List Item → List Frame
+frames_of_items most [] = []
+frames_of_items most (item ∷ items) = frames_of_items most items ++ frames_of_item most item
 
 -- items, the oldest first
 abbrev pub oldest_first : List Item → List Item

@@ -13,6 +13,7 @@ use Rattle.h2_log.specs.Acts.{Values}
 use Rattle.h2_log.specs.Settings.{is_server}
 use Rattle.h2_log.specs.States.{State, Idle, Active, ClosedByUs, Closed}
 use Rattle.h2_log.specs.Windows.{greatest_window}
+use Rattle.h2_log.specs.Limits.{max_frame_size_sent}
 use Rattle.h2_log.specs.View.{StreamView, View}
 
 -- what is kept of a stream number: an active stream, or that this end has reset it
@@ -164,6 +165,6 @@ end_view e =
       ping = e.ping;
       resets = e.streams.resets;
       waiting = length e.output.waiting;
-      max_payload = 16384;
+      max_payload = max_frame_size_sent;
       encoder = e.output.encoder;
     }

@@ -17,6 +17,7 @@ use Rattle.h2_log.specs.Acts.{Values, Act, Answer, Open, SendFields, SendData, R
 use Rattle.h2_log.specs.Acts.{Refuse, SendPing, SendGoAway, PutOut, ChangeSettings}
 use Rattle.h2_log.specs.Settings.{is_server, value_after}
 use Rattle.h2_log.specs.Windows.{first_window}
+use Rattle.h2_log.specs.Limits.{max_frame_size_sent}
 use Rattle.h2_log.specs.View.{StreamView, View, ended_in}
 use Rattle.h2_frame.specs.Codes.{code_number}
 use Rattle.h2_log.specs.Verdicts.{Verdict, ConnectionFault, StreamFault, NoEvent, Reported}
@@ -59,7 +60,7 @@ abbrev pub queue_output : End → List Item → End
 queue_output e items = record e {
   output = record e.output {
     waiting = e.output.waiting ++
-        encoding_of_items items;
+        encoding_of_items (end_view e).max_payload items;
   };
 }
 
@@ -361,7 +362,7 @@ after_data e i octets end count (Some stream) =
     if count == 0 && not (length octets == 0 && end) then e
     else
     update_stream
-    (record (queue_output e (data_items 16384 i octets end count)) {
+    (record (queue_output e (data_items (end_view e).max_payload i octets end count)) {
       windows = record e.windows
           { send = e.windows.send - count };
     })
@@ -480,6 +481,6 @@ new_end role values =
       output = record {
         encoder = record { table = empty_table 4096; least = 4096; limit = 4096 };
         waiting = expected_preface (not (is_server role)) ++ encoding_of_items
-            (alone (Settings false (opening_pairs role values)) ∷ []);
+            max_frame_size_sent (alone (Settings false (opening_pairs role values)) ∷ []);
       };
     }

@@ -21,6 +21,7 @@ use Rattle.h2_log.specs.Acts.{AreInRange, IsTypedAct}
 use Rattle.h2_log.specs.Settings.{is_server}
 use Rattle.h2_log.specs.States.{greatest_number}
 use Rattle.h2_log.specs.Limits.{max_list, full_output, max_output, max_resets}
+use Rattle.h2_log.specs.Limits.{max_frame_size_sent}
 use Rattle.h2_log.specs.CallRules.{opening_pairs, changed_pairs, data_frames, data_items, is_full}
 use Rattle.h2_log.specs.CallRules.{conditions, refusal_of, data_count, items_of, encoder_after_call}
 use Rattle.h2_log.specs.CallRules.{refuse_fault, returns_before_put_out}
@@ -357,13 +358,14 @@ unfolding new_end
 new_bounded role values in_range =
     let output :
     length (expected_preface (not (is_server role))
-    ++ encoding_of_items (alone (Settings false (opening_pairs role values)) ∷ [])) ≤ 57 =
+    ++ encoding_of_items max_frame_size_sent
+    (alone (Settings false (opening_pairs role values)) ∷ [])) ≤ 57 =
     omega (
       arith,
       opening_few (not (is_server role)),
       size-opening role values,
       length-append (expected_preface (not (is_server role)))
-          (encoding_of_items (alone (Settings false (opening_pairs role values)) ∷ [])),
+          (encoding_of_items max_frame_size_sent (alone (Settings false (opening_pairs role values)) ∷ [])),
     ) in
     is_bounded (new_end role values)
     (record {

@@ -13,7 +13,7 @@ use Rattle.h2_block.specs.Grouping.{Item, alone}
 use Rattle.h2_log.specs.Items.{encoding_of_items}
 use Rattle.h2_log.specs.Acts.{Values, AreInRange}
 use Rattle.h2_frame.specs.Codes.{code_number}
-use Rattle.h2_log.specs.Limits.{full_output, max_output, max_resets}
+use Rattle.h2_log.specs.Limits.{full_output, max_output, max_resets, max_frame_size_sent}
 use Rattle.h2_log.specs.ItemEffects.{encoder_after_settings}
 use Rattle.h2_machine.specs.End.{End, owed_entry}
 use Rattle.h2_log.specs.View.{StreamView}
@@ -79,7 +79,8 @@ failed_bounded e code last h =
             arith,
             h.output,
             length-append e.output.waiting
-                (encoding_of_items (alone (GoAway last (code_number code) []) ∷ [])),
+                (encoding_of_items max_frame_size_sent
+                (alone (GoAway last (code_number code) []) ∷ [])),
             size-goaway last (code_number code),
           );
       resets = h.few_resets;
@@ -142,10 +143,16 @@ other_encoder waits resets active allowed max_streams awaited encoder after writ
 pub joined : (e : End) (items : List Item) → length e.output.waiting + size_of items ≤ max_output
     → Up e → Up (queue_output e items)
 joined e items space h =
-    with_output (length e.output.waiting) (length (e.output.waiting ++ encoding_of_items items))
+    with_output (length e.output.waiting) (length (e.output.waiting
+    ++ encoding_of_items max_frame_size_sent items))
     e.streams.resets e.streams.active_count e.peer.max_streams e.own.in_force.max_streams
     e.own.awaited e.output.encoder
-    (omega (arith, space, length-append e.output.waiting (encoding_of_items items))) h
+    (omega (
+      arith,
+      space,
+      length-append e.output.waiting
+          (encoding_of_items max_frame_size_sent items),
+    )) h
 
 -- Credit is returned where less than the full output waits.
 pub credit_returned : (e : End) → length e.output.waiting < full_output → Up e

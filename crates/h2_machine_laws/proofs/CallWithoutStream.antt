@@ -14,6 +14,8 @@ use Rattle.h2_log.specs.Acts.{ChangeSettings, Count, Done}
 use Rattle.h2_log.specs.declared.role.Role.{Role}
 use Rattle.h2_log.specs.Settings.{is_server, settings_count}
 use Rattle.h2_log.specs.Log.{Log, acked, active, last_processed, waiting, output, released}
+use Rattle.h2_log.specs.Log.{max_payload_sent}
+use Rattle.h2_log.proofs.SentPayloads.{most_is_limit}
 use Rattle.h2_log.specs.LogSteps.{with_sent, with_credit_returned}
 use Rattle.h2_log.specs.LogCalls.{called, before_put_out, MayAnswer, with_items, with_call}
 use Rattle.h2_log.specs.CallRules.{first_of, items_of, answer_of, stream_of_act, encoder_after_call}
@@ -164,8 +166,9 @@ ready_size_by : (log : Log) (b : Bool) → log.given ≤ length (output log)
 unfolding waiting output with_sent
 ready_size_by log true given =
     let update = alone (WindowUpdate 0 log.unreturned) ∷ [] in
-    let size : length (encoding_of_items update) ≡ 13 = size-update 0 log.unreturned in
-    omega (arith, length-append log.written (encoding_of_items update), size)
+    let size : length (encoding_of_items (max_payload_sent log) update) ≡ 13 =
+    rw (most_is_limit log.received) (size-update 0 log.unreturned) in
+    omega (arith, length-append log.written (encoding_of_items (max_payload_sent log) update), size)
 ready_size_by log false given = omega arith
 
 -- As much waits once an end is ready as the rules say.

@@ -16,6 +16,7 @@ use Rattle.h2_log.specs.Settings.{up_to_settings}
 use Rattle.h2_log.specs.States.{openings, is_active, count_below}
 use Rattle.h2_log.specs.Windows.{given_on_connection, granted_on_connection}
 use Rattle.h2_log.specs.Log.{active, active_count, last_processed, max_streams, allowed_by, output}
+use Rattle.h2_log.specs.Log.{max_payload_sent_by}
 use Rattle.h2_log.specs.LogSteps.{with_sent}
 use Rattle.h2_log.specs.CallRules.{opening_pairs}
 use Rattle.h2_log.specs.LogCalls.{opened}
@@ -116,7 +117,7 @@ new_running role values =
 -- A new machine represents a new log.
 pub new_represents : (role : Role) (values : Values) → AreInRange values
     → Represents values (new_end role values) (opened role values)
-unfolding computing
+unfolding computing max_payload_sent_by
 new_represents role values in_range =
     record {
       came = begins in_range;

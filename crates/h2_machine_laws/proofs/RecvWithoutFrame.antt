@@ -24,7 +24,9 @@ use Rattle.h2_log.specs.States.{openings, is_active, count_below, when}
 use Rattle.h2_log.specs.Windows.{first_window, given_on_connection, granted_on_connection}
 use Rattle.h2_log.specs.Windows.{send_window_of, recv_window_of}
 use Rattle.h2_log.specs.Log.{least_goaway, Log, last_processed, output, active_count, max_streams}
-use Rattle.h2_log.specs.Log.{unreleased, released, allowed_by, newest_ping, waiting}
+use Rattle.h2_log.specs.Limits.{max_frame_size_sent}
+use Rattle.h2_log.proofs.SentPayloads.{most_is_limit}
+use Rattle.h2_log.specs.Log.{unreleased, released, allowed_by, newest_ping, waiting, max_payload_sent}
 use Rattle.h2_frame.specs.Codes.{code_number}
 use Rattle.h2_log.specs.LogSteps.{used, with_sent, with_reported, with_failure}
 use Rattle.h2_log.specs.LogSteps.{with_credit_returned, took_part, took_fault, took_out_of_memory}
@@ -278,7 +280,7 @@ waits_of values e log s = record {
 -- Items that are written wait.
 pub wrote_connection : (role : Role) (failed : Option Code) (waits : List ℕ) (log : Log)
     (item : Item) (items : List Item) → ConnectionFacts role failed waits log
-    → ConnectionFacts role failed (waits ++ encoding_of_items (item ∷ items))
+    → ConnectionFacts role failed (waits ++ encoding_of_items max_frame_size_sent (item ∷ items))
     (with_sent log (item ∷ items))
 unfolding with_sent
 wrote_connection role failed waits log item items s =
@@ -286,20 +288,27 @@ wrote_connection role failed waits log item items s =
       same_role = s.same_role;
       same_failed = s.same_failed;
       waiting =
-          ap (λ (xs : List ℕ). xs ++ encoding_of_items (item ∷ items)) s.waiting
-          ∙ sym (drop-append-le log.given log.written (encoding_of_items (item ∷ items)) s.given);
-      given = omega (arith, s.given, length-append log.written (encoding_of_items (item ∷ items)));
+          ap (λ (xs : List ℕ). xs ++ encoding_of_items max_frame_size_sent (item ∷ items)) s.waiting
+          ∙ ap (λ (most : ℕ). drop log.given log.written ++ encoding_of_items most (item ∷ items))
+          (sym (most_is_limit log.received))
+          ∙ sym (drop-append-le log.given log.written
+          (encoding_of_items (max_payload_sent log) (item ∷ items)) s.given);
+      given = omega (
+        arith,
+        s.given,
+        length-append log.written (encoding_of_items (max_payload_sent log) (item ∷ items)),
+      );
     }
 
 -- Where the connection fails, GOAWAY waits.
 pub fails_connection : (role : Role) (failed : Option Code) (waits : List ℕ) (log : Log)
     (code : Code) (last other : ℕ) → last ≡ other
     → ConnectionFacts role failed waits log
-    → ConnectionFacts role (Some code) (waits ++ encoding_of_items
+    → ConnectionFacts role (Some code) (waits ++ encoding_of_items max_frame_size_sent
     (alone (GoAway last (code_number code) []) ∷ [])) (with_failure code other log)
 unfolding with_sent
 fails_connection role failed waits log code last other same s =
-    let connection_facts : ConnectionFacts role failed (waits ++ encoding_of_items
+    let connection_facts : ConnectionFacts role failed (waits ++ encoding_of_items max_frame_size_sent
     (alone (GoAway last (code_number code) []) ∷ []))
     (with_sent log (alone (GoAway other (code_number code) []) ∷ [])) =
     rw same (wrote_connection role failed waits log (alone (GoAway other (code_number code) [])) []
@@ -349,13 +358,13 @@ same_length role failed waits log s = rw (s.waiting) (length-drop log.given log.
 pub with_unreturned_connection_by : (role : Role) (failed : Option Code) (waits : List ℕ)
     (log : Log) (more unreturned : ℕ) (b : Bool) → unreturned ≡ log.unreturned
     → ConnectionFacts role failed waits log
-    → ConnectionFacts role failed (if b then waits ++ encoding_of_items
+    → ConnectionFacts role failed (if b then waits ++ encoding_of_items max_frame_size_sent
     (alone (WindowUpdate 0 (unreturned + more)) ∷ []) else waits)
     (if b then with_credit_returned (record log { unreturned = log.unreturned + more }) else record
     log { unreturned = log.unreturned + more })
 unfolding with_sent
 with_unreturned_connection_by role failed waits log more unreturned true same s =
-    let connection_facts : ConnectionFacts role failed (waits ++ encoding_of_items
+    let connection_facts : ConnectionFacts role failed (waits ++ encoding_of_items max_frame_size_sent
     (alone (WindowUpdate 0 (unreturned + more)) ∷ []))
     (with_sent log (alone (WindowUpdate 0 (log.unreturned + more)) ∷ [])) =
     rw same (wrote_connection role failed waits log (alone (WindowUpdate 0 (log.unreturned + more)))

@@ -11,7 +11,8 @@ use Rattle.h2_log.specs.LogView.{log_view}
 use Rattle.h2_log.specs.View.{View}
 use Rattle.h2_log.specs.Items.{encoding_of_items}
 use Rattle.h2_log.specs.Acts.{Values, Act, Answer, IsTypedAct}
-use Rattle.h2_log.specs.Log.{Log, active, waiting, output, released, unreleased}
+use Rattle.h2_log.specs.Log.{Log, active, waiting, output, released, unreleased, max_payload_sent}
+use Rattle.h2_log.proofs.SentPayloads.{most_is_limit}
 use Rattle.h2_log.specs.States.{is_active}
 use Rattle.h2_log.specs.Limits.{full_output}
 use Rattle.h2_log.specs.LogSteps.{with_sent, with_unreturned, with_credit_returned, owed_at_close}
@@ -114,9 +115,12 @@ wrote_waits e log [] is = record {
 }
 wrote_waits e log (item ∷ items) is =
     record {
-      waiting = joined log.given e.output.waiting log.written (encoding_of_items (item ∷ items))
-          is.waiting is.given;
-      given = still log.given log.written (encoding_of_items (item ∷ items)) is.given;
+      waiting = ap (λ (most : ℕ). e.output.waiting ++ encoding_of_items most (item ∷ items))
+          (sym (most_is_limit log.received))
+          ∙ joined log.given e.output.waiting log.written
+          (encoding_of_items (max_payload_sent log) (item ∷ items)) is.waiting is.given;
+      given = still log.given log.written (encoding_of_items (max_payload_sent log)
+          (item ∷ items)) is.given;
     }
 
 -- Items are written, where the end represents the log with them but for what waits.

@@ -27,7 +27,7 @@ frames_more count most id octets end long =
     rw test refl
 
 -- the last one
-frames_last : (count most id : ℕ) (octets : List ℕ) (end : Bool) → length octets ≤ most
+pub frames_last : (count most id : ℕ) (octets : List ℕ) (end : Bool) → length octets ≤ most
     → data_frames (suc count) most id octets end ≡ alone (Data id end octets None) ∷ []
 unfolding data_frames
 frames_last count most id octets end short =

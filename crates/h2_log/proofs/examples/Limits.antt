@@ -6,6 +6,7 @@ use Rattle.h2_frame.specs.declared.code.Code.TheVariants.{EnhanceYourCalm, Proto
 use Rattle.h2_block.specs.Grouping.{alone, block}
 use Rattle.h2_log.specs.ItemRules.{replies_to}
 use Rattle.h2_log.specs.Items.{encoding_of_items}
+use Rattle.h2_log.specs.Limits.{max_frame_size_sent}
 use Rattle.h2_log.specs.Log.{waiting}
 use Rattle.h2_log.specs.LogSteps.{with_verdict}
 use Rattle.h2_log.specs.Verdicts.{ConnectionFault, NoEvent, Reported, StreamFault}
@@ -17,17 +18,18 @@ use Rattle.h2_log.proofs.examples.Words.{abcd, come_to, empty_settings, get_bloc
 use Rattle.h2_log.proofs.examples.Words.{one_to_eight, outcome, preface_octets, verdicts}
 
 -- The answer to PING has 17 octets, an acknowledgment 9 and RST_STREAM 13.
-size_of_a_pong : (a b c d e f g h : ℕ) → length (encoding_of_items
+size_of_a_pong : (a b c d e f g h : ℕ) → length (encoding_of_items max_frame_size_sent
     (replies_to NoEvent (alone (Ping false (a ∷ b ∷ c ∷ d ∷ e ∷ f ∷ g ∷ h ∷ []))))) ≡ 17
 unfolding computing
 size_of_a_pong a b c d e f g h = refl
 
 size_of_an_acknowledgment : (pairs : List (ℕ × ℕ))
-    → length (encoding_of_items (replies_to NoEvent (alone (Settings false pairs)))) ≡ 9
+    → length (encoding_of_items max_frame_size_sent
+    (replies_to NoEvent (alone (Settings false pairs)))) ≡ 9
 unfolding computing
 size_of_an_acknowledgment pairs = refl
 
-size_of_a_reset : (stream increment : ℕ) → length (encoding_of_items
+size_of_a_reset : (stream increment : ℕ) → length (encoding_of_items max_frame_size_sent
     (replies_to (StreamFault ProtocolError) (alone (WindowUpdate stream increment)))) ≡ 13
 unfolding computing
 size_of_a_reset stream increment = refl

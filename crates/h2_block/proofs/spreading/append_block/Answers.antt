@@ -10,28 +10,28 @@ use Rattle.h2_block.proofs.spreading.append_block.Goals as goal
 pub append-requires : goal.append-requires
 append-requires c =
     let cut =
-    cut_at _ _ _ _ _ c.min.ensures c.split_at.ensures.front c.split_at.ensures.back
+    cut_at _ _ _ _ _ _ c.min.ensures c.split_at.ensures.front c.split_at.ensures.back
     c.is_empty.ensures in
     record {
-      writable = (headers_writable c.args.stream c.args.end c.is_empty.result
-          c.split_at.result.0.now c.requires.at_least c.requires.at_most (cut_few _ _ _ _ cut)).0;
-      room = first-room _ _ _
+      writable = (headers_writable c.args.most c.args.stream c.args.end c.is_empty.result
+          c.split_at.result.0.now c.requires.payload_length c.requires.at_least c.requires.at_most (cut_few _ _ _ _ _ cut)).0;
+      room = first-room _ _ _ _
           (Headers c.args.stream c.args.end c.is_empty.result c.split_at.result.0.now None None)
           c.args.stream c.split_at.result.1.now
-          (spread_frames-cut c.args.stream c.args.end c.args.octets.now _ _ _ cut) c.requires.room;
+          (spread_frames-cut c.args.most c.args.stream c.args.end c.args.octets.now _ _ _ c.requires.payload cut) c.requires.room;
     }
 
 pub loop-rest-init : goal.loop-rest-init
 loop-rest-init c =
     let cut =
-    cut_at _ _ _ _ _ c.min.ensures c.split_at.ensures.front c.split_at.ensures.back
+    cut_at _ _ _ _ _ _ c.min.ensures c.split_at.ensures.front c.split_at.ensures.back
     c.is_empty.ensures in
     record {
       so_far =
-          so_far-first _ _ _
+          so_far-first _ _ _ _
           (Headers c.args.stream c.args.end c.is_empty.result c.split_at.result.0.now None None)
           c.args.stream c.split_at.result.1.now
-          (spread_frames-cut c.args.stream c.args.end c.args.octets.now _ _ _ cut)
+          (spread_frames-cut c.args.most c.args.stream c.args.end c.args.octets.now _ _ _ c.requires.payload cut)
           c.append.ensures.items;
       capacity = c.append.ensures.capacity;
     }
@@ -40,21 +40,21 @@ pub append-requires-in-loop-rest : goal.append-requires-in-loop-rest
 append-requires-in-loop-rest c =
     let rest = c.loop-rest.rest.now in
     let cut =
-    cut_at _ _ _ _ _ c.min-in-loop-rest.ensures c.split_at-in-loop-rest.ensures.front
+    cut_at _ _ _ _ _ _ c.min-in-loop-rest.ensures c.split_at-in-loop-rest.ensures.front
     c.split_at-in-loop-rest.ensures.back c.is_empty-in-loop-rest-2.ensures in
     let split =
-    left_frames-cut c.args.stream rest _ _ _ (some_left (length rest) c.loop-rest-test.ensures)
+    left_frames-cut c.args.most c.args.stream rest _ _ _ c.requires.payload (some_left (length rest) c.loop-rest-test.ensures)
     cut in
     let enough =
-    so_far-room _ _ _ c.args.stream rest _
+    so_far-room _ _ _ _ c.args.stream rest _
     (Continuation c.args.stream c.is_empty-in-loop-rest-2.result
     c.split_at-in-loop-rest.result.0.now)
     (vec_capacity c.loop-rest.out) c.loop-rest.invariant.so_far split
     (omega (arith, c.requires.room, c.loop-rest.invariant.capacity, c.args.out.now.ok.0)) in
     record {
-      writable = (continuation_writable c.args.stream c.is_empty-in-loop-rest-2.result
-          c.split_at-in-loop-rest.result.0.now c.requires.at_least c.requires.at_most
-          (cut_few _ _ _ _ cut)).0;
+      writable = (continuation_writable c.args.most c.args.stream c.is_empty-in-loop-rest-2.result
+          c.split_at-in-loop-rest.result.0.now c.requires.payload_length c.requires.at_least c.requires.at_most
+          (cut_few _ _ _ _ _ cut)).0;
       room = omega (arith, enough, c.loop-rest.out.ok.0);
     }
 
@@ -62,14 +62,14 @@ pub loop-rest-preserved : goal.loop-rest-preserved
 loop-rest-preserved c =
     let rest = c.loop-rest.rest.now in
     let cut =
-    cut_at _ _ _ _ _ c.min-in-loop-rest.ensures c.split_at-in-loop-rest.ensures.front
+    cut_at _ _ _ _ _ _ c.min-in-loop-rest.ensures c.split_at-in-loop-rest.ensures.front
     c.split_at-in-loop-rest.ensures.back c.is_empty-in-loop-rest-2.ensures in
     let split =
-    left_frames-cut c.args.stream rest _ _ _ (some_left (length rest) c.loop-rest-test.ensures)
+    left_frames-cut c.args.most c.args.stream rest _ _ _ c.requires.payload (some_left (length rest) c.loop-rest-test.ensures)
     cut in
     record {
       so_far =
-          so_far-more _ _ _ _ c.args.stream rest _
+          so_far-more _ _ _ _ _ c.args.stream rest _
           (Continuation c.args.stream c.is_empty-in-loop-rest-2.result
           c.split_at-in-loop-rest.result.0.now)
           c.loop-rest.invariant.so_far split c.append-in-loop-rest.ensures.items;
@@ -82,5 +82,5 @@ loop-rest-preserved c =
 
 pub returns-clause-items : goal.returns-clause-items
 returns-clause-items c =
-    so_far-all _ _ _ c.args.stream c.loop-rest.rest.now c.loop-rest.invariant.so_far
+    so_far-all _ _ _ _ c.args.stream c.loop-rest.rest.now c.loop-rest.invariant.so_far
     (none_left (length c.loop-rest.rest.now) c.loop-rest-test.ensures)
