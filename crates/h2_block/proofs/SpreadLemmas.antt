@@ -83,7 +83,8 @@ continuations_spread most (suc count) stream octets positive enough =
     ]
 
 -- The frames over which a block is spread are it.
-pub spread_grouped : (most stream : ℕ) (end : Bool) (octets : List ℕ) → 1 ≤ most → length octets ≤ max_block_octets
+pub spread_grouped : (most stream : ℕ) (end : Bool) (octets : List ℕ) → 1 ≤ most
+    → length octets ≤ max_block_octets
     → Groups (spread_frames most stream end octets) (block stream end octets ∷ []) None
 spread_grouped most stream end octets positive within = elim (cases_lt most (length octets)) [
   | inl more ↦
@@ -135,7 +136,11 @@ spread_grouped most stream end octets positive within = elim (cases_lt most (len
       [],
       sym (append-nil _),
       (
-        inl (record { pad = None; priority = None; one = spread_frames-few most stream end octets few }),
+        inl (record {
+          pad = None;
+          priority = None;
+          one = spread_frames-few most stream end octets few;
+        }),
         within,
       ),
       refl,
@@ -150,8 +155,8 @@ IsWritable most frame = (refusal frame ≡ None) × IsTyped frame
     × (length (payload_of frame) ≤ most)
 
 -- HEADERS within the limit can be written
-pub headers_writable : (most stream : ℕ) (end whole : Bool) (octets : List ℕ) → most < 2 ^ 24 → 1 ≤ stream
-    → stream < 2 ^ 31 → length octets ≤ most
+pub headers_writable : (most stream : ℕ) (end whole : Bool) (octets : List ℕ) → most < 2 ^ 24
+    → 1 ≤ stream → stream < 2 ^ 31 → length octets ≤ most
     → IsWritable most (Headers stream end whole octets None None)
 unfolding refusal payload_of stream_of kind_of_frame fits_stream has_good_values
 headers_writable most stream end whole octets bounded at_least at_most few = (
@@ -165,8 +170,8 @@ headers_writable most stream end whole octets bounded at_least at_most few = (
 )
 
 -- a CONTINUATION within the limit can be written
-pub continuation_writable : (most stream : ℕ) (whole : Bool) (octets : List ℕ) → most < 2 ^ 24 → 1 ≤ stream
-    → stream < 2 ^ 31 → length octets ≤ most
+pub continuation_writable : (most stream : ℕ) (whole : Bool) (octets : List ℕ) → most < 2 ^ 24
+    → 1 ≤ stream → stream < 2 ^ 31 → length octets ≤ most
     → IsWritable most (Continuation stream whole octets)
 unfolding refusal payload_of stream_of kind_of_frame fits_stream has_good_values
 continuation_writable most stream whole octets bounded at_least at_most few = (
@@ -180,7 +185,8 @@ continuation_writable most stream whole octets bounded at_least at_most few = (
 )
 
 -- The CONTINUATIONs of octets can be written.
-continuations_writable : (most count stream : ℕ) (octets : List ℕ) → most < 2 ^ 24 → 1 ≤ stream → stream < 2 ^ 31
+continuations_writable : (most count stream : ℕ) (octets : List ℕ) → most < 2 ^ 24 → 1 ≤ stream
+    → stream < 2 ^ 31
     → AllByRecursion (IsWritable most) (continuations most count stream octets)
 unfolding continuations
 continuations_writable most zero stream octets bounded at_least at_most = tt
@@ -198,26 +204,30 @@ continuations_writable most (suc count) stream octets bounded at_least at_most =
     ]
 
 -- The frames over which a block is spread can be written.
-pub spread_writable : (most stream : ℕ) (end : Bool) (octets : List ℕ) → most < 2 ^ 24 → 1 ≤ stream → stream < 2 ^ 31
+pub spread_writable : (most stream : ℕ) (end : Bool) (octets : List ℕ) → most < 2 ^ 24
+    → 1 ≤ stream → stream < 2 ^ 31
     → AllByRecursion (IsWritable most) (spread_frames most stream end octets)
-spread_writable most stream end octets bounded at_least at_most = elim (cases_lt most (length octets)) [
-  | inl more ↦ subst (λ (line : List Frame). AllByRecursion (IsWritable most) line)
-      (sym (spread_frames-more most stream end octets more)) (
-        headers_writable most stream end false (take most octets) bounded at_least at_most
-            (omega (arith, length-take most octets)),
-        continuations_writable most (length octets) stream (drop most octets) bounded at_least at_most,
-      )
-  | inr few ↦ subst (λ (line : List Frame). AllByRecursion (IsWritable most) line)
-      (sym (spread_frames-few most stream end octets few))
-      (headers_writable most stream end true octets bounded at_least at_most few, tt)
-]
+spread_writable most stream end octets bounded at_least at_most =
+    elim (cases_lt most (length octets)) [
+      | inl more ↦ subst (λ (line : List Frame). AllByRecursion (IsWritable most) line)
+          (sym (spread_frames-more most stream end octets more)) (
+            headers_writable most stream end false (take most octets) bounded at_least at_most
+                (omega (arith, length-take most octets)),
+            continuations_writable most (length octets) stream (drop most octets) bounded at_least
+                at_most,
+          )
+      | inr few ↦ subst (λ (line : List Frame). AllByRecursion (IsWritable most) line)
+          (sym (spread_frames-few most stream end octets few))
+          (headers_writable most stream end true octets bounded at_least at_most few, tt)
+    ]
 
 -- one CONTINUATION more than octets is enough, and more change nothing
-continuations-count : (most count other stream : ℕ) (octets : List ℕ) → 1 ≤ most → length octets < count
-    → length octets < other
+continuations-count : (most count other stream : ℕ) (octets : List ℕ) → 1 ≤ most
+    → length octets < count → length octets < other
     → continuations most count stream octets ≡ continuations most other stream octets
 continuations-count most zero other stream octets positive enough plenty = absurd (omega arith)
-continuations-count most (suc count) zero stream octets positive enough plenty = absurd (omega arith)
+continuations-count most (suc count) zero stream octets positive enough plenty =
+    absurd (omega arith)
 continuations-count most (suc count) (suc other) stream octets positive enough plenty =
     elim (cases_lt most (length octets)) [
       | inl more ↦
@@ -258,14 +268,14 @@ pub record IsCut (most : ℕ) (octets piece following : List ℕ) (whole : Bool)
   pub ends : whole ≡ (length following == 0)
 
 -- a piece is within the limit
-pub cut_few : (most : ℕ) (octets piece following : List ℕ) (whole : Bool) → IsCut most octets piece following whole
-    → length piece ≤ most
+pub cut_few : (most : ℕ) (octets piece following : List ℕ) (whole : Bool)
+    → IsCut most octets piece following whole → length piece ≤ most
 cut_few most octets piece following whole cut =
     rw cut.first (omega (arith, length-take (min (length octets) most) octets))
 
 -- octets that fit a frame are one piece
-cut_all : (most : ℕ) (octets piece following : List ℕ) (whole : Bool) → IsCut most octets piece following whole
-    → length octets ≤ most
+cut_all : (most : ℕ) (octets piece following : List ℕ) (whole : Bool)
+    → IsCut most octets piece following whole → length octets ≤ most
     → (piece ≡ octets) × (length following ≡ 0) × (whole ≡ true)
 cut_all most octets piece following whole cut few =
     let none : length following ≡ 0 =
@@ -277,8 +287,8 @@ cut_all most octets piece following whole cut few =
     )
 
 -- more octets are a full piece, and some after it
-cut_more : (most : ℕ) (octets piece following : List ℕ) (whole : Bool) → IsCut most octets piece following whole
-    → most < length octets
+cut_more : (most : ℕ) (octets piece following : List ℕ) (whole : Bool)
+    → IsCut most octets piece following whole → most < length octets
     → (piece ≡ take most octets) × (following ≡ drop most octets)
     × (0 < length following) × (whole ≡ false)
 cut_more most octets piece following whole cut more =
@@ -320,7 +330,8 @@ spread_frames-cut most stream end octets piece following whole positive cut =
 -- left then.
 pub left_frames-cut : (most stream : ℕ) (octets piece following : List ℕ) (whole : Bool)
     → 1 ≤ most → 0 < length octets → IsCut most octets piece following whole
-    → left_frames most stream octets ≡ Continuation stream whole piece ∷ left_frames most stream following
+    → left_frames most stream octets
+    ≡ Continuation stream whole piece ∷ left_frames most stream following
 left_frames-cut most stream octets piece following whole positive any cut =
     elim (cases_lt most (length octets)) [
       | inl more ↦
@@ -333,11 +344,13 @@ left_frames-cut most stream octets piece following whole positive any cut =
           positive (omega arith)
           (rw is_behind (omega (arith, positive, length-drop most octets)))
           ∙ ap (λ (line : List ℕ). continuations most (length octets) stream line) is_behind in
-          left_frames-some most stream octets any ∙ continuations-more most (length octets) stream octets more
+          left_frames-some most stream octets any
+          ∙ continuations-more most (length octets) stream octets more
           ∙ sym (rw (is_piece, is_open, rest) refl)
       | inr few ↦
           let (is_piece, none, is_whole) = cut_all most octets piece following whole cut few in
-          left_frames-some most stream octets any ∙ continuations-few most (length octets) stream octets few
+          left_frames-some most stream octets any
+          ∙ continuations-few most (length octets) stream octets few
           ∙ sym (rw (is_piece, is_whole, left_frames-none most stream following none) refl)
     ]
 
@@ -350,7 +363,8 @@ pub record IsSoFar (most : ℕ) (old now whole : List ℕ) (stream : ℕ) (rest 
 -- the first frame was appended
 pub so_far-first : (most : ℕ) (old new : List ℕ) (frames : List Frame) (frame : Frame) (stream : ℕ)
     (following : List ℕ) → frames ≡ frame ∷ left_frames most stream following
-    → new ≡ old ++ encoding_of frame → IsSoFar most old new (encoding_of_frames frames) stream following
+    → new ≡ old ++ encoding_of frame
+    → IsSoFar most old new (encoding_of_frames frames) stream following
 so_far-first most old new frames frame stream following split appended = record {
   added = encoding_of frame;
   extended = appended;
@@ -384,8 +398,8 @@ so_far-all most old now whole stream rest so_far none =
     so_far.extended ∙ ap (λ (line : List ℕ). old ++ line) all
 
 -- where all of the frames have capacity, the next one has
-pub so_far-room : (most : ℕ) (old now whole : List ℕ) (stream : ℕ) (rest following : List ℕ) (frame : Frame)
-    (room : ℕ) → IsSoFar most old now whole stream rest
+pub so_far-room : (most : ℕ) (old now whole : List ℕ) (stream : ℕ) (rest following : List ℕ)
+    (frame : Frame) (room : ℕ) → IsSoFar most old now whole stream rest
     → left_frames most stream rest ≡ frame ∷ left_frames most stream following
     → length old + length whole ≤ room → length now + length (encoding_of frame) ≤ room
 so_far-room most old now whole stream rest following frame room so_far split enough =

@@ -1,6 +1,6 @@
 -- How many octets the frames of a block have.
-use Rattle.std.proofs.Common.{◌≡◌, ℕ, zero, suc, ◌+◌, ◌-◌, ◌*◌, ◌/◌, ◌%◌, ◌<◌, ◌≤◌, Bool, true, false}
-use Rattle.std.proofs.Common.{List, [], ◌∷◌}
+use Rattle.std.proofs.Common.{◌≡◌, ℕ, zero, suc, ◌+◌, ◌-◌, ◌*◌, ◌/◌, ◌%◌, ◌<◌, ◌≤◌, Bool, true}
+use Rattle.std.proofs.Common.{false, List, [], ◌∷◌}
 use Rattle.std.proofs.Common.{◌++◌, length, take, drop, None, ap, sym, ◌∙◌, inl, inr, arith}
 use Rattle.std.proofs.Common.{length-append}
 use Rattle.std.proofs.Common.{length-take, length-drop}
@@ -79,9 +79,15 @@ length-continuations most (suc count) stream octets positive some enough =
           (continuations-more most count stream octets more)
           ∙ omega (arith, first, later, left, full, split)
       | inr few ↦
-          length-frames (continuations most (suc count) stream octets) (Continuation stream true octets)
+          length-frames (continuations most (suc count) stream octets)
+          (Continuation stream true octets)
           [] (continuations-few most count stream octets few)
-          ∙ omega (arith, length-continuation stream true octets, none_more most (length octets) positive few, some)
+          ∙ omega (
+            arith,
+            length-continuation stream true octets,
+            none_more most (length octets) positive few,
+            some,
+          )
     ]
 
 -- The frames of a block have nine octets more each: one frame, and one more for each `most` octets
@@ -108,7 +114,12 @@ length-spread_frames most stream end octets positive =
           (spread_frames-more most stream end octets more)
           ∙ omega (arith, first, later, left, full, split)
       | inr few ↦
-          length-frames (spread_frames most stream end octets) (Headers stream end true octets None None)
+          length-frames (spread_frames most stream end octets)
+          (Headers stream end true octets None None)
           [] (spread_frames-few most stream end octets few)
-          ∙ omega (arith, length-headers stream end true octets, none_more most (length octets) positive few)
+          ∙ omega (
+            arith,
+            length-headers stream end true octets,
+            none_more most (length octets) positive few,
+          )
     ]

@@ -28,8 +28,8 @@ pub fn no_grouping_past_a_fault()
         → (items ≡ others) × (fault ≡ other) × (more ≡ []) }
 {}
 
-/// The frames over which a block is spread are one block of its octets, whatever the greatest payload
-/// is; they can be written where a frame's length can say it, and have no greater payload.
+/// The frames over which a block is spread, whatever the greatest payload is, are one block of its
+/// octets. Where a head can say that payload's length they can be written; none has a greater one.
 pub fn spread_block()
     ensures grouped { (most stream : ℕ) (end : Bool) (octets : List ℕ) → 1 ≤ most
         → length octets ≤ 65552

@@ -88,7 +88,8 @@ size-append (x ∷ xs) ys =
       size-append xs ys,
       length-append (encoding_of_items max_frame_size_sent (xs ++ ys))
           (encoding_of_item max_frame_size_sent x),
-      length-append (encoding_of_items max_frame_size_sent xs) (encoding_of_item max_frame_size_sent x),
+      length-append (encoding_of_items max_frame_size_sent xs)
+          (encoding_of_item max_frame_size_sent x),
     )
 
 -- DATA frames take no more than nine octets and twice their octets, by the test whether one is

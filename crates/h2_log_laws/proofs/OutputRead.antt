@@ -1,6 +1,6 @@
 -- What is written of items is read as their frames, which group to the items.
-use Rattle.std.proofs.Common.{◌≡◌, ℕ, ◌+◌, ◌^◌, ◌<◌, ◌≤◌, Bool, List, [], ◌∷◌, ◌++◌, length, None, refl, sym}
-use Rattle.std.proofs.Common.{ap, ◌∙◌, inr, arith, append-nil}
+use Rattle.std.proofs.Common.{◌≡◌, ℕ, ◌+◌, ◌^◌, ◌<◌, ◌≤◌, Bool, List, [], ◌∷◌, ◌++◌, length, None}
+use Rattle.std.proofs.Common.{refl, sym, ap, ◌∙◌, inr, arith, append-nil}
 use Rattle.std.specs.List.{AllByRecursion}
 use Rattle.std.proofs.lemmas.Grind.{flat_map-append}
 use Rattle.h2_frame.specs.Frames.{Frame}
@@ -45,24 +45,28 @@ frames_read most limits before (frame ∷ frames) high short =
 all_of_both : (most : ℕ) (one other : List Frame) → AllByRecursion (IsShort most) one
     → AllByRecursion (IsShort most) other → AllByRecursion (IsShort most) (one ++ other)
 all_of_both most [] other short others = others
-all_of_both most (frame ∷ one) other short others = (short.0, all_of_both most one other short.1 others)
+all_of_both most (frame ∷ one) other short others =
+    (short.0, all_of_both most one other short.1 others)
 
 -- The frames of an item are short.
-item_short : (most : ℕ) (item : Item) → most < 2 ^ 24 → IsSendable most item → AllByRecursion (IsShort most) (frames_of_item most item)
+item_short : (most : ℕ) (item : Item) → most < 2 ^ 24 → IsSendable most item
+    → AllByRecursion (IsShort most) (frames_of_item most item)
 item_short most (alone frame) bounded sendable = ((sendable.1, sendable.2, sendable.3), tt)
 item_short most (block stream end octets) bounded sendable =
     spread_writable most stream end octets bounded sendable.0 sendable.1
 
 -- The frames of items are short.
-items_short : (most : ℕ) (items : List Item) → most < 2 ^ 24 → AllByRecursion (IsSendable most) items
+items_short : (most : ℕ) (items : List Item) → most < 2 ^ 24
+    → AllByRecursion (IsSendable most) items
     → AllByRecursion (IsShort most) (frames_of_items most items)
 items_short most [] bounded sendable = tt
 items_short most (item ∷ items) bounded sendable =
-    all_of_both most (frames_of_items most items) (frames_of_item most item) (items_short most items bounded sendable.1)
-    (item_short most item bounded sendable.0)
+    all_of_both most (frames_of_items most items) (frames_of_item most item)
+    (items_short most items bounded sendable.1) (item_short most item bounded sendable.0)
 
 -- What is written of an item is what is written of its frames.
-item_written : (most : ℕ) (item : Item) → encoding_of_item most item ≡ encoding_of_frames (frames_of_item most item)
+item_written : (most : ℕ) (item : Item)
+    → encoding_of_item most item ≡ encoding_of_frames (frames_of_item most item)
 unfolding encoding_of_item
 item_written most (alone frame) = sym (append-nil (encoding_of frame))
 item_written most (block stream end octets) = refl
@@ -88,7 +92,8 @@ items_read most expects limits items bounded high sendable =
       sound = record {
         body = encoding_of_items most items;
         opened = refl;
-        framed = rw (items_written most items) (frames_read most limits (length (expected_preface expects))
+        framed = rw (items_written most items)
+            (frames_read most limits (length (expected_preface expects))
             (frames_of_items most items) high (items_short most items bounded sendable));
       };
       partial = λ nine. absurd (omega arith);
@@ -107,7 +112,8 @@ one_item item frames groups =
     rw all parts.3
 
 -- The frames of an item are it.
-item_grouped : (most : ℕ) (item : Item) → 1 ≤ most → IsSendable most item → IsItem item (frames_of_item most item)
+item_grouped : (most : ℕ) (item : Item) → 1 ≤ most → IsSendable most item
+    → IsItem item (frames_of_item most item)
 item_grouped most (alone frame) positive sendable = (sendable.0, refl)
 item_grouped most (block stream end octets) positive sendable = one_item (block stream end octets) _
     (spread_grouped most stream end octets positive sendable.2)
@@ -121,7 +127,8 @@ items_are most (item ∷ items) positive sendable =
     (items_are most items positive sendable.1) (item_grouped most item positive sendable.0)
 
 -- The frames of items group to them.
-pub items_grouped : (most : ℕ) (items : List Item) → 1 ≤ most → AllByRecursion (IsSendable most) items
+pub items_grouped : (most : ℕ) (items : List Item) → 1 ≤ most
+    → AllByRecursion (IsSendable most) items
     → Groups (frames_of_items most items) (oldest_first items) None
 items_grouped most items positive sendable =
     record {

@@ -1,4 +1,4 @@
--- Items that can be sent, and the frames that are sent of them, where `most` is the greatest payload.
+-- Items that can be sent, and the frames that are sent of them. `most` is the greatest payload.
 use Rattle.std.specs.Prelude.{◌≡◌, ℕ, ◌<◌, ◌≤◌, ◌^◌, true, List, [], ◌∷◌, ◌++◌, length, None}
 use Rattle.h2_frame.specs.Frames.{Frame}
 use Rattle.h2_frame.specs.Encoding.{payload_of, refusal, IsTyped}

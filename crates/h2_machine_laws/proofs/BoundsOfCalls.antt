@@ -365,7 +365,8 @@ new_bounded role values in_range =
       opening_few (not (is_server role)),
       size-opening role values,
       length-append (expected_preface (not (is_server role)))
-          (encoding_of_items max_frame_size_sent (alone (Settings false (opening_pairs role values)) ∷ [])),
+          (encoding_of_items max_frame_size_sent
+          (alone (Settings false (opening_pairs role values)) ∷ [])),
     ) in
     is_bounded (new_end role values)
     (record {

@@ -26,7 +26,8 @@ use Rattle.h2_log.specs.Windows.{send_window_of, recv_window_of}
 use Rattle.h2_log.specs.Log.{least_goaway, Log, last_processed, output, active_count, max_streams}
 use Rattle.h2_log.specs.Limits.{max_frame_size_sent}
 use Rattle.h2_log.proofs.SentPayloads.{most_is_limit}
-use Rattle.h2_log.specs.Log.{unreleased, released, allowed_by, newest_ping, waiting, max_payload_sent}
+use Rattle.h2_log.specs.Log.{unreleased, released, allowed_by, newest_ping, waiting}
+use Rattle.h2_log.specs.Log.{max_payload_sent}
 use Rattle.h2_frame.specs.Codes.{code_number}
 use Rattle.h2_log.specs.LogSteps.{used, with_sent, with_reported, with_failure}
 use Rattle.h2_log.specs.LogSteps.{with_credit_returned, took_part, took_fault, took_out_of_memory}
@@ -308,8 +309,8 @@ pub fails_connection : (role : Role) (failed : Option Code) (waits : List ℕ) (
     (alone (GoAway last (code_number code) []) ∷ [])) (with_failure code other log)
 unfolding with_sent
 fails_connection role failed waits log code last other same s =
-    let connection_facts : ConnectionFacts role failed (waits ++ encoding_of_items max_frame_size_sent
-    (alone (GoAway last (code_number code) []) ∷ []))
+    let connection_facts : ConnectionFacts role failed (waits
+    ++ encoding_of_items max_frame_size_sent (alone (GoAway last (code_number code) []) ∷ []))
     (with_sent log (alone (GoAway other (code_number code) []) ∷ [])) =
     rw same (wrote_connection role failed waits log (alone (GoAway other (code_number code) [])) []
     s) in
@@ -364,8 +365,8 @@ pub with_unreturned_connection_by : (role : Role) (failed : Option Code) (waits 
     log { unreturned = log.unreturned + more })
 unfolding with_sent
 with_unreturned_connection_by role failed waits log more unreturned true same s =
-    let connection_facts : ConnectionFacts role failed (waits ++ encoding_of_items max_frame_size_sent
-    (alone (WindowUpdate 0 (unreturned + more)) ∷ []))
+    let connection_facts : ConnectionFacts role failed (waits
+    ++ encoding_of_items max_frame_size_sent (alone (WindowUpdate 0 (unreturned + more)) ∷ []))
     (with_sent log (alone (WindowUpdate 0 (log.unreturned + more)) ∷ [])) =
     rw same (wrote_connection role failed waits log (alone (WindowUpdate 0 (log.unreturned + more)))
     [] s) in

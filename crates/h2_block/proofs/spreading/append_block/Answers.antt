@@ -14,11 +14,13 @@ append-requires c =
     c.is_empty.ensures in
     record {
       writable = (headers_writable c.args.most c.args.stream c.args.end c.is_empty.result
-          c.split_at.result.0.now c.requires.payload_length c.requires.at_least c.requires.at_most (cut_few _ _ _ _ _ cut)).0;
+          c.split_at.result.0.now c.requires.payload_length c.requires.at_least c.requires.at_most
+          (cut_few _ _ _ _ _ cut)).0;
       room = first-room _ _ _ _
           (Headers c.args.stream c.args.end c.is_empty.result c.split_at.result.0.now None None)
           c.args.stream c.split_at.result.1.now
-          (spread_frames-cut c.args.most c.args.stream c.args.end c.args.octets.now _ _ _ c.requires.payload cut) c.requires.room;
+          (spread_frames-cut c.args.most c.args.stream c.args.end c.args.octets.now _ _ _
+          c.requires.payload cut) c.requires.room;
     }
 
 pub loop-rest-init : goal.loop-rest-init
@@ -31,8 +33,8 @@ loop-rest-init c =
           so_far-first _ _ _ _
           (Headers c.args.stream c.args.end c.is_empty.result c.split_at.result.0.now None None)
           c.args.stream c.split_at.result.1.now
-          (spread_frames-cut c.args.most c.args.stream c.args.end c.args.octets.now _ _ _ c.requires.payload cut)
-          c.append.ensures.items;
+          (spread_frames-cut c.args.most c.args.stream c.args.end c.args.octets.now _ _ _
+          c.requires.payload cut) c.append.ensures.items;
       capacity = c.append.ensures.capacity;
     }
 
@@ -43,8 +45,8 @@ append-requires-in-loop-rest c =
     cut_at _ _ _ _ _ _ c.min-in-loop-rest.ensures c.split_at-in-loop-rest.ensures.front
     c.split_at-in-loop-rest.ensures.back c.is_empty-in-loop-rest-2.ensures in
     let split =
-    left_frames-cut c.args.most c.args.stream rest _ _ _ c.requires.payload (some_left (length rest) c.loop-rest-test.ensures)
-    cut in
+    left_frames-cut c.args.most c.args.stream rest _ _ _ c.requires.payload
+    (some_left (length rest) c.loop-rest-test.ensures) cut in
     let enough =
     so_far-room _ _ _ _ c.args.stream rest _
     (Continuation c.args.stream c.is_empty-in-loop-rest-2.result
@@ -53,8 +55,8 @@ append-requires-in-loop-rest c =
     (omega (arith, c.requires.room, c.loop-rest.invariant.capacity, c.args.out.now.ok.0)) in
     record {
       writable = (continuation_writable c.args.most c.args.stream c.is_empty-in-loop-rest-2.result
-          c.split_at-in-loop-rest.result.0.now c.requires.payload_length c.requires.at_least c.requires.at_most
-          (cut_few _ _ _ _ _ cut)).0;
+          c.split_at-in-loop-rest.result.0.now c.requires.payload_length c.requires.at_least
+          c.requires.at_most (cut_few _ _ _ _ _ cut)).0;
       room = omega (arith, enough, c.loop-rest.out.ok.0);
     }
 
@@ -65,8 +67,8 @@ loop-rest-preserved c =
     cut_at _ _ _ _ _ _ c.min-in-loop-rest.ensures c.split_at-in-loop-rest.ensures.front
     c.split_at-in-loop-rest.ensures.back c.is_empty-in-loop-rest-2.ensures in
     let split =
-    left_frames-cut c.args.most c.args.stream rest _ _ _ c.requires.payload (some_left (length rest) c.loop-rest-test.ensures)
-    cut in
+    left_frames-cut c.args.most c.args.stream rest _ _ _ c.requires.payload
+    (some_left (length rest) c.loop-rest-test.ensures) cut in
     record {
       so_far =
           so_far-more _ _ _ _ _ c.args.stream rest _
