@@ -1,5 +1,5 @@
 -- The greatest payload that is sent.
-use Rattle.std.proofs.Common.{◌≡◌, ℕ, List, min, max, arith}
+use Rattle.std.proofs.Common.{◌≡◌, List, arith}
 use Rattle.h2_block.specs.Grouping.{Item}
 use Rattle.h2_log.specs.Limits.{max_frame_size_sent}
 use Rattle.h2_log.specs.Log.{max_payload_sent_by}

@@ -8,7 +8,6 @@ use Rattle.h2_block.specs.Spread.{continuations, encoding_of_frames}
 use Rattle.h2_block.proofs.SpreadLemmas.{continuations-few, spread_frames-few, spread_frames-more}
 use Rattle.h2_log.specs.CallRules.{data_frames}
 use Rattle.h2_log.specs.Items.{encoding_of_item}
-use Rattle.h2_log.specs.Limits.{max_frame_size_sent}
 use Rattle.h2_log.specs.Log.{max_payload_sent_by}
 use Rattle.h2_log.proofs.Computing.{computing}
 use Rattle.h2_log.proofs.examples.AnyBody.{frames_last}
@@ -24,7 +23,7 @@ continuations_of octets long =
 -- Where the greatest payload has 16,384 octets, a block of 20,016 octets is two frames (RFC 9113,
 -- section 4.3).
 block_in_two : (octets : List ℕ) → length octets ≡ 20016
-    → encoding_of_item max_frame_size_sent (block 1 false octets)
+    → encoding_of_item 16384 (block 1 false octets)
     ≡ encoding_of (Headers 1 false false (take 16384 octets) None None)
     ++ encoding_of (Continuation 1 true (drop 16384 octets))
 unfolding encoding_of_item
