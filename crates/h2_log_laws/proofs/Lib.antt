@@ -10,6 +10,7 @@ pub mod DataOfCalls
 pub mod EncoderOfLogs
 pub mod EncoderSteps
 pub mod EveryLog
+pub mod FrameSizes
 pub mod InvariantCalls
 pub mod InvariantLogs
 pub mod InvariantReads

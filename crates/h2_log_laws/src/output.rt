@@ -4,7 +4,12 @@ ghost use Rattle.std.specs.Prelude.{ℕ, ◌^◌, ◌<◌, ◌≤◌, Bool, List
 ghost use Rattle.std.specs.List.{AllByRecursion};
 ghost use Rattle.h2_wire.specs.Streams.{Limits, Frames, expected_preface};
 ghost use Rattle.h2_block.specs.Grouping.{Item, Groups};
+ghost use Rattle.h2_log.specs.declared.role.Role.{Role};
 ghost use Rattle.h2_log.specs.Items.{encoding_of_items};
+ghost use Rattle.h2_log.specs.Acts.{Values};
+ghost use Rattle.h2_log.specs.Settings.{value_read};
+ghost use Rattle.h2_log.specs.Log.{Log, max_payload_sent};
+ghost use Rattle.h2_log.specs.Histories.{IsLog};
 ghost use Rattle.h2_log_laws.specs.Sending.{IsSendable, frames_of_items, oldest_first};
 
 /// What is written of items that can be sent, whatever the greatest payload is, is read as their
@@ -19,4 +24,11 @@ pub fn written_items_are_read()
     ensures items { (most : ℕ) (items : List Item) → 1 ≤ most
         → AllByRecursion (IsSendable most) items
         → Groups (frames_of_items most items) (oldest_first items) None }
+{}
+
+/// The greatest payload that an end sends is no greater than the SETTINGS_MAX_FRAME_SIZE that it has
+/// received last (RFC 9113, section 4.2).
+pub fn payload_fits()
+    ensures { (role : Role) (values : Values) (log : Log) → IsLog role values log
+        → max_payload_sent log ≤ value_read 5 16384 log.received }
 {}
