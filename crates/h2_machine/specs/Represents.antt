@@ -86,12 +86,16 @@ pub record RepresentsWhileUp (e : End) (log : Log) : Type 0 where
   pub ping : e.ping ≡ when (ping_waits log) (newest_ping log.sent)
   pub resets : e.streams.resets ≡ resets_written log
 
+-- What waits is what the log has written and not given out, and the streams are those of the log,
+-- whether the connection has failed or not. The rest is said as long as it has not.
 pub record Represents (values : Values) (e : End) (log : Log) : Type 0 where
   pub came : IsLog e.role values log
   pub role : e.role ≡ log.role
   pub failed : e.failed ≡ log.failed
   pub waiting : e.output.waiting ≡ drop log.given (output log)
   pub given : log.given ≤ length (output log)
+  pub streams : StreamsRepresent e.streams.entries (active log) (λ i. list_any (resets i) log.sent)
+      (stream_of_log log)
   pub running : e.failed ≡ None → RepresentsWhileUp e log
   pub whole : ConservesConnectionWindow e
   pub used : NoneAboveHighest e

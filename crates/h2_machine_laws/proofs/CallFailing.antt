@@ -1,18 +1,19 @@
 -- A call that is refused, and one by which the connection fails, preserve that an end represents
 -- its log.
-use Rattle.std.proofs.Common.{◌≡◌, ℕ, ◌==◌, not, ◌&&◌, Bool, true, false, if◌then◌else◌, []}
+use Rattle.std.proofs.Common.{◌≡◌, ℕ, ◌==◌, not, ◌&&◌, Bool, true, false, if◌then◌else◌, List, []}
 use Rattle.std.proofs.Common.{◌∷◌, Option, Some, None, refl, sym, ap, subst, ◌∙◌}
 use Rattle.h2_frame.specs.declared.code.Code.{Code}
 use Rattle.h2_frame.specs.declared.code.Code.TheVariants.{InternalError, EnhanceYourCalm}
 use Rattle.h2_frame.specs.Frames.{GoAway, Reset}
 use Rattle.h2_block.specs.Grouping.{alone}
-use Rattle.h2_machine.specs.End.{end_view, End}
-use Rattle.h2_log.specs.LogView.{log_view}
+use Rattle.h2_machine.specs.End.{StreamMap, end_view, End}
+use Rattle.h2_log.specs.Items.{resets}
+use Rattle.h2_log.specs.LogView.{log_view, stream_of_log}
 use Rattle.h2_log.specs.View.{View}
 use Rattle.h2_log.specs.Acts.{Values, Act, Answer, IsTypedAct, Open, SendFields, SendData, Release}
 use Rattle.h2_log.specs.Acts.{ResetStream, Refuse, SendPing, SendGoAway, PutOut, ChangeSettings}
 use Rattle.h2_log.specs.Acts.{Done, OutOfMemory, Refused}
-use Rattle.h2_log.specs.Log.{Log, active, last_processed, output, released}
+use Rattle.h2_log.specs.Log.{Log, active, last_processed, output, released, unreleased}
 use Rattle.h2_frame.specs.Codes.{code_number}
 use Rattle.h2_log.specs.LogSteps.{with_sent, with_failure}
 use Rattle.h2_log.specs.LogCalls.{called, with_call, refused_with, with_items, MayAnswer}
@@ -20,10 +21,13 @@ use Rattle.h2_log.specs.CallRules.{refuse_fault, items_of, stream_of_act, encode
 use Rattle.h2_log.specs.CallRules.{refusal_of, conditions}
 use Rattle.h2_log.specs.Histories.{IsLog, called_one}
 use Rattle.h2_machine.specs.Machine.{queue_output, fail, after_refuse, after_call, reset_stream}
-use Rattle.h2_machine.specs.Represents.{Represents}
+use Rattle.h2_machine.specs.Represents.{Represents, StreamsRepresent}
 use Rattle.h2_log.specs.declared.refusal.Refusal.{Refusal}
 use Rattle.h2_log_laws.proofs.InvariantCalls.{released_refused, first_none}
 use Rattle.h2_log_laws.proofs.LogViewLemmas.{stream_is_active}
+use Rattle.std.specs.List.{list_any}
+use Rattle.h2_machine_laws.proofs.GoAwaysSent.{active_processed}
+use Rattle.h2_machine_laws.proofs.SentConnectionItems.{failing_streams}
 use Rattle.h2_machine_laws.proofs.SentQuietItems.{called_runs}
 use Rattle.h2_machine_laws.proofs.RepresentedSteps.{Up, Waits, up_of, views_of_up, represents_after}
 use Rattle.h2_machine_laws.proofs.RepresentedSteps.{wrote_waits, called_waits, called_up}
@@ -54,13 +58,36 @@ fails_role : (code : Code) (last : ℕ) (log : Log) → (with_failure code last 
 unfolding with_sent
 fails_role code last log = refl
 
--- An end whose connection fails by a call represents its log.
+-- The streams don't hang on a call that releases nothing.
+called_streams : (streams : StreamMap) (log : Log) (act : Act) (answer : Answer)
+    → ((i : ℕ) → released i ((act, answer) ∷ log.calls) ≡ released i log.calls)
+    → StreamsRepresent streams (active log) (λ i. list_any (resets i) log.sent) (stream_of_log log)
+    → StreamsRepresent streams (active (called log act answer))
+    (λ i. list_any (resets i) log.sent) (stream_of_log (called log act answer))
+unfolding unreleased
+called_streams streams log act answer quiet are i = rw (quiet i) (are i)
+
+-- Nor on the failure after it.
+called_failing : (values : Values) (e : End) (log : Log) (act : Act) (answer : Answer) (code : Code)
+    → ((i : ℕ) → released i ((act, answer) ∷ log.calls) ≡ released i log.calls)
+    → Represents values e log → log.failed ≡ None
+    → StreamsRepresent e.streams.entries
+    (active (with_failure code (last_processed log) (called log act answer)))
+    (λ i. list_any (resets i) (with_failure code (last_processed log) (called log act answer)).sent)
+    (stream_of_log (with_failure code (last_processed log) (called log act answer)))
+called_failing values e log act answer code quiet represents up =
+    failing_streams e.streams.entries (called log act answer) code (last_processed log)
+    (active_processed e.role values log represents.came up)
+    (called_streams e.streams.entries log act answer quiet represents.streams)
+
+-- An end whose connection fails by a call that releases nothing represents its log.
 pub fails_represent : (values : Values) (e : End) (log : Log) (act : Act) (answer : Answer)
-    (code : Code) → Represents values e log → e.failed ≡ None
+    (code : Code) → ((i : ℕ) → released i ((act, answer) ∷ log.calls) ≡ released i log.calls)
+    → Represents values e log → e.failed ≡ None
     → IsLog e.role values (with_failure code (last_processed log) (called log act answer))
     → Represents values (fail code e.streams.last_processed e)
     (with_failure code (last_processed log) (called log act answer))
-fails_represent values e log act answer code represents up came =
+fails_represent values e log act answer code quiet represents up came =
     let waits = fails_waits e log code (represents.running up).last_processed
     (record { waiting = represents.waiting; given = represents.given }) act answer in
     record {
@@ -69,6 +96,8 @@ fails_represent values e log act answer code represents up came =
       failed = refl;
       waiting = waits.waiting;
       given = waits.given;
+      streams = called_failing values e log act answer code quiet represents
+          (sym represents.failed ∙ up);
       running = λ still. cc;
       whole = represents.whole;
       used = represents.used;
@@ -104,6 +133,8 @@ refused_represents values e log act refusal represents typed may =
       failed = represents.failed;
       waiting = waits.waiting;
       given = waits.given;
+      streams = called_streams e.streams.entries log act (Refused refusal)
+          (λ i. released_refused i act refusal log.calls) represents.streams;
       running = λ up.
           let run = represents.running up in
           called_runs e log act (Refused refusal) e.output.encoder (run.encoder
@@ -113,6 +144,21 @@ refused_represents values e log act refusal represents typed may =
       used = represents.used;
     }
 
+-- A call that is out of memory releases nothing.
+released_out_of_memory : (i : ℕ) (act : Act) (calls : List (Act × Answer))
+    → released i ((act, OutOfMemory) ∷ calls) ≡ released i calls
+unfolding released
+released_out_of_memory i (Open fields end) calls = refl
+released_out_of_memory i (SendFields id fields end) calls = refl
+released_out_of_memory i (SendData id octets end) calls = refl
+released_out_of_memory i (Release id count) calls = refl
+released_out_of_memory i (ResetStream id code) calls = refl
+released_out_of_memory i (Refuse id code) calls = refl
+released_out_of_memory i (SendPing octets) calls = refl
+released_out_of_memory i SendGoAway calls = refl
+released_out_of_memory i (PutOut count) calls = refl
+released_out_of_memory i (ChangeSettings values) calls = refl
+
 -- An end that is out of memory represents its log.
 pub out_of_memory_represents : (values : Values) (e : End) (log : Log) (act : Act)
     → Represents values e log → IsTypedAct act → MayAnswer log act OutOfMemory
@@ -120,7 +166,8 @@ pub out_of_memory_represents : (values : Values) (e : End) (log : Log) (act : Ac
     (with_call log act OutOfMemory)
 unfolding with_call
 out_of_memory_represents values e log act represents typed may up =
-    fails_represent values e log act OutOfMemory InternalError represents up
+    fails_represent values e log act OutOfMemory InternalError
+    (λ i. released_out_of_memory i act log.calls) represents up
     (called_one represents.came act OutOfMemory typed may)
 
 -- Refusing a stream makes the connection fail where the log's does.
@@ -165,7 +212,7 @@ unfolding after_call with_call refused_with with_items items_of stream_of_act en
     released
 refuse_by values e log id code (Some fault) is represents typed may accepted none up =
     let came = called_one represents.came (Refuse id code) Done typed may in
-    let made = fails_represent values e log (Refuse id code) Done fault represents up
+    let made = fails_represent values e log (Refuse id code) Done fault (λ i. refl) represents up
     (subst (λ (x : Option Code). IsLog e.role values (refused_with log (Refuse id code) Done x)) is
     came) in
     subst (λ (x : Option Code). Represents values (after_refuse e id code x)

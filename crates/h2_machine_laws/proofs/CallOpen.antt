@@ -18,7 +18,7 @@ use Rattle.h2_log.specs.Events.{reports_unprocessed, one_pong, reported_total}
 use Rattle.h2_log.specs.Settings.{own_value, value_read}
 use Rattle.h2_log.specs.States.{openings, is_above, is_active, count_below, when}
 use Rattle.h2_log.specs.Windows.{first_window, given_on, granted_on, window}
-use Rattle.h2_log.specs.Log.{Log, acked, active, active_count, next_number, last_processed}
+use Rattle.h2_log.specs.Log.{Log, acked, active, active_count}
 use Rattle.h2_log.specs.Log.{unreleased, released, newest_ping}
 use Rattle.h2_log.specs.LogView.{log_view, stream_of_log}
 use Rattle.h2_log.specs.Acts.{Open, Number}

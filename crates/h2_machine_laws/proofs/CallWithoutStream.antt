@@ -6,22 +6,23 @@ use Rattle.std.proofs.lemmas.List.{drop-drop, drop_min, length-drop}
 use Rattle.h2_frame.specs.declared.code.Code.{Code}
 use Rattle.h2_frame.specs.Frames.{Settings, Ping, GoAway, WindowUpdate}
 use Rattle.h2_block.specs.Grouping.{alone}
-use Rattle.h2_machine.specs.End.{end_view, End}
-use Rattle.h2_log.specs.Items.{one_ping, total, encoding_of_items}
+use Rattle.std.specs.List.{list_any}
+use Rattle.h2_machine.specs.End.{StreamMap, end_view, End}
+use Rattle.h2_log.specs.Items.{resets, one_ping, total, encoding_of_items}
 use Rattle.h2_log.specs.Events.{one_pong, reported_total}
 use Rattle.h2_log.specs.Acts.{Values, Act, Answer, IsTypedAct, SendPing, SendGoAway, PutOut}
 use Rattle.h2_log.specs.Acts.{ChangeSettings, Count, Done}
 use Rattle.h2_log.specs.declared.role.Role.{Role}
 use Rattle.h2_log.specs.Settings.{is_server, settings_count}
-use Rattle.h2_log.specs.Log.{Log, acked, active, last_processed, waiting, output, released}
+use Rattle.h2_log.specs.Log.{Log, acked, active, last_processed, waiting, output, released, unreleased}
 use Rattle.h2_log.specs.LogSteps.{with_sent, with_credit_returned}
 use Rattle.h2_log.specs.LogCalls.{called, before_put_out, MayAnswer, with_items, with_call}
 use Rattle.h2_log.specs.CallRules.{first_of, items_of, answer_of, stream_of_act, encoder_after_call}
 use Rattle.h2_log.specs.CallRules.{changed_pairs, conditions, refusal_of, update_size}
 use Rattle.h2_log.specs.CallRules.{returns_before_put_out}
-use Rattle.h2_log.specs.LogView.{log_view}
+use Rattle.h2_log.specs.LogView.{log_view, stream_of_log}
 use Rattle.h2_machine.specs.Machine.{queue_output, before_put_out_at, after_call}
-use Rattle.h2_machine.specs.Represents.{Represents}
+use Rattle.h2_machine.specs.Represents.{Represents, StreamsRepresent}
 use Rattle.h2_log_laws.proofs.ItemSizes.{size-update}
 use Rattle.h2_machine_laws.proofs.SentQuietItems.{called_runs, given_runs}
 use Rattle.h2_machine_laws.proofs.SentConnectionItems.{ping_runs, goaway_runs, settings_runs}
@@ -185,6 +186,15 @@ ready_failed : (log : Log) (code : Code) → log.failed ≡ Some code → before
 unfolding before_put_out
 ready_failed log code is = rw is refl
 
+-- The streams don't hang on a call that puts octets out.
+put_out_streams : (streams : StreamMap) (log : Log) (count n : ℕ)
+    → StreamsRepresent streams (active log) (λ i. list_any (resets i) log.sent) (stream_of_log log)
+    → StreamsRepresent streams (active (called log (PutOut count) (Count n)))
+    (λ i. list_any (resets i) log.sent)
+    (stream_of_log (record (called log (PutOut count) (Count n)) { given = log.given + n }))
+unfolding unreleased released
+put_out_streams streams log count n are = are
+
 -- A call that puts octets out is never refused.
 never_refused : (e : End) (count : ℕ) → refusal_of (end_view e) (PutOut count) ≡ None
 unfolding conditions first_of
@@ -199,7 +209,7 @@ unfolding after_call with_call
 put_out_by values e log count n None up is represents typed may =
     let made = put_out_up e log count n is (up_of values e log represents up) in
     represents_made values e log (PutOut count) (Count n) represents typed may (never_refused e count)
-    made.role (made.up ∙ sym made.same) made.waits (λ up. made.running)
+    made.role (made.up ∙ sym made.same) made.waits made.running.streams (λ up. made.running)
 put_out_by values e log count n (Some code) failed is represents typed may =
     let base = called log (PutOut count) (Count n) in
     let here = ready_failed_at e code failed in
@@ -217,6 +227,7 @@ put_out_by values e log count n (Some code) failed is represents typed may =
     (ap (λ (x : End). x.role) here ∙ represents.role ∙ sym (ap (λ (x : Log). x.role) there))
     (ap (λ (x : End). x.failed) here ∙ represents.failed ∙ sym (ap (λ (x : Log). x.failed) there))
     (rw (here, there) waits)
+    (rw (here, there) (put_out_streams e.streams.entries log count n represents.streams))
     (λ up. let wrong : Some code ≡ None = sym failed ∙ sym (ap (λ (x : End). x.failed) here)
     ∙ up in absurd (cc))
 

@@ -16,6 +16,7 @@ mod ConservedByFrames
 mod ConservedBySteps
 mod EachStream
 mod FreshNumbers
+mod GoAwaysSent
 mod NewEnd
 mod NextUnprocessed
 mod OwedOnStreams

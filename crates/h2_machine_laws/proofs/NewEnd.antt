@@ -124,6 +124,7 @@ new_represents role values in_range =
       failed = refl;
       waiting = refl;
       given = omega arith;
+      streams = (new_running role values).streams;
       running = λ up. new_running role values;
       whole = (is_whole (new_end role values) (new_holds role values)).whole;
       used = λ i above. get-empty nat_cmp i;

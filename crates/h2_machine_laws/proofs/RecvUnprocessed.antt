@@ -111,50 +111,28 @@ unprocessed_advances h c n alive g =
     (omega (arith, less, g.active_count)) (g.last_processed
     ∙ sym (taken_kept (is_server c.role) (UnprocessedEvent n) c.reported (not_taken n))) g
 
--- Whether an end has begun doesn't hang on what is unreturned, by the test whether it is returned.
-returned_started_by : (e : End) (more : ℕ) (b : Bool)
-    → (if b then return_credit (record e {
-      windows = record e.windows {
-        unreturned =
-            e.windows.unreturned + more;
-      };
-    }) else record e {
-      windows = record e.windows {
-        unreturned =
-            e.windows.unreturned + more;
-      };
-    }).reading.started ≡ e.reading.started
-returned_started_by e more true = refl
-returned_started_by e more false = refl
+-- A part of an end that doesn't hang on windows and output doesn't hang on what is unreturned, by
+-- the test whether it is returned.
+returned_keeps_by : {A : Type 0} (part : End → A) (e : End) (more : ℕ) (b : Bool)
+    → ((x : End) → part (return_credit x) ≡ part x)
+    → ((n : ℕ) → part (record e { windows = record e.windows { unreturned = n } }) ≡ part e)
+    → part (if b then return_credit (record e {
+      windows = record e.windows { unreturned = e.windows.unreturned + more };
+    }) else record e { windows = record e.windows { unreturned = e.windows.unreturned + more } })
+    ≡ part e
+returned_keeps_by part e more true gives keeps = gives _ ∙ keeps (e.windows.unreturned + more)
+returned_keeps_by part e more false gives keeps = keeps (e.windows.unreturned + more)
 
--- Whether an end has begun doesn't hang on what is unreturned.
-pub returned_started : (e : End) (more : ℕ) → (add_unreturned more e).reading.started
-    ≡ e.reading.started
+-- Such a part doesn't hang on what is unreturned.
+returned_keeps : {A : Type 0} (part : End → A) (e : End) (more : ℕ)
+    → ((x : End) → part (return_credit x) ≡ part x)
+    → ((n : ℕ) → part (record e { windows = record e.windows { unreturned = n } }) ≡ part e)
+    → part (add_unreturned more e) ≡ part e
 unfolding add_unreturned
-returned_started e more = returned_started_by e more (returns_credit more (length e.output.waiting))
+returned_keeps part e more gives keeps =
+    returned_keeps_by part e more (returns_credit more (length e.output.waiting)) gives keeps
 
--- Nor does its role, by the test.
-returned_role_by : (e : End) (more : ℕ) (b : Bool)
-    → (if b then return_credit (record e {
-      windows = record e.windows {
-        unreturned =
-            e.windows.unreturned + more;
-      };
-    }) else record e {
-      windows = record e.windows {
-        unreturned =
-            e.windows.unreturned + more;
-      };
-    }).role ≡ e.role
-returned_role_by e more true = refl
-returned_role_by e more false = refl
-
--- Nor does its role.
-pub returned_role : (e : End) (more : ℕ) → (add_unreturned more e).role ≡ e.role
-unfolding add_unreturned
-returned_role e more = returned_role_by e more (returns_credit more (length e.output.waiting))
-
--- Nor do the frames of a log, by the test.
+-- The frames of a log don't hang on what is unreturned, by the test.
 returned_frames_by : (log : Log) (more : ℕ) (b : Bool)
     → (if b then with_credit_returned (record log { unreturned = log.unreturned + more }) else
     record log { unreturned = log.unreturned + more }).frames ≡ log.frames
@@ -162,7 +140,7 @@ unfolding with_sent
 returned_frames_by log more true = refl
 returned_frames_by log more false = refl
 
--- Nor do the frames of a log.
+-- The frames of a log don't hang on what is unreturned.
 pub returned_frames : (log : Log) (more : ℕ) → (with_unreturned more log).frames ≡ log.frames
 unfolding with_unreturned
 returned_frames log more = returned_frames_by log more (nat_lt 0 more && nat_lt (waiting log)
@@ -244,11 +222,18 @@ unprocessed_represents values e log s up some =
     }) g.unreturned
     (λ still. unprocessed_advances (core_facts e) (core log) n alive g) in
     let whole : KeepsConnectionWindow e = record { whole = s.whole; used = s.used } in
-    represents_by values (close_unprocessed e n) (took_none log) (rw (returned_role next owed)
-    (reported_one s.came up some)) b.waits
-    (λ still. runs (close_unprocessed e n) (took_none log) (returned_started next owed ∙ r.started
+    let still : (close_unprocessed e n).failed ≡ None =
+    returned_keeps (λ (x : End). x.failed) next owed (λ x. refl) (λ m. refl) ∙ s.failed ∙ up in
+    let begun : (close_unprocessed e n).reading.started ≡ e.reading.started =
+    returned_keeps (λ (x : End). x.reading.started) next owed (λ x. refl) (λ m. refl) in
+    let role : (close_unprocessed e n).role ≡ e.role =
+    returned_keeps (λ (x : End). x.role) next owed (λ x. refl) (λ m. refl) in
+    let run : RepresentsWhileUp (close_unprocessed e n) (took_none log) =
+    runs (close_unprocessed e n) (took_none log) (begun ∙ r.started
     ∙ ap (λ (fs : List Frame). not (length fs == 0))
     (sym (reported_frames (with_unreturned more log) (UnprocessedEvent n ∷ [])
-    ∙ returned_frames log more))) (b.going still))
+    ∙ returned_frames log more))) (b.going still) in
+    represents_by values (close_unprocessed e n) (took_none log) (rw role
+    (reported_one s.came up some)) b.waits run.streams (λ up. run)
     (is_whole (close_unprocessed e n) (ended e n 0 (lacks_none e.windows.recv e.windows.unreturned
     e.streams.highest e.streams.entries (holds e whole))))

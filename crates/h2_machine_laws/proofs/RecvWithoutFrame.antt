@@ -23,7 +23,7 @@ use Rattle.h2_log.specs.Settings.{is_server, value_read, settings_count, own_val
 use Rattle.h2_log.specs.States.{openings, is_active, count_below, when}
 use Rattle.h2_log.specs.Windows.{first_window, given_on_connection, granted_on_connection}
 use Rattle.h2_log.specs.Windows.{send_window_of, recv_window_of}
-use Rattle.h2_log.specs.Log.{least_goaway, Log, last_processed, output, active_count, max_streams}
+use Rattle.h2_log.specs.Log.{least_goaway, Log, active, last_processed, output, active_count, max_streams}
 use Rattle.h2_log.specs.Log.{unreleased, released, allowed_by, newest_ping, waiting}
 use Rattle.h2_frame.specs.Codes.{code_number}
 use Rattle.h2_log.specs.LogSteps.{used, with_sent, with_reported, with_failure}
@@ -36,7 +36,10 @@ use Rattle.h2_log.specs.View.{StreamView}
 use Rattle.h2_machine.specs.Machine.{fail}
 use Rattle.h2_machine.specs.Represents.{Represents, RepresentsWhileUp, AwaitsValues}
 use Rattle.h2_machine.specs.Represents.{StreamsRepresent, goaway_sent_last}
+use Rattle.h2_log.specs.LogView.{stream_of_log}
 use Rattle.h2_machine_laws.specs.Bounds.{KeepsConnectionWindow}
+use Rattle.h2_machine_laws.proofs.SentConnectionItems.{failing_streams}
+use Rattle.h2_machine_laws.proofs.GoAwaysSent.{active_processed}
 
 -- what of a log says what an end keeps that hasn't failed
 pub record Core : Type 0 where
@@ -250,16 +253,19 @@ Waits e log = ConnectionFacts e.role e.failed e.output.waiting log
 
 -- A machine represents a log that comes about, by its parts.
 pub represents_by : (values : Values) (e : End) (log : Log) → IsLog e.role values log → Waits e log
+    → StreamsRepresent e.streams.entries (active log) (λ i. list_any (resets i) log.sent)
+    (stream_of_log log)
     → (e.failed ≡ None → RepresentsWhileUp e log)
     → KeepsConnectionWindow e → Represents values e log
 unfolding output
-represents_by values e log came connection_facts running whole =
+represents_by values e log came connection_facts streams running whole =
     record {
       came = came;
       role = connection_facts.same_role;
       failed = connection_facts.same_failed;
       waiting = connection_facts.waiting;
       given = connection_facts.given;
+      streams = streams;
       running = running;
       whole = whole.whole;
       used = whole.used;
@@ -415,6 +421,15 @@ used_running e log octets unparsed r =
       resets = r.resets;
     }
 
+-- The streams don't hang on octets that are used.
+used_streams : (streams : StreamMap) (log : Log) (octets unparsed : List ℕ)
+    → StreamsRepresent streams (active log) (λ i. list_any (resets i) log.sent) (stream_of_log log)
+    → StreamsRepresent streams (active (used log octets unparsed))
+    (λ i. list_any (resets i) (used log octets unparsed).sent)
+    (stream_of_log (used log octets unparsed))
+unfolding used unreleased
+used_streams streams log octets unparsed are = are
+
 -- A machine represents the log after octets that end no frame.
 pub part_represents : (values : Values) (e : End) (log : Log) (octets unparsed : List ℕ)
     → Represents values e log → TakesOctets log
@@ -422,19 +437,31 @@ pub part_represents : (values : Values) (e : End) (log : Log) (octets unparsed :
 part_represents values e log octets unparsed s takes part =
     represents_by values e (used log octets unparsed) (took_some s.came takes octets unparsed part)
     (used_connection e.role e.failed e.output.waiting log octets unparsed (waits_of values e log s))
+    (used_streams e.streams.entries log octets unparsed s.streams)
     (λ up. used_running e log octets unparsed (s.running up))
     (record { whole = s.whole; used = s.used })
+
+-- Which streams are active doesn't hang on octets that are used.
+used_low : (log : Log) (octets unparsed : List ℕ) (last : ℕ)
+    → (is_server log.role ≡ true → (i : ℕ) → active log i ≡ true → i ≤ last)
+    → is_server (used log octets unparsed).role ≡ true → (i : ℕ)
+    → active (used log octets unparsed) i ≡ true → i ≤ last
+unfolding used
+used_low log octets unparsed last low = low
 
 -- A machine that makes the connection fail represents a log that fails with the same code and the
 -- same last stream.
 pub failing_represents : (values : Values) (e : End) (log : Log) (code : Code) (last other : ℕ)
     → IsLog e.role values (with_failure code other log)
-    → last ≡ other → Waits e log → KeepsConnectionWindow e → Represents values (fail code last e)
+    → last ≡ other → Waits e log
+    → (is_server log.role ≡ true → (i : ℕ) → active log i ≡ true → i ≤ other)
+    → StreamsRepresent e.streams.entries (active log) (λ i. list_any (resets i) log.sent)
+    (stream_of_log log) → KeepsConnectionWindow e → Represents values (fail code last e)
     (with_failure code other log)
-failing_represents values e log code last other came same connection_facts whole =
+failing_represents values e log code last other came same connection_facts low streams whole =
     represents_by values (fail code last e) (with_failure code other log) came
     (fails_connection e.role e.failed e.output.waiting log code last other same
-    connection_facts)
+    connection_facts) (failing_streams e.streams.entries log code other low streams)
     (λ up. absurd (cc)) (record { whole = whole.whole; used = whole.used })
 
 -- A machine represents the log after octets that make a fault.
@@ -447,6 +474,9 @@ fault_represents values e log octets fault s takes at =
     e.streams.last_processed (last_processed log) (met_fault s.came takes octets fault at)
     (s.running (s.failed ∙ takes.up)).last_processed (used_connection e.role e.failed
     e.output.waiting log octets [] (waits_of values e log s))
+    (used_low log octets [] (last_processed log)
+    (active_processed e.role values log s.came takes.up))
+    (used_streams e.streams.entries log octets [] s.streams)
     (record { whole = s.whole; used = s.used })
 
 -- A machine represents the log after octets at which memory runs out.
@@ -459,4 +489,6 @@ out_of_memory_represents values e log octets s up may =
     (last_processed log) (ran_out_of_memory s.came up octets may)
     (s.running (s.failed ∙ up)).last_processed (used_connection e.role e.failed e.output.waiting log
     octets [] (waits_of values e log s))
+    (used_low log octets [] (last_processed log) (active_processed e.role values log s.came up))
+    (used_streams e.streams.entries log octets [] s.streams)
     (record { whole = s.whole; used = s.used })

@@ -7,9 +7,10 @@ use Rattle.std.proofs.lemmas.List.{drop-append-le}
 use Rattle.h2_frame.specs.Frames.{WindowUpdate}
 use Rattle.h2_block.specs.Grouping.{Item, alone}
 use Rattle.h2_machine.specs.End.{end_view, End}
-use Rattle.h2_log.specs.LogView.{log_view}
+use Rattle.h2_log.specs.LogView.{log_view, stream_of_log}
 use Rattle.h2_log.specs.View.{View}
-use Rattle.h2_log.specs.Items.{encoding_of_items}
+use Rattle.std.specs.List.{list_any}
+use Rattle.h2_log.specs.Items.{resets, encoding_of_items}
 use Rattle.h2_log.specs.Acts.{Values, Act, Answer, IsTypedAct}
 use Rattle.h2_log.specs.Log.{Log, active, waiting, output, released, unreleased}
 use Rattle.h2_log.specs.States.{is_active}
@@ -21,7 +22,7 @@ use Rattle.h2_log.specs.CallRules.{returns_before_put_out}
 use Rattle.h2_log.specs.Histories.{called_one}
 use Rattle.h2_machine.specs.Machine.{queue_output, with_encoder, return_credit, add_unreturned}
 use Rattle.h2_machine.specs.Machine.{after_call, before_put_out_at}
-use Rattle.h2_machine.specs.Represents.{Represents, RepresentsWhileUp}
+use Rattle.h2_machine.specs.Represents.{Represents, RepresentsWhileUp, StreamsRepresent}
 use Rattle.h2_log_laws.proofs.InvariantLogs.{log_represents}
 use Rattle.h2_machine_laws.proofs.ConservedBySteps.{holds, is_whole}
 use Rattle.h2_machine_laws.proofs.ConservedByCalls.{call_holds}
@@ -61,10 +62,13 @@ pub represents_made : (values : Values) (e : End) (log : Log) (act : Act) (answe
     → refusal_of (end_view e) act ≡ None → (after_call e act).role ≡ (with_call log act answer).role
     → (after_call e act).failed ≡ (with_call log act answer).failed
     → Waits (after_call e act) (with_call log act answer)
+    → StreamsRepresent (after_call e act).streams.entries (active (with_call log act answer))
+    (λ i. list_any (resets i) (with_call log act answer).sent)
+    (stream_of_log (with_call log act answer))
     → ((after_call e act).failed ≡ None
     → RepresentsWhileUp (after_call e act) (with_call log act answer))
     → Represents values (after_call e act) (with_call log act answer)
-represents_made values e log act answer represents typed may accepted role failed waits run =
+represents_made values e log act answer represents typed may accepted role failed waits streams run =
     let came = called_one represents.came act answer typed may in
     let same : (after_call e act).role ≡ e.role = role
     ∙ (log_represents e.role values _ came).own in
@@ -77,6 +81,7 @@ represents_made values e log act answer represents typed may accepted role faile
       failed = failed;
       waiting = waits.waiting;
       given = waits.given;
+      streams = streams;
       running = run;
       whole = whole.whole;
       used = whole.used;
@@ -89,7 +94,7 @@ pub represents_after : (values : Values) (e : End) (log : Log) (act : Act) (answ
     → Represents values (after_call e act) (with_call log act answer)
 represents_after values e log act answer represents typed may accepted is =
     represents_made values e log act answer represents typed may accepted is.role (is.up
-    ∙ sym is.same) is.waits (λ up. is.running)
+    ∙ sym is.same) is.waits is.running.streams (λ up. is.running)
 
 -- What is written joins what waits.
 joined : (given : ℕ) (waits written octets : List ℕ) → waits ≡ drop given written

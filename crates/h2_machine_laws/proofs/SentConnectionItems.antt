@@ -4,6 +4,8 @@ use Rattle.std.proofs.Common.{refl, sym, ap, ◌∙◌, arith}
 use Rattle.std.proofs.lemmas.Bool.{lt-ltb, le-ltb, false_from_ne_true, both_ways}
 use Rattle.std.specs.List.{list_any}
 use Rattle.h2_frame.specs.Frames.{Settings, Ping, GoAway, WindowUpdate}
+use Rattle.h2_frame.specs.declared.code.Code.{Code}
+use Rattle.h2_frame.specs.Codes.{code_number}
 use Rattle.h2_block.specs.Grouping.{Item, alone}
 use Rattle.h2_log.specs.declared.role.Role.{Role}
 use Rattle.h2_log.specs.declared.role.Role.TheVariants.{Client, Server}
@@ -18,9 +20,10 @@ use Rattle.h2_log.specs.Windows.{first_window, granted_on, granted_on_connection
 use Rattle.h2_log.specs.Log.{Log, acked, active, last_processed, max_streams, unreleased}
 use Rattle.h2_log.specs.Log.{newest_ping}
 use Rattle.h2_log.specs.LogView.{stream_of_log}
+use Rattle.h2_log.specs.LogSteps.{with_sent, with_failure}
 use Rattle.h2_log.specs.CallRules.{changed_pairs}
-use Rattle.h2_machine.specs.End.{End}
-use Rattle.h2_machine.specs.Represents.{RepresentsWhileUp, goaway_sent_last}
+use Rattle.h2_machine.specs.End.{StreamMap, End}
+use Rattle.h2_machine.specs.Represents.{RepresentsWhileUp, StreamsRepresent, goaway_sent_last}
 use Rattle.h2_log_laws.proofs.SettingsLists.{up_to_next, up_to_here, settings_one, value_changed}
 use Rattle.h2_log_laws.proofs.ReaderStates.{active_parts}
 use Rattle.h2_log_laws.proofs.LogInvariant.{active_before}
@@ -318,6 +321,37 @@ active_goaway log i last code false is low =
     (opened_goaway log.role i last code log.received log.sent
     (active_parts log.role i log.received _ log.reported active_is).opened))) ∙ sym is
 
+-- The streams are the same after a GOAWAY with a last stream that no active one is above.
+pub goaway_streams : (streams : StreamMap) (log : Log) (last code : ℕ)
+    → (is_server log.role ≡ true → (i : ℕ) → active log i ≡ true → i ≤ last)
+    → StreamsRepresent streams (active log) (λ i. list_any (resets i) log.sent) (stream_of_log log)
+    → StreamsRepresent streams (active (record log { sent = alone (GoAway last code []) ∷ log.sent }))
+    (λ i. list_any (resets i) (alone (GoAway last code []) ∷ log.sent))
+    (stream_of_log (record log { sent = alone (GoAway last code []) ∷ log.sent }))
+unfolding computing granted_on
+goaway_streams streams log last code low are i =
+    are i ∙ same_entry (active log i) _ (list_any (resets i) log.sent) _ (stream_of_log log i)
+    (stream_of_log (record log { sent = alone (GoAway last code []) ∷ log.sent }) i)
+    (active_goaway log i last code (active log i) refl (λ server. low server i)) refl
+    (λ active_is. same_stream _ _
+    (ap (window _) (total_quiet (data_on i) (alone (GoAway last code [])) log.sent refl))
+    (let more : total (increment_on i) (alone (GoAway last code []) ∷ log.sent)
+    ≡ total (increment_on i) log.sent =
+    total_quiet (increment_on i) (alone (GoAway last code [])) log.sent refl in
+    let own = own_quiet 4 first_window (acked log) (alone (GoAway last code [])) log.sent refl in
+    ap (λ (n : ℕ). window n (total (data_on i) log.received)) (rw (own, more) refl)) refl refl refl)
+
+-- They are the same after the GOAWAY of a failure.
+pub failing_streams : (streams : StreamMap) (log : Log) (code : Code) (last : ℕ)
+    → (is_server log.role ≡ true → (i : ℕ) → active log i ≡ true → i ≤ last)
+    → StreamsRepresent streams (active log) (λ i. list_any (resets i) log.sent) (stream_of_log log)
+    → StreamsRepresent streams (active (with_failure code last log))
+    (λ i. list_any (resets i) (with_failure code last log).sent)
+    (stream_of_log (with_failure code last log))
+unfolding with_sent unreleased
+failing_streams streams log code last low are =
+    goaway_streams streams log last (code_number code) low are
+
 -- GOAWAY was written, with a last stream that no active one is above.
 pub goaway_runs : (e : End) (log : Log) (last code : ℕ)
     → (is_server log.role ≡ true → (i : ℕ) → active log i ≡ true → i ≤ last)
@@ -337,19 +371,7 @@ goaway_runs e log last code low h =
       begun = h.begun;
       table = h.table;
       encoder = h.encoder;
-      streams = λ i. h.streams i
-          ∙ same_entry (active log i) _ (list_any (resets i) log.sent) _ (stream_of_log log i)
-          (stream_of_log (record log { sent = alone (GoAway last code []) ∷ log.sent }) i) (same i)
-          refl
-          (λ active_is. same_stream _ _
-          (ap (window _) (total_quiet (data_on i) (alone (GoAway last code [])) log.sent refl))
-          (let more : total (increment_on i) (alone (GoAway last code []) ∷ log.sent)
-          ≡ total (increment_on i) log.sent = total_quiet (increment_on i)
-          (alone (GoAway last code [])) log.sent refl in
-          let own = own_quiet 4 first_window (acked log) (alone (GoAway last code [])) log.sent
-          refl in
-          ap (λ (n : ℕ). window n (total (data_on i) log.received)) (rw (own, more) refl)) refl refl
-          refl);
+      streams = goaway_streams e.streams.entries log last code low h.streams;
       active_count = h.active_count
           ∙ sym (active_count_kept log (alone (GoAway last code []) ∷ log.sent) same greatest);
       highest = h.highest ∙ sym greatest;

@@ -102,7 +102,7 @@ pub record Reads (role : Role) (received sent news : List Item) (reported events
   pub clear : role ≡ Client → (i : ℕ) → greatest_block sent < i → IsUnseen (item ∷ []) events i
 
 -- More events have no lesser greatest number.
-processed_after : (events reported : List Event)
+pub processed_after : (events reported : List Event)
     → greatest_processed reported ≤ greatest_processed (events ++ reported)
 unfolding greatest_processed
 processed_after [] reported = omega arith
