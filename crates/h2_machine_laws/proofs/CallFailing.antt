@@ -6,14 +6,13 @@ use Rattle.h2_frame.specs.declared.code.Code.{Code}
 use Rattle.h2_frame.specs.declared.code.Code.TheVariants.{InternalError, EnhanceYourCalm}
 use Rattle.h2_frame.specs.Frames.{GoAway, Reset}
 use Rattle.h2_block.specs.Grouping.{alone}
-use Rattle.h2_machine.specs.End.{StreamMap, end_view, End}
-use Rattle.h2_log.specs.Items.{resets}
-use Rattle.h2_log.specs.LogView.{log_view, stream_of_log}
+use Rattle.h2_machine.specs.End.{end_view, End}
+use Rattle.h2_log.specs.LogView.{log_view}
 use Rattle.h2_log.specs.View.{View}
 use Rattle.h2_log.specs.Acts.{Values, Act, Answer, IsTypedAct, Open, SendFields, SendData, Release}
 use Rattle.h2_log.specs.Acts.{ResetStream, Refuse, SendPing, SendGoAway, PutOut, ChangeSettings}
 use Rattle.h2_log.specs.Acts.{Done, OutOfMemory, Refused}
-use Rattle.h2_log.specs.Log.{Log, active, last_processed, output, released, unreleased}
+use Rattle.h2_log.specs.Log.{Log, active, last_processed, output, released}
 use Rattle.h2_frame.specs.Codes.{code_number}
 use Rattle.h2_log.specs.LogSteps.{with_sent, with_failure}
 use Rattle.h2_log.specs.LogCalls.{called, with_call, refused_with, with_items, MayAnswer}
@@ -21,17 +20,16 @@ use Rattle.h2_log.specs.CallRules.{refuse_fault, items_of, stream_of_act, encode
 use Rattle.h2_log.specs.CallRules.{refusal_of, conditions}
 use Rattle.h2_log.specs.Histories.{IsLog, called_one}
 use Rattle.h2_machine.specs.Machine.{queue_output, fail, after_refuse, after_call, reset_stream}
-use Rattle.h2_machine.specs.Represents.{Represents, StreamsRepresent}
+use Rattle.h2_machine.specs.Represents.{Represents}
 use Rattle.h2_log.specs.declared.refusal.Refusal.{Refusal}
 use Rattle.h2_log_laws.proofs.InvariantCalls.{released_refused, first_none}
 use Rattle.h2_log_laws.proofs.LogViewLemmas.{stream_is_active}
-use Rattle.std.specs.List.{list_any}
-use Rattle.h2_machine_laws.proofs.GoAwaysSent.{active_processed}
-use Rattle.h2_machine_laws.proofs.SentConnectionItems.{failing_streams}
-use Rattle.h2_machine_laws.proofs.SentQuietItems.{called_runs}
-use Rattle.h2_machine_laws.proofs.RepresentedSteps.{Up, Waits, up_of, views_of_up, represents_after}
-use Rattle.h2_machine_laws.proofs.RepresentedSteps.{wrote_waits, called_waits, called_up}
 use Rattle.h2_machine_laws.proofs.CallReset.{reset_up}
+use Rattle.h2_machine_laws.proofs.GoAwaysSent.{active_processed}
+use Rattle.h2_machine_laws.proofs.LogCore.{core, StreamsOf, going, runs}
+use Rattle.h2_machine_laws.proofs.RepresentedSteps.{Up, Waits, up_of, views_of_up, represents_after, wrote_waits, called_waits, called_up, called_going}
+use Rattle.h2_machine_laws.proofs.SentConnectionItems.{failing_streams}
+use Rattle.h2_machine_laws.proofs.SentQuietItems.{called_streams}
 
 -- Failing is no part of what waits.
 failed_waits : (e : End) (log : Log) (here there : Option Code) → Waits e log
@@ -58,27 +56,15 @@ fails_role : (code : Code) (last : ℕ) (log : Log) → (with_failure code last 
 unfolding with_sent
 fails_role code last log = refl
 
--- The streams don't hang on a call that releases nothing.
-called_streams : (streams : StreamMap) (log : Log) (act : Act) (answer : Answer)
-    → ((i : ℕ) → released i ((act, answer) ∷ log.calls) ≡ released i log.calls)
-    → StreamsRepresent streams (active log) (λ i. list_any (resets i) log.sent) (stream_of_log log)
-    → StreamsRepresent streams (active (called log act answer))
-    (λ i. list_any (resets i) log.sent) (stream_of_log (called log act answer))
-unfolding unreleased
-called_streams streams log act answer quiet are i = rw (quiet i) (are i)
-
--- Nor on the failure after it.
+-- The streams don't hang on a call that releases nothing, nor on the failure after it.
 called_failing : (values : Values) (e : End) (log : Log) (act : Act) (answer : Answer) (code : Code)
     → ((i : ℕ) → released i ((act, answer) ∷ log.calls) ≡ released i log.calls)
     → Represents values e log → log.failed ≡ None
-    → StreamsRepresent e.streams.entries
-    (active (with_failure code (last_processed log) (called log act answer)))
-    (λ i. list_any (resets i) (with_failure code (last_processed log) (called log act answer)).sent)
-    (stream_of_log (with_failure code (last_processed log) (called log act answer)))
+    → StreamsOf e.streams (core (with_failure code (last_processed log) (called log act answer)))
 called_failing values e log act answer code quiet represents up =
-    failing_streams e.streams.entries (called log act answer) code (last_processed log)
+    failing_streams e.streams (called log act answer) code (last_processed log)
     (active_processed e.role values log represents.came up)
-    (called_streams e.streams.entries log act answer quiet represents.streams)
+    (called_streams e.streams (core log) ((act, answer) ∷ log.calls) quiet represents.streams)
 
 -- An end whose connection fails by a call that releases nothing represents its log.
 pub fails_represent : (values : Values) (e : End) (log : Log) (act : Act) (answer : Answer)
@@ -87,8 +73,9 @@ pub fails_represent : (values : Values) (e : End) (log : Log) (act : Act) (answe
     → IsLog e.role values (with_failure code (last_processed log) (called log act answer))
     → Represents values (fail code e.streams.last_processed e)
     (with_failure code (last_processed log) (called log act answer))
+unfolding last_processed
 fails_represent values e log act answer code quiet represents up came =
-    let waits = fails_waits e log code (represents.running up).last_processed
+    let waits = fails_waits e log code represents.streams.last_processed
     (record { waiting = represents.waiting; given = represents.given }) act answer in
     record {
       came = came;
@@ -133,13 +120,14 @@ refused_represents values e log act refusal represents typed may =
       failed = represents.failed;
       waiting = waits.waiting;
       given = waits.given;
-      streams = called_streams e.streams.entries log act (Refused refusal)
+      streams = called_streams e.streams (core log) ((act, Refused refusal) ∷ log.calls)
           (λ i. released_refused i act refusal log.calls) represents.streams;
       running = λ up.
           let run = represents.running up in
-          called_runs e log act (Refused refusal) e.output.encoder (run.encoder
+          runs e (called log act (Refused refusal)) run.started
+          (called_going e log act (Refused refusal) e.output.encoder (run.encoder
           ∙ refused_encoder log act refusal)
-          (λ i. released_refused i act refusal log.calls) run;
+          (λ i. released_refused i act refusal log.calls) (going e log represents.streams run));
       whole = represents.whole;
       used = represents.used;
     }

@@ -26,16 +26,15 @@ use Rattle.h2_log_laws.proofs.StreamNumbers.{next_odd}
 use Rattle.h2_log_laws.proofs.AllowedHistories.{wrote_settings}
 use Rattle.h2_log_laws.proofs.InvariantCalls.{first_none, none_since}
 use Rattle.h2_log_laws.proofs.LogViewLemmas.{stream_is_active, open_out}
-use Rattle.h2_machine_laws.proofs.CallRefusals.{refusal_same}
-use Rattle.h2_machine_laws.proofs.RepresentedSteps.{Up, up_of, represents_after}
-use Rattle.h2_machine_laws.proofs.CallWithoutStream.{ping_up, goaway_up, settings_up}
-use Rattle.h2_machine_laws.proofs.CallWithoutStream.{put_out_represents}
-use Rattle.h2_machine_laws.proofs.CallSend.{fields_up, data_up}
-use Rattle.h2_machine_laws.proofs.CallReset.{reset_call_up}
-use Rattle.h2_machine_laws.proofs.CallFailing.{refused_represents, out_of_memory_represents}
-use Rattle.h2_machine_laws.proofs.CallFailing.{refuse_represents}
-use Rattle.h2_machine_laws.proofs.CallRelease.{release_up}
+use Rattle.h2_machine_laws.proofs.CallFailing.{refused_represents, out_of_memory_represents, refuse_represents}
 use Rattle.h2_machine_laws.proofs.CallOpen.{IsClear, open_up}
+use Rattle.h2_machine_laws.proofs.CallRefusals.{refusal_same}
+use Rattle.h2_machine_laws.proofs.CallRelease.{release_up}
+use Rattle.h2_machine_laws.proofs.CallReset.{reset_call_up}
+use Rattle.h2_machine_laws.proofs.CallSend.{fields_up, data_up}
+use Rattle.h2_machine_laws.proofs.CallWithoutStream.{ping_up, goaway_up, settings_up, put_out_represents}
+use Rattle.h2_machine_laws.proofs.LogCore.{core}
+use Rattle.h2_machine_laws.proofs.RepresentedSteps.{Up, up_of, represents_after}
 
 -- What a log that hasn't failed has, besides.
 pub record IsSound (log : Log) : Type 0 where
@@ -44,7 +43,7 @@ pub record IsSound (log : Log) : Type 0 where
   pub size : max_payload_sent log ≡ 16384
   pub processed : is_server log.role ≡ true → (i : ℕ) → active log i ≡ true
       → i ≤ last_processed log
-  pub clear : log.role ≡ Client → (i : ℕ) → greatest_block log.sent < i → IsClear log i
+  pub clear : log.role ≡ Client → (i : ℕ) → greatest_block log.sent < i → IsClear (core log) i
 
 -- the role of an end that isn't a server
 client_since : (role : Role) → is_server role ≡ false → role ≡ Client

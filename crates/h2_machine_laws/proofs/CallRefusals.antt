@@ -50,7 +50,8 @@ refusal_by values e log act (Some code) is represents =
     failed_refuses (end_view e) (log_view log) act code is (sym represents.failed ∙ is)
 refusal_by values e log act None is represents =
     let waits = waiting_agrees values e log represents in
-    let views = views_agree e log represents.role represents.failed waits (represents.running is) in
+    let views = views_agree e log represents.role represents.failed waits represents.streams
+    (represents.running is) in
     ap (λ (view : View). refusal_of view act) views ∙ beside_refuses e log act
 
 -- A machine refuses a call just where its log does.

@@ -6,29 +6,27 @@ use Rattle.std.proofs.lemmas.List.{drop-drop, drop_min, length-drop}
 use Rattle.h2_frame.specs.declared.code.Code.{Code}
 use Rattle.h2_frame.specs.Frames.{Settings, Ping, GoAway, WindowUpdate}
 use Rattle.h2_block.specs.Grouping.{alone}
-use Rattle.std.specs.List.{list_any}
-use Rattle.h2_machine.specs.End.{StreamMap, end_view, End}
-use Rattle.h2_log.specs.Items.{resets, one_ping, total, encoding_of_items}
+use Rattle.h2_machine.specs.End.{end_view, End}
+use Rattle.h2_log.specs.Items.{one_ping, total, encoding_of_items}
 use Rattle.h2_log.specs.Events.{one_pong, reported_total}
 use Rattle.h2_log.specs.Acts.{Values, Act, Answer, IsTypedAct, SendPing, SendGoAway, PutOut}
 use Rattle.h2_log.specs.Acts.{ChangeSettings, Count, Done}
 use Rattle.h2_log.specs.declared.role.Role.{Role}
 use Rattle.h2_log.specs.Settings.{is_server, settings_count}
-use Rattle.h2_log.specs.Log.{Log, acked, active, last_processed, waiting, output, released, unreleased}
+use Rattle.h2_log.specs.Log.{Log, acked, active, last_processed, waiting, output, released}
 use Rattle.h2_log.specs.LogSteps.{with_sent, with_credit_returned}
 use Rattle.h2_log.specs.LogCalls.{called, before_put_out, MayAnswer, with_items, with_call}
 use Rattle.h2_log.specs.CallRules.{first_of, items_of, answer_of, stream_of_act, encoder_after_call}
 use Rattle.h2_log.specs.CallRules.{changed_pairs, conditions, refusal_of, update_size}
 use Rattle.h2_log.specs.CallRules.{returns_before_put_out}
-use Rattle.h2_log.specs.LogView.{log_view, stream_of_log}
+use Rattle.h2_log.specs.LogView.{log_view}
 use Rattle.h2_machine.specs.Machine.{queue_output, before_put_out_at, after_call}
-use Rattle.h2_machine.specs.Represents.{Represents, StreamsRepresent}
+use Rattle.h2_machine.specs.Represents.{Represents}
+use Rattle.h2_machine_laws.proofs.LogCore.{core, core_facts, runs}
+use Rattle.h2_machine_laws.proofs.RepresentedSteps.{called_going, Up, Waits, up_of, represents_made, wrote_up, called_waits, called_up, ready_up, nothing_unreturned, owes_none}
+use Rattle.h2_machine_laws.proofs.SentConnectionItems.{ping_advances, goaway_advances, settings_advance}
+use Rattle.h2_machine_laws.proofs.SentQuietItems.{called_streams}
 use Rattle.h2_log_laws.proofs.ItemSizes.{size-update}
-use Rattle.h2_machine_laws.proofs.SentQuietItems.{called_runs, given_runs}
-use Rattle.h2_machine_laws.proofs.SentConnectionItems.{ping_runs, goaway_runs, settings_runs}
-use Rattle.h2_machine_laws.proofs.RepresentedSteps.{Up, Waits, up_of, represents_made, wrote_up}
-use Rattle.h2_machine_laws.proofs.RepresentedSteps.{called_waits, called_up, ready_up}
-use Rattle.h2_machine_laws.proofs.RepresentedSteps.{nothing_unreturned, owes_none}
 
 -- A PING is sent.
 pub ping_up : (e : End) (log : Log) (octets : List ℕ)
@@ -37,35 +35,35 @@ pub ping_up : (e : End) (log : Log) (octets : List ℕ)
 unfolding after_call with_call with_items items_of stream_of_act encoder_after_call released
 ping_up e log octets enough is =
     let base = called log (SendPing octets) Done in
-    let called_run = called_runs e log (SendPing octets) Done e.output.encoder is.running.encoder
-    (λ i. refl) is.running in
+    let went = called_going e log (SendPing octets) Done e.output.encoder is.going.encoder
+    (λ i. refl) is.going in
     nothing_unreturned _ log _ 0 (owes_none log _)
     (wrote_up e (record e { ping = Some octets }) base (alone (Ping false octets) ∷ []) is.role
-    is.up is.same
-    (called_waits e log (SendPing octets) Done is.waits)
-    (ping_runs e base octets enough called_run))
+    is.up is.same (called_waits e log (SendPing octets) Done is.waits) is.started
+    (ping_advances (core_facts e) (core base) octets enough went))
 
 -- GOAWAY is sent.
 pub goaway_up : (e : End) (log : Log) → (is_server log.role ≡ true → (i : ℕ) → active log i ≡ true
     → i ≤ last_processed log) → Up e log
     → Up (after_call e SendGoAway) (with_call log SendGoAway Done)
 unfolding after_call with_call with_items items_of stream_of_act encoder_after_call released
+    last_processed
 goaway_up e log low is =
     let base = called log SendGoAway Done in
-    let called_run = called_runs e log SendGoAway Done e.output.encoder is.running.encoder
-    (λ i. refl) is.running in
+    let went = called_going e log SendGoAway Done e.output.encoder is.going.encoder (λ i. refl)
+    is.going in
     let all : Up (record (queue_output e (alone (GoAway (last_processed log) 0 []) ∷ []))
     { goaway = record e.goaway { sent = Some (last_processed log) } })
     (with_sent base (alone (GoAway (last_processed log) 0 []) ∷ [])) =
     wrote_up e (record e { goaway = record e.goaway { sent = Some (last_processed log) } }) base
     (alone (GoAway (last_processed log) 0 []) ∷ []) is.role is.up is.same
-    (called_waits e log SendGoAway Done is.waits)
-    (goaway_runs e base (last_processed log) 0 low called_run) in
+    (called_waits e log SendGoAway Done is.waits) is.started
+    (goaway_advances (core_facts e) (core base) (last_processed log) 0 low went) in
     nothing_unreturned _ log _ 0 (owes_none log _)
     (subst (λ (n : ℕ). Up (record (queue_output e (alone (GoAway n 0 []) ∷ []))
     { goaway = record e.goaway { sent = Some n } })
     (with_sent base (alone (GoAway (last_processed log) 0 []) ∷ [])))
-    (sym is.running.last_processed) all)
+    (sym is.going.streams.last_processed) all)
 
 -- Settings are changed.
 pub settings_up : (e : End) (log : Log) (values : Values) → acked log ≤ settings_count log.sent
@@ -74,15 +72,14 @@ pub settings_up : (e : End) (log : Log) (values : Values) → acked log ≤ sett
 unfolding after_call with_call with_items items_of stream_of_act encoder_after_call released
 settings_up e log values enough some is =
     let base = called log (ChangeSettings values) Done in
-    let called_run = called_runs e log (ChangeSettings values) Done e.output.encoder
-    is.running.encoder (λ i. refl) is.running in
+    let went = called_going e log (ChangeSettings values) Done e.output.encoder is.going.encoder
+    (λ i. refl) is.going in
     let item = alone (Settings false (changed_pairs log.role values)) in
     let all : Up (record (queue_output e (item ∷ []))
     { own = record e.own { awaited = Some values } }) (with_sent base (item ∷ [])) =
     wrote_up e (record e { own = record e.own { awaited = Some values } }) base (item ∷ []) is.role
-    is.up is.same
-    (called_waits e log (ChangeSettings values) Done is.waits)
-    (settings_runs e base values enough some called_run) in
+    is.up is.same (called_waits e log (ChangeSettings values) Done is.waits) is.started
+    (settings_advance (core_facts e) (core base) values enough some went) in
     nothing_unreturned _ log _ 0 (owes_none log _)
     (subst (λ (role : Role). Up
     (record (queue_output e (alone (Settings false (changed_pairs role values)) ∷ []))
@@ -143,15 +140,19 @@ put_out_up e log count n is up =
     let made = ready_up e base (called_up e log (PutOut count) (Count n) refl (λ i. refl) up) in
     let waits = put_out_waits (before_put_out_at e) (before_put_out base) count n (is
     ∙ ap (min count) (sym (ready_waits log (PutOut count) (Count n)))) made.waits in
-    let run = given_runs (before_put_out_at e) (before_put_out base)
-    (drop count (before_put_out_at e).output.waiting) ((before_put_out base).given + n)
-    made.running in
     let all : Up (record (before_put_out_at e) {
       output = record (before_put_out_at e).output
           { waiting = drop count (before_put_out_at e).output.waiting };
     })
     (record (before_put_out base) { given = (before_put_out base).given + n }) =
-    record { role = made.role; up = made.up; same = made.same; waits = waits; running = run } in
+    record {
+      role = made.role;
+      up = made.up;
+      same = made.same;
+      waits = waits;
+      started = made.started;
+      going = made.going;
+    } in
     subst (λ (k : ℕ). Up (record (before_put_out_at e) {
       output = record (before_put_out_at e).output
           { waiting = drop count (before_put_out_at e).output.waiting };
@@ -186,15 +187,6 @@ ready_failed : (log : Log) (code : Code) → log.failed ≡ Some code → before
 unfolding before_put_out
 ready_failed log code is = rw is refl
 
--- The streams don't hang on a call that puts octets out.
-put_out_streams : (streams : StreamMap) (log : Log) (count n : ℕ)
-    → StreamsRepresent streams (active log) (λ i. list_any (resets i) log.sent) (stream_of_log log)
-    → StreamsRepresent streams (active (called log (PutOut count) (Count n)))
-    (λ i. list_any (resets i) log.sent)
-    (stream_of_log (record (called log (PutOut count) (Count n)) { given = log.given + n }))
-unfolding unreleased released
-put_out_streams streams log count n are = are
-
 -- A call that puts octets out is never refused.
 never_refused : (e : End) (count : ℕ) → refusal_of (end_view e) (PutOut count) ≡ None
 unfolding conditions first_of
@@ -205,11 +197,12 @@ put_out_by : (values : Values) (e : End) (log : Log) (count n : ℕ) (x : Option
     → n ≡ min count (waiting (before_put_out log))
     → Represents values e log → IsTypedAct (PutOut count) → MayAnswer log (PutOut count) (Count n)
     → Represents values (after_call e (PutOut count)) (with_call log (PutOut count) (Count n))
-unfolding after_call with_call
+unfolding after_call with_call released
 put_out_by values e log count n None up is represents typed may =
     let made = put_out_up e log count n is (up_of values e log represents up) in
     represents_made values e log (PutOut count) (Count n) represents typed may (never_refused e count)
-    made.role (made.up ∙ sym made.same) made.waits made.running.streams (λ up. made.running)
+    made.role (made.up ∙ sym made.same) made.waits made.going.streams
+    (λ up. runs _ _ made.started made.going)
 put_out_by values e log count n (Some code) failed is represents typed may =
     let base = called log (PutOut count) (Count n) in
     let here = ready_failed_at e code failed in
@@ -227,7 +220,8 @@ put_out_by values e log count n (Some code) failed is represents typed may =
     (ap (λ (x : End). x.role) here ∙ represents.role ∙ sym (ap (λ (x : Log). x.role) there))
     (ap (λ (x : End). x.failed) here ∙ represents.failed ∙ sym (ap (λ (x : Log). x.failed) there))
     (rw (here, there) waits)
-    (rw (here, there) (put_out_streams e.streams.entries log count n represents.streams))
+    (rw (here, there) (called_streams e.streams (core log) ((PutOut count, Count n) ∷ log.calls)
+    (λ i. refl) represents.streams))
     (λ up. let wrong : Some code ≡ None = sym failed ∙ sym (ap (λ (x : End). x.failed) here)
     ∙ up in absurd (cc))
 

@@ -13,7 +13,7 @@ use Rattle.h2_log.specs.Acts.{Values, Act, Answer, IsTypedAct}
 use Rattle.h2_log.specs.Settings.{value_read}
 use Rattle.h2_log.specs.States.{openings}
 use Rattle.h2_log.specs.Events.{flow_on, reported_total}
-use Rattle.h2_log.specs.Log.{Log, max_payload_sent_by, unreleased}
+use Rattle.h2_log.specs.Log.{Log, max_payload_sent_by}
 use Rattle.h2_log.specs.LogCalls.{MayAnswer, with_call}
 use Rattle.h2_log.specs.Histories.{IsLog}
 use Rattle.h2_machine.specs.End.{End}
@@ -25,12 +25,13 @@ use Rattle.h2_log_laws.proofs.StreamNumbers.{block_below}
 use Rattle.h2_log_laws.proofs.AllowedHistories.{increments_read}
 use Rattle.h2_log_laws.proofs.ReplyInvariant.{resets_used}
 use Rattle.h2_log_laws.proofs.InvariantLogs.{log_represents}
-use Rattle.h2_machine_laws.proofs.SentQuietItems.{any_quiet, total_one}
+use Rattle.h2_machine_laws.proofs.CallLaw.{IsSound, call_law}
 use Rattle.h2_machine_laws.proofs.CallOpen.{IsClear}
+use Rattle.h2_machine_laws.proofs.GoAwaysSent.{active_processed}
+use Rattle.h2_machine_laws.proofs.LogCore.{core, kept_back}
+use Rattle.h2_machine_laws.proofs.OneItemMore.{any_quiet, total_one}
 use Rattle.h2_machine_laws.proofs.UpInvariant.{idle_above, greatest_after}
 use Rattle.h2_machine_laws.proofs.UpInvariantLogs.{up_log_of}
-use Rattle.h2_machine_laws.proofs.GoAwaysSent.{active_processed}
-use Rattle.h2_machine_laws.proofs.CallLaw.{IsSound, call_law}
 
 -- an item that a client may write neither ends nor consumes anything of a number above all before
 -- it
@@ -74,8 +75,7 @@ sent_low received _ i (writes {sent = sent} item with_sent allowed) above =
 
 -- nothing is unreleased of nothing
 unreleased_none : (log : Log) (i : ℕ) → reported_total (flow_on i) log.reported ≡ 0
-    → unreleased log i ≡ 0
-unfolding unreleased
+    → kept_back (core log) i ≡ 0
 unreleased_none log i none = omega (arith, none)
 
 -- no block on a number above all that a client used
@@ -88,7 +88,7 @@ unopened Server received sent i is above = cc
 -- Numbers above all that a client used are clear.
 clear_of : (role : Role) (values : Values) (log : Log) → IsLog role values log → log.failed ≡ None
     → log.role ≡ Client → (i : ℕ) → greatest_block log.sent < i
-    → IsClear log i
+    → IsClear (core log) i
 clear_of role values log came up client i above =
     let represents = log_represents role values log came in
     let up_log = up_log_of role values log came up in

@@ -17,15 +17,16 @@ mod ConservedBySteps
 mod EachStream
 mod FreshNumbers
 mod GoAwaysSent
+mod LogCore
 mod NewEnd
 mod NextUnprocessed
+mod OneItemMore
 mod OwedOnStreams
 mod OwedSums
 mod RecvConnectionFault
 mod RecvConnectionItems
 mod RecvData
 mod RecvEvents
-mod RecvLittleChanges
 mod RecvRead
 mod RecvReset
 mod RecvReturnedCredit
@@ -39,6 +40,7 @@ mod RepresentedSteps
 mod SentConnectionItems
 mod SentQuietItems
 mod SentStreamItems
+mod StreamsSame
 mod UpInvariant
 mod UpInvariantLogs
 mod UpInvariantReads

@@ -1,6 +1,6 @@
 -- A stream that the peer doesn't process is reported at an end as at its log.
 use Rattle.std.proofs.Common.{◌≡◌, ◌≢◌, ℕ, ◌+◌, ◌-◌, Bool, true, false, not, ◌==◌, nat_lt, ◌&&◌}
-use Rattle.std.proofs.Common.{if◌then◌else◌, List, [], ◌∷◌, length, None, refl, ap, sym, ◌∙◌, arith}
+use Rattle.std.proofs.Common.{if◌then◌else◌, List, [], ◌∷◌, length, None, refl, ap, sym, ◌∙◌}
 use Rattle.std.proofs.Common.{zero-add}
 use Rattle.std.specs.List.{list_any}
 use Rattle.std.specs.FinMap as map
@@ -12,7 +12,7 @@ use Rattle.h2_log.specs.Acts.{Values}
 use Rattle.h2_log.specs.Events.{Event, UnprocessedEvent, flow_on, one_acked, one_pong}
 use Rattle.h2_log.specs.Events.{reported_total, reports_unprocessed, processed_by}
 use Rattle.h2_log.specs.Settings.{is_server}
-use Rattle.h2_log.specs.States.{openings, count_below, least_block}
+use Rattle.h2_log.specs.States.{least_block}
 use Rattle.h2_log.specs.LogSteps.{took_none, with_reported, with_sent, with_unreturned}
 use Rattle.h2_log.specs.LogSteps.{with_credit_returned, owed_at_close}
 use Rattle.h2_log.specs.Limits.{full_output}
@@ -22,20 +22,16 @@ use Rattle.h2_machine.specs.End.{End, owed_entry}
 use Rattle.h2_machine.specs.Machine.{return_credit, add_unreturned, close_unprocessed}
 use Rattle.h2_machine.specs.Represents.{Represents, RepresentsWhileUp}
 use Rattle.h2_log_laws.proofs.ReaderStates.{active_parts, lasts_parts}
-use Rattle.h2_log_laws.proofs.NextStreams.{greatest_above, least_passes}
+use Rattle.h2_log_laws.proofs.NextStreams.{least_passes}
 use Rattle.h2_machine_laws.proofs.ConservedBySteps.{holds, is_whole, ended, lacks_none}
-use Rattle.h2_machine_laws.proofs.RecvWithoutFrame.{Core, core, CoreFacts, core_facts, Advances}
-use Rattle.h2_machine_laws.proofs.RecvWithoutFrame.{Going, active_by_items, kept_back}
-use Rattle.h2_machine_laws.proofs.RecvWithoutFrame.{greatest_used, waits_of, represents_by, going}
-use Rattle.h2_machine_laws.proofs.RecvWithoutFrame.{runs}
-use Rattle.h2_machine_laws.proofs.RecvVerdict.{active_said}
+use Rattle.h2_machine_laws.proofs.LogCore.{Core, core, CoreFacts, core_facts, Advances, Going, active_by_items, kept_back, going, runs}
+use Rattle.h2_machine_laws.proofs.RecvEvents.{report, reported_by, reported_kept, active_reported, taken_kept}
 use Rattle.h2_machine_laws.proofs.RecvReturnedCredit.{After, returned}
+use Rattle.h2_machine_laws.proofs.RecvVerdict.{active_said}
+use Rattle.h2_machine_laws.proofs.RecvWithoutFrame.{waits_of, represents_by}
+use Rattle.h2_machine_laws.proofs.StreamsSame.{streams_closed, SameAt, said_removed}
 use Rattle.h2_machine_laws.specs.Bounds.{KeepsConnectionWindow}
 use Rattle.h2_frame.specs.Frames.{Frame}
-use Rattle.h2_machine_laws.proofs.RecvLittleChanges.{SameAt}
-use Rattle.h2_machine_laws.proofs.RecvRead.{said_removed, count_less}
-use Rattle.h2_machine_laws.proofs.RecvEvents.{report, reported_by, reported_kept, active_reported}
-use Rattle.h2_machine_laws.proofs.RecvEvents.{taken_kept}
 
 -- The event that names a stream unprocessed names it.
 names_it : (n : ℕ) → reports_unprocessed n (UnprocessedEvent n) ≡ true
@@ -98,18 +94,13 @@ unprocessed_advances : (h : CoreFacts) (c : Core) (n : ℕ) → active_by_items 
     }) (report c (UnprocessedEvent n))
 unprocessed_advances h c n alive g =
     let parts = active_parts c.role n c.received c.sent c.reported alive in
-    let less : count_below (greatest_used c + 1) (active_by_items (report c (UnprocessedEvent n))) +
-    1 ≡ count_below (greatest_used c + 1) (active_by_items c) =
-    count_less (greatest_used c + 1) n (active_by_items (report c (UnprocessedEvent n)))
-    (active_by_items c)
-    (omega (arith, greatest_above n (openings c.role c.received c.sent) parts.opened))
-    (λ j other. (others_same c n j other).active) alive (named_dead c n) in
-    reported_by h c (UnprocessedEvent n) (map.remove h.streams.entries n) (h.streams.active_count -
-    1) h.streams.last_processed (no_ack n) (no_pong n)
-    (said_removed h.streams.entries n c (report c (UnprocessedEvent n)) g.streams (others_same c n)
-    (named_dead c n) (lasts_parts n c.received c.sent parts.lasts).kept)
-    (omega (arith, less, g.active_count)) (g.last_processed
-    ∙ sym (taken_kept (is_server c.role) (UnprocessedEvent n) c.reported (not_taken n))) g
+    let event : Event = UnprocessedEvent n in
+    reported_by h c event _ (no_ack n) (no_pong n)
+    (streams_closed h.streams n (map.remove h.streams.entries n) h.streams.resets c
+    (report c event) (others_same c n) alive (named_dead c n)
+    (said_removed h.streams.entries n c (report c event) g.streams.entries (others_same c n)
+    (named_dead c n) (lasts_parts n c.received c.sent parts.lasts).kept) refl
+    (taken_kept (is_server c.role) event c.reported (not_taken n)) g.streams.resets g.streams) g
 
 -- A part of an end that doesn't hang on windows and output doesn't hang on what is unreturned, by
 -- the test whether it is returned.
@@ -200,7 +191,7 @@ pub unprocessed_represents : (values : Values) (e : End) (log : Log) → Represe
 unprocessed_represents values e log s up some =
     let n : ℕ = next_unprocessed log in
     let r : RepresentsWhileUp e log = s.running (s.failed ∙ up) in
-    let g : Going e (core log) = going e log r in
+    let g : Going e (core log) = going e log s.streams r in
     let alive : active log n ≡ true = next_is_active log some in
     let waits = waits_of values e log s in
     let owed : ℕ = 0 + owed_entry (map.get e.streams.entries n) in
@@ -219,21 +210,18 @@ unprocessed_represents values e log s up some =
       same_failed = waits.same_failed;
       waiting = waits.waiting;
       given = waits.given;
-    }) g.unreturned
-    (λ still. unprocessed_advances (core_facts e) (core log) n alive g) in
+    }) g.windows.unreturned
+    (unprocessed_advances (core_facts e) (core log) n alive g) in
     let whole : KeepsConnectionWindow e = record { whole = s.whole; used = s.used } in
-    let still : (close_unprocessed e n).failed ≡ None =
-    returned_keeps (λ (x : End). x.failed) next owed (λ x. refl) (λ m. refl) ∙ s.failed ∙ up in
     let begun : (close_unprocessed e n).reading.started ≡ e.reading.started =
     returned_keeps (λ (x : End). x.reading.started) next owed (λ x. refl) (λ m. refl) in
     let role : (close_unprocessed e n).role ≡ e.role =
     returned_keeps (λ (x : End). x.role) next owed (λ x. refl) (λ m. refl) in
-    let run : RepresentsWhileUp (close_unprocessed e n) (took_none log) =
-    runs (close_unprocessed e n) (took_none log) (begun ∙ r.started
+    represents_by values (close_unprocessed e n) (took_none log) (rw role
+    (reported_one s.came up some)) b.waits b.streams
+    (λ still. runs (close_unprocessed e n) (took_none log) (begun ∙ r.started
     ∙ ap (λ (fs : List Frame). not (length fs == 0))
     (sym (reported_frames (with_unreturned more log) (UnprocessedEvent n ∷ [])
-    ∙ returned_frames log more))) (b.going still) in
-    represents_by values (close_unprocessed e n) (took_none log) (rw role
-    (reported_one s.came up some)) b.waits run.streams (λ up. run)
+    ∙ returned_frames log more))) (b.going still))
     (is_whole (close_unprocessed e n) (ended e n 0 (lacks_none e.windows.recv e.windows.unreturned
     e.streams.highest e.streams.entries (holds e whole))))
