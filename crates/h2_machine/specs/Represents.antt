@@ -15,7 +15,7 @@ use Rattle.h2_log.specs.States.{openings, is_active, count_below, when}
 use Rattle.h2_log.specs.Windows.{first_window, given_on_connection, granted_on_connection}
 use Rattle.h2_log.specs.Windows.{send_window_of, recv_window_of}
 use Rattle.h2_log.specs.View.{StreamView}
-use Rattle.h2_log.specs.Log.{Log, acked, allowed_by, least_goaway, newest_ping, ping_waits, output}
+use Rattle.h2_log.specs.Log.{Log, acked, allowed_by, least_goaway, newest_ping, ping_waits}
 use Rattle.h2_log.specs.Log.{released}
 use Rattle.h2_log.specs.Histories.{IsLog}
 use Rattle.h2_machine.specs.End.{Entry, active_entry, reset_entry, StreamMap, Streams}
@@ -121,6 +121,11 @@ pub record RepresentsGoAways (goaway : GoAways) (received sent : List Item) : Ty
   pub last_sent : goaway.sent ≡ when (list_any is_goaway sent) (goaway_sent_last sent)
   pub least_received : goaway.received ≡ when (list_any is_goaway received) (least_goaway received)
 
+-- the octets that wait, of those that were written: those that were not given out
+pub record RepresentsOutput (octets : List ℕ) (log_given : ℕ) (written : List ℕ) : Type 0 where
+  pub waiting : octets ≡ drop log_given written
+  pub given : log_given ≤ length written
+
 -- An end that hasn't failed keeps what its log says of what comes, and may be sent, next.
 pub record RepresentsWhileUp (e : End) (log : Log) : Type 0 where
   pub started : e.reading.started ≡ not (length log.frames == 0)
@@ -138,8 +143,7 @@ pub record Represents (values : Values) (e : End) (log : Log) : Type 0 where
   pub came : IsLog e.role values log
   pub role : e.role ≡ log.role
   pub failed : e.failed ≡ log.failed
-  pub waiting : e.output.waiting ≡ drop log.given (output log)
-  pub given : log.given ≤ length (output log)
+  pub output : RepresentsOutput e.output.waiting log.given log.written
   pub streams : RepresentsStreams e.streams log.role log.received log.sent log.reported log.calls
   pub running : e.failed ≡ None → RepresentsWhileUp e log
   pub whole : ConservesConnectionWindow e

@@ -4,7 +4,7 @@ use Rattle.std.proofs.Common.{◌≡◌, ℕ, ◌==◌, not, ◌&&◌, Bool, tru
 use Rattle.std.proofs.Common.{◌∷◌, Option, Some, None, refl, sym, ap, subst, ◌∙◌}
 use Rattle.h2_frame.specs.declared.code.Code.{Code}
 use Rattle.h2_frame.specs.declared.code.Code.TheVariants.{InternalError, EnhanceYourCalm}
-use Rattle.h2_frame.specs.Frames.{GoAway, Reset}
+use Rattle.h2_frame.specs.Frames.{Reset}
 use Rattle.h2_block.specs.Grouping.{alone}
 use Rattle.h2_machine.specs.End.{end_view, End}
 use Rattle.h2_log.specs.LogView.{log_view}
@@ -12,9 +12,9 @@ use Rattle.h2_log.specs.View.{View}
 use Rattle.h2_log.specs.Acts.{Values, Act, Answer, IsTypedAct, Open, SendFields, SendData, Release}
 use Rattle.h2_log.specs.Acts.{ResetStream, Refuse, SendPing, SendGoAway, PutOut, ChangeSettings}
 use Rattle.h2_log.specs.Acts.{Done, OutOfMemory, Refused}
-use Rattle.h2_log.specs.Log.{Log, active, last_processed, output, released}
+use Rattle.h2_log.specs.Log.{Log, active, last_processed, released}
 use Rattle.h2_frame.specs.Codes.{code_number}
-use Rattle.h2_log.specs.LogSteps.{with_sent, with_failure}
+use Rattle.h2_log.specs.LogSteps.{with_failure}
 use Rattle.h2_log.specs.LogCalls.{called, with_call, refused_with, with_items, MayAnswer}
 use Rattle.h2_log.specs.CallRules.{refuse_fault, items_of, stream_of_act, encoder_after_call}
 use Rattle.h2_log.specs.CallRules.{refusal_of, conditions}
@@ -27,34 +27,10 @@ use Rattle.h2_log_laws.proofs.LogViewLemmas.{stream_is_active}
 use Rattle.h2_machine_laws.proofs.CallReset.{reset_up}
 use Rattle.h2_machine_laws.proofs.GoAwaysSent.{active_processed}
 use Rattle.h2_machine_laws.proofs.LogCore.{core, StreamsOf, going, runs}
-use Rattle.h2_machine_laws.proofs.RepresentedSteps.{Up, Waits, up_of, views_of_up, represents_after, wrote_waits, called_waits, called_up, called_going}
+use Rattle.h2_machine_laws.proofs.RepresentedSteps.{Up, up_of, views_of_up, represents_after, called_up, called_going}
 use Rattle.h2_machine_laws.proofs.SentConnectionItems.{failing_streams}
 use Rattle.h2_machine_laws.proofs.SentQuietItems.{called_streams}
-
--- Failing is no part of what waits.
-failed_waits : (e : End) (log : Log) (here there : Option Code) → Waits e log
-    → Waits (record e { failed = here }) (record log { failed = there })
-unfolding output
-failed_waits e log here there w = record { waiting = w.waiting; given = w.given }
-
--- What waits after a failure.
-fails_waits : (e : End) (log : Log) (code : Code) → e.streams.last_processed ≡ last_processed log
-    → Waits e log
-    → (act : Act) (answer : Answer)
-    → Waits (fail code e.streams.last_processed e)
-    (with_failure code (last_processed log) (called log act answer))
-fails_waits e log code is w act answer =
-    let base = called log act answer in
-    let items = λ (n : ℕ). alone (GoAway n (code_number code) []) ∷ [] in
-    subst (λ (n : ℕ). Waits (fail code n e) (with_failure code (last_processed log) base)) (sym is)
-    (failed_waits (queue_output e (items (last_processed log)))
-    (with_sent base (items (last_processed log))) (Some code) (Some code)
-    (wrote_waits e base (items (last_processed log)) (called_waits e log act answer w)))
-
--- A role is no part of a failure.
-fails_role : (code : Code) (last : ℕ) (log : Log) → (with_failure code last log).role ≡ log.role
-unfolding with_sent
-fails_role code last log = refl
+use Rattle.h2_machine_laws.proofs.WaitingOutput.{fails_connection, waits_of}
 
 -- The streams don't hang on a call that releases nothing, nor on the failure after it.
 called_failing : (values : Values) (e : End) (log : Log) (act : Act) (answer : Answer) (code : Code)
@@ -75,14 +51,15 @@ pub fails_represent : (values : Values) (e : End) (log : Log) (act : Act) (answe
     (with_failure code (last_processed log) (called log act answer))
 unfolding last_processed
 fails_represent values e log act answer code quiet represents up came =
-    let waits = fails_waits e log code represents.streams.last_processed
-    (record { waiting = represents.waiting; given = represents.given }) act answer in
+    let base = called log act answer in
+    let waits = fails_connection e.role e.failed e.output.waiting base code
+    e.streams.last_processed (last_processed log) represents.streams.last_processed
+    (waits_of values e log represents) in
     record {
       came = came;
-      role = represents.role ∙ sym (fails_role code (last_processed log) (called log act answer));
-      failed = refl;
-      waiting = waits.waiting;
-      given = waits.given;
+      role = waits.same_role;
+      failed = waits.same_failed;
+      output = waits.output;
       streams = called_failing values e log act answer code quiet represents
           (sym represents.failed ∙ up);
       running = λ still. cc;
@@ -112,14 +89,11 @@ pub refused_represents : (values : Values) (e : End) (log : Log) (act : Act) (re
     → Represents values e (with_call log act (Refused refusal))
 unfolding with_call
 refused_represents values e log act refusal represents typed may =
-    let waits = called_waits e log act (Refused refusal)
-    (record { waiting = represents.waiting; given = represents.given }) in
     record {
       came = called_one represents.came act (Refused refusal) typed may;
       role = represents.role;
       failed = represents.failed;
-      waiting = waits.waiting;
-      given = waits.given;
+      output = represents.output;
       streams = called_streams e.streams (core log) ((act, Refused refusal) ∷ log.calls)
           (λ i. released_refused i act refusal log.calls) represents.streams;
       running = λ up.

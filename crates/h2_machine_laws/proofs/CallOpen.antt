@@ -30,7 +30,7 @@ use Rattle.h2_machine.specs.Machine.{new_stream, open_stream, with_encoder, afte
 use Rattle.h2_log_laws.proofs.ReaderStates.{active_from, lasts_from}
 use Rattle.h2_machine_laws.proofs.LogCore.{Core, core, CoreFacts, core_facts, Advances, confirmed, active_by_items, greatest_used, said, kept_back}
 use Rattle.h2_machine_laws.proofs.OneItemMore.{total_quiet, own_quiet}
-use Rattle.h2_machine_laws.proofs.RepresentedSteps.{called_going, Up, views_of_up, queue_by, wrote_up, called_waits, nothing_unreturned, owes_none}
+use Rattle.h2_machine_laws.proofs.RepresentedSteps.{called_going, Up, views_of_up, queue_by, wrote_up, nothing_unreturned, owes_none}
 use Rattle.h2_machine_laws.proofs.SentConnectionItems.{computing}
 use Rattle.h2_machine_laws.proofs.SentQuietItems.{sends, same_sent, windows_sent, own_sent, goaways_sent, ping_sent}
 use Rattle.h2_machine_laws.proofs.StreamsSame.{count_apart, SameAt, same_stream, said_set}
@@ -270,7 +270,7 @@ open_up e log fields end client odd above clear is =
       };
     } in
     let made = wrote_up e opened_one base (block id end octets ∷ []) is.role is.up is.same
-    (called_waits e log act (Number id) is.waits) is.started
+    is.waits is.started
     (open_advances (core_facts f) (core base) id end octets client odd above clear_base went) in
     let call = with_call log act (Number id) in
     let all : Up (open_stream (queue_by e (view_beside e log) act) id end) call =

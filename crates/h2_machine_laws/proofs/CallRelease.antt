@@ -30,7 +30,7 @@ use Rattle.h2_log.specs.Windows.{given_on}
 use Rattle.h2_machine_laws.proofs.LogCore.{Core, core, CoreFacts, core_facts, Advances, confirmed, active_by_items, said, kept_back}
 use Rattle.h2_machine_laws.proofs.OneItemMore.{total_one, total_quiet, own_quiet}
 use Rattle.h2_machine_laws.proofs.OwedSums.{get_set}
-use Rattle.h2_machine_laws.proofs.RepresentedSteps.{Up, views_of_up, wrote_up, called_waits, nothing_unreturned, owes_active, wrote_active}
+use Rattle.h2_machine_laws.proofs.RepresentedSteps.{Up, views_of_up, wrote_up, nothing_unreturned, owes_active, wrote_active}
 use Rattle.h2_machine_laws.proofs.SentConnectionItems.{update_other, widened_advances, computing, update_quiet}
 use Rattle.h2_machine_laws.proofs.SentQuietItems.{sends, same_sent, used_wrote, active_wrote, quiet_sent}
 use Rattle.h2_machine_laws.proofs.StreamsSame.{same_stream, streams_set, active_some}
@@ -236,7 +236,7 @@ release_up e log id count active_is is =
       windows = record e.windows { recv = e.windows.recv + count };
     } in
     let made = wrote_up e released_one base items is.role is.up is.same
-    (called_waits e log (Release id count) Done is.waits) is.started
+    is.waits is.started
     (release_advances (core_facts e) (core log) id count ended active_is is.going) in
     let still : active (with_sent base items) id ≡ true =
     wrote_active base items id ∙ updates_active log.role log.received log.sent log.reported id count

@@ -27,9 +27,10 @@ use Rattle.h2_log_laws.proofs.ReaderStates.{active_parts}
 use Rattle.h2_machine_laws.proofs.CallSendItems.{adds_block, adds_all}
 use Rattle.h2_machine_laws.proofs.LogCore.{core, core_facts, Going}
 use Rattle.h2_machine_laws.proofs.OwedSums.{get_set_same}
-use Rattle.h2_machine_laws.proofs.RepresentedSteps.{called_going, Up, Waits, views_of_up, queue_by, wrote_up, called_waits, called_up, with_unreturned_up, nothing_unreturned, owes_active, owes_all, wrote_active, wrote_owes}
+use Rattle.h2_machine_laws.proofs.RepresentedSteps.{called_going, Up, views_of_up, queue_by, wrote_up, called_up, with_unreturned_up, nothing_unreturned, owes_active, owes_all, wrote_active, wrote_owes}
 use Rattle.h2_machine_laws.proofs.SentStreamItems.{set_advances, over_advances, Adds, stream_with, active_here, closed_here}
 use Rattle.h2_machine_laws.proofs.ViewsAgree.{view_beside}
+use Rattle.h2_machine_laws.proofs.WaitingOutput.{OutputOf}
 use Rattle.h2_log_laws.proofs.LogViewLemmas.{stream_there}
 
 -- an end with items that join its output, and another send window
@@ -48,7 +49,7 @@ sent_by : (e f : End) (log base : Log) (id : ℕ) (items : List Item) (n : ℕ) 
     → Adds base.role base.received id base.sent (items ++ base.sent) n end
     → here + (n + total data_of base.sent) ≡ given_on_connection base.received → f.role ≡ base.role
     → f.failed ≡ None → base.failed ≡ None
-    → Waits e base → f.reading.started ≡ not (length base.frames == 0) → Going f (core base)
+    → OutputOf e base → f.reading.started ≡ not (length base.frames == 0) → Going f (core base)
     → Up (if b then close_stream
     (set_stream (with_send_window e f items here) id (stream_with (core base) id send_window end)) id 0
     else set_stream (with_send_window e f items here) id (stream_with (core base) id send_window end))
@@ -102,7 +103,7 @@ sent_up : (e f : End) (log base : Log) (id : ℕ) (items : List Item) (n : ℕ) 
     → Adds base.role base.received id base.sent (items ++ base.sent) n end
     → here + (n + total data_of base.sent) ≡ given_on_connection base.received → f.role ≡ base.role
     → f.failed ≡ None → base.failed ≡ None
-    → Waits e base → f.reading.started ≡ not (length base.frames == 0) → Going f (core base)
+    → OutputOf e base → f.reading.started ≡ not (length base.frames == 0) → Going f (core base)
     → Up (update_stream (with_send_window e f items here) id (stream_with (core base) id send_window end))
     (with_unreturned (owed_at_close log (with_sent base items) id) (with_sent base items))
 sent_up e f log base id items n end send_window here was active_is is a conserved role up same waits
@@ -132,7 +133,7 @@ fields_up e log id fields end active_is goes is =
     (ap (window (given_on id log.received)) (sym consumed))
     (adds_block log.role log.received id end (block_of log.encoder fields) log.sent opened goes)
     conserved is.role is.up is.same
-    (called_waits e log (SendFields id fields end) Done is.waits) is.started ran in
+    is.waits is.started ran in
     let act = SendFields id fields end in
     let call = with_call log act Done in
     let there : Up (after_fields_sent (queue_by e (view_beside e log) act) id end
@@ -214,7 +215,7 @@ data_by e log id octets end count false active_is goes within is =
     (send_window log id -ℤ pos count) (e.windows.send - count)
     active_is active_is (less_send_window (given_on id log.received) (total (data_on id) log.sent)
     count) adds conserved is.role is.up is.same
-    (called_waits e log (SendData id octets end) (Count count) is.waits) is.started ran
+    is.waits is.started ran
 
 -- Octets of a body are sent.
 pub data_up : (e : End) (log : Log) (id : ℕ) (octets : List ℕ) (end : Bool) → active log id ≡ true

@@ -23,9 +23,10 @@ use Rattle.h2_log.specs.LogView.{log_view}
 use Rattle.h2_machine.specs.Machine.{queue_output, before_put_out_at, after_call}
 use Rattle.h2_machine.specs.Represents.{Represents}
 use Rattle.h2_machine_laws.proofs.LogCore.{core, core_facts, runs}
-use Rattle.h2_machine_laws.proofs.RepresentedSteps.{called_going, Up, Waits, up_of, represents_made, wrote_up, called_waits, called_up, ready_up, nothing_unreturned, owes_none}
+use Rattle.h2_machine_laws.proofs.RepresentedSteps.{called_going, Up, up_of, represents_made, wrote_up, called_up, ready_up, nothing_unreturned, owes_none}
 use Rattle.h2_machine_laws.proofs.SentConnectionItems.{ping_advances, goaway_advances, settings_advance}
 use Rattle.h2_machine_laws.proofs.SentQuietItems.{called_streams}
+use Rattle.h2_machine_laws.proofs.WaitingOutput.{OutputOf}
 use Rattle.h2_log_laws.proofs.ItemSizes.{size-update}
 
 -- A PING is sent.
@@ -39,7 +40,7 @@ ping_up e log octets enough is =
     (λ i. refl) is.going in
     nothing_unreturned _ log _ 0 (owes_none log _)
     (wrote_up e (record e { ping = Some octets }) base (alone (Ping false octets) ∷ []) is.role
-    is.up is.same (called_waits e log (SendPing octets) Done is.waits) is.started
+    is.up is.same is.waits is.started
     (ping_advances (core_facts e) (core base) octets enough went))
 
 -- GOAWAY is sent.
@@ -57,7 +58,7 @@ goaway_up e log low is =
     (with_sent base (alone (GoAway (last_processed log) 0 []) ∷ [])) =
     wrote_up e (record e { goaway = record e.goaway { sent = Some (last_processed log) } }) base
     (alone (GoAway (last_processed log) 0 []) ∷ []) is.role is.up is.same
-    (called_waits e log SendGoAway Done is.waits) is.started
+    is.waits is.started
     (goaway_advances (core_facts e) (core base) (last_processed log) 0 low went) in
     nothing_unreturned _ log _ 0 (owes_none log _)
     (subst (λ (n : ℕ). Up (record (queue_output e (alone (GoAway n 0 []) ∷ []))
@@ -78,7 +79,7 @@ settings_up e log values enough some is =
     let all : Up (record (queue_output e (item ∷ []))
     { own = record e.own { awaited = Some values } }) (with_sent base (item ∷ [])) =
     wrote_up e (record e { own = record e.own { awaited = Some values } }) base (item ∷ []) is.role
-    is.up is.same (called_waits e log (ChangeSettings values) Done is.waits) is.started
+    is.up is.same is.waits is.started
     (settings_advance (core_facts e) (core base) values enough some went) in
     nothing_unreturned _ log _ 0 (owes_none log _)
     (subst (λ (role : Role). Up
@@ -87,8 +88,8 @@ settings_up e log values enough some is =
     all)
 
 -- Octets are put out of what waits.
-put_out_waits : (e : End) (log : Log) (count n : ℕ) → n ≡ min count (waiting log) → Waits e log
-    → Waits (record e { output = record e.output { waiting = drop count e.output.waiting } })
+put_out_waits : (e : End) (log : Log) (count n : ℕ) → n ≡ min count (waiting log) → OutputOf e log
+    → OutputOf (record e { output = record e.output { waiting = drop count e.output.waiting } })
     (record log { given = log.given + n })
 unfolding waiting output
 put_out_waits e log count n is w =
@@ -160,7 +161,7 @@ put_out_up e log count n is up =
     (record (before_put_out base) { given = k + n })) (ready_given base) all
 
 -- As much waits after credit was returned, by the test.
-ready_size_by : (log : Log) (b : Bool) → log.given ≤ length (output log)
+ready_size_by : (log : Log) (b : Bool) → log.given ≤ length log.written
     → waiting (if b then with_credit_returned log else log) ≡ waiting log +
     (if b then update_size else 0)
 unfolding waiting output with_sent
@@ -171,7 +172,7 @@ ready_size_by log true given =
 ready_size_by log false given = omega arith
 
 -- As much waits once an end is ready as the rules say.
-ready_size : (log : Log) → log.given ≤ length (output log)
+ready_size : (log : Log) → log.given ≤ length log.written
     → waiting (before_put_out log) ≡ waiting log +
     (if returns_before_put_out (log_view log) then update_size else 0)
 unfolding before_put_out
@@ -210,12 +211,11 @@ put_out_by values e log count n (Some code) failed is represents typed may =
     let there = ready_failed base code with_failure in
     let same : waiting base ≡ waiting (before_put_out log) = ap waiting (sym there)
     ∙ ready_waits log (PutOut count) (Count n) in
-    let waits : Waits (record e {
+    let waits : OutputOf (record e {
       output = record e.output { waiting = drop count e.output.waiting };
     }) (record base { given = log.given + n }) =
     put_out_waits e base count n (is ∙ ap (min count) (sym same))
-    (called_waits e log (PutOut count) (Count n)
-    (record { waiting = represents.waiting; given = represents.given })) in
+    represents.output in
     represents_made values e log (PutOut count) (Count n) represents typed may (never_refused e count)
     (ap (λ (x : End). x.role) here ∙ represents.role ∙ sym (ap (λ (x : Log). x.role) there))
     (ap (λ (x : End). x.failed) here ∙ represents.failed ∙ sym (ap (λ (x : Log). x.failed) there))
@@ -233,4 +233,4 @@ pub put_out_represents : (values : Values) (e : End) (log : Log) (count : ℕ)
     (with_call log (PutOut count) (answer_of (log_view log) (PutOut count)))
 put_out_represents values e log count represents typed may =
     put_out_by values e log count _ e.failed refl
-    (ap (min count) (sym (ready_size log represents.given))) represents typed may
+    (ap (min count) (sym (ready_size log represents.output.given))) represents typed may

@@ -45,3 +45,4 @@ mod UpInvariant
 mod UpInvariantLogs
 mod UpInvariantReads
 mod ViewsAgree
+mod WaitingOutput

@@ -130,8 +130,7 @@ new_represents role values in_range =
       came = begins in_range;
       role = refl;
       failed = refl;
-      waiting = refl;
-      given = omega arith;
+      output = record { waiting = refl; given = omega arith };
       streams = new_streams role values;
       running = λ up. new_running role values;
       whole = (is_whole (new_end role values) (new_holds role values)).whole;

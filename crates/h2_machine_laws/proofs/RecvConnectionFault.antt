@@ -16,8 +16,8 @@ use Rattle.h2_log.specs.Events.{greatest_processed}
 use Rattle.h2_machine_laws.proofs.LogCore.{core, Going}
 use Rattle.h2_machine_laws.proofs.RecvReturnedCredit.{After}
 use Rattle.h2_machine_laws.proofs.RecvVerdict.{Sound, when_some, state_same, allowed_same}
-use Rattle.h2_machine_laws.proofs.RecvWithoutFrame.{Waits, fails_connection}
 use Rattle.h2_machine_laws.proofs.SentConnectionItems.{failing_streams}
+use Rattle.h2_machine_laws.proofs.WaitingOutput.{Waits, fails_connection}
 
 -- The number that an item opens is the same.
 opened_same : (e : End) (log : Log) (decoded : Option Decoded) (item : Item) → e.role ≡ log.role

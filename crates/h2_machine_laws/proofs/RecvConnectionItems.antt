@@ -21,10 +21,10 @@ use Rattle.h2_machine.specs.Represents.{goaway_sent_last}
 use Rattle.h2_machine_laws.proofs.LogCore.{Core, core, core_facts, Going, active_by_items}
 use Rattle.h2_machine_laws.proofs.RecvRead.{IsQuietIn, quiet_read, active_read, reads}
 use Rattle.h2_machine_laws.proofs.RecvReturnedCredit.{After, unsettled}
-use Rattle.h2_machine_laws.proofs.RecvWithoutFrame.{Waits, wrote_connection}
 use Rattle.h2_machine_laws.proofs.SentConnectionItems.{ping_leaves}
 use Rattle.h2_machine_laws.proofs.SentQuietItems.{IsQuietOut, quiet_wrote}
 use Rattle.h2_machine_laws.proofs.StreamsSame.{active_some}
+use Rattle.h2_machine_laws.proofs.WaitingOutput.{Waits, wrote_connection}
 
 -- Whether a frame changes nothing of what an end keeps, where it is read.
 abbrev pub is_plain : Frame → Bool
@@ -79,16 +79,6 @@ dead_owing log after i dead = rw dead refl
 pub zero_dead : (c : Core) → active_by_items c 0 ≡ false
 zero_dead c = false_from_ne_true (active_by_items c 0) (λ alive. active_some c 0 alive refl)
 
--- What waits is as before, where an item is read.
-pub read_waits : (e : End) (log : Log) (decoded : Option Decoded) (item : Item) → Waits e log
-    → Waits e (read log decoded item)
-read_waits e log decoded item w = record {
-  same_role = w.same_role;
-  same_failed = w.same_failed;
-  waiting = w.waiting;
-  given = w.given;
-}
-
 -- What plain frames that need no answer make of an end.
 pub plain_ignored : (e : End) (log : Log) (decoded : Option Decoded) (frame : Frame)
     → is_plain frame ≡ true → replies_to NoEvent (alone frame) ≡ []
@@ -113,7 +103,7 @@ plain_ignored e log decoded frame is none w g =
           (active_read log.role (stream_of_item (alone frame)) (alone frame) log.received log.sent
           log.reported (q.apart _).blocks (q.apart _).ended (q.apart _).was_reset),
     ))
-    (read_waits e log decoded (alone frame) w) g.windows.unreturned (quiet_read (core_facts e)
+    w g.windows.unreturned (quiet_read (core_facts e)
     (core log) (alone frame) q g)
 
 -- the answer to a PING changes nothing more
@@ -154,7 +144,7 @@ ping_ignored e log decoded octets w g =
           (alone (Ping true octets) ∷ [])) []) 0 (zero_dead (core log)),
     ))
     (wrote_connection e.role e.failed e.output.waiting (read log decoded item)
-    (alone (Ping true octets)) [] (read_waits e log decoded item w)) g.windows.unreturned
+    (alone (Ping true octets)) [] w) g.windows.unreturned
     (quiet_wrote (core_facts e) (reads (core log) item) (alone (Ping true octets)) e.windows.recv
     (pong_quiet octets) (λ j some. pong_none octets j) (omega (arith, pong_none octets 0))
     (quiet_read (core_facts e) (core log) item q g))

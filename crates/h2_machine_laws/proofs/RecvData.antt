@@ -38,8 +38,8 @@ use Rattle.h2_machine_laws.proofs.RecvReset.{data_common, data_apart, data_used,
 use Rattle.h2_machine_laws.proofs.RecvReturnedCredit.{After, returned, unsettled}
 use Rattle.h2_machine_laws.proofs.RecvUnprocessed.{full_owing}
 use Rattle.h2_machine_laws.proofs.RecvVerdict.{stream_said}
-use Rattle.h2_machine_laws.proofs.RecvWithoutFrame.{Waits}
 use Rattle.h2_machine_laws.proofs.StreamsSame.{streams_set, streams_closed, said_over, same_both, SameAt, same_stream}
+use Rattle.h2_machine_laws.proofs.WaitingOutput.{Waits}
 use Rattle.h2_log_laws.proofs.ReaderStates.{active_parts, active_from, lasts_parts, lasts_from}
 
 -- the event of DATA is harmless, and shows nothing taken
@@ -208,21 +208,6 @@ data_advances h c i end octets pad streams alive within are g =
     (data_common i end octets pad) are (omega (arith, data_gives i end octets pad))
     (omega (arith, within, data_takes i end octets pad)) one
 
--- what waits, where an end's streams and numbers change
-still_waits : (e : End) (log : Log) (decoded : Option Decoded) (item : Item) (streams : StreamMap)
-    (count recv_window : ℕ) → Waits e log
-    → Waits (record e {
-      streams = record e.streams { entries = streams; active_count = count };
-      windows = record e.windows { recv = recv_window };
-    }) (read log decoded item)
-still_waits e log decoded item streams count recv_window w =
-    record {
-      same_role = w.same_role;
-      same_failed = w.same_failed;
-      waiting = w.waiting;
-      given = w.given;
-    }
-
 -- What DATA on an active stream makes of an end, by the test whether the stream is over.
 data_reported_by : (e : End) (log : Log) (decoded : Option Decoded) (i : ℕ) (end : Bool)
     (octets : List ℕ) (pad : Option ℕ) (b : Bool)
@@ -274,7 +259,7 @@ data_reported_by e log decoded i end octets pad true over alive within rel w g =
     (read log decoded item) (event ∷ []) _ _
     (ap (λ (m : ℕ). 0 + m) (ap owed_entry (get_set_same e.streams.entries i (active_entry s))
     ∙ ap (λ (t : StreamView). t.owed) is ∙ sym owing))
-    (still_waits e log decoded item streams (e.streams.active_count - 1) (e.windows.recv - n) w)
+    w
     g.windows.unreturned
     (data_advances (core_facts e) c i end octets pad _ alive within
     (streams_closed e.streams i streams e.streams.resets c d (data_same c i end octets pad) alive
@@ -304,7 +289,7 @@ data_reported_by e log decoded i end octets pad false goes alive within rel w g 
       none_owing log (with_reported (read log decoded item) (event ∷ [])) i (still
           ∙ sym alive),
     ))
-    (still_waits e log decoded item streams e.streams.active_count (e.windows.recv - n) w)
+    w
     g.windows.unreturned
     (data_advances (core_facts e) c i end octets pad _ alive within
     (streams_set e.streams i s c d (data_same c i end octets pad) alive still

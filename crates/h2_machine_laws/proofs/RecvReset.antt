@@ -22,14 +22,14 @@ use Rattle.h2_machine.specs.End.{End, owed_entry}
 use Rattle.h2_machine.specs.Machine.{after_ignored, after_reported}
 use Rattle.h2_log_laws.proofs.ReaderStates.{active_parts, lasts_parts}
 use Rattle.h2_machine_laws.proofs.LogCore.{Core, core, CoreFacts, core_facts, Advances, Going, active_by_items, kept_back, greatest_used}
-use Rattle.h2_machine_laws.proofs.RecvConnectionItems.{dead_owing, read_waits}
+use Rattle.h2_machine_laws.proofs.RecvConnectionItems.{dead_owing}
 use Rattle.h2_machine_laws.proofs.RecvEvents.{ChangesNoStream, quiet_reported, active_reported}
 use Rattle.h2_machine_laws.proofs.RecvRead.{used_read, reads, IsCommon, read_step, IsApart, same_read, same_dead, stays_dead}
 use Rattle.h2_machine_laws.proofs.RecvReturnedCredit.{After, returned, unsettled}
 use Rattle.h2_machine_laws.proofs.RecvUnprocessed.{full_owing}
 use Rattle.h2_machine_laws.proofs.RecvVerdict.{active_said}
-use Rattle.h2_machine_laws.proofs.RecvWithoutFrame.{Waits}
 use Rattle.h2_machine_laws.proofs.StreamsSame.{streams_same, streams_closed, SameAt, said_removed}
+use Rattle.h2_machine_laws.proofs.WaitingOutput.{Waits}
 
 -- What an end keeps where an item on a stream that isn't active is read, which gives nothing and
 -- may take of the connection's window.
@@ -96,7 +96,7 @@ reset_ignored e log decoded i code dead w g =
       dead_owing log (read log decoded item) i
           dead,
     ))
-    (read_waits e log decoded item w) g.windows.unreturned
+    w g.windows.unreturned
     (dead_read (core_facts e) (core log) item i e.windows.recv (reset_common i code)
     (reset_apart i code) (reset_opens i code i) (reset_used (core log) i code)
     (reset_gives i code) (omega (arith, reset_takes i code)) dead g)
@@ -187,12 +187,7 @@ reset_reported e log decoded i code alive w g =
     }) (read log decoded item)
     (ResetEvent i code false ∷ []) _ _
     (reset_owing e log decoded i code alive g)
-    (record {
-      same_role = w.same_role;
-      same_failed = w.same_failed;
-      waiting = w.waiting;
-      given = w.given;
-    }) g.windows.unreturned
+    w g.windows.unreturned
     (quiet_reported _ (reads (core log) item) (ResetEvent i code false)
     (reset_harmless i code) (reset_flow i code) (reset_shows i code)
     (reset_active_read (core_facts e) (core log) i code alive g))
@@ -254,12 +249,7 @@ data_ignored e log decoded i end octets pad dead within w g =
     returned (record e { windows = record e.windows { recv = e.windows.recv - n } })
     (read log decoded item) [] n _
     (omega (arith, dead_owing log (read log decoded item) i dead, data_takes i end octets pad))
-    (record {
-      same_role = w.same_role;
-      same_failed = w.same_failed;
-      waiting = w.waiting;
-      given = w.given;
-    }) g.windows.unreturned
+    w g.windows.unreturned
     (dead_read (core_facts e) (core log) item i (e.windows.recv - n) (data_common i end octets
     pad) (data_apart i end octets pad) (data_opens i end octets pad i)
     (data_used (core log) i end octets pad) (data_gives i end octets pad)

@@ -11,9 +11,9 @@ use Rattle.h2_log.specs.Limits.{full_output}
 use Rattle.h2_machine.specs.End.{End}
 use Rattle.h2_machine.specs.Machine.{return_credit, add_unreturned}
 use Rattle.h2_machine_laws.proofs.LogCore.{StreamsOf, Core, CoreFacts, Advances, Going, core, core_facts}
-use Rattle.h2_machine_laws.proofs.RecvWithoutFrame.{Waits, reports_connection, with_unreturned_connection_by, same_length}
 use Rattle.h2_machine_laws.proofs.SentConnectionItems.{widened_advances}
 use Rattle.h2_machine_laws.proofs.SentQuietItems.{unreturned_advances}
+use Rattle.h2_machine_laws.proofs.WaitingOutput.{Waits, reports_connection, with_unreturned_connection_by, waits_much}
 
 -- An end and the log for which it stands, but for what it takes for it to come about.
 pub record After (e : End) (log : Log) : Type 0 where
@@ -76,13 +76,7 @@ returned_by e log events more true waits same g =
 returned_by e log events more false waits same g =
     after_going _ _ (reports_connection e.role e.failed e.output.waiting
     (record log { unreturned = log.unreturned + more }) events
-    (record {
-      same_role = waits.same_role;
-      same_failed = waits.same_failed;
-      waiting =
-          waits.waiting;
-      given = waits.given;
-    }))
+    waits)
     (rw (reports_core (record log { unreturned = log.unreturned + more }) events)
     (unreturned_advances (core_facts e) (record (core log) { reported = events ++ log.reported })
     (e.windows.unreturned + more) (log.unreturned + more) (omega (arith, same)) g))
@@ -95,7 +89,7 @@ pub returned : (e : End) (log : Log) (events : List Event) (n more : ℕ) → n 
     events)
 unfolding add_unreturned with_unreturned
 returned e log events n more same waits unreturned g =
-    rw (same, same_length e.role e.failed e.output.waiting log waits)
+    rw (same, waits_much e log waits.output)
     (returned_by e log events more (nat_lt 0 more && nat_lt (waiting log) full_output) waits
     unreturned g)
 
@@ -107,13 +101,7 @@ unfolding with_unreturned
 unsettled_none e log events waits unreturned g =
     after_going e _ (reports_connection e.role e.failed e.output.waiting
     (record log { unreturned = log.unreturned + 0 }) events
-    (record {
-      same_role = waits.same_role;
-      same_failed = waits.same_failed;
-      waiting =
-          waits.waiting;
-      given = waits.given;
-    }))
+    waits)
     (rw (reports_core (record log { unreturned = log.unreturned + 0 }) events)
     (unreturned_advances (core_facts e) (record (core log) { reported = events ++ log.reported })
     e.windows.unreturned (log.unreturned + 0) (omega (arith, unreturned)) g))

@@ -29,8 +29,8 @@ use Rattle.h2_machine_laws.proofs.RecvConnectionItems.{dead_owing, zero_dead, pl
 use Rattle.h2_machine_laws.proofs.RecvEvents.{report, active_reported, reported_kept, taken_kept}
 use Rattle.h2_machine_laws.proofs.RecvRead.{quiet_read, reads}
 use Rattle.h2_machine_laws.proofs.RecvReturnedCredit.{After, unsettled}
-use Rattle.h2_machine_laws.proofs.RecvWithoutFrame.{Waits}
 use Rattle.h2_machine_laws.proofs.StreamsSame.{count_same, same_stream}
+use Rattle.h2_machine_laws.proofs.WaitingOutput.{Waits}
 
 -- One more is acknowledged.
 ack_one : (reported : List Event) → reported_total one_acked (AckedEvent ∷ reported)
@@ -153,11 +153,6 @@ ack_reported e log decoded pairs values waits most w g =
       dead_owing log (with_reported (read log decoded item) (AckedEvent ∷ [])) 0
           (zero_dead (core log)),
     ))
-    (record {
-      same_role = w.same_role;
-      same_failed = w.same_failed;
-      waiting = w.waiting;
-      given = w.given;
-    }) g.windows.unreturned
+    w g.windows.unreturned
     (ack_advances (core_facts e) (reads (core log) item) values waits most
     (quiet_read (core_facts e) (core log) item (plain_quiet (Settings true pairs) refl) g)))

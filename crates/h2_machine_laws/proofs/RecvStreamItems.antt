@@ -32,8 +32,8 @@ use Rattle.h2_machine_laws.proofs.RecvEvents.{ChangesNoStream, quiet_reported}
 use Rattle.h2_machine_laws.proofs.RecvRead.{windows_read, peer_read, active_read, used_read, reads, IsCommon, read_step, IsApart, same_read, same_dead}
 use Rattle.h2_machine_laws.proofs.RecvReturnedCredit.{After, unsettled}
 use Rattle.h2_machine_laws.proofs.RecvVerdict.{stream_said, none_said}
-use Rattle.h2_machine_laws.proofs.RecvWithoutFrame.{Waits}
 use Rattle.h2_machine_laws.proofs.StreamsSame.{streams_same, streams_set, SameAt, active_some, same_stream}
+use Rattle.h2_machine_laws.proofs.WaitingOutput.{Waits}
 
 -- the least last stream with one more, by whether there was one
 least_by : (b : Bool) (last n : ℕ) → last ≤ greatest_number → (b ≡ false → n ≡ greatest_number)
@@ -126,12 +126,7 @@ goaway_reported e log decoded last code debug low w g =
       dead_owing log (with_reported (read log decoded item) (event ∷ [])) 0
           (zero_dead (core log)),
     ))
-    (record {
-      same_role = w.same_role;
-      same_failed = w.same_failed;
-      waiting = w.waiting;
-      given = w.given;
-    }) g.windows.unreturned
+    w g.windows.unreturned
     (quiet_reported _ (reads (core log) item) event (goaway_harmless _ code)
     (goaway_flow _ code) (goaway_shows _ code)
     (goaway_read (core_facts e) (core log) last code debug low g))
@@ -251,20 +246,8 @@ widened_waits : (e : End) (log : Log) (decoded : Option Decoded) (item : Item) (
     → Waits e log
     → Waits (if b then record e { windows = record e.windows { send = e.windows.send + n } } else e)
     (read log decoded item)
-widened_waits e log decoded item n true w = record {
-  same_role = w.same_role;
-  same_failed =
-      w.same_failed;
-  waiting = w.waiting;
-  given = w.given;
-}
-widened_waits e log decoded item n false w = record {
-  same_role = w.same_role;
-  same_failed =
-      w.same_failed;
-  waiting = w.waiting;
-  given = w.given;
-}
+widened_waits e log decoded item n true w = w
+widened_waits e log decoded item n false w = w
 
 widened_unreturned : (e : End) (n : ℕ) (b : Bool)
     → (if b then record e { windows = record e.windows { send = e.windows.send + n } } else
@@ -287,12 +270,7 @@ update_by e log decoded i n true alive w g =
           (said (core log) i).send_window +ℤ pos n;
     })) (read log decoded item) [] _
     (omega (arith, none_owing log (read log decoded item) i (update_active (core log) i n i)))
-    (record {
-      same_role = w.same_role;
-      same_failed = w.same_failed;
-      waiting = w.waiting;
-      given = w.given;
-    }) g.windows.unreturned
+    w g.windows.unreturned
     (update_active_read (core_facts e) (core log) i n alive g))
 update_by e log decoded i n false dead w g =
     let item : Item = alone (WindowUpdate i n) in

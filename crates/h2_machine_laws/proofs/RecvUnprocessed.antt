@@ -28,8 +28,9 @@ use Rattle.h2_machine_laws.proofs.LogCore.{Core, core, CoreFacts, core_facts, Ad
 use Rattle.h2_machine_laws.proofs.RecvEvents.{report, reported_by, reported_kept, active_reported, taken_kept}
 use Rattle.h2_machine_laws.proofs.RecvReturnedCredit.{After, returned}
 use Rattle.h2_machine_laws.proofs.RecvVerdict.{active_said}
-use Rattle.h2_machine_laws.proofs.RecvWithoutFrame.{waits_of, represents_by}
+use Rattle.h2_machine_laws.proofs.RecvWithoutFrame.{represents_by}
 use Rattle.h2_machine_laws.proofs.StreamsSame.{streams_closed, SameAt, said_removed}
+use Rattle.h2_machine_laws.proofs.WaitingOutput.{waits_of}
 use Rattle.h2_machine_laws.specs.Bounds.{KeepsConnectionWindow}
 use Rattle.h2_frame.specs.Frames.{Frame}
 
@@ -205,12 +206,7 @@ unprocessed_represents values e log s up some =
     let more : ℕ = owed_at_close log (with_reported log (UnprocessedEvent n ∷ [])) n in
     let b : After (close_unprocessed e n) (took_none log) =
     returned next log (UnprocessedEvent n ∷ []) owed more (named_owing e log n alive g)
-    (record {
-      same_role = waits.same_role;
-      same_failed = waits.same_failed;
-      waiting = waits.waiting;
-      given = waits.given;
-    }) g.windows.unreturned
+    waits g.windows.unreturned
     (unprocessed_advances (core_facts e) (core log) n alive g) in
     let whole : KeepsConnectionWindow e = record { whole = s.whole; used = s.used } in
     let begun : (close_unprocessed e n).reading.started ≡ e.reading.started =

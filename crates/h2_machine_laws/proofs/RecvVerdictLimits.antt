@@ -33,7 +33,7 @@ use Rattle.h2_machine.specs.Represents.{entry_by}
 use Rattle.h2_machine_laws.proofs.LogCore.{said, Core, core, Going}
 use Rattle.h2_machine_laws.proofs.OwedSums.{first, second, less}
 use Rattle.h2_machine_laws.proofs.RecvVerdict.{Sound, active_said, state_same, block_verdict_same, stream_same, recv_same, send_same, int_above}
-use Rattle.h2_machine_laws.proofs.RecvWithoutFrame.{Waits, same_length}
+use Rattle.h2_machine_laws.proofs.WaitingOutput.{Waits, waits_much}
 use Rattle.h2_log_laws.proofs.ReaderStates.{active_parts}
 
 -- Two tests that hold where the other does are the same.
@@ -275,6 +275,5 @@ over_limits_same e log decoded item waits sound g =
     rw (
       verdict_same e log decoded item waits.same_role sound g,
       g.streams.resets,
-      same_length e.role
-          e.failed e.output.waiting log waits,
+      waits_much e log waits.output,
     ) refl

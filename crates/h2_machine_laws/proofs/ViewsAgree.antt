@@ -1,31 +1,22 @@
 -- An end that represents a log and hasn't failed is viewed as the log is: every observation agrees.
 use Rattle.std.proofs.Common.{◌≡◌, ℕ, ◌+◌, Bool, true, false, if◌then◌else◌, List, length}
 use Rattle.std.proofs.Common.{pos, is_some, refl, ap, ◌∙◌, arith}
-use Rattle.std.proofs.Common.{length-drop}
 use Rattle.std.proofs.lemmas.Int.{ints}
 use Rattle.std.specs.List.{list_any}
 use Rattle.h2_block.specs.Grouping.{Item}
 use Rattle.h2_log.specs.declared.role.Role.{Role}
 use Rattle.h2_log.specs.declared.role.Role.TheVariants.{Client, Server}
 use Rattle.h2_log.specs.Items.{resets, data_of, total, greatest_block}
-use Rattle.h2_log.specs.Acts.{Values}
 use Rattle.h2_log.specs.Settings.{is_server}
 use Rattle.h2_log.specs.States.{openings, when}
 use Rattle.h2_log.specs.Windows.{window, given_on_connection, granted_on_connection}
-use Rattle.h2_log.specs.Log.{Log, active, waiting, output, next_number, max_streams, goaway_written}
+use Rattle.h2_log.specs.Log.{Log, active, waiting, next_number, max_streams, goaway_written}
 use Rattle.h2_log.specs.Log.{active_count, last_processed, unreleased}
 use Rattle.h2_log.specs.LogView.{log_view, stream_of_log}
 use Rattle.h2_log.specs.View.{StreamView, View}
 use Rattle.h2_machine.specs.End.{End, end_view, stream_in, stream_at, number_after}
-use Rattle.h2_machine.specs.Represents.{Represents, RepresentsWhileUp, entry_by}
+use Rattle.h2_machine.specs.Represents.{RepresentsWhileUp, entry_by}
 use Rattle.h2_machine_laws.proofs.LogCore.{core, StreamsOf}
-
--- As much output waits as the log says.
-pub waiting_agrees : (values : Values) (e : End) (log : Log) → Represents values e log
-    → length e.output.waiting ≡ waiting log
-unfolding waiting
-waiting_agrees values e log represents = ap length represents.waiting
-    ∙ length-drop log.given (output log)
 
 -- An entry has a stream where it is active.
 entry_stream : (active was_reset : Bool) (s : StreamView)
