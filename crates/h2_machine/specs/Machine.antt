@@ -1,7 +1,7 @@
 -- What each frame and each call makes of an end as values. Decisions are the rules', over the end's
 -- view.
-use Rattle.std.specs.Prelude.{ℕ, suc, ◌+◌, ◌-◌, ◌%◌, ◌==◌, nat_lt, not, ◌||◌, ◌&&◌, min, max, Bool}
-use Rattle.std.specs.Prelude.{true, false, if◌then◌else◌, ℤ, pos, ◌+ℤ◌, ◌-ℤ◌, List, [], ◌∷◌, ◌++◌}
+use Rattle.std.specs.Prelude.{ℕ, ◌+◌, ◌-◌, ◌%◌, ◌==◌, nat_lt, not, ◌||◌, ◌&&◌, min, max, Bool}
+use Rattle.std.specs.Prelude.{true, false, if◌then◌else◌, pos, ◌+ℤ◌, ◌-ℤ◌, List, [], ◌∷◌, ◌++◌}
 use Rattle.std.specs.Prelude.{length, drop, Option, Some, None, is_some, map as each}
 use Rattle.std.specs.FinMap as map
 use Rattle.hpack.specs.Lists.{EncoderState, empty_table}
@@ -18,7 +18,7 @@ use Rattle.h2_log.specs.Acts.{Refuse, SendPing, SendGoAway, PutOut, ChangeSettin
 use Rattle.h2_log.specs.Settings.{is_server, value_after}
 use Rattle.h2_log.specs.Windows.{first_window}
 use Rattle.h2_log.specs.Limits.{max_frame_size_sent}
-use Rattle.h2_log.specs.View.{StreamView, View, ended_in}
+use Rattle.h2_log.specs.View.{StreamView, ended_in}
 use Rattle.h2_frame.specs.Codes.{code_number}
 use Rattle.h2_log.specs.Verdicts.{Verdict, ConnectionFault, StreamFault, NoEvent, Reported}
 use Rattle.h2_log.specs.ItemRules.{Decoded, FrameStep, fails_with, begins_block, completes}
@@ -26,10 +26,10 @@ use Rattle.h2_log.specs.ItemRules.{verdict_of, opened_by, frame_step}
 use Rattle.h2_log.specs.ItemEffects.{least_last, table_after, encoder_after_item}
 use Rattle.h2_log.specs.CallRules.{returns_credit, returns_before_put_out, data_count, data_items}
 use Rattle.h2_log.specs.CallRules.{refuse_fault, items_of, answer_of, encoder_after_call}
-use Rattle.h2_log.specs.CallRules.{opening_pairs, changed_pairs}
-use Rattle.h2_machine.specs.End.{Entry, active_entry, reset_entry, StreamMap, Streams}
-use Rattle.h2_machine.specs.End.{ConnectionWindows, Reading, Output, End, stream_at, owed_entry}
-use Rattle.h2_machine.specs.End.{number_after, end_view}
+use Rattle.h2_log.specs.CallRules.{opening_pairs}
+use Rattle.h2_machine.specs.End.{Entry, active_entry, reset_entry, StreamMap}
+use Rattle.h2_machine.specs.End.{End, stream_at, owed_entry}
+use Rattle.h2_machine.specs.End.{end_view}
 
 -- Small steps.
 

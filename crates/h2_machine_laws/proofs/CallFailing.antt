@@ -1,10 +1,10 @@
 -- A call that is refused, and one by which the connection fails, preserve that an end represents
 -- its log.
-use Rattle.std.proofs.Common.{◌≡◌, ℕ, ◌==◌, not, ◌&&◌, Bool, true, false, if◌then◌else◌, []}
+use Rattle.std.proofs.Common.{◌≡◌, ℕ, ◌==◌, not, ◌&&◌, Bool, true, false, if◌then◌else◌, List, []}
 use Rattle.std.proofs.Common.{◌∷◌, Option, Some, None, refl, sym, ap, subst, ◌∙◌}
 use Rattle.h2_frame.specs.declared.code.Code.{Code}
 use Rattle.h2_frame.specs.declared.code.Code.TheVariants.{InternalError, EnhanceYourCalm}
-use Rattle.h2_frame.specs.Frames.{GoAway, Reset}
+use Rattle.h2_frame.specs.Frames.{Reset}
 use Rattle.h2_block.specs.Grouping.{alone}
 use Rattle.h2_machine.specs.End.{end_view, End}
 use Rattle.h2_log.specs.LogView.{log_view}
@@ -12,9 +12,9 @@ use Rattle.h2_log.specs.View.{View}
 use Rattle.h2_log.specs.Acts.{Values, Act, Answer, IsTypedAct, Open, SendFields, SendData, Release}
 use Rattle.h2_log.specs.Acts.{ResetStream, Refuse, SendPing, SendGoAway, PutOut, ChangeSettings}
 use Rattle.h2_log.specs.Acts.{Done, OutOfMemory, Refused}
-use Rattle.h2_log.specs.Log.{Log, active, last_processed, output, released}
+use Rattle.h2_log.specs.Log.{Log, active, last_processed, released}
 use Rattle.h2_frame.specs.Codes.{code_number}
-use Rattle.h2_log.specs.LogSteps.{with_sent, with_failure}
+use Rattle.h2_log.specs.LogSteps.{with_failure}
 use Rattle.h2_log.specs.LogCalls.{called, with_call, refused_with, with_items, MayAnswer}
 use Rattle.h2_log.specs.CallRules.{refuse_fault, items_of, stream_of_act, encoder_after_call}
 use Rattle.h2_log.specs.CallRules.{refusal_of, conditions}
@@ -24,51 +24,44 @@ use Rattle.h2_machine.specs.Represents.{Represents}
 use Rattle.h2_log.specs.declared.refusal.Refusal.{Refusal}
 use Rattle.h2_log_laws.proofs.InvariantCalls.{released_refused, first_none}
 use Rattle.h2_log_laws.proofs.LogViewLemmas.{stream_is_active}
-use Rattle.h2_machine_laws.proofs.SentQuietItems.{called_runs}
-use Rattle.h2_machine_laws.proofs.RepresentedSteps.{Up, Waits, up_of, views_of_up, represents_after}
-use Rattle.h2_machine_laws.proofs.RepresentedSteps.{wrote_waits, called_waits, called_up}
 use Rattle.h2_machine_laws.proofs.CallReset.{reset_up}
+use Rattle.h2_machine_laws.proofs.GoAwaysSent.{active_processed}
+use Rattle.h2_machine_laws.proofs.LogCore.{core, StreamsOf, going, runs}
+use Rattle.h2_machine_laws.proofs.RepresentedSteps.{Up, up_of, views_of_up, represents_after, called_up, called_going}
+use Rattle.h2_machine_laws.proofs.SentConnectionItems.{failing_streams}
+use Rattle.h2_machine_laws.proofs.SentQuietItems.{called_streams}
+use Rattle.h2_machine_laws.proofs.WaitingOutput.{fails_connection, waits_of}
 
--- Failing is no part of what waits.
-failed_waits : (e : End) (log : Log) (here there : Option Code) → Waits e log
-    → Waits (record e { failed = here }) (record log { failed = there })
-unfolding output
-failed_waits e log here there w = record { waiting = w.waiting; given = w.given }
+-- The streams don't hang on a call that releases nothing, nor on the failure after it.
+called_failing : (values : Values) (e : End) (log : Log) (act : Act) (answer : Answer) (code : Code)
+    → ((i : ℕ) → released i ((act, answer) ∷ log.calls) ≡ released i log.calls)
+    → Represents values e log → log.failed ≡ None
+    → StreamsOf e.streams (core (with_failure code (last_processed log) (called log act answer)))
+called_failing values e log act answer code quiet represents up =
+    failing_streams e.streams (called log act answer) code (last_processed log)
+    (active_processed e.role values log represents.came up)
+    (called_streams e.streams (core log) ((act, answer) ∷ log.calls) quiet represents.streams)
 
--- What waits after a failure.
-fails_waits : (e : End) (log : Log) (code : Code) → e.streams.last_processed ≡ last_processed log
-    → Waits e log
-    → (act : Act) (answer : Answer)
-    → Waits (fail code e.streams.last_processed e)
-    (with_failure code (last_processed log) (called log act answer))
-fails_waits e log code is w act answer =
-    let base = called log act answer in
-    let items = λ (n : ℕ). alone (GoAway n (code_number code) []) ∷ [] in
-    subst (λ (n : ℕ). Waits (fail code n e) (with_failure code (last_processed log) base)) (sym is)
-    (failed_waits (queue_output e (items (last_processed log)))
-    (with_sent base (items (last_processed log))) (Some code) (Some code)
-    (wrote_waits e base (items (last_processed log)) (called_waits e log act answer w)))
-
--- A role is no part of a failure.
-fails_role : (code : Code) (last : ℕ) (log : Log) → (with_failure code last log).role ≡ log.role
-unfolding with_sent
-fails_role code last log = refl
-
--- An end whose connection fails by a call represents its log.
+-- An end whose connection fails by a call that releases nothing represents its log.
 pub fails_represent : (values : Values) (e : End) (log : Log) (act : Act) (answer : Answer)
-    (code : Code) → Represents values e log → e.failed ≡ None
+    (code : Code) → ((i : ℕ) → released i ((act, answer) ∷ log.calls) ≡ released i log.calls)
+    → Represents values e log → e.failed ≡ None
     → IsLog e.role values (with_failure code (last_processed log) (called log act answer))
     → Represents values (fail code e.streams.last_processed e)
     (with_failure code (last_processed log) (called log act answer))
-fails_represent values e log act answer code represents up came =
-    let waits = fails_waits e log code (represents.running up).last_processed
-    (record { waiting = represents.waiting; given = represents.given }) act answer in
+unfolding last_processed
+fails_represent values e log act answer code quiet represents up came =
+    let base = called log act answer in
+    let waits = fails_connection e.role e.failed e.output.waiting base code
+    e.streams.last_processed (last_processed log) represents.streams.last_processed
+    (waits_of values e log represents) in
     record {
       came = came;
-      role = represents.role ∙ sym (fails_role code (last_processed log) (called log act answer));
-      failed = refl;
-      waiting = waits.waiting;
-      given = waits.given;
+      role = waits.same_role;
+      failed = waits.same_failed;
+      output = waits.output;
+      streams = called_failing values e log act answer code quiet represents
+          (sym represents.failed ∙ up);
       running = λ still. cc;
       whole = represents.whole;
       used = represents.used;
@@ -96,22 +89,37 @@ pub refused_represents : (values : Values) (e : End) (log : Log) (act : Act) (re
     → Represents values e (with_call log act (Refused refusal))
 unfolding with_call
 refused_represents values e log act refusal represents typed may =
-    let waits = called_waits e log act (Refused refusal)
-    (record { waiting = represents.waiting; given = represents.given }) in
     record {
       came = called_one represents.came act (Refused refusal) typed may;
       role = represents.role;
       failed = represents.failed;
-      waiting = waits.waiting;
-      given = waits.given;
+      output = represents.output;
+      streams = called_streams e.streams (core log) ((act, Refused refusal) ∷ log.calls)
+          (λ i. released_refused i act refusal log.calls) represents.streams;
       running = λ up.
           let run = represents.running up in
-          called_runs e log act (Refused refusal) e.output.encoder (run.encoder
+          runs e (called log act (Refused refusal)) run.started
+          (called_going e log act (Refused refusal) e.output.encoder (run.encoder
           ∙ refused_encoder log act refusal)
-          (λ i. released_refused i act refusal log.calls) run;
+          (λ i. released_refused i act refusal log.calls) (going e log represents.streams run));
       whole = represents.whole;
       used = represents.used;
     }
+
+-- A call that is out of memory releases nothing.
+released_out_of_memory : (i : ℕ) (act : Act) (calls : List (Act × Answer))
+    → released i ((act, OutOfMemory) ∷ calls) ≡ released i calls
+unfolding released
+released_out_of_memory i (Open fields end) calls = refl
+released_out_of_memory i (SendFields id fields end) calls = refl
+released_out_of_memory i (SendData id octets end) calls = refl
+released_out_of_memory i (Release id count) calls = refl
+released_out_of_memory i (ResetStream id code) calls = refl
+released_out_of_memory i (Refuse id code) calls = refl
+released_out_of_memory i (SendPing octets) calls = refl
+released_out_of_memory i SendGoAway calls = refl
+released_out_of_memory i (PutOut count) calls = refl
+released_out_of_memory i (ChangeSettings values) calls = refl
 
 -- An end that is out of memory represents its log.
 pub out_of_memory_represents : (values : Values) (e : End) (log : Log) (act : Act)
@@ -120,7 +128,8 @@ pub out_of_memory_represents : (values : Values) (e : End) (log : Log) (act : Ac
     (with_call log act OutOfMemory)
 unfolding with_call
 out_of_memory_represents values e log act represents typed may up =
-    fails_represent values e log act OutOfMemory InternalError represents up
+    fails_represent values e log act OutOfMemory InternalError
+    (λ i. released_out_of_memory i act log.calls) represents up
     (called_one represents.came act OutOfMemory typed may)
 
 -- Refusing a stream makes the connection fail where the log's does.
@@ -165,7 +174,7 @@ unfolding after_call with_call refused_with with_items items_of stream_of_act en
     released
 refuse_by values e log id code (Some fault) is represents typed may accepted none up =
     let came = called_one represents.came (Refuse id code) Done typed may in
-    let made = fails_represent values e log (Refuse id code) Done fault represents up
+    let made = fails_represent values e log (Refuse id code) Done fault (λ i. refl) represents up
     (subst (λ (x : Option Code). IsLog e.role values (refused_with log (Refuse id code) Done x)) is
     came) in
     subst (λ (x : Option Code). Represents values (after_refuse e id code x)

@@ -2,10 +2,9 @@
 use Rattle.std.proofs.Common.{◌≡◌, ℕ, ◌%◌, ◌≤◌, ◌<◌, Bool, true, false, if◌then◌else◌, List, None}
 use Rattle.std.proofs.Common.{refl, sym, ap, subst, ◌∙◌}
 use Rattle.hpack.specs.declared.types.field.Field.{Field}
-use Rattle.std.specs.List.{list_any}
 use Rattle.std.proofs.lemmas.Bool.{both_ways, or_parts}
 use Rattle.h2_log.specs.LogView.{log_view}
-use Rattle.h2_log.specs.Items.{is_goaway, one_ping, total, greatest_block}
+use Rattle.h2_log.specs.Items.{one_ping, total, greatest_block}
 use Rattle.h2_log.specs.Events.{one_pong, reported_total}
 use Rattle.h2_log.specs.Acts.{Values, Act, Answer, IsTypedAct, Open, SendFields, SendData, Release}
 use Rattle.h2_log.specs.Acts.{ResetStream, Refuse, SendPing, SendGoAway, PutOut, ChangeSettings}
@@ -27,25 +26,24 @@ use Rattle.h2_log_laws.proofs.StreamNumbers.{next_odd}
 use Rattle.h2_log_laws.proofs.AllowedHistories.{wrote_settings}
 use Rattle.h2_log_laws.proofs.InvariantCalls.{first_none, none_since}
 use Rattle.h2_log_laws.proofs.LogViewLemmas.{stream_is_active, open_out}
-use Rattle.h2_machine_laws.proofs.CallRefusals.{refusal_same}
-use Rattle.h2_machine_laws.proofs.RepresentedSteps.{Up, up_of, represents_after}
-use Rattle.h2_machine_laws.proofs.CallWithoutStream.{ping_up, goaway_up, settings_up}
-use Rattle.h2_machine_laws.proofs.CallWithoutStream.{put_out_represents}
-use Rattle.h2_machine_laws.proofs.CallSend.{fields_up, data_up}
-use Rattle.h2_machine_laws.proofs.CallReset.{reset_call_up}
-use Rattle.h2_machine_laws.proofs.CallFailing.{refused_represents, out_of_memory_represents}
-use Rattle.h2_machine_laws.proofs.CallFailing.{refuse_represents}
-use Rattle.h2_machine_laws.proofs.CallRelease.{release_up}
+use Rattle.h2_machine_laws.proofs.CallFailing.{refused_represents, out_of_memory_represents, refuse_represents}
 use Rattle.h2_machine_laws.proofs.CallOpen.{IsClear, open_up}
+use Rattle.h2_machine_laws.proofs.CallRefusals.{refusal_same}
+use Rattle.h2_machine_laws.proofs.CallRelease.{release_up}
+use Rattle.h2_machine_laws.proofs.CallReset.{reset_call_up}
+use Rattle.h2_machine_laws.proofs.CallSend.{fields_up, data_up}
+use Rattle.h2_machine_laws.proofs.CallWithoutStream.{ping_up, goaway_up, settings_up, put_out_represents}
+use Rattle.h2_machine_laws.proofs.LogCore.{core}
+use Rattle.h2_machine_laws.proofs.RepresentedSteps.{Up, up_of, represents_after}
 
 -- What a log that hasn't failed has, besides.
 pub record IsSound (log : Log) : Type 0 where
   pub acks : acked log ≤ settings_count log.sent
   pub pongs : reported_total one_pong log.reported ≤ total one_ping log.sent
   pub size : max_payload_sent log ≡ 16384
-  pub processed : is_server log.role ≡ true → list_any is_goaway log.sent ≡ false → (i : ℕ)
-      → active log i ≡ true → i ≤ last_processed log
-  pub clear : log.role ≡ Client → (i : ℕ) → greatest_block log.sent < i → IsClear log i
+  pub processed : is_server log.role ≡ true → (i : ℕ) → active log i ≡ true
+      → i ≤ last_processed log
+  pub clear : log.role ≡ Client → (i : ℕ) → greatest_block log.sent < i → IsClear (core log) i
 
 -- the role of an end that isn't a server
 client_since : (role : Role) → is_server role ≡ false → role ≡ Client
@@ -127,9 +125,7 @@ call_up values e log (Refuse id code) represents none sound no_put no_refuse up 
 call_up values e log (SendPing octets) represents none sound no_put no_refuse up =
     ping_up e log octets sound.pongs up
 call_up values e log SendGoAway represents none sound no_put no_refuse up =
-    let c1 = first_none _ _ _ none in
-    let c2 = first_none _ _ _ c1.1 in
-    goaway_up e log (λ server. sound.processed server c2.0) up
+    goaway_up e log sound.processed up
 call_up values e log (PutOut count) represents none sound no_put no_refuse up =
     absurd (no_put count refl)
 call_up values e log (ChangeSettings others) represents none sound no_put no_refuse up =

@@ -9,7 +9,8 @@ use Rattle.h2_log.specs.LogView.{log_view}
 use Rattle.h2_log.specs.CallRules.{first_of, conditions, refusal_of}
 use Rattle.h2_machine.specs.End.{end_view, End}
 use Rattle.h2_machine.specs.Represents.{Represents}
-use Rattle.h2_machine_laws.proofs.ViewsAgree.{waiting_agrees, view_beside, views_agree}
+use Rattle.h2_machine_laws.proofs.ViewsAgree.{view_beside, views_agree}
+use Rattle.h2_machine_laws.proofs.WaitingOutput.{waits_much}
 
 -- No condition looks at states, at windows that would overflow, or at the greatest payload.
 beside_refuses : (e : End) (log : Log) (act : Act)
@@ -49,8 +50,9 @@ refusal_by : (values : Values) (e : End) (log : Log) (act : Act) (failed : Optio
 refusal_by values e log act (Some code) is represents =
     failed_refuses (end_view e) (log_view log) act code is (sym represents.failed ∙ is)
 refusal_by values e log act None is represents =
-    let waits = waiting_agrees values e log represents in
-    let views = views_agree e log represents.role represents.failed waits (represents.running is) in
+    let waits = waits_much e log represents.output in
+    let views = views_agree e log represents.role represents.failed waits represents.streams
+    (represents.running is) in
     ap (λ (view : View). refusal_of view act) views ∙ beside_refuses e log act
 
 -- A machine refuses a call just where its log does.

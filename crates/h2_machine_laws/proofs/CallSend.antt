@@ -23,19 +23,15 @@ use Rattle.h2_log.specs.LogCalls.{called, with_items, with_call}
 use Rattle.h2_log.specs.View.{StreamView, View}
 use Rattle.h2_machine.specs.Machine.{queue_output, set_stream, close_stream, update_stream}
 use Rattle.h2_machine.specs.Machine.{after_fields_sent, after_data, after_call}
-use Rattle.h2_machine.specs.Represents.{RepresentsWhileUp}
 use Rattle.h2_log_laws.proofs.ReaderStates.{active_parts}
-use Rattle.h2_machine_laws.proofs.OwedSums.{get_set_same}
-use Rattle.h2_log_laws.proofs.LogViewLemmas.{stream_there}
-use Rattle.h2_machine_laws.proofs.ViewsAgree.{view_beside}
-use Rattle.h2_machine_laws.proofs.SentQuietItems.{called_runs}
-use Rattle.h2_machine_laws.proofs.RepresentedSteps.{Up, Waits, views_of_up, queue_by, wrote_up}
-use Rattle.h2_machine_laws.proofs.RepresentedSteps.{called_waits, called_up, with_unreturned_up}
-use Rattle.h2_machine_laws.proofs.RepresentedSteps.{nothing_unreturned, owes_active, owes_all}
-use Rattle.h2_machine_laws.proofs.RepresentedSteps.{wrote_active, wrote_owes}
-use Rattle.h2_machine_laws.proofs.SentStreamItems.{Adds, stream_with, set_runs, over_runs}
-use Rattle.h2_machine_laws.proofs.SentStreamItems.{active_here, closed_here}
 use Rattle.h2_machine_laws.proofs.CallSendItems.{adds_block, adds_all}
+use Rattle.h2_machine_laws.proofs.LogCore.{core, core_facts, Going}
+use Rattle.h2_machine_laws.proofs.OwedSums.{get_set_same}
+use Rattle.h2_machine_laws.proofs.RepresentedSteps.{called_going, Up, views_of_up, queue_by, wrote_up, called_up, with_unreturned_up, nothing_unreturned, owes_active, owes_all, wrote_active, wrote_owes}
+use Rattle.h2_machine_laws.proofs.SentStreamItems.{set_advances, over_advances, Adds, stream_with, active_here, closed_here}
+use Rattle.h2_machine_laws.proofs.ViewsAgree.{view_beside}
+use Rattle.h2_machine_laws.proofs.WaitingOutput.{OutputOf}
+use Rattle.h2_log_laws.proofs.LogViewLemmas.{stream_there}
 
 -- an end with items that join its output, and another send window
 abbrev with_send_window : End → End → List Item → ℕ → End
@@ -53,15 +49,16 @@ sent_by : (e f : End) (log base : Log) (id : ℕ) (items : List Item) (n : ℕ) 
     → Adds base.role base.received id base.sent (items ++ base.sent) n end
     → here + (n + total data_of base.sent) ≡ given_on_connection base.received → f.role ≡ base.role
     → f.failed ≡ None → base.failed ≡ None
-    → Waits e base → RepresentsWhileUp f base
+    → OutputOf e base → f.reading.started ≡ not (length base.frames == 0) → Going f (core base)
     → Up (if b then close_stream
-    (set_stream (with_send_window e f items here) id (stream_with base id send_window end)) id 0
-    else set_stream (with_send_window e f items here) id (stream_with base id send_window end))
+    (set_stream (with_send_window e f items here) id (stream_with (core base) id send_window end)) id 0
+    else set_stream (with_send_window e f items here) id (stream_with (core base) id send_window end))
     (with_unreturned (owed_at_close log (with_sent base items) id) (with_sent base items))
+unfolding unreleased
 sent_by e f log base id items n end send_window here true over was active_is is a conserved role up
-    same waits run =
-    let s = stream_with base id send_window end in
-    let ran = over_runs f base id (items ++ base.sent) n end s here active_is over a conserved
+    same waits started run =
+    let s = stream_with (core base) id send_window end in
+    let ran = over_advances (core_facts f) (core base) id (items ++ base.sent) n end s here active_is over a conserved
     run in
     let wrote_them = wrote_up e
     (record f {
@@ -72,9 +69,9 @@ sent_by e f log base id items n end send_window here true over was active_is is 
       windows =
           record f.windows { send = here };
     }) base items
-    role up same waits ran in
+    role up same waits started ran in
     let closed : active (with_sent base items) id ≡ false = wrote_active base items id
-    ∙ closed_here base id (items ++ base.sent) n end over a in
+    ∙ closed_here (core base) id (items ++ base.sent) n end over a in
     let owing : owed_at_close log (with_sent base items) id ≡ unreleased base id =
     owes_all log (with_sent base items) id was closed ∙ wrote_owes base items id in
     let owed : 0 + owed_entry (map.get (map.insert f.streams.entries id (active_entry s)) id)
@@ -82,9 +79,9 @@ sent_by e f log base id items n end send_window here true over was active_is is 
     rw (get_set_same f.streams.entries id (active_entry s)) (omega arith) in
     with_unreturned_up _ (with_sent base items) _ _ (owed ∙ sym owing) wrote_them
 sent_by e f log base id items n end send_window here false goes was active_is is a conserved role up
-    same waits run =
-    let s = stream_with base id send_window end in
-    let ran = set_runs f base id (items ++ base.sent) n end send_window here active_is goes is a
+    same waits started run =
+    let s = stream_with (core base) id send_window end in
+    let ran = set_advances (core_facts f) (core base) id (items ++ base.sent) n end send_window here active_is goes is a
     conserved run in
     let wrote_them = wrote_up e
     (record f {
@@ -92,9 +89,9 @@ sent_by e f log base id items n end send_window here false goes was active_is is
           { entries = map.insert f.streams.entries id (active_entry s) };
       windows =
           record f.windows { send = here };
-    }) base items role up same waits ran in
+    }) base items role up same waits started ran in
     let still : active (with_sent base items) id ≡ true = wrote_active base items id
-    ∙ active_here base id (items ++ base.sent) n end active_is goes a in
+    ∙ active_here (core base) id (items ++ base.sent) n end active_is goes a in
     nothing_unreturned _ log (with_sent base items) id
     (owes_active log (with_sent base items) id still) wrote_them
 
@@ -106,13 +103,13 @@ sent_up : (e f : End) (log base : Log) (id : ℕ) (items : List Item) (n : ℕ) 
     → Adds base.role base.received id base.sent (items ++ base.sent) n end
     → here + (n + total data_of base.sent) ≡ given_on_connection base.received → f.role ≡ base.role
     → f.failed ≡ None → base.failed ≡ None
-    → Waits e base → RepresentsWhileUp f base
-    → Up (update_stream (with_send_window e f items here) id (stream_with base id send_window end))
+    → OutputOf e base → f.reading.started ≡ not (length base.frames == 0) → Going f (core base)
+    → Up (update_stream (with_send_window e f items here) id (stream_with (core base) id send_window end))
     (with_unreturned (owed_at_close log (with_sent base items) id) (with_sent base items))
 sent_up e f log base id items n end send_window here was active_is is a conserved role up same waits
-    run =
+    started run =
     sent_by e f log base id items n end send_window here (list_any (ends id) base.received && end)
-    refl was active_is is a conserved role up same waits run
+    refl was active_is is a conserved role up same waits started run
 
 -- Further fields are sent.
 pub fields_up : (e : End) (log : Log) (id : ℕ) (fields : List Field) (end : Bool)
@@ -121,13 +118,13 @@ pub fields_up : (e : End) (log : Log) (id : ℕ) (fields : List Field) (end : Bo
 unfolding after_call with_call with_items items_of stream_of_act encoder_after_call released
     unreleased
 fields_up e log id fields end active_is goes is =
-    let run = is.running in
+    let run = is.going in
     let base = called log (SendFields id fields end) Done in
-    let ran = called_runs e log (SendFields id fields end) Done (after_block log.encoder fields)
+    let ran = called_going e log (SendFields id fields end) Done (after_block log.encoder fields)
     refl (λ i. refl) run in
     let opened = (active_parts log.role id log.received log.sent log.reported active_is).opened in
     let conserved : e.windows.send + (0 + total data_of log.sent) ≡ given_on_connection
-    log.received = omega (arith, run.send_window) in
+    log.received = omega (arith, run.windows.send) in
     let consumed : 0 + total (data_on id) log.sent ≡ total (data_on id) log.sent = omega arith in
     let sent_data = sent_up e (record e
     { output = record e.output { encoder = after_block log.encoder fields } }) log base id
@@ -136,7 +133,7 @@ fields_up e log id fields end active_is goes is =
     (ap (window (given_on id log.received)) (sym consumed))
     (adds_block log.role log.received id end (block_of log.encoder fields) log.sent opened goes)
     conserved is.role is.up is.same
-    (called_waits e log (SendFields id fields end) Done is.waits) ran in
+    is.waits is.started ran in
     let act = SendFields id fields end in
     let call = with_call log act Done in
     let there : Up (after_fields_sent (queue_by e (view_beside e log) act) id end
@@ -158,14 +155,14 @@ record IsWithin (e : End) (log : Log) (id most count : ℕ) : Type 0 where
   pub send_window : count ≤ e.windows.send
 
 -- As many octets are sent as the windows let through.
-count_within : (e : End) (log : Log) (id count : ℕ) → RepresentsWhileUp e log
+count_within : (e : End) (log : Log) (id count : ℕ) → Going e (core log)
     → IsWithin e log id count (data_count (log_view log) (Some (stream_of_log log id)) count)
 count_within e log id count h =
     let given = given_on_connection log.received in
     let taken = total data_of log.sent in
     let part : at_least_none (window given taken) ≡ given - taken = natural_by (window given taken)
     given taken refl in
-    let send_window = h.send_window in
+    let send_window = h.windows.send in
     record { whole = omega arith; send_window = omega arith }
 
 -- a window with fewer octets
@@ -199,9 +196,9 @@ data_by e log id octets end count true active_is goes within is =
     nothing_unreturned e log base id (owes_active log base id active_is)
     (called_up e log (SendData id octets end) (Count count) refl (λ i. refl) is)
 data_by e log id octets end count false active_is goes within is =
-    let run = is.running in
+    let run = is.going in
     let base = called log (SendData id octets end) (Count count) in
-    let ran = called_runs e log (SendData id octets end) (Count count) e.output.encoder run.encoder
+    let ran = called_going e log (SendData id octets end) (Count count) e.output.encoder run.encoder
     (λ i. refl) run in
     let last = end && count == length octets in
     let size : length (take count octets) ≡ count = length-take-le count octets within.whole in
@@ -213,12 +210,12 @@ data_by e log id octets end count false active_is goes within is =
     (omega arith) (omega arith)) in
     let fits = within.send_window in
     let conserved : (e.windows.send - count) + (count + total data_of log.sent)
-    ≡ given_on_connection log.received = omega (arith, run.send_window) in
+    ≡ given_on_connection log.received = omega (arith, run.windows.send) in
     sent_up e e log base id (data_frames (suc count) 16384 id (take count octets) last) count last
     (send_window log id -ℤ pos count) (e.windows.send - count)
     active_is active_is (less_send_window (given_on id log.received) (total (data_on id) log.sent)
     count) adds conserved is.role is.up is.same
-    (called_waits e log (SendData id octets end) (Count count) is.waits) ran
+    is.waits is.started ran
 
 -- Octets of a body are sent.
 pub data_up : (e : End) (log : Log) (id : ℕ) (octets : List ℕ) (end : Bool) → active log id ≡ true
@@ -234,7 +231,7 @@ data_up e log id octets end active_is goes most is =
     let b = count == 0 && not (length octets == 0 && end) in
     let last = end && count == length octets in
     let sent_data = data_by e log id octets end count b active_is goes
-    (count_within e log id (length octets) is.running) is in
+    (count_within e log id (length octets) is.going) is in
     let all : Up (after_data e id octets end count (Some stream)) (with_call log act (Count count))
     =
     subst (λ (m : ℕ). Up (after_data e id octets end count (Some stream))

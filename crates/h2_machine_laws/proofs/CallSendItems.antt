@@ -15,9 +15,9 @@ use Rattle.h2_log.specs.Items.{one_reset, greatest_block}
 use Rattle.h2_log.specs.States.{openings}
 use Rattle.h2_log.specs.CallRules.{data_frames}
 use Rattle.h2_log_laws.proofs.StreamNumbers.{block_below}
-use Rattle.h2_machine_laws.proofs.SentQuietItems.{total_quiet, total_one, any_quiet, own_quiet}
-use Rattle.h2_machine_laws.proofs.SentQuietItems.{settings_quiet, above_quiet}
+use Rattle.h2_machine_laws.proofs.OneItemMore.{total_quiet, total_one, any_quiet, own_quiet, settings_quiet}
 use Rattle.h2_machine_laws.proofs.SentConnectionItems.{computing}
+use Rattle.h2_machine_laws.proofs.SentQuietItems.{above_quiet}
 use Rattle.h2_machine_laws.proofs.SentStreamItems.{Adds}
 
 -- A test that passes only where another does adds nothing to it.

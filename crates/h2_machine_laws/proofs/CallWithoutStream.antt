@@ -24,12 +24,12 @@ use Rattle.h2_log.specs.CallRules.{returns_before_put_out}
 use Rattle.h2_log.specs.LogView.{log_view}
 use Rattle.h2_machine.specs.Machine.{queue_output, before_put_out_at, after_call}
 use Rattle.h2_machine.specs.Represents.{Represents}
+use Rattle.h2_machine_laws.proofs.LogCore.{core, core_facts, runs}
+use Rattle.h2_machine_laws.proofs.RepresentedSteps.{called_going, Up, up_of, represents_made, wrote_up, called_up, ready_up, nothing_unreturned, owes_none}
+use Rattle.h2_machine_laws.proofs.SentConnectionItems.{ping_advances, goaway_advances, settings_advance}
+use Rattle.h2_machine_laws.proofs.SentQuietItems.{called_streams}
+use Rattle.h2_machine_laws.proofs.WaitingOutput.{OutputOf}
 use Rattle.h2_log_laws.proofs.ItemSizes.{size-update}
-use Rattle.h2_machine_laws.proofs.SentQuietItems.{called_runs, given_runs}
-use Rattle.h2_machine_laws.proofs.SentConnectionItems.{ping_runs, goaway_runs, settings_runs}
-use Rattle.h2_machine_laws.proofs.RepresentedSteps.{Up, Waits, up_of, represents_made, wrote_up}
-use Rattle.h2_machine_laws.proofs.RepresentedSteps.{called_waits, called_up, ready_up}
-use Rattle.h2_machine_laws.proofs.RepresentedSteps.{nothing_unreturned, owes_none}
 
 -- A PING is sent.
 pub ping_up : (e : End) (log : Log) (octets : List ℕ)
@@ -38,35 +38,35 @@ pub ping_up : (e : End) (log : Log) (octets : List ℕ)
 unfolding after_call with_call with_items items_of stream_of_act encoder_after_call released
 ping_up e log octets enough is =
     let base = called log (SendPing octets) Done in
-    let called_run = called_runs e log (SendPing octets) Done e.output.encoder is.running.encoder
-    (λ i. refl) is.running in
+    let went = called_going e log (SendPing octets) Done e.output.encoder is.going.encoder
+    (λ i. refl) is.going in
     nothing_unreturned _ log _ 0 (owes_none log _)
     (wrote_up e (record e { ping = Some octets }) base (alone (Ping false octets) ∷ []) is.role
-    is.up is.same
-    (called_waits e log (SendPing octets) Done is.waits)
-    (ping_runs e base octets enough called_run))
+    is.up is.same is.waits is.started
+    (ping_advances (core_facts e) (core base) octets enough went))
 
 -- GOAWAY is sent.
 pub goaway_up : (e : End) (log : Log) → (is_server log.role ≡ true → (i : ℕ) → active log i ≡ true
     → i ≤ last_processed log) → Up e log
     → Up (after_call e SendGoAway) (with_call log SendGoAway Done)
 unfolding after_call with_call with_items items_of stream_of_act encoder_after_call released
+    last_processed
 goaway_up e log low is =
     let base = called log SendGoAway Done in
-    let called_run = called_runs e log SendGoAway Done e.output.encoder is.running.encoder
-    (λ i. refl) is.running in
+    let went = called_going e log SendGoAway Done e.output.encoder is.going.encoder (λ i. refl)
+    is.going in
     let all : Up (record (queue_output e (alone (GoAway (last_processed log) 0 []) ∷ []))
     { goaway = record e.goaway { sent = Some (last_processed log) } })
     (with_sent base (alone (GoAway (last_processed log) 0 []) ∷ [])) =
     wrote_up e (record e { goaway = record e.goaway { sent = Some (last_processed log) } }) base
     (alone (GoAway (last_processed log) 0 []) ∷ []) is.role is.up is.same
-    (called_waits e log SendGoAway Done is.waits)
-    (goaway_runs e base (last_processed log) 0 low called_run) in
+    is.waits is.started
+    (goaway_advances (core_facts e) (core base) (last_processed log) 0 low went) in
     nothing_unreturned _ log _ 0 (owes_none log _)
     (subst (λ (n : ℕ). Up (record (queue_output e (alone (GoAway n 0 []) ∷ []))
     { goaway = record e.goaway { sent = Some n } })
     (with_sent base (alone (GoAway (last_processed log) 0 []) ∷ [])))
-    (sym is.running.last_processed) all)
+    (sym is.going.streams.last_processed) all)
 
 -- Settings are changed.
 pub settings_up : (e : End) (log : Log) (values : Values) → acked log ≤ settings_count log.sent
@@ -75,15 +75,14 @@ pub settings_up : (e : End) (log : Log) (values : Values) → acked log ≤ sett
 unfolding after_call with_call with_items items_of stream_of_act encoder_after_call released
 settings_up e log values enough some is =
     let base = called log (ChangeSettings values) Done in
-    let called_run = called_runs e log (ChangeSettings values) Done e.output.encoder
-    is.running.encoder (λ i. refl) is.running in
+    let went = called_going e log (ChangeSettings values) Done e.output.encoder is.going.encoder
+    (λ i. refl) is.going in
     let item = alone (Settings false (changed_pairs log.role values)) in
     let all : Up (record (queue_output e (item ∷ []))
     { own = record e.own { awaited = Some values } }) (with_sent base (item ∷ [])) =
     wrote_up e (record e { own = record e.own { awaited = Some values } }) base (item ∷ []) is.role
-    is.up is.same
-    (called_waits e log (ChangeSettings values) Done is.waits)
-    (settings_runs e base values enough some called_run) in
+    is.up is.same is.waits is.started
+    (settings_advance (core_facts e) (core base) values enough some went) in
     nothing_unreturned _ log _ 0 (owes_none log _)
     (subst (λ (role : Role). Up
     (record (queue_output e (alone (Settings false (changed_pairs role values)) ∷ []))
@@ -91,8 +90,8 @@ settings_up e log values enough some is =
     all)
 
 -- Octets are put out of what waits.
-put_out_waits : (e : End) (log : Log) (count n : ℕ) → n ≡ min count (waiting log) → Waits e log
-    → Waits (record e { output = record e.output { waiting = drop count e.output.waiting } })
+put_out_waits : (e : End) (log : Log) (count n : ℕ) → n ≡ min count (waiting log) → OutputOf e log
+    → OutputOf (record e { output = record e.output { waiting = drop count e.output.waiting } })
     (record log { given = log.given + n })
 unfolding waiting output
 put_out_waits e log count n is w =
@@ -144,15 +143,19 @@ put_out_up e log count n is up =
     let made = ready_up e base (called_up e log (PutOut count) (Count n) refl (λ i. refl) up) in
     let waits = put_out_waits (before_put_out_at e) (before_put_out base) count n (is
     ∙ ap (min count) (sym (ready_waits log (PutOut count) (Count n)))) made.waits in
-    let run = given_runs (before_put_out_at e) (before_put_out base)
-    (drop count (before_put_out_at e).output.waiting) ((before_put_out base).given + n)
-    made.running in
     let all : Up (record (before_put_out_at e) {
       output = record (before_put_out_at e).output
           { waiting = drop count (before_put_out_at e).output.waiting };
     })
     (record (before_put_out base) { given = (before_put_out base).given + n }) =
-    record { role = made.role; up = made.up; same = made.same; waits = waits; running = run } in
+    record {
+      role = made.role;
+      up = made.up;
+      same = made.same;
+      waits = waits;
+      started = made.started;
+      going = made.going;
+    } in
     subst (λ (k : ℕ). Up (record (before_put_out_at e) {
       output = record (before_put_out_at e).output
           { waiting = drop count (before_put_out_at e).output.waiting };
@@ -160,7 +163,7 @@ put_out_up e log count n is up =
     (record (before_put_out base) { given = k + n })) (ready_given base) all
 
 -- As much waits after credit was returned, by the test.
-ready_size_by : (log : Log) (b : Bool) → log.given ≤ length (output log)
+ready_size_by : (log : Log) (b : Bool) → log.given ≤ length log.written
     → waiting (if b then with_credit_returned log else log) ≡ waiting log +
     (if b then update_size else 0)
 unfolding waiting output with_sent
@@ -172,7 +175,7 @@ ready_size_by log true given =
 ready_size_by log false given = omega arith
 
 -- As much waits once an end is ready as the rules say.
-ready_size : (log : Log) → log.given ≤ length (output log)
+ready_size : (log : Log) → log.given ≤ length log.written
     → waiting (before_put_out log) ≡ waiting log +
     (if returns_before_put_out (log_view log) then update_size else 0)
 unfolding before_put_out
@@ -198,11 +201,12 @@ put_out_by : (values : Values) (e : End) (log : Log) (count n : ℕ) (x : Option
     → n ≡ min count (waiting (before_put_out log))
     → Represents values e log → IsTypedAct (PutOut count) → MayAnswer log (PutOut count) (Count n)
     → Represents values (after_call e (PutOut count)) (with_call log (PutOut count) (Count n))
-unfolding after_call with_call
+unfolding after_call with_call released
 put_out_by values e log count n None up is represents typed may =
     let made = put_out_up e log count n is (up_of values e log represents up) in
     represents_made values e log (PutOut count) (Count n) represents typed may (never_refused e count)
-    made.role (made.up ∙ sym made.same) made.waits (λ up. made.running)
+    made.role (made.up ∙ sym made.same) made.waits made.going.streams
+    (λ up. runs _ _ made.started made.going)
 put_out_by values e log count n (Some code) failed is represents typed may =
     let base = called log (PutOut count) (Count n) in
     let here = ready_failed_at e code failed in
@@ -210,16 +214,17 @@ put_out_by values e log count n (Some code) failed is represents typed may =
     let there = ready_failed base code with_failure in
     let same : waiting base ≡ waiting (before_put_out log) = ap waiting (sym there)
     ∙ ready_waits log (PutOut count) (Count n) in
-    let waits : Waits (record e {
+    let waits : OutputOf (record e {
       output = record e.output { waiting = drop count e.output.waiting };
     }) (record base { given = log.given + n }) =
     put_out_waits e base count n (is ∙ ap (min count) (sym same))
-    (called_waits e log (PutOut count) (Count n)
-    (record { waiting = represents.waiting; given = represents.given })) in
+    represents.output in
     represents_made values e log (PutOut count) (Count n) represents typed may (never_refused e count)
     (ap (λ (x : End). x.role) here ∙ represents.role ∙ sym (ap (λ (x : Log). x.role) there))
     (ap (λ (x : End). x.failed) here ∙ represents.failed ∙ sym (ap (λ (x : Log). x.failed) there))
     (rw (here, there) waits)
+    (rw (here, there) (called_streams e.streams (core log) ((PutOut count, Count n) ∷ log.calls)
+    (λ i. refl) represents.streams))
     (λ up. let wrong : Some code ≡ None = sym failed ∙ sym (ap (λ (x : End). x.failed) here)
     ∙ up in absurd (cc))
 
@@ -231,4 +236,4 @@ pub put_out_represents : (values : Values) (e : End) (log : Log) (count : ℕ)
     (with_call log (PutOut count) (answer_of (log_view log) (PutOut count)))
 put_out_represents values e log count represents typed may =
     put_out_by values e log count _ e.failed refl
-    (ap (min count) (sym (ready_size log represents.given))) represents typed may
+    (ap (min count) (sym (ready_size log represents.output.given))) represents typed may

@@ -1,5 +1,5 @@
 -- What a log says of numbers that no stream had yet; and the law of calls.
-use Rattle.std.proofs.Common.{◌≡◌, ◌≢◌, ℕ, ◌≤◌, ◌<◌, true, false, List, [], ◌∷◌, None, refl, subst}
+use Rattle.std.proofs.Common.{◌≡◌, ◌≢◌, ℕ, ◌≤◌, ◌<◌, false, List, [], ◌∷◌, None, refl, subst}
 use Rattle.std.proofs.Common.{◌∙◌, arith}
 use Rattle.std.specs.List.{list_any}
 use Rattle.std.proofs.lemmas.Bool.{both_ways, ne_eqb, false_from_ne_true}
@@ -10,10 +10,10 @@ use Rattle.h2_log.specs.declared.role.Role.{Role}
 use Rattle.h2_log.specs.declared.role.Role.TheVariants.{Client, Server}
 use Rattle.h2_log.specs.Items.{data_on, is_block_on, ends, total, greatest_block}
 use Rattle.h2_log.specs.Acts.{Values, Act, Answer, IsTypedAct}
-use Rattle.h2_log.specs.Settings.{is_server, value_read}
+use Rattle.h2_log.specs.Settings.{value_read}
 use Rattle.h2_log.specs.States.{openings}
-use Rattle.h2_log.specs.Events.{greatest_processed, flow_on, reported_total}
-use Rattle.h2_log.specs.Log.{Log, last_processed, max_payload_sent_by, unreleased}
+use Rattle.h2_log.specs.Events.{flow_on, reported_total}
+use Rattle.h2_log.specs.Log.{Log, max_payload_sent_by}
 use Rattle.h2_log.specs.LogCalls.{MayAnswer, with_call}
 use Rattle.h2_log.specs.Histories.{IsLog}
 use Rattle.h2_machine.specs.End.{End}
@@ -25,11 +25,13 @@ use Rattle.h2_log_laws.proofs.StreamNumbers.{block_below}
 use Rattle.h2_log_laws.proofs.AllowedHistories.{increments_read}
 use Rattle.h2_log_laws.proofs.ReplyInvariant.{resets_used}
 use Rattle.h2_log_laws.proofs.InvariantLogs.{log_represents}
-use Rattle.h2_machine_laws.proofs.SentQuietItems.{any_quiet, total_one}
+use Rattle.h2_machine_laws.proofs.CallLaw.{IsSound, call_law}
 use Rattle.h2_machine_laws.proofs.CallOpen.{IsClear}
+use Rattle.h2_machine_laws.proofs.GoAwaysSent.{active_processed}
+use Rattle.h2_machine_laws.proofs.LogCore.{core, kept_back}
+use Rattle.h2_machine_laws.proofs.OneItemMore.{any_quiet, total_one}
 use Rattle.h2_machine_laws.proofs.UpInvariant.{idle_above, greatest_after}
 use Rattle.h2_machine_laws.proofs.UpInvariantLogs.{up_log_of}
-use Rattle.h2_machine_laws.proofs.CallLaw.{IsSound, call_law}
 
 -- an item that a client may write neither ends nor consumes anything of a number above all before
 -- it
@@ -73,8 +75,7 @@ sent_low received _ i (writes {sent = sent} item with_sent allowed) above =
 
 -- nothing is unreleased of nothing
 unreleased_none : (log : Log) (i : ℕ) → reported_total (flow_on i) log.reported ≡ 0
-    → unreleased log i ≡ 0
-unfolding unreleased
+    → kept_back (core log) i ≡ 0
 unreleased_none log i none = omega (arith, none)
 
 -- no block on a number above all that a client used
@@ -87,7 +88,7 @@ unopened Server received sent i is above = cc
 -- Numbers above all that a client used are clear.
 clear_of : (role : Role) (values : Values) (log : Log) → IsLog role values log → log.failed ≡ None
     → log.role ≡ Client → (i : ℕ) → greatest_block log.sent < i
-    → IsClear log i
+    → IsClear (core log) i
 clear_of role values log came up client i above =
     let represents = log_represents role values log came in
     let up_log = up_log_of role values log came up in
@@ -115,12 +116,6 @@ clear_of role values log came up client i above =
           ((represents.good up).opened i (unopened log.role log.received log.sent i client above));
     }
 
--- the greatest stream that a server processed
-processed_at_server : (log : Log) → is_server log.role ≡ true
-    → last_processed log ≡ greatest_processed log.reported
-unfolding last_processed
-processed_at_server log is = rw is refl
-
 -- as much is sent in a frame as this end sends at most
 most_of : (received : List Item) → 16384 ≤ value_read 5 16384 received
     → max_payload_sent_by received ≡ 16384
@@ -136,8 +131,7 @@ sound_of role values log came up =
       acks = up_log.acks;
       pongs = up_log.pongs;
       size = most_of log.received up_log.size;
-      processed = λ server none i active_is. let low = up_log.processed server none i active_is in
-          omega (arith, processed_at_server log server);
+      processed = λ server i active_is. active_processed role values log came up server i active_is;
       clear = clear_of role values log came up;
     }
 

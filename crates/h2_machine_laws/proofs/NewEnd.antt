@@ -25,8 +25,9 @@ use Rattle.h2_machine.specs.Machine.{new_end}
 use Rattle.h2_machine.specs.End.{owed_sum}
 use Rattle.h2_machine.specs.Represents.{Represents, RepresentsWhileUp, AwaitsValues}
 use Rattle.h2_machine.specs.Represents.{goaway_sent_last}
-use Rattle.h2_machine_laws.proofs.ConservedBySteps.{is_whole}
 use Rattle.h2_machine_laws.proofs.ConservedByCalls.{new_holds}
+use Rattle.h2_machine_laws.proofs.ConservedBySteps.{is_whole}
+use Rattle.h2_machine_laws.proofs.LogCore.{core, StreamsOf}
 
 -- opens what computes
 unfoldable pub computing : Unit {0}
@@ -60,11 +61,11 @@ new_used Client values = refl
 new_used Server values = refl
 
 -- A server allows as many streams as its opening says.
-new_streams : (role : Role) (values : Values) → is_server role ≡ true
+new_max_streams : (role : Role) (values : Values) → is_server role ≡ true
     → values.max_streams ≡ max_streams (opened role values)
 unfolding computing value_after
-new_streams Client values server = cc
-new_streams Server values server = refl
+new_max_streams Client values server = cc
+new_max_streams Server values server = refl
 
 -- No stream was processed.
 new_last_processed : (role : Role) (values : Values) → 0 ≡ last_processed (opened role values)
@@ -74,7 +75,7 @@ new_last_processed Server values = refl
 
 -- What will be in force is what the opening says.
 new_awaited : (role : Role) (values others : Values) → Some values ≡ Some others
-    → AwaitsValues (opened role values) others
+    → AwaitsValues role (opened role values).sent others
 unfolding computing value_after
 new_awaited Client values others same =
     let equal : values ≡ others = cc in
@@ -84,6 +85,19 @@ new_awaited Server values others same =
     rw (← equal)
     (record { table_limit = refl; initial_window = refl; max_streams = λ server. refl })
 
+-- The streams of a new machine are those of a new log: none.
+new_streams : (role : Role) (values : Values)
+    → StreamsOf (new_end role values).streams (core (opened role values))
+unfolding computing
+new_streams role values =
+    record {
+      entries = λ i. rw (new_is_active role values i) (get-empty nat_cmp i);
+      active_count = sym (new_active_count role values);
+      highest = sym (new_used role values);
+      last_processed = new_last_processed role values;
+      resets = refl;
+    }
+
 -- The values of a new machine are those of a new log.
 new_running : (role : Role) (values : Values)
     → RepresentsWhileUp (new_end role values) (opened role values)
@@ -91,27 +105,21 @@ unfolding computing
 new_running role values =
     record {
       started = refl;
-      begun = refl;
-      table = refl;
+      reading = record { begun = refl; table = refl };
       encoder = refl;
-      streams = λ i. rw (new_is_active role values i) (get-empty nat_cmp i);
-      active_count = sym (new_active_count role values);
-      highest = sym (new_used role values);
-      last_processed = new_last_processed role values;
-      goaway_sent = refl;
-      goaway_received = refl;
-      send_window = refl;
-      recv_window = refl;
-      unreturned = refl;
-      initial_window = refl;
-      streams_allowed = refl;
-      table_limit = refl;
-      own_window = refl;
-      max_streams = new_streams role values;
-      awaits = refl;
-      awaited = λ others same. new_awaited role values others same;
+      windows = record { send = refl; recv = refl; unreturned = refl };
+      peer = record { initial_window = refl; max_streams = refl };
+      own = record {
+        in_force = record {
+          table_limit = refl;
+          initial_window = refl;
+          max_streams = new_max_streams role values;
+        };
+        awaits = refl;
+        awaited = λ others same. new_awaited role values others same;
+      };
+      goaway = record { last_sent = refl; least_received = refl };
       ping = refl;
-      resets = refl;
     }
 
 -- A new machine represents a new log.
@@ -123,8 +131,8 @@ new_represents role values in_range =
       came = begins in_range;
       role = refl;
       failed = refl;
-      waiting = refl;
-      given = omega arith;
+      output = record { waiting = refl; given = omega arith };
+      streams = new_streams role values;
       running = λ up. new_running role values;
       whole = (is_whole (new_end role values) (new_holds role values)).whole;
       used = λ i above. get-empty nat_cmp i;

@@ -23,14 +23,14 @@ use Rattle.h2_machine.specs.Machine.{first_active, is_active_entry, unprocessed_
 use Rattle.h2_machine.specs.Represents.{Represents, entry_by}
 use Rattle.h2_log.specs.declared.role.Role.{Role}
 use Rattle.h2_log.specs.declared.role.Role.TheVariants.{Client, Server}
+use Rattle.h2_machine_laws.proofs.LogCore.{said, core, Going, going}
 use Rattle.h2_machine_laws.proofs.OwedSums.{first, second, not_found}
+use Rattle.h2_machine_laws.proofs.RecvVerdict.{active_said}
+use Rattle.h2_machine_laws.proofs.RecvVerdictLimits.{found_after, found_first}
 use Rattle.h2_log_laws.proofs.ReaderStates.{active_parts}
 use Rattle.h2_log_laws.proofs.NextStreams.{least_passes, least_found}
 use Rattle.h2_log_laws.proofs.StreamNumbers.{client_low, last_none, least_none}
 use Rattle.h2_log_laws.proofs.InvariantLogs.{written_is_allowed}
-use Rattle.h2_machine_laws.proofs.RecvWithoutFrame.{said, core, Going, going}
-use Rattle.h2_machine_laws.proofs.RecvVerdict.{active_said}
-use Rattle.h2_machine_laws.proofs.RecvVerdictLimits.{found_after, found_first}
 
 -- A number that is found, is active, and is above another.
 record Found (above n : ℕ) (es : List (ℕ × Entry)) : Type 0 where
@@ -157,7 +157,7 @@ least_same e log last client g =
     let kept : map.get e.streams.entries n ≡ Some f.x = map.get-entries e.streams.entries n
     ∙ f.found in
     let alive : active log n ≡ true = living_is_active (active log n) (list_any (resets n) log.sent)
-    (said (core log) n) f.x (sym (g.streams n) ∙ kept) f.active_by_items in
+    (said (core log) n) f.x (sym (g.streams.entries n) ∙ kept) f.active_by_items in
     least_found (λ j. active log j && nat_lt last j) n log.sent
     (λ j both none. absurd (omega (
       arith,
@@ -207,5 +207,5 @@ next_same values e log s up =
     let r = s.running (s.failed ∙ up) in
     let with_sent : AllowedHistory log.role log.received log.sent = rw (s.role) at
     (written_is_allowed e.role values log s.came) in
-    rw (r.goaway_received, s.role) (next_by e log log.role (list_any is_goaway log.received) s.role
-    refl refl with_sent (going e log r))
+    rw (r.goaway.least_received, s.role) (next_by e log log.role (list_any is_goaway log.received) s.role
+    refl refl with_sent (going e log s.streams r))

@@ -40,11 +40,11 @@ kept_stream log i =
 pub owed_on_all : (values : Values) (e : End) (log : Log) (n : ℕ) → Represents values e log
     → e.failed ≡ None → e.streams.highest < n
     → owed_total e.streams.entries ≡ sum_below n (owed log)
-unfolding owed
+unfolding owed unreleased
 owed_on_all values e log n represents up above =
     total-sum n e.streams.entries (λ i from. represents.used i (omega arith))
     ∙ same_sum n (λ i. owed_entry (map.get e.streams.entries i)) (owed log)
-    (λ i below. ap owed_entry ((represents.running up).streams i)
+    (λ i below. ap owed_entry (represents.streams.entries i)
     ∙ owed_by (active log i) (list_any (resets i) log.sent) (kept_stream log i))
 
 -- What was granted less what has come, with what is owed and unreturned, is the first window.
@@ -66,9 +66,9 @@ window_of_a_log values e log n represents up above =
       arith,
       represents.whole,
       owed_on_all values e log n represents up above,
-      (represents.running up).unreturned,
+      (represents.running up).windows.unreturned,
     ))
-    (represents.running up).recv_window
+    (represents.running up).windows.recv
 
 -- What is under way may be added in two steps.
 in_steps : (send_window : ℤ) (back others : ℕ)

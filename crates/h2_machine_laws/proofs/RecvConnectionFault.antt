@@ -1,5 +1,5 @@
 -- An item that is a fault of the connection makes it fail at an end as at its log.
-use Rattle.std.proofs.Common.{◌≡◌, max, Option, Some, None, refl, ap₂}
+use Rattle.std.proofs.Common.{◌≡◌, max, arith, Option, Some, None, refl, ap₂}
 use Rattle.std.specs.List.{list_any}
 use Rattle.h2_frame.specs.declared.code.Code.{Code}
 use Rattle.h2_block.specs.Grouping.{Item, alone, block}
@@ -12,9 +12,12 @@ use Rattle.h2_log.specs.ItemRules.{Decoded, opened_by}
 use Rattle.h2_log.specs.LogSteps.{with_verdict}
 use Rattle.h2_machine.specs.Machine.{after_verdict}
 use Rattle.h2_machine.specs.Represents.{goaway_sent_last}
-use Rattle.h2_machine_laws.proofs.RecvWithoutFrame.{core, Going, Waits, fails_connection}
-use Rattle.h2_machine_laws.proofs.RecvVerdict.{Sound, when_some, state_same, allowed_same}
+use Rattle.h2_log.specs.Events.{greatest_processed}
+use Rattle.h2_machine_laws.proofs.LogCore.{core, Going}
 use Rattle.h2_machine_laws.proofs.RecvReturnedCredit.{After}
+use Rattle.h2_machine_laws.proofs.RecvVerdict.{Sound, when_some, state_same, allowed_same}
+use Rattle.h2_machine_laws.proofs.SentConnectionItems.{failing_streams}
+use Rattle.h2_machine_laws.proofs.WaitingOutput.{Waits, fails_connection}
 
 -- The number that an item opens is the same.
 opened_same : (e : End) (log : Log) (decoded : Option Decoded) (item : Item) → e.role ≡ log.role
@@ -28,9 +31,9 @@ opened_same e log (Some decoded) (block i end octets) role sound g =
     rw (
       state_same e (core log) i role sound g,
       role,
-      allowed_same log.role e.own.in_force.max_streams (max_streams log) (g.in_force).max_streams,
-      g.active_count,
-      g.goaway_sent,
+      allowed_same log.role e.own.in_force.max_streams (max_streams log) g.own.in_force.max_streams,
+      g.streams.active_count,
+      g.goaway.last_sent,
       when_some (list_any is_goaway log.sent)
           (goaway_sent_last log.sent),
     ) refl
@@ -42,10 +45,15 @@ pub fault_after : (e : End) (log : Log) (decoded : Option Decoded) (item : Item)
     (ConnectionFault code))
 unfolding after_verdict with_verdict last_processed
 fault_after e log decoded item code w sound g =
+    let last = max (last_processed log) (opened_by (log_view log) decoded item) in
     record {
       waits = fails_connection e.role e.failed e.output.waiting log code
-          (max e.streams.last_processed (opened_by (end_view e) decoded item))
-          (max (last_processed log) (opened_by (log_view log) decoded item))
-          (ap₂ max g.last_processed (opened_same e log decoded item w.same_role sound g)) w;
+          (max e.streams.last_processed (opened_by (end_view e) decoded item)) last
+          (ap₂ max g.streams.last_processed
+          (opened_same e log decoded item w.same_role sound g)) w;
+      streams = failing_streams e.streams log code last (λ server i active_is.
+          let taken = sound.active_taken server i active_is in
+          let same : last_processed log ≡ greatest_processed log.reported = rw server refl in
+          omega (arith, taken, same)) g.streams;
       going = λ up. absurd (cc);
     }

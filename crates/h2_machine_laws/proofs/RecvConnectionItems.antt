@@ -18,12 +18,13 @@ use Rattle.h2_log.specs.ItemEffects.{events_of, discarded_flow}
 use Rattle.h2_machine.specs.End.{End}
 use Rattle.h2_machine.specs.Machine.{queue_output, after_ignored}
 use Rattle.h2_machine.specs.Represents.{goaway_sent_last}
-use Rattle.h2_machine_laws.proofs.RecvWithoutFrame.{Core, core, core_facts, Going, Waits}
-use Rattle.h2_machine_laws.proofs.RecvWithoutFrame.{wrote_connection, active_by_items}
-use Rattle.h2_machine_laws.proofs.RecvLittleChanges.{IsQuietIn, quiet_read, IsQuietOut, quiet_wrote}
-use Rattle.h2_machine_laws.proofs.RecvLittleChanges.{active_read, active_some}
+use Rattle.h2_machine_laws.proofs.LogCore.{Core, core, core_facts, Going, active_by_items}
+use Rattle.h2_machine_laws.proofs.RecvRead.{IsQuietIn, quiet_read, active_read, reads}
 use Rattle.h2_machine_laws.proofs.RecvReturnedCredit.{After, unsettled}
-use Rattle.h2_machine_laws.proofs.RecvRead.{reads}
+use Rattle.h2_machine_laws.proofs.SentConnectionItems.{ping_leaves}
+use Rattle.h2_machine_laws.proofs.SentQuietItems.{IsQuietOut, quiet_wrote}
+use Rattle.h2_machine_laws.proofs.StreamsSame.{active_some}
+use Rattle.h2_machine_laws.proofs.WaitingOutput.{Waits, wrote_connection}
 
 -- Whether a frame changes nothing of what an end keeps, where it is read.
 abbrev pub is_plain : Frame → Bool
@@ -49,16 +50,10 @@ plain_quiet (GoAway last code debug) is = absurd (both_ways false refl is)
 plain_quiet (WindowUpdate stream increment) is = absurd (both_ways false refl is)
 plain_quiet frame is =
     record {
-      blocks = λ i. refl;
+      common = record { leaves = refl; least = λ items. refl; settings = refl };
+      apart = λ i. record { blocks = refl; ended = refl; was_reset = refl; flow = refl; gives = refl };
       greatest = λ items. refl;
-      ended = λ i. refl;
-      was_reset = λ i. refl;
-      leaves = refl;
-      least = λ items. refl;
-      settings = refl;
-      flow = λ i. refl;
       flow_of = refl;
-      gives = λ i. refl;
     }
 
 -- A stream that is as active as before leaves nothing owing, by the tests.
@@ -84,16 +79,6 @@ dead_owing log after i dead = rw dead refl
 pub zero_dead : (c : Core) → active_by_items c 0 ≡ false
 zero_dead c = false_from_ne_true (active_by_items c 0) (λ alive. active_some c 0 alive refl)
 
--- What waits is as before, where an item is read.
-pub read_waits : (e : End) (log : Log) (decoded : Option Decoded) (item : Item) → Waits e log
-    → Waits e (read log decoded item)
-read_waits e log decoded item w = record {
-  same_role = w.same_role;
-  same_failed = w.same_failed;
-  waiting = w.waiting;
-  given = w.given;
-}
-
 -- What plain frames that need no answer make of an end.
 pub plain_ignored : (e : End) (log : Log) (decoded : Option Decoded) (frame : Frame)
     → is_plain frame ≡ true → replies_to NoEvent (alone frame) ≡ []
@@ -116,9 +101,9 @@ plain_ignored e log decoded frame is none w g =
       arith,
       none_owing log (read log decoded (alone frame)) (stream_of_item (alone frame))
           (active_read log.role (stream_of_item (alone frame)) (alone frame) log.received log.sent
-          log.reported (q.blocks _) (q.ended _) (q.was_reset _)),
+          log.reported (q.apart _).blocks (q.apart _).ended (q.apart _).was_reset),
     ))
-    (read_waits e log decoded (alone frame) w) g.unreturned (λ up. quiet_read (core_facts e)
+    w g.windows.unreturned (quiet_read (core_facts e)
     (core log) (alone frame) q g)
 
 -- the answer to a PING changes nothing more
@@ -127,26 +112,19 @@ unfolding is_block_on greatest_block ends resets is_goaway is_goaway_below goawa
     newest_ping one_ping one_settings data_on data_of one_reset increment_on
 pong_quiet octets =
     record {
-      blocks = λ i. refl;
-      greatest = λ items. refl;
-      ended = λ i. refl;
-      was_reset = λ i. refl;
+      streams = ping_leaves true octets;
       leaves = refl;
-      below = λ i. refl;
       newest = λ items. refl;
       ping = λ items. refl;
       pings = refl;
       settings = refl;
-      flow = λ i. refl;
       flow_of = refl;
-      reset = refl;
-      gives = λ i some. refl;
     }
 
 -- it gives nothing
-pong_none : (octets : List ℕ) → increment_on 0 (alone (Ping true octets)) ≡ 0
+pong_none : (octets : List ℕ) (j : ℕ) → increment_on j (alone (Ping true octets)) ≡ 0
 unfolding increment_on
-pong_none octets = refl
+pong_none octets j = refl
 
 -- What an end makes of a PING that it answers.
 pub ping_ignored : (e : End) (log : Log) (decoded : Option Decoded) (octets : List ℕ) → Waits e log
@@ -166,7 +144,7 @@ ping_ignored e log decoded octets w g =
           (alone (Ping true octets) ∷ [])) []) 0 (zero_dead (core log)),
     ))
     (wrote_connection e.role e.failed e.output.waiting (read log decoded item)
-    (alone (Ping true octets)) [] (read_waits e log decoded item w)) g.unreturned
-    (λ up. quiet_wrote (core_facts e) (reads (core log) item) (alone (Ping true octets))
-    e.windows.recv e.windows.unreturned log.unreturned (pong_quiet octets)
-    (omega (arith, pong_none octets)) g.unreturned (quiet_read (core_facts e) (core log) item q g))
+    (alone (Ping true octets)) [] w) g.windows.unreturned
+    (quiet_wrote (core_facts e) (reads (core log) item) (alone (Ping true octets)) e.windows.recv
+    (pong_quiet octets) (λ j some. pong_none octets j) (omega (arith, pong_none octets 0))
+    (quiet_read (core_facts e) (core log) item q g))

@@ -1,11 +1,11 @@
 -- What DATA that is reported makes of an end and of its log.
 use Rattle.std.proofs.Common.{◌≡◌, ◌≢◌, ℕ, ◌≤◌, ◌+◌, ◌-◌, Bool, true, false, ◌&&◌, ◌||◌}
 use Rattle.std.proofs.Common.{if◌then◌else◌, pos, ◌-ℤ◌, List, [], ◌∷◌, length, Option, refl, ap}
-use Rattle.std.proofs.Common.{sym, ◌∙◌, inl, inr, arith, zero-add}
+use Rattle.std.proofs.Common.{sym, ◌∙◌, arith, zero-add}
 use Rattle.std.specs.List.{list_any}
 use Rattle.std.specs.FinMap as map
 use Rattle.std.proofs.lemmas.Int.{ints}
-use Rattle.std.proofs.lemmas.Bool.{cases_eq, both_ways, ne_eqb, eq-eqb, or_right}
+use Rattle.std.proofs.lemmas.Bool.{both_ways, ne_eqb, eq-eqb, or_right}
 use Rattle.std.proofs.lemmas.Bool.{false_from_ne_true}
 use Rattle.h2_frame.specs.Frames.{Data}
 use Rattle.h2_frame.specs.Encoding.{stream_of, payload_of}
@@ -15,7 +15,7 @@ use Rattle.h2_log.specs.Items.{total}
 use Rattle.h2_log.specs.Events.{Event, DataEvent, flow_on, one_acked, one_pong, reported_total}
 use Rattle.h2_log.specs.Events.{reports_unprocessed, processed_by}
 use Rattle.h2_log.specs.Settings.{is_server, value_read}
-use Rattle.h2_log.specs.States.{openings, count_below}
+use Rattle.h2_log.specs.States.{openings}
 use Rattle.h2_log.specs.Windows.{given_on, granted_on}
 use Rattle.h2_log.specs.Log.{Log, unreleased, released}
 use Rattle.h2_log.specs.Verdicts.{Reported}
@@ -23,40 +23,24 @@ use Rattle.h2_log.specs.ItemRules.{Decoded, replies_to}
 use Rattle.h2_log.specs.LogSteps.{read, with_sent, with_reported, with_unreturned, owed_at_close}
 use Rattle.h2_log.specs.LogSteps.{with_verdict}
 use Rattle.h2_log.specs.ItemEffects.{events_of, discarded_flow}
-use Rattle.h2_machine.specs.End.{End, StreamMap, Entry, active_entry, owed_entry}
+use Rattle.h2_machine.specs.End.{End, StreamMap, active_entry, owed_entry}
 use Rattle.h2_log.specs.View.{StreamView}
 use Rattle.h2_machine.specs.Machine.{set_stream, close_stream, with_flow, after_reported}
 use Rattle.h2_log.specs.declared.role.Role.{Role}
 use Rattle.h2_log.specs.declared.role.Role.TheVariants.{Client, Server}
-use Rattle.h2_machine_laws.proofs.OwedSums.{get_set_same, get_set_other, get_removed_same}
-use Rattle.h2_machine_laws.proofs.OwedSums.{get_removed_other}
-use Rattle.h2_log_laws.proofs.ReaderStates.{active_parts, active_from, lasts_parts, lasts_from}
-use Rattle.h2_machine_laws.proofs.RecvWithoutFrame.{said, Core, core, CoreFacts, core_facts}
-use Rattle.h2_machine_laws.proofs.RecvWithoutFrame.{Advances, Going, AreSaid, Waits, confirmed}
-use Rattle.h2_machine_laws.proofs.RecvWithoutFrame.{active_by_items, greatest_used}
-use Rattle.h2_machine_laws.proofs.RecvVerdict.{stream_said}
-use Rattle.h2_machine_laws.proofs.RecvLittleChanges.{SameAt, kept_at, count_same, stream_same}
-use Rattle.h2_machine_laws.proofs.RecvReturnedCredit.{After, returned, unsettled}
-use Rattle.h2_machine_laws.proofs.RecvRead.{reads, read_step, said_set, same_read}
-use Rattle.h2_machine_laws.proofs.RecvEvents.{report, ChangesNoStream, reported_step}
-use Rattle.h2_machine_laws.proofs.RecvEvents.{active_reported, same_reported, same_both, taken_kept}
+use Rattle.h2_machine.specs.End.{Streams}
+use Rattle.h2_machine_laws.proofs.LogCore.{StreamsOf, said, Core, core, CoreFacts, core_facts, Advances, Going, confirmed, active_by_items}
+use Rattle.h2_machine_laws.proofs.OwedSums.{get_set_same}
 use Rattle.h2_machine_laws.proofs.RecvConnectionItems.{none_owing}
+use Rattle.h2_machine_laws.proofs.RecvEvents.{reported_by, report, ChangesNoStream, active_reported, same_reported, taken_kept}
+use Rattle.h2_machine_laws.proofs.RecvRead.{reads, read_step, same_read}
+use Rattle.h2_machine_laws.proofs.RecvReset.{data_common, data_apart, data_used, data_gives, data_takes}
+use Rattle.h2_machine_laws.proofs.RecvReturnedCredit.{After, returned, unsettled}
 use Rattle.h2_machine_laws.proofs.RecvUnprocessed.{full_owing}
-use Rattle.h2_machine_laws.proofs.RecvReset.{one_less, data_common, data_apart, data_used}
-use Rattle.h2_machine_laws.proofs.RecvReset.{data_gives, data_takes}
-
--- A stream is set and removed at once: it isn't active and wasn't reset, and others are as they
--- were.
-pub said_over : (streams : StreamMap) (i : ℕ) (x : Entry) (c d : Core) → AreSaid streams c
-    → ((j : ℕ) → j ≢ i → SameAt j c d)
-    → active_by_items d i ≡ false → list_any (resets i) d.sent ≡ false
-    → AreSaid (map.remove (map.insert streams i x) i) d
-said_over streams i x c d are same dead kept j = elim (cases_eq j i) [
-  | inl here ↦ rw (here, dead, kept) (get_removed_same (map.insert streams i x) i)
-  | inr other ↦
-      get_removed_other (map.insert streams i x) i j other ∙ get_set_other streams i x j other
-      ∙ kept_at streams j c d (same j other) (are j)
-]
+use Rattle.h2_machine_laws.proofs.RecvVerdict.{stream_said}
+use Rattle.h2_machine_laws.proofs.StreamsSame.{streams_set, streams_closed, said_over, same_both, SameAt, same_stream}
+use Rattle.h2_machine_laws.proofs.WaitingOutput.{Waits}
+use Rattle.h2_log_laws.proofs.ReaderStates.{active_parts, active_from, lasts_parts, lasts_from}
 
 -- the event of DATA is harmless, and shows nothing taken
 reported_harmless : (i : ℕ) (octets : List ℕ) (n : ℕ) (end : Bool)
@@ -131,7 +115,7 @@ unfolding given_on total reported_total value_read one_acked
 flow_said c i end octets pad within =
     let n : ℕ = length (payload_of (Data i end octets pad)) in
     let d : Core = after_data c i end octets pad in
-    stream_same (with_flow (said c i) n end) (said d i)
+    same_stream (with_flow (said c i) n end) (said d i)
     (rw (data_still i end octets pad i, zero-add) refl)
     (rw (data_here i end octets pad, zero-add) (used_recv_window (granted_on i (confirmed c) c.sent)
     (total (data_on i) c.received) n))
@@ -196,58 +180,33 @@ data_dead c i end octets pad over =
     alive).lasts).ended
     (rw (data_ends i end octets pad, or_swapped end (list_any (ends i) c.received)) over))
 
--- What an end keeps where DATA is reported on an active stream, by what it makes of the streams and
--- their count.
+-- What an end keeps where DATA is reported on an active stream, by what it makes of the streams.
 data_advances : (h : CoreFacts) (c : Core) (i : ℕ) (end : Bool) (octets : List ℕ) (pad : Option ℕ)
-    (streams : StreamMap) (count : ℕ)
+    (streams : Streams)
     → active_by_items c i ≡ true → length (payload_of (Data i end octets pad)) ≤ h.windows.recv
-    → AreSaid streams (after_data c i end octets pad)
-    → count ≡ count_below (greatest_used c + 1) (active_by_items (after_data c i end octets pad))
-    → Advances h c
+    → StreamsOf streams (after_data c i end octets pad) → Advances h c
     → Advances (record h {
-      streams = record h.streams { entries = streams; active_count = count };
+      streams = streams;
       windows = record h.windows {
         recv = h.windows.recv - length
             (payload_of (Data i end octets pad));
       };
     }) (after_data c i end octets pad)
-data_advances h c i end octets pad streams count alive within are counts g =
+data_advances h c i end octets pad streams alive within are g =
     let n : ℕ = length (payload_of (Data i end octets pad)) in
     let event : Event = DataEvent i octets n end in
     let c1 : Core = report c event in
+    let q = reported_harmless i octets n end in
     let alive1 : active_by_items c1 i ≡ true = active_reported c.role i c.received c.sent event
-    c.reported ((reported_harmless i octets n end).names i) ∙ alive in
-    let one = reported_step h c event (map.insert h.streams.entries i (active_entry (said c1 i)))
-    h.streams.last_processed (reported_harmless i octets n end)
-    (said_set h.streams.entries i (said c1 i) c c1 g.streams
-    (λ j other. same_reported j c event (reported_harmless i octets n end) (reported_elsewhere i
-    octets n end j other)) alive1 refl)
-    (g.last_processed ∙ sym (taken_kept (is_server c.role) event c.reported (reported_shows i octets
-    n end))) g in
-    read_step _ c1 (alone (Data i end octets pad)) streams count h.streams.highest h.windows.send
-    (h.windows.recv - n) (data_common i end octets pad) are
-    (rw (data_used c1 i end octets pad) counts) (g.highest ∙ sym (data_used c1 i end octets pad))
-    (omega (arith, data_gives i end octets pad)) (omega (
-      arith,
-      within,
-      data_takes i end octets
-          pad,
-    )) one
-
--- what waits, where an end's streams and numbers change
-still_waits : (e : End) (log : Log) (decoded : Option Decoded) (item : Item) (streams : StreamMap)
-    (count recv_window : ℕ) → Waits e log
-    → Waits (record e {
-      streams = record e.streams { entries = streams; active_count = count };
-      windows = record e.windows { recv = recv_window };
-    }) (read log decoded item)
-still_waits e log decoded item streams count recv_window w =
-    record {
-      same_role = w.same_role;
-      same_failed = w.same_failed;
-      waiting = w.waiting;
-      given = w.given;
-    }
+    c.reported (q.names i) ∙ alive in
+    let one = reported_by h c event _ q.acks q.pongs
+    (streams_set h.streams i (said c1 i) c c1
+    (λ j other. same_reported j c event q (reported_elsewhere i octets n end j other)) alive alive1
+    refl refl (taken_kept (is_server c.role) event c.reported (reported_shows i octets n end)) refl
+    g.streams) g in
+    read_step _ c1 (alone (Data i end octets pad)) streams h.windows.send (h.windows.recv - n)
+    (data_common i end octets pad) are (omega (arith, data_gives i end octets pad))
+    (omega (arith, within, data_takes i end octets pad)) one
 
 -- What DATA on an active stream makes of an end, by the test whether the stream is over.
 data_reported_by : (e : End) (log : Log) (decoded : Option Decoded) (i : ℕ) (end : Bool)
@@ -300,17 +259,17 @@ data_reported_by e log decoded i end octets pad true over alive within rel w g =
     (read log decoded item) (event ∷ []) _ _
     (ap (λ (m : ℕ). 0 + m) (ap owed_entry (get_set_same e.streams.entries i (active_entry s))
     ∙ ap (λ (t : StreamView). t.owed) is ∙ sym owing))
-    (still_waits e log decoded item streams (e.streams.active_count - 1) (e.windows.recv - n) w)
-    g.unreturned
-    (λ up. data_advances (core_facts e) c i end octets pad streams (e.streams.active_count - 1)
-    alive within
-    (said_over e.streams.entries i (active_entry s) c d g.streams (data_same c i end octets pad)
+    w
+    g.windows.unreturned
+    (data_advances (core_facts e) c i end octets pad _ alive within
+    (streams_closed e.streams i streams e.streams.resets c d (data_same c i end octets pad) alive
     dead
+    (said_over e.streams.entries i (active_entry s) c d g.streams.entries
+    (data_same c i end octets pad) dead
     (lasts_parts i c.received c.sent (active_parts c.role i c.received c.sent c.reported
-    alive).lasts).kept)
-    (rw (← (data_used (report c event) i end octets pad)) (one_less c d i e.streams.active_count
-    (data_used (report c event) i end octets pad) (data_same c i end octets pad) alive dead
-    g.active_count)) g)
+    alive).lasts).kept) (data_used (report c event) i end octets pad)
+    (taken_kept (is_server c.role) event c.reported (reported_shows i octets n end))
+    g.streams.resets g.streams) g)
 data_reported_by e log decoded i end octets pad false goes alive within rel w g =
     let c : Core = core log in
     let n : ℕ = length (payload_of (Data i end octets pad)) in
@@ -330,16 +289,13 @@ data_reported_by e log decoded i end octets pad false goes alive within rel w g 
       none_owing log (with_reported (read log decoded item) (event ∷ [])) i (still
           ∙ sym alive),
     ))
-    (still_waits e log decoded item streams e.streams.active_count (e.windows.recv - n) w)
-    g.unreturned
-    (λ up. data_advances (core_facts e) c i end octets pad streams e.streams.active_count alive
-    within
-    (said_set e.streams.entries i s c d g.streams (data_same c i end octets pad) still
-    (flow_said c i end octets pad rel))
-    (g.active_count ∙ sym (count_same _ _ _ (λ j. elim (cases_eq j i) [
-      | inl here ↦ rw here (still ∙ sym alive)
-      | inr other ↦ (data_same c i end octets pad j other).active
-    ]))) g)
+    w
+    g.windows.unreturned
+    (data_advances (core_facts e) c i end octets pad _ alive within
+    (streams_set e.streams i s c d (data_same c i end octets pad) alive still
+    (flow_said c i end octets pad rel) (data_used (report c event) i end octets pad)
+    (taken_kept (is_server c.role) event c.reported (reported_shows i octets n end)) refl g.streams)
+    g)
 
 -- What DATA on an active stream makes of an end.
 pub data_reported : (e : End) (log : Log) (decoded : Option Decoded) (i : ℕ) (end : Bool)

@@ -14,7 +14,6 @@ use Rattle.h2_log.specs.Items.{resets, is_goaway, greatest_block}
 use Rattle.h2_log.specs.Events.{ResetEvent, flow_on, one_acked, one_pong, reported_total}
 use Rattle.h2_log.specs.Events.{reports_unprocessed, processed_by}
 use Rattle.h2_log.specs.Settings.{one_settings}
-use Rattle.h2_log.specs.States.{openings, count_below}
 use Rattle.h2_log.specs.Verdicts.{NoEvent, Reported}
 use Rattle.h2_log.specs.ItemRules.{Decoded, replies_to}
 use Rattle.h2_log.specs.LogSteps.{read, with_sent, with_reported, owed_at_close, with_verdict}
@@ -22,18 +21,15 @@ use Rattle.h2_log.specs.ItemEffects.{events_of, discarded_flow}
 use Rattle.h2_machine.specs.End.{End, owed_entry}
 use Rattle.h2_machine.specs.Machine.{after_ignored, after_reported}
 use Rattle.h2_log_laws.proofs.ReaderStates.{active_parts, lasts_parts}
-use Rattle.h2_log_laws.proofs.NextStreams.{greatest_above}
-use Rattle.h2_machine_laws.proofs.RecvWithoutFrame.{Core, core, CoreFacts, core_facts, Advances}
-use Rattle.h2_machine_laws.proofs.RecvWithoutFrame.{Going, Waits, active_by_items, kept_back}
-use Rattle.h2_machine_laws.proofs.RecvWithoutFrame.{greatest_used}
-use Rattle.h2_machine_laws.proofs.RecvVerdict.{active_said}
-use Rattle.h2_machine_laws.proofs.RecvLittleChanges.{SameAt, kept_at, count_same, used_read}
-use Rattle.h2_machine_laws.proofs.RecvReturnedCredit.{After, returned, unsettled}
-use Rattle.h2_machine_laws.proofs.RecvRead.{reads, IsCommon, read_step, said_removed, count_less}
-use Rattle.h2_machine_laws.proofs.RecvRead.{IsApart, same_read, same_dead, stays_dead}
+use Rattle.h2_machine_laws.proofs.LogCore.{Core, core, CoreFacts, core_facts, Advances, Going, active_by_items, kept_back, greatest_used}
+use Rattle.h2_machine_laws.proofs.RecvConnectionItems.{dead_owing}
 use Rattle.h2_machine_laws.proofs.RecvEvents.{ChangesNoStream, quiet_reported, active_reported}
-use Rattle.h2_machine_laws.proofs.RecvConnectionItems.{dead_owing, read_waits}
+use Rattle.h2_machine_laws.proofs.RecvRead.{used_read, reads, IsCommon, read_step, IsApart, same_read, same_dead, stays_dead}
+use Rattle.h2_machine_laws.proofs.RecvReturnedCredit.{After, returned, unsettled}
 use Rattle.h2_machine_laws.proofs.RecvUnprocessed.{full_owing}
+use Rattle.h2_machine_laws.proofs.RecvVerdict.{active_said}
+use Rattle.h2_machine_laws.proofs.StreamsSame.{streams_same, streams_closed, SameAt, said_removed}
+use Rattle.h2_machine_laws.proofs.WaitingOutput.{Waits}
 
 -- What an end keeps where an item on a stream that isn't active is read, which gives nothing and
 -- may take of the connection's window.
@@ -47,11 +43,9 @@ dead_read h c item i recv_window common apart opens greatest gives takes dead g 
       | inl here ↦ rw here (same_dead i c item dead (stays_dead c i item opens dead))
       | inr other ↦ same_read j c item common.settings (apart j other)
     ] in
-    read_step h c item h.streams.entries h.streams.active_count h.streams.highest h.windows.send
-    recv_window common
-    (λ j. kept_at h.streams.entries j c (reads c item) (same j) (g.streams j))
-    (rw greatest (g.active_count ∙ sym (count_same _ _ _ (λ j. (same j).active)))) (g.highest
-    ∙ sym greatest) (omega (arith, gives)) takes g
+    read_step h c item h.streams h.windows.send recv_window common
+    (streams_same h.streams c (reads c item) same greatest refl refl g.streams)
+    (omega (arith, gives)) takes g
 
 -- RST_STREAM is neither SETTINGS nor GOAWAY.
 reset_common : (i code : ℕ) → IsCommon (alone (Reset i code))
@@ -102,8 +96,8 @@ reset_ignored e log decoded i code dead w g =
       dead_owing log (read log decoded item) i
           dead,
     ))
-    (read_waits e log decoded item w) g.unreturned
-    (λ up. dead_read (core_facts e) (core log) item i e.windows.recv (reset_common i code)
+    w g.windows.unreturned
+    (dead_read (core_facts e) (core log) item i e.windows.recv (reset_common i code)
     (reset_apart i code) (reset_opens i code i) (reset_used (core log) i code)
     (reset_gives i code) (omega (arith, reset_takes i code)) dead g)
 
@@ -130,23 +124,6 @@ reset_shows : (i code : ℕ) → processed_by (ResetEvent i code false) ≡ 0
 unfolding processed_by
 reset_shows i code = refl
 
--- Where a stream was active and isn't, the count is one less.
-pub one_less : (c d : Core) (i n : ℕ) → greatest_used d ≡ greatest_used c
-    → ((j : ℕ) → j ≢ i → SameAt j c d) → active_by_items c i ≡ true → active_by_items d i ≡ false
-    → n ≡ count_below (greatest_used c + 1) (active_by_items c)
-    → n - 1 ≡ count_below (greatest_used d + 1) (active_by_items d)
-one_less c d i n greatest same alive dead is =
-    let less : count_below (greatest_used c + 1) (active_by_items d) + 1 ≡ count_below
-    (greatest_used c + 1) (active_by_items c) =
-    count_less (greatest_used c + 1) i (active_by_items d) (active_by_items c)
-    (omega (
-      arith,
-      greatest_above i (openings c.role c.received c.sent) (active_parts c.role i
-          c.received c.sent c.reported alive).opened,
-    ))
-    (λ j other. (same j other).active) alive dead in
-    rw greatest (omega (arith, less, is))
-
 -- What an end keeps where RST_STREAM on an active stream is read.
 reset_active_read : (h : CoreFacts) (c : Core) (i code : ℕ) → active_by_items c i ≡ true
     → Advances h c
@@ -160,15 +137,13 @@ reset_active_read h c i code alive g =
     let item : Item = alone (Reset i code) in
     let same : (j : ℕ) → j ≢ i → SameAt j c (reads c item) = λ j other. same_read j c item
     (reset_common i code).settings (reset_apart i code j other) in
-    read_step h c item (map.remove h.streams.entries i) (h.streams.active_count - 1)
-    h.streams.highest h.windows.send h.windows.recv (reset_common i code)
-    (said_removed h.streams.entries i c (reads c item) g.streams same (reset_dead c i code)
+    read_step h c item _ h.windows.send h.windows.recv (reset_common i code)
+    (streams_closed h.streams i (map.remove h.streams.entries i) h.streams.resets c (reads c item)
+    same alive (reset_dead c i code)
+    (said_removed h.streams.entries i c (reads c item) g.streams.entries same (reset_dead c i code)
     (lasts_parts i c.received c.sent (active_parts c.role i c.received c.sent c.reported
-    alive).lasts).kept)
-    (one_less c (reads c item) i h.streams.active_count (reset_used c i code) same alive
-    (reset_dead c i code) g.active_count)
-    (g.highest ∙ sym (reset_used c i code)) (omega (arith, reset_gives i code))
-    (omega (arith, reset_takes i code)) g
+    alive).lasts).kept) (reset_used c i code) refl g.streams.resets g.streams)
+    (omega (arith, reset_gives i code)) (omega (arith, reset_takes i code)) g
 
 -- The stream isn't active then, once that was reported.
 reset_reported_dead : (log : Log) (decoded : Option Decoded) (i code : ℕ)
@@ -212,13 +187,8 @@ reset_reported e log decoded i code alive w g =
     }) (read log decoded item)
     (ResetEvent i code false ∷ []) _ _
     (reset_owing e log decoded i code alive g)
-    (record {
-      same_role = w.same_role;
-      same_failed = w.same_failed;
-      waiting = w.waiting;
-      given = w.given;
-    }) g.unreturned
-    (λ up. quiet_reported _ (reads (core log) item) (ResetEvent i code false)
+    w g.windows.unreturned
+    (quiet_reported _ (reads (core log) item) (ResetEvent i code false)
     (reset_harmless i code) (reset_flow i code) (reset_shows i code)
     (reset_active_read (core_facts e) (core log) i code alive g))
 
@@ -279,13 +249,8 @@ data_ignored e log decoded i end octets pad dead within w g =
     returned (record e { windows = record e.windows { recv = e.windows.recv - n } })
     (read log decoded item) [] n _
     (omega (arith, dead_owing log (read log decoded item) i dead, data_takes i end octets pad))
-    (record {
-      same_role = w.same_role;
-      same_failed = w.same_failed;
-      waiting = w.waiting;
-      given = w.given;
-    }) g.unreturned
-    (λ up. dead_read (core_facts e) (core log) item i (e.windows.recv - n) (data_common i end octets
+    w g.windows.unreturned
+    (dead_read (core_facts e) (core log) item i (e.windows.recv - n) (data_common i end octets
     pad) (data_apart i end octets pad) (data_opens i end octets pad i)
     (data_used (core log) i end octets pad) (data_gives i end octets pad)
     (omega (arith, within, data_takes i end octets pad)) dead g)

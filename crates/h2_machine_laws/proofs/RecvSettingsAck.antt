@@ -22,16 +22,15 @@ use Rattle.h2_machine.specs.End.{End, Entry, active_entry}
 use Rattle.h2_log.specs.View.{StreamView}
 use Rattle.h2_machine.specs.Machine.{each_entry, recv_shifted_entry, apply_own_settings}
 use Rattle.h2_machine.specs.Machine.{after_reported}
-use Rattle.h2_machine.specs.Represents.{entry_by}
-use Rattle.h2_machine_laws.proofs.RecvWithoutFrame.{said, Core, core, CoreFacts, core_facts}
-use Rattle.h2_machine_laws.proofs.RecvWithoutFrame.{Advances, Going, Waits, WillBe, confirmed}
-use Rattle.h2_machine_laws.proofs.RecvWithoutFrame.{active_by_items}
-use Rattle.h2_machine_laws.proofs.RecvLittleChanges.{quiet_read, count_same, stream_same}
-use Rattle.h2_machine_laws.proofs.RecvReturnedCredit.{After, unsettled}
-use Rattle.h2_machine_laws.proofs.RecvRead.{reads}
-use Rattle.h2_machine_laws.proofs.RecvEvents.{report, active_reported, reported_kept, taken_kept}
-use Rattle.h2_machine_laws.proofs.RecvConnectionItems.{dead_owing, zero_dead, plain_quiet}
+use Rattle.h2_machine.specs.Represents.{AwaitsValues, entry_by}
 use Rattle.h2_machine_laws.proofs.EachStream.{changed_entry, get_each, each_by, shifted}
+use Rattle.h2_machine_laws.proofs.LogCore.{said, Core, core, CoreFacts, core_facts, Advances, Going, confirmed, active_by_items}
+use Rattle.h2_machine_laws.proofs.RecvConnectionItems.{dead_owing, zero_dead, plain_quiet}
+use Rattle.h2_machine_laws.proofs.RecvEvents.{report, active_reported, reported_kept, taken_kept}
+use Rattle.h2_machine_laws.proofs.RecvRead.{quiet_read, reads}
+use Rattle.h2_machine_laws.proofs.RecvReturnedCredit.{After, unsettled}
+use Rattle.h2_machine_laws.proofs.StreamsSame.{count_same, same_stream}
+use Rattle.h2_machine_laws.proofs.WaitingOutput.{Waits}
 
 -- One more is acknowledged.
 ack_one : (reported : List Event) → reported_total one_acked (AckedEvent ∷ reported)
@@ -64,7 +63,7 @@ ack_said : (c : Core) (i old new count : ℕ) → old ≡ own_value 4 first_wind
     (report c AckedEvent) i
 unfolding granted_on
 ack_said c i old new count was is all =
-    stream_same (record (said c i) { recv_window = ((said c i).recv_window +ℤ pos new) -ℤ pos old })
+    same_stream (record (said c i) { recv_window = ((said c i).recv_window +ℤ pos new) -ℤ pos old })
     (said (report c AckedEvent) i) refl
     (rw (was, is, all) (shifted (own_value 4 first_window (confirmed c) c.sent)
     (own_value 4 first_window count c.sent) (total (increment_on i) c.sent)
@@ -84,8 +83,8 @@ ack_advances : (h : CoreFacts) (c : Core) (values : Values) → h.own.awaited �
     })
     (report c AckedEvent)
 ack_advances h c values waits most g =
-    let w : WillBe c values = g.awaited values waits in
-    let some : nat_lt (confirmed c) (settings_count c.sent) ≡ true = sym g.awaits
+    let w : AwaitsValues c.role c.sent values = g.own.awaited values waits in
+    let some : nat_lt (confirmed c) (settings_count c.sent) ≡ true = sym g.own.awaits
     ∙ ap is_some waits in
     let above : confirmed c < settings_count c.sent = ltb-true (confirmed c) (settings_count c.sent)
     some in
@@ -100,44 +99,41 @@ ack_advances h c values waits most g =
     let active : (i : ℕ) → active_by_items (report c AckedEvent) i ≡ active_by_items c i =
     λ i. active_reported c.role i c.received c.sent AckedEvent c.reported (ack_names i) in
     let first : max 1 (settings_count c.sent) ≡ settings_count c.sent = omega (arith, above) in
+    let change = recv_shifted_entry h.own.in_force.initial_window values.initial_window in
     record {
-      begun = g.begun;
-      table = g.table;
+      reading = g.reading;
       encoder = g.encoder;
-      streams = λ i.
-          get_each (recv_shifted_entry h.own.in_force.initial_window values.initial_window)
-          h.streams.entries i
-          ∙ ap (λ (x : Option Entry). changed_entry (recv_shifted_entry
-          h.own.in_force.initial_window values.initial_window) x) (g.streams i)
-          ∙ each_by (recv_shifted_entry h.own.in_force.initial_window values.initial_window)
-          (active_by_items c i) (list_any (resets i) c.sent) (said c i)
-          (said (report c AckedEvent) i) refl
-          (ap (λ (s : StreamView). active_entry s) (ack_said c i h.own.in_force.initial_window
-          values.initial_window (settings_count c.sent) (g.in_force).own_window
-          (sym w.initial_window) all))
-          ∙ ap (λ (b : Bool). entry_by b (list_any (resets i) c.sent) (said (report c AckedEvent)
-          i)) (sym (active i));
-      active_count = g.active_count ∙ sym (count_same _ _ _ active);
-      highest = g.highest;
-      last_processed = g.last_processed ∙ sym (taken_kept (is_server c.role) AckedEvent c.reported
-          ack_shows);
-      goaway_sent = g.goaway_sent;
-      goaway_received = g.goaway_received;
-      send_window = g.send_window;
-      recv_window = g.recv_window;
-      unreturned = g.unreturned;
-      initial_window = g.initial_window;
-      streams_allowed = g.streams_allowed;
-      in_force = rw all (record {
-        table_limit = sym w.table_limit;
-        own_window = sym w.initial_window;
-        max_streams = λ server. sym (ap (λ (n : ℕ). own_value 3 100 n c.sent) first
-            ∙ w.max_streams server);
+      streams = record {
+        entries = λ i.
+            get_each change h.streams.entries i
+            ∙ ap (λ (x : Option Entry). changed_entry change x) (g.streams.entries i)
+            ∙ each_by change (active_by_items c i) (list_any (resets i) c.sent) (said c i)
+            (said (report c AckedEvent) i) refl
+            (ap (λ (s : StreamView). active_entry s) (ack_said c i h.own.in_force.initial_window
+            values.initial_window (settings_count c.sent) g.own.in_force.initial_window
+            (sym w.initial_window) all))
+            ∙ ap (λ (b : Bool). entry_by b (list_any (resets i) c.sent) (said (report c AckedEvent)
+            i)) (sym (active i));
+        active_count = g.streams.active_count ∙ sym (count_same _ _ _ active);
+        highest = g.streams.highest;
+        last_processed = g.streams.last_processed ∙ sym (taken_kept (is_server c.role) AckedEvent
+            c.reported ack_shows);
+        resets = g.streams.resets;
+      };
+      windows = g.windows;
+      peer = g.peer;
+      own = rw all (record {
+        in_force = record {
+          table_limit = sym w.table_limit;
+          initial_window = sym w.initial_window;
+          max_streams = λ server. sym (ap (λ (n : ℕ). own_value 3 100 n c.sent) first
+              ∙ w.max_streams server);
+        };
+        awaits = sym (le-ltb (settings_count c.sent) (settings_count c.sent) (omega arith));
+        awaited = λ others is. absurd (cc);
       });
-      awaits = sym (rw all (le-ltb (settings_count c.sent) (settings_count c.sent) (omega arith)));
-      awaited = λ others is. absurd (cc);
+      goaway = g.goaway;
       ping = rw pongs g.ping;
-      resets = g.resets;
     }
 
 -- What an end makes of an acknowledgment that it awaits.
@@ -157,11 +153,6 @@ ack_reported e log decoded pairs values waits most w g =
       dead_owing log (with_reported (read log decoded item) (AckedEvent ∷ [])) 0
           (zero_dead (core log)),
     ))
-    (record {
-      same_role = w.same_role;
-      same_failed = w.same_failed;
-      waiting = w.waiting;
-      given = w.given;
-    }) g.unreturned
-    (λ up. ack_advances (core_facts e) (reads (core log) item) values waits most
+    w g.windows.unreturned
+    (ack_advances (core_facts e) (reads (core log) item) values waits most
     (quiet_read (core_facts e) (core log) item (plain_quiet (Settings true pairs) refl) g)))

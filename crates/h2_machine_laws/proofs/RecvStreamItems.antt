@@ -14,9 +14,9 @@ use Rattle.h2_log.specs.Items.{stream_of_item, data_on, data_of, increment_on, i
 use Rattle.h2_log.specs.Items.{resets, is_goaway, total, greatest_block}
 use Rattle.h2_log.specs.Events.{Event, GoAwayEvent, flow_on, one_acked, one_pong}
 use Rattle.h2_log.specs.Events.{reports_unprocessed, processed_by}
-use Rattle.h2_log.specs.Settings.{value_read, one_settings, settings_count}
-use Rattle.h2_log.specs.Windows.{first_window, given_on, given_on_connection}
-use Rattle.h2_log.specs.Log.{least_goaway, Log, allowed_by}
+use Rattle.h2_log.specs.Settings.{value_read, one_settings}
+use Rattle.h2_log.specs.Windows.{first_window, given_on}
+use Rattle.h2_log.specs.Log.{least_goaway, Log}
 use Rattle.h2_log.specs.States.{greatest_number, when}
 use Rattle.h2_log.specs.Verdicts.{NoEvent, Reported}
 use Rattle.h2_log.specs.ItemRules.{Decoded, replies_to}
@@ -26,17 +26,14 @@ use Rattle.h2_log.specs.ItemEffects.{events_of, discarded_flow, least_last}
 use Rattle.h2_machine.specs.End.{End, active_entry, stream_at}
 use Rattle.h2_machine.specs.Machine.{widen_send_window, set_stream, after_ignored, after_reported}
 use Rattle.h2_log_laws.proofs.StreamNumbers.{last_none}
-use Rattle.h2_machine_laws.proofs.RecvWithoutFrame.{said, Core, core, CoreFacts, core_facts}
-use Rattle.h2_machine_laws.proofs.RecvWithoutFrame.{Advances, Going, Waits, active_by_items}
-use Rattle.h2_machine_laws.proofs.RecvWithoutFrame.{greatest_used}
-use Rattle.h2_machine_laws.proofs.RecvVerdict.{stream_said, none_said}
-use Rattle.h2_machine_laws.proofs.RecvLittleChanges.{SameAt, kept_at, count_same, active_read}
-use Rattle.h2_machine_laws.proofs.RecvLittleChanges.{active_some, used_read, stream_same}
-use Rattle.h2_machine_laws.proofs.RecvReturnedCredit.{After, unsettled}
-use Rattle.h2_machine_laws.proofs.RecvRead.{reads, IsCommon, read_step, said_set, IsApart}
-use Rattle.h2_machine_laws.proofs.RecvRead.{same_read, same_dead}
-use Rattle.h2_machine_laws.proofs.RecvEvents.{ChangesNoStream, quiet_reported}
+use Rattle.h2_machine_laws.proofs.LogCore.{said, Core, core, CoreFacts, core_facts, Advances, Going, active_by_items, greatest_used}
 use Rattle.h2_machine_laws.proofs.RecvConnectionItems.{none_owing, dead_owing, zero_dead}
+use Rattle.h2_machine_laws.proofs.RecvEvents.{ChangesNoStream, quiet_reported}
+use Rattle.h2_machine_laws.proofs.RecvRead.{windows_read, peer_read, active_read, used_read, reads, IsCommon, read_step, IsApart, same_read, same_dead}
+use Rattle.h2_machine_laws.proofs.RecvReturnedCredit.{After, unsettled}
+use Rattle.h2_machine_laws.proofs.RecvVerdict.{stream_said, none_said}
+use Rattle.h2_machine_laws.proofs.StreamsSame.{streams_same, streams_set, SameAt, active_some, same_stream}
+use Rattle.h2_machine_laws.proofs.WaitingOutput.{Waits}
 
 -- the least last stream with one more, by whether there was one
 least_by : (b : Bool) (last n : ℕ) → last ≤ greatest_number → (b ≡ false → n ≡ greatest_number)
@@ -73,40 +70,25 @@ goaway_read : (h : CoreFacts) (c : Core) (last code : ℕ) (debug : List ℕ) �
             Some (least_last last h.goaway.received);
       };
     }) (reads c (alone (GoAway last code debug)))
-unfolding total given_on given_on_connection settings_count allowed_by least_goaway one_settings
-    value_read data_of increment_on is_goaway
+unfolding least_goaway one_settings data_of increment_on is_goaway
 goaway_read h c last code debug low g =
     let item : Item = alone (GoAway last code debug) in
-    let active : (i : ℕ) → active_by_items (reads c item) i ≡ active_by_items c i =
-    λ i. (goaway_same i c last code debug).active in
-    let greatest : greatest_used (reads c item) ≡ greatest_used c = goaway_used c last code debug in
     record {
-      begun = g.begun;
-      table = g.table;
+      reading = g.reading;
       encoder = g.encoder;
-      streams = λ i. kept_at h.streams.entries i c (reads c item) (goaway_same i c last code debug)
-          (g.streams i);
-      active_count = rw greatest (g.active_count ∙ sym (count_same _ _ _ active));
-      highest = g.highest ∙ sym greatest;
-      last_processed = g.last_processed;
-      goaway_sent = g.goaway_sent;
-      goaway_received = ap (λ (x : Option ℕ). Some (least_last last x)) g.goaway_received
-          ∙ ap (λ (n : ℕ). Some n) (least_by (list_any is_goaway c.received) last
-          (least_goaway c.received) low (last_none c.received));
-      send_window = omega (arith, g.send_window);
-      recv_window = omega (arith, g.recv_window);
-      unreturned = g.unreturned;
-      initial_window = g.initial_window;
-      streams_allowed = rw zero-add g.streams_allowed;
-      in_force = g.in_force;
-      awaits = g.awaits;
-      awaited = λ values is. let w = g.awaited values is in record {
-        table_limit = w.table_limit;
-        initial_window = w.initial_window;
-        max_streams = w.max_streams;
+      streams = streams_same h.streams c (reads c item) (λ i. goaway_same i c last code debug)
+          (goaway_used c last code debug) refl refl g.streams;
+      windows = windows_read h.windows c.received c.sent c.unreturned item h.windows.send
+          h.windows.recv (omega arith) (omega arith) g.windows;
+      peer = peer_read h.peer c.received item refl g.peer;
+      own = g.own;
+      goaway = record {
+        last_sent = g.goaway.last_sent;
+        least_received = ap (λ (x : Option ℕ). Some (least_last last x)) g.goaway.least_received
+            ∙ ap (λ (n : ℕ). Some n) (least_by (list_any is_goaway c.received) last
+            (least_goaway c.received) low (last_none c.received));
       };
       ping = g.ping;
-      resets = g.resets;
     }
 
 -- the event of a GOAWAY is harmless
@@ -144,13 +126,8 @@ goaway_reported e log decoded last code debug low w g =
       dead_owing log (with_reported (read log decoded item) (event ∷ [])) 0
           (zero_dead (core log)),
     ))
-    (record {
-      same_role = w.same_role;
-      same_failed = w.same_failed;
-      waiting = w.waiting;
-      given = w.given;
-    }) g.unreturned
-    (λ up. quiet_reported _ (reads (core log) item) event (goaway_harmless _ code)
+    w g.windows.unreturned
+    (quiet_reported _ (reads (core log) item) event (goaway_harmless _ code)
     (goaway_flow _ code) (goaway_shows _ code)
     (goaway_read (core_facts e) (core log) last code debug low g))
 
@@ -209,7 +186,7 @@ update_said : (c : Core) (i n : ℕ) → record (said c i) {
 } ≡ said (reads c (alone (WindowUpdate i n))) i
 unfolding given_on total data_on ends value_read
 update_said c i n =
-    stream_same (record (said c i) { send_window = (said c i).send_window +ℤ pos n })
+    same_stream (record (said c i) { send_window = (said c i).send_window +ℤ pos n })
     (said (reads c (alone (WindowUpdate i n))) i)
     (wider (value_read 4 first_window c.received) n (total (increment_on i) c.received)
     (total (data_on i) c.sent)
@@ -232,15 +209,10 @@ update_active_read h c i n alive g =
     let item : Item = alone (WindowUpdate i n) in
     let zero_i : increment_on 0 item ≡ 0 = update_all i n ∙ ap (λ (b : Bool). if b then n else 0)
     (ne_eqb i 0 (active_some c i alive)) in
-    read_step h c item _ h.streams.active_count h.streams.highest h.windows.send h.windows.recv
-    (update_common i n)
-    (said_set h.streams.entries i (record (said c i) {
-      send_window = (said c i).send_window +ℤ pos n;
-    }) c (reads c item) g.streams
-    (λ j other. same_read j c item refl (update_apart i n j other)) (update_active c i n i ∙ alive)
-    (update_said c i n))
-    (rw (update_used c i n) (g.active_count ∙ sym (count_same _ _ _ (update_active c i n))))
-    (g.highest ∙ sym (update_used c i n))
+    read_step h c item _ h.windows.send h.windows.recv (update_common i n)
+    (streams_set h.streams i (record (said c i) { send_window = (said c i).send_window +ℤ pos n })
+    c (reads c item) (λ j other. same_read j c item refl (update_apart i n j other)) alive
+    (update_active c i n i ∙ alive) (update_said c i n) (update_used c i n) refl refl g.streams)
     (omega (arith, zero_i)) (omega (arith, update_none i n)) g
 
 -- What an end keeps where a WINDOW_UPDATE of no active stream is read.
@@ -251,14 +223,11 @@ update_dead_read : (h : CoreFacts) (c : Core) (i n send_window : ℕ) → active
 unfolding one_settings
 update_dead_read h c i n send_window dead wide g =
     let item : Item = alone (WindowUpdate i n) in
-    read_step h c item h.streams.entries h.streams.active_count h.streams.highest send_window
-    h.windows.recv (update_common i n)
-    (λ j. kept_at h.streams.entries j c (reads c item) (elim (cases_eq j i) [
+    read_step h c item h.streams send_window h.windows.recv (update_common i n)
+    (streams_same h.streams c (reads c item) (λ j. elim (cases_eq j i) [
       | inl here ↦ same_dead j c item (rw here dead) (update_active c i n j ∙ rw here dead)
       | inr other ↦ same_read j c item refl (update_apart i n j other)
-    ]) (g.streams j))
-    (rw (update_used c i n) (g.active_count ∙ sym (count_same _ _ _ (update_active c i n))))
-    (g.highest ∙ sym (update_used c i n))
+    ]) (update_used c i n) refl refl g.streams)
     (omega (arith, wide, update_all i n)) (omega (arith, update_none i n)) g
 
 -- A send window is widened by the test whether it is the connection's.
@@ -277,20 +246,8 @@ widened_waits : (e : End) (log : Log) (decoded : Option Decoded) (item : Item) (
     → Waits e log
     → Waits (if b then record e { windows = record e.windows { send = e.windows.send + n } } else e)
     (read log decoded item)
-widened_waits e log decoded item n true w = record {
-  same_role = w.same_role;
-  same_failed =
-      w.same_failed;
-  waiting = w.waiting;
-  given = w.given;
-}
-widened_waits e log decoded item n false w = record {
-  same_role = w.same_role;
-  same_failed =
-      w.same_failed;
-  waiting = w.waiting;
-  given = w.given;
-}
+widened_waits e log decoded item n true w = w
+widened_waits e log decoded item n false w = w
 
 widened_unreturned : (e : End) (n : ℕ) (b : Bool)
     → (if b then record e { windows = record e.windows { send = e.windows.send + n } } else
@@ -313,21 +270,16 @@ update_by e log decoded i n true alive w g =
           (said (core log) i).send_window +ℤ pos n;
     })) (read log decoded item) [] _
     (omega (arith, none_owing log (read log decoded item) i (update_active (core log) i n i)))
-    (record {
-      same_role = w.same_role;
-      same_failed = w.same_failed;
-      waiting = w.waiting;
-      given = w.given;
-    }) g.unreturned
-    (λ up. update_active_read (core_facts e) (core log) i n alive g))
+    w g.windows.unreturned
+    (update_active_read (core_facts e) (core log) i n alive g))
 update_by e log decoded i n false dead w g =
     let item : Item = alone (WindowUpdate i n) in
     rw (none_said e (core log) i g dead)
     (unsettled (if i == 0 then record e { windows = record e.windows { send = e.windows.send + n } }
     else e) (read log decoded item) [] _
     (omega (arith, none_owing log (read log decoded item) i (update_active (core log) i n i)))
-    (widened_waits e log decoded item n (i == 0) w) (widened_unreturned e n (i == 0) ∙ g.unreturned)
-    (λ up. widened_by e log i n (i == 0) refl dead g))
+    (widened_waits e log decoded item n (i == 0) w) (widened_unreturned e n (i == 0) ∙ g.windows.unreturned)
+    (widened_by e log i n (i == 0) refl dead g))
 
 -- What a WINDOW_UPDATE makes of an end.
 pub update_ignored : (e : End) (log : Log) (decoded : Option Decoded) (i n : ℕ) → Waits e log

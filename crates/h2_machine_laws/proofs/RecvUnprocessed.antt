@@ -1,6 +1,6 @@
 -- A stream that the peer doesn't process is reported at an end as at its log.
 use Rattle.std.proofs.Common.{◌≡◌, ◌≢◌, ℕ, ◌+◌, ◌-◌, Bool, true, false, not, ◌==◌, nat_lt, ◌&&◌}
-use Rattle.std.proofs.Common.{if◌then◌else◌, List, [], ◌∷◌, length, None, refl, ap, sym, ◌∙◌, arith}
+use Rattle.std.proofs.Common.{if◌then◌else◌, List, [], ◌∷◌, length, None, refl, ap, sym, ◌∙◌}
 use Rattle.std.proofs.Common.{zero-add}
 use Rattle.std.specs.List.{list_any}
 use Rattle.std.specs.FinMap as map
@@ -12,7 +12,7 @@ use Rattle.h2_log.specs.Acts.{Values}
 use Rattle.h2_log.specs.Events.{Event, UnprocessedEvent, flow_on, one_acked, one_pong}
 use Rattle.h2_log.specs.Events.{reported_total, reports_unprocessed, processed_by}
 use Rattle.h2_log.specs.Settings.{is_server}
-use Rattle.h2_log.specs.States.{openings, count_below, least_block}
+use Rattle.h2_log.specs.States.{least_block}
 use Rattle.h2_log.specs.LogSteps.{took_none, with_reported, with_sent, with_unreturned}
 use Rattle.h2_log.specs.LogSteps.{with_credit_returned, owed_at_close}
 use Rattle.h2_log.specs.Limits.{full_output}
@@ -22,20 +22,17 @@ use Rattle.h2_machine.specs.End.{End, owed_entry}
 use Rattle.h2_machine.specs.Machine.{return_credit, add_unreturned, close_unprocessed}
 use Rattle.h2_machine.specs.Represents.{Represents, RepresentsWhileUp}
 use Rattle.h2_log_laws.proofs.ReaderStates.{active_parts, lasts_parts}
-use Rattle.h2_log_laws.proofs.NextStreams.{greatest_above, least_passes}
+use Rattle.h2_log_laws.proofs.NextStreams.{least_passes}
 use Rattle.h2_machine_laws.proofs.ConservedBySteps.{holds, is_whole, ended, lacks_none}
-use Rattle.h2_machine_laws.proofs.RecvWithoutFrame.{Core, core, CoreFacts, core_facts, Advances}
-use Rattle.h2_machine_laws.proofs.RecvWithoutFrame.{Going, active_by_items, kept_back}
-use Rattle.h2_machine_laws.proofs.RecvWithoutFrame.{greatest_used, waits_of, represents_by, going}
-use Rattle.h2_machine_laws.proofs.RecvWithoutFrame.{runs}
-use Rattle.h2_machine_laws.proofs.RecvVerdict.{active_said}
+use Rattle.h2_machine_laws.proofs.LogCore.{Core, core, CoreFacts, core_facts, Advances, Going, active_by_items, kept_back, going, runs}
+use Rattle.h2_machine_laws.proofs.RecvEvents.{report, reported_by, reported_kept, active_reported, taken_kept}
 use Rattle.h2_machine_laws.proofs.RecvReturnedCredit.{After, returned}
+use Rattle.h2_machine_laws.proofs.RecvVerdict.{active_said}
+use Rattle.h2_machine_laws.proofs.RecvWithoutFrame.{represents_by}
+use Rattle.h2_machine_laws.proofs.StreamsSame.{streams_closed, SameAt, said_removed}
+use Rattle.h2_machine_laws.proofs.WaitingOutput.{waits_of}
 use Rattle.h2_machine_laws.specs.Bounds.{KeepsConnectionWindow}
 use Rattle.h2_frame.specs.Frames.{Frame}
-use Rattle.h2_machine_laws.proofs.RecvLittleChanges.{SameAt}
-use Rattle.h2_machine_laws.proofs.RecvRead.{said_removed, count_less}
-use Rattle.h2_machine_laws.proofs.RecvEvents.{report, reported_by, reported_kept, active_reported}
-use Rattle.h2_machine_laws.proofs.RecvEvents.{taken_kept}
 
 -- The event that names a stream unprocessed names it.
 names_it : (n : ℕ) → reports_unprocessed n (UnprocessedEvent n) ≡ true
@@ -98,63 +95,36 @@ unprocessed_advances : (h : CoreFacts) (c : Core) (n : ℕ) → active_by_items 
     }) (report c (UnprocessedEvent n))
 unprocessed_advances h c n alive g =
     let parts = active_parts c.role n c.received c.sent c.reported alive in
-    let less : count_below (greatest_used c + 1) (active_by_items (report c (UnprocessedEvent n))) +
-    1 ≡ count_below (greatest_used c + 1) (active_by_items c) =
-    count_less (greatest_used c + 1) n (active_by_items (report c (UnprocessedEvent n)))
-    (active_by_items c)
-    (omega (arith, greatest_above n (openings c.role c.received c.sent) parts.opened))
-    (λ j other. (others_same c n j other).active) alive (named_dead c n) in
-    reported_by h c (UnprocessedEvent n) (map.remove h.streams.entries n) (h.streams.active_count -
-    1) h.streams.last_processed (no_ack n) (no_pong n)
-    (said_removed h.streams.entries n c (report c (UnprocessedEvent n)) g.streams (others_same c n)
-    (named_dead c n) (lasts_parts n c.received c.sent parts.lasts).kept)
-    (omega (arith, less, g.active_count)) (g.last_processed
-    ∙ sym (taken_kept (is_server c.role) (UnprocessedEvent n) c.reported (not_taken n))) g
+    let event : Event = UnprocessedEvent n in
+    reported_by h c event _ (no_ack n) (no_pong n)
+    (streams_closed h.streams n (map.remove h.streams.entries n) h.streams.resets c
+    (report c event) (others_same c n) alive (named_dead c n)
+    (said_removed h.streams.entries n c (report c event) g.streams.entries (others_same c n)
+    (named_dead c n) (lasts_parts n c.received c.sent parts.lasts).kept) refl
+    (taken_kept (is_server c.role) event c.reported (not_taken n)) g.streams.resets g.streams) g
 
--- Whether an end has begun doesn't hang on what is unreturned, by the test whether it is returned.
-returned_started_by : (e : End) (more : ℕ) (b : Bool)
-    → (if b then return_credit (record e {
-      windows = record e.windows {
-        unreturned =
-            e.windows.unreturned + more;
-      };
-    }) else record e {
-      windows = record e.windows {
-        unreturned =
-            e.windows.unreturned + more;
-      };
-    }).reading.started ≡ e.reading.started
-returned_started_by e more true = refl
-returned_started_by e more false = refl
+-- A part of an end that doesn't hang on windows and output doesn't hang on what is unreturned, by
+-- the test whether it is returned.
+returned_keeps_by : {A : Type 0} (part : End → A) (e : End) (more : ℕ) (b : Bool)
+    → ((x : End) → part (return_credit x) ≡ part x)
+    → ((n : ℕ) → part (record e { windows = record e.windows { unreturned = n } }) ≡ part e)
+    → part (if b then return_credit (record e {
+      windows = record e.windows { unreturned = e.windows.unreturned + more };
+    }) else record e { windows = record e.windows { unreturned = e.windows.unreturned + more } })
+    ≡ part e
+returned_keeps_by part e more true gives keeps = gives _ ∙ keeps (e.windows.unreturned + more)
+returned_keeps_by part e more false gives keeps = keeps (e.windows.unreturned + more)
 
--- Whether an end has begun doesn't hang on what is unreturned.
-pub returned_started : (e : End) (more : ℕ) → (add_unreturned more e).reading.started
-    ≡ e.reading.started
+-- Such a part doesn't hang on what is unreturned.
+returned_keeps : {A : Type 0} (part : End → A) (e : End) (more : ℕ)
+    → ((x : End) → part (return_credit x) ≡ part x)
+    → ((n : ℕ) → part (record e { windows = record e.windows { unreturned = n } }) ≡ part e)
+    → part (add_unreturned more e) ≡ part e
 unfolding add_unreturned
-returned_started e more = returned_started_by e more (returns_credit more (length e.output.waiting))
+returned_keeps part e more gives keeps =
+    returned_keeps_by part e more (returns_credit more (length e.output.waiting)) gives keeps
 
--- Nor does its role, by the test.
-returned_role_by : (e : End) (more : ℕ) (b : Bool)
-    → (if b then return_credit (record e {
-      windows = record e.windows {
-        unreturned =
-            e.windows.unreturned + more;
-      };
-    }) else record e {
-      windows = record e.windows {
-        unreturned =
-            e.windows.unreturned + more;
-      };
-    }).role ≡ e.role
-returned_role_by e more true = refl
-returned_role_by e more false = refl
-
--- Nor does its role.
-pub returned_role : (e : End) (more : ℕ) → (add_unreturned more e).role ≡ e.role
-unfolding add_unreturned
-returned_role e more = returned_role_by e more (returns_credit more (length e.output.waiting))
-
--- Nor do the frames of a log, by the test.
+-- The frames of a log don't hang on what is unreturned, by the test.
 returned_frames_by : (log : Log) (more : ℕ) (b : Bool)
     → (if b then with_credit_returned (record log { unreturned = log.unreturned + more }) else
     record log { unreturned = log.unreturned + more }).frames ≡ log.frames
@@ -162,7 +132,7 @@ unfolding with_sent
 returned_frames_by log more true = refl
 returned_frames_by log more false = refl
 
--- Nor do the frames of a log.
+-- The frames of a log don't hang on what is unreturned.
 pub returned_frames : (log : Log) (more : ℕ) → (with_unreturned more log).frames ≡ log.frames
 unfolding with_unreturned
 returned_frames log more = returned_frames_by log more (nat_lt 0 more && nat_lt (waiting log)
@@ -222,7 +192,7 @@ pub unprocessed_represents : (values : Values) (e : End) (log : Log) → Represe
 unprocessed_represents values e log s up some =
     let n : ℕ = next_unprocessed log in
     let r : RepresentsWhileUp e log = s.running (s.failed ∙ up) in
-    let g : Going e (core log) = going e log r in
+    let g : Going e (core log) = going e log s.streams r in
     let alive : active log n ≡ true = next_is_active log some in
     let waits = waits_of values e log s in
     let owed : ℕ = 0 + owed_entry (map.get e.streams.entries n) in
@@ -236,17 +206,16 @@ unprocessed_represents values e log s up some =
     let more : ℕ = owed_at_close log (with_reported log (UnprocessedEvent n ∷ [])) n in
     let b : After (close_unprocessed e n) (took_none log) =
     returned next log (UnprocessedEvent n ∷ []) owed more (named_owing e log n alive g)
-    (record {
-      same_role = waits.same_role;
-      same_failed = waits.same_failed;
-      waiting = waits.waiting;
-      given = waits.given;
-    }) g.unreturned
-    (λ still. unprocessed_advances (core_facts e) (core log) n alive g) in
+    waits g.windows.unreturned
+    (unprocessed_advances (core_facts e) (core log) n alive g) in
     let whole : KeepsConnectionWindow e = record { whole = s.whole; used = s.used } in
-    represents_by values (close_unprocessed e n) (took_none log) (rw (returned_role next owed)
-    (reported_one s.came up some)) b.waits
-    (λ still. runs (close_unprocessed e n) (took_none log) (returned_started next owed ∙ r.started
+    let begun : (close_unprocessed e n).reading.started ≡ e.reading.started =
+    returned_keeps (λ (x : End). x.reading.started) next owed (λ x. refl) (λ m. refl) in
+    let role : (close_unprocessed e n).role ≡ e.role =
+    returned_keeps (λ (x : End). x.role) next owed (λ x. refl) (λ m. refl) in
+    represents_by values (close_unprocessed e n) (took_none log) (rw role
+    (reported_one s.came up some)) b.waits b.streams
+    (λ still. runs (close_unprocessed e n) (took_none log) (begun ∙ r.started
     ∙ ap (λ (fs : List Frame). not (length fs == 0))
     (sym (reported_frames (with_unreturned more log) (UnprocessedEvent n ∷ [])
     ∙ returned_frames log more))) (b.going still))

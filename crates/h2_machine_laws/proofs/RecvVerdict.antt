@@ -28,8 +28,7 @@ use Rattle.h2_log_laws.proofs.ReplyInvariant.{resets_used}
 use Rattle.h2_log.specs.declared.role.Role.{Role}
 use Rattle.h2_log.specs.declared.role.Role.TheVariants.{Client, Server}
 use Rattle.h2_log_laws.proofs.ReaderStates.{active_used}
-use Rattle.h2_machine_laws.proofs.RecvWithoutFrame.{said, Core, core, Going, confirmed}
-use Rattle.h2_machine_laws.proofs.RecvWithoutFrame.{active_by_items, greatest_used}
+use Rattle.h2_machine_laws.proofs.LogCore.{said, Core, core, Going, confirmed, active_by_items, greatest_used}
 
 -- Nothing was read of a number, nor written but perhaps increments.
 pub record IsUnread (i : ℕ) (c : Core) : Type 0 where
@@ -71,7 +70,7 @@ pub record Sound (c : Core) : Type 0 where
 -- What is kept of an active stream is what the log says of it.
 pub active_said : (e : End) (c : Core) (i : ℕ) → Going e c → active_by_items c i ≡ true
     → map.get e.streams.entries i ≡ Some (active_entry (said c i))
-active_said e c i g active = g.streams i ∙ ap (λ (b : Bool). entry_by b (list_any (resets i) c.sent)
+active_said e c i g active = g.streams.entries i ∙ ap (λ (b : Bool). entry_by b (list_any (resets i) c.sent)
     (said c i)) active
 
 -- The same of the stream.
@@ -88,7 +87,7 @@ none_in false s = refl
 pub none_said : (e : End) (c : Core) (i : ℕ) → Going e c → active_by_items c i ≡ false
     → stream_at e i ≡ None
 none_said e c i g dead =
-    ap stream_in (g.streams i ∙ ap (λ (b : Bool). entry_by b (list_any (resets i) c.sent)
+    ap stream_in (g.streams.entries i ∙ ap (λ (b : Bool). entry_by b (list_any (resets i) c.sent)
     (said c i)) dead)
     ∙ none_in (list_any (resets i) c.sent) (said c i)
 
@@ -116,7 +115,7 @@ pub state_same : (e : End) (c : Core) (i : ℕ) → e.role ≡ c.role → Sound 
     → state_at e i ≡ state_of c.role i c.received c.sent c.reported
 unfolding is_closed_by_us
 state_same e c i role sound g =
-    rw (g.streams i, g.highest, g.goaway_sent, role, ← (sound.above i))
+    rw (g.streams.entries i, g.streams.highest, g.goaway.last_sent, role, ← (sound.above i))
     (state_parts (active_by_items c i) (list_any (resets i) c.sent) (is_used c.role i c.received
     c.sent) (is_above c.role i c.sent)
     (i % 2 == 0 || nat_lt (greatest_used c) i) (said c i) (active_used c.role i c.received c.sent
@@ -147,19 +146,19 @@ entry_stream false false s = refl
 -- An end has the stream that its log says, where it is active.
 pub stream_same : (e : End) (c : Core) (i : ℕ) → Going e c
     → stream_at e i ≡ when (active_by_items c i) (said c i)
-stream_same e c i g = ap stream_in (g.streams i) ∙ entry_stream (active_by_items c i)
+stream_same e c i g = ap stream_in (g.streams.entries i) ∙ entry_stream (active_by_items c i)
     (list_any (resets i) c.sent) (said c i)
 
 -- The peer may send as much on the connection as the log says; and so may this end.
 pub recv_same : (e : End) (c : Core) → Going e c → pos e.windows.recv ≡ connection_recv_window
     c.received c.sent
 recv_same e c g = window_same e.windows.recv (total data_of c.received) (granted_on_connection
-    c.sent) g.recv_window
+    c.sent) g.windows.recv
 
 pub send_same : (e : End) (c : Core) → Going e c → pos e.windows.send ≡ connection_send_window
     c.received c.sent
 send_same e c g = window_same e.windows.send (total data_of c.sent) (given_on_connection c.received)
-    g.send_window
+    g.windows.send
 
 -- As many streams are allowed as the log says, at a server.
 pub allowed_same : (role : Role) (ours logs : ℕ) → (is_server role ≡ true → ours ≡ logs)
@@ -179,9 +178,9 @@ block_verdict_same e log i (Some decoded) role sound g =
       state_same e (core log) i role sound g,
       stream_same e (core log) i g,
       role,
-      allowed_same log.role e.own.in_force.max_streams (max_streams log) (g.in_force).max_streams,
-      g.active_count,
-      g.goaway_sent,
+      allowed_same log.role e.own.in_force.max_streams (max_streams log) g.own.in_force.max_streams,
+      g.streams.active_count,
+      g.goaway.last_sent,
       when_some (list_any is_goaway log.sent)
           (goaway_sent_last log.sent),
     ) refl

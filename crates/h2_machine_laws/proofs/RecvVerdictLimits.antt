@@ -30,11 +30,11 @@ use Rattle.h2_log.specs.ItemRules.{settings_fault, verdict_of_fault, verdict_by_
 use Rattle.h2_log.specs.ItemRules.{is_awaited_ping}
 use Rattle.h2_log.specs.View.{StreamView, ended_in}
 use Rattle.h2_machine.specs.Represents.{entry_by}
+use Rattle.h2_machine_laws.proofs.LogCore.{said, Core, core, Going}
 use Rattle.h2_machine_laws.proofs.OwedSums.{first, second, less}
+use Rattle.h2_machine_laws.proofs.RecvVerdict.{Sound, active_said, state_same, block_verdict_same, stream_same, recv_same, send_same, int_above}
+use Rattle.h2_machine_laws.proofs.WaitingOutput.{Waits, waits_much}
 use Rattle.h2_log_laws.proofs.ReaderStates.{active_parts}
-use Rattle.h2_machine_laws.proofs.RecvWithoutFrame.{said, Core, core, Going, Waits, same_length}
-use Rattle.h2_machine_laws.proofs.RecvVerdict.{Sound, active_said, state_same, block_verdict_same}
-use Rattle.h2_machine_laws.proofs.RecvVerdict.{stream_same, recv_same, send_same, int_above}
 
 -- Two tests that hold where the other does are the same.
 pub both_same : (a b : Bool) → (a ≡ true → b ≡ true) → (b ≡ true → a ≡ true) → a ≡ b
@@ -191,11 +191,11 @@ above_same e log new g =
     from.i ∙ from.found in
     let active_by_items = kept_is_active (active log from.i) (list_any (resets from.i) log.sent)
     (said (core log) from.i) from.x e.peer.initial_window new
-    (sym (g.streams from.i) ∙ kept) from.above in
+    (sym (g.streams.entries from.i) ∙ kept) from.above in
     let above : is_above_greatest (new + total (increment_on from.i) log.received)
     (total (data_on from.i) log.sent) ≡ true =
     sym (said_above (core log) from.i new)
-    ∙ sym (ap₂ (λ (o : ℕ) (y : Entry). above_by_shift o new y) g.initial_window
+    ∙ sym (ap₂ (λ (o : ℕ) (y : Entry). above_by_shift o new y) g.peer.initial_window
     active_by_items.1) ∙ from.above in
     passing_block _ from.i (openings log.role log.received log.sent) (active_parts log.role from.i
     log.received log.sent log.reported active_by_items.0).opened
@@ -206,7 +206,7 @@ above_same e log new g =
     any_found e.peer.initial_window new from.i (map.entries e.streams.entries)
     (active_entry (said (core log) from.i))
     (sym (map.get-entries e.streams.entries from.i) ∙ active_said e (core log) from.i g both.0)
-    (ap (λ (o : ℕ). above_by_shift o new (active_entry (said (core log) from.i))) g.initial_window
+    (ap (λ (o : ℕ). above_by_shift o new (active_entry (said (core log) from.i))) g.peer.initial_window
     ∙ said_above (core log) from.i new ∙ both.1))
 
 -- The fault of SETTINGS is the same.
@@ -247,7 +247,7 @@ verdict_same e log decoded (alone (Reset stream code)) role sound g = ap reset_v
     (state_same e (core log) stream role sound g)
 verdict_same e log decoded (alone (Settings false pairs)) role sound g = ap verdict_of_fault
     (faults_same e log pairs role g)
-verdict_same e log decoded (alone (Settings true pairs)) role sound g = rw (g.awaits) refl
+verdict_same e log decoded (alone (Settings true pairs)) role sound g = rw g.own.awaits refl
 verdict_same e log decoded (alone (Ping false octets)) role sound g = refl
 verdict_same e log decoded (alone (Ping true octets)) role sound g =
     ap (λ (ping : Option (List ℕ)). if is_awaited_ping octets ping then Reported else NoEvent)
@@ -274,7 +274,6 @@ unfolding verdict_of
 over_limits_same e log decoded item waits sound g =
     rw (
       verdict_same e log decoded item waits.same_role sound g,
-      g.resets,
-      same_length e.role
-          e.failed e.output.waiting log waits,
+      g.streams.resets,
+      waits_much e log waits.output,
     ) refl

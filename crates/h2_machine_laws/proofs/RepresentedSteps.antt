@@ -1,18 +1,16 @@
 -- An end that is up represents its log: what is written joins what waits, and what is unreturned is
 -- returned.
-use Rattle.std.proofs.Common.{◌≡◌, ℕ, ◌+◌, ◌≤◌, nat_lt, ◌&&◌, Bool, true, false, if◌then◌else◌}
-use Rattle.std.proofs.Common.{List, [], ◌∷◌, ◌++◌, length, drop, None, refl, sym, ap, subst, ◌∙◌}
-use Rattle.std.proofs.Common.{arith, append-nil, length-append, length-drop}
-use Rattle.std.proofs.lemmas.List.{drop-append-le}
+use Rattle.std.proofs.Common.{◌==◌, not}
+use Rattle.std.proofs.Common.{◌≡◌, ℕ, ◌+◌, nat_lt, ◌&&◌, Bool, true, false, if◌then◌else◌}
+use Rattle.std.proofs.Common.{List, [], ◌∷◌, ◌++◌, length, None, refl, sym, ap, subst, ◌∙◌}
+use Rattle.std.proofs.Common.{arith}
 use Rattle.h2_frame.specs.Frames.{WindowUpdate}
 use Rattle.h2_block.specs.Grouping.{Item, alone}
 use Rattle.h2_machine.specs.End.{end_view, End}
 use Rattle.h2_log.specs.LogView.{log_view}
 use Rattle.h2_log.specs.View.{View}
-use Rattle.h2_log.specs.Items.{encoding_of_items}
 use Rattle.h2_log.specs.Acts.{Values, Act, Answer, IsTypedAct}
-use Rattle.h2_log.specs.Log.{Log, active, waiting, output, released, unreleased, max_payload_sent}
-use Rattle.h2_log.proofs.SentPayloads.{most_is_limit}
+use Rattle.h2_log.specs.Log.{Log, active, released, unreleased}
 use Rattle.h2_log.specs.States.{is_active}
 use Rattle.h2_log.specs.Limits.{full_output}
 use Rattle.h2_log.specs.LogSteps.{with_sent, with_unreturned, with_credit_returned, owed_at_close}
@@ -22,18 +20,16 @@ use Rattle.h2_log.specs.CallRules.{returns_before_put_out}
 use Rattle.h2_log.specs.Histories.{called_one}
 use Rattle.h2_machine.specs.Machine.{queue_output, with_encoder, return_credit, add_unreturned}
 use Rattle.h2_machine.specs.Machine.{after_call, before_put_out_at}
+use Rattle.hpack.specs.Lists.{EncoderState}
 use Rattle.h2_machine.specs.Represents.{Represents, RepresentsWhileUp}
-use Rattle.h2_log_laws.proofs.InvariantLogs.{log_represents}
-use Rattle.h2_machine_laws.proofs.ConservedBySteps.{holds, is_whole}
 use Rattle.h2_machine_laws.proofs.ConservedByCalls.{call_holds}
+use Rattle.h2_machine_laws.proofs.ConservedBySteps.{holds, is_whole}
+use Rattle.h2_machine_laws.proofs.LogCore.{core, core_facts, StreamsOf, Going, going, runs}
+use Rattle.h2_machine_laws.proofs.SentConnectionItems.{widened_advances}
+use Rattle.h2_machine_laws.proofs.SentQuietItems.{unreturned_advances, called_advances}
 use Rattle.h2_machine_laws.proofs.ViewsAgree.{view_beside, views_agree}
-use Rattle.h2_machine_laws.proofs.SentQuietItems.{waiting_runs, called_runs, unreturned_runs}
-use Rattle.h2_machine_laws.proofs.SentConnectionItems.{widened_runs}
-
--- What waits at an end is what its log says.
-pub record Waits (e : End) (log : Log) : Type 0 where
-  pub waiting : e.output.waiting ≡ drop log.given (output log)
-  pub given : log.given ≤ length (output log)
+use Rattle.h2_machine_laws.proofs.WaitingOutput.{OutputOf, wrote_output, waits_much}
+use Rattle.h2_log_laws.proofs.InvariantLogs.{log_represents}
 
 -- An end that hasn't failed represents a log, but for what the log's history and the connection's
 -- window add.
@@ -41,8 +37,9 @@ pub record Up (e : End) (log : Log) : Type 0 where
   pub role : e.role ≡ log.role
   pub up : e.failed ≡ None
   pub same : log.failed ≡ None
-  pub waits : Waits e log
-  pub running : RepresentsWhileUp e log
+  pub waits : OutputOf e log
+  pub started : e.reading.started ≡ not (length log.frames == 0)
+  pub going : Going e (core log)
 
 -- An end that represents a log and hasn't failed is such a one.
 pub up_of : (values : Values) (e : End) (log : Log) → Represents values e log → e.failed ≡ None
@@ -52,8 +49,9 @@ up_of values e log represents up =
       role = represents.role;
       up = up;
       same = sym represents.failed ∙ up;
-      waits = record { waiting = represents.waiting; given = represents.given };
-      running = represents.running up;
+      waits = represents.output;
+      started = (represents.running up).started;
+      going = going e log represents.streams (represents.running up);
     }
 
 -- After a call that is accepted, an end represents its log where what they keep is the same.
@@ -61,11 +59,12 @@ pub represents_made : (values : Values) (e : End) (log : Log) (act : Act) (answe
     → Represents values e log → IsTypedAct act → MayAnswer log act answer
     → refusal_of (end_view e) act ≡ None → (after_call e act).role ≡ (with_call log act answer).role
     → (after_call e act).failed ≡ (with_call log act answer).failed
-    → Waits (after_call e act) (with_call log act answer)
+    → OutputOf (after_call e act) (with_call log act answer)
+    → StreamsOf (after_call e act).streams (core (with_call log act answer))
     → ((after_call e act).failed ≡ None
     → RepresentsWhileUp (after_call e act) (with_call log act answer))
     → Represents values (after_call e act) (with_call log act answer)
-represents_made values e log act answer represents typed may accepted role failed waits run =
+represents_made values e log act answer represents typed may accepted role failed waits streams run =
     let came = called_one represents.came act answer typed may in
     let same : (after_call e act).role ≡ e.role = role
     ∙ (log_represents e.role values _ came).own in
@@ -76,8 +75,8 @@ represents_made values e log act answer represents typed may accepted role faile
       came = rw same came;
       role = role;
       failed = failed;
-      waiting = waits.waiting;
-      given = waits.given;
+      output = waits;
+      streams = streams;
       running = run;
       whole = whole.whole;
       used = whole.used;
@@ -90,85 +89,52 @@ pub represents_after : (values : Values) (e : End) (log : Log) (act : Act) (answ
     → Represents values (after_call e act) (with_call log act answer)
 represents_after values e log act answer represents typed may accepted is =
     represents_made values e log act answer represents typed may accepted is.role (is.up
-    ∙ sym is.same) is.waits (λ up. is.running)
-
--- What is written joins what waits.
-joined : (given : ℕ) (waits written octets : List ℕ) → waits ≡ drop given written
-    → given ≤ length written
-    → waits ++ octets ≡ drop given (written ++ octets)
-joined given waits written octets is within = ap (λ (xs : List ℕ). xs ++ octets) is
-    ∙ sym (drop-append-le given written octets within)
-
--- What was put out stays within the output.
-still : (given : ℕ) (written octets : List ℕ) → given ≤ length written
-    → given ≤ length (written ++ octets)
-still given written octets within = omega (arith, length-append written octets)
-
--- Items that are written join what waits.
-pub wrote_waits : (e : End) (log : Log) (items : List Item) → Waits e log
-    → Waits (queue_output e items) (with_sent log items)
-unfolding with_sent output encoding_of_items
-wrote_waits e log [] is = record {
-  waiting = append-nil e.output.waiting
-      ∙ is.waiting;
-  given = is.given;
-}
-wrote_waits e log (item ∷ items) is =
-    record {
-      waiting = ap (λ (most : ℕ). e.output.waiting ++ encoding_of_items most (item ∷ items))
-          (sym (most_is_limit log.received))
-          ∙ joined log.given e.output.waiting log.written
-          (encoding_of_items (max_payload_sent log) (item ∷ items)) is.waiting is.given;
-      given = still log.given log.written (encoding_of_items (max_payload_sent log)
-          (item ∷ items)) is.given;
-    }
+    ∙ sym is.same) is.waits is.going.streams (λ up. runs _ _ is.started is.going)
 
 -- Items are written, where the end represents the log with them but for what waits.
 pub wrote_up : (e f : End) (log : Log) (items : List Item) → f.role ≡ log.role → f.failed ≡ None
-    → log.failed ≡ None
-    → Waits e log → RepresentsWhileUp f (record log { sent = items ++ log.sent })
+    → log.failed ≡ None → OutputOf e log → f.reading.started ≡ not (length log.frames == 0)
+    → Going f (record (core log) { sent = items ++ log.sent })
     → Up (record f { output = record f.output { waiting = (queue_output e items).output.waiting } })
     (with_sent log items)
-unfolding with_sent output
-wrote_up e f log [] role up same waits run =
-    record {
-      role = role;
-      up = up;
-      same = same;
-      waits = (let w = wrote_waits e log [] waits in record {
-        waiting = w.waiting;
-        given =
-            w.given;
-      });
-      running = waiting_runs f log _ log.written log.turns run;
-    }
-wrote_up e f log (item ∷ items) role up same waits run =
-    record {
-      role = role;
-      up = up;
-      same = same;
-      waits = (let w = wrote_waits e log (item ∷ items) waits in record
-          { waiting = w.waiting; given = w.given });
-      running = waiting_runs f (record log { sent = item ∷ items ++ log.sent }) _ _ _ run;
-    }
-
--- What is unreturned is no part of what waits.
-pub waits_unreturned : (e : End) (log : Log) (here there : ℕ) → Waits e log
-    → Waits (record e { windows = record e.windows { unreturned = here } })
-    (record log { unreturned = there })
-unfolding output
-waits_unreturned e log here there w = record { waiting = w.waiting; given = w.given }
+unfolding with_sent
+wrote_up e f log items role up same waits started run =
+    by items (wrote_output e log items waits) run
+  where
+    by : (items : List Item) → OutputOf (queue_output e items) (with_sent log items)
+        → Going f (record (core log) { sent = items ++ log.sent })
+        → Up (record f {
+          output = record f.output { waiting = (queue_output e items).output.waiting };
+        }) (with_sent log items)
+    by [] waits run =
+        record {
+          role = role;
+          up = up;
+          same = same;
+          waits = waits;
+          started = started;
+          going = run;
+        }
+    by (item ∷ items) waits run =
+        record {
+          role = role;
+          up = up;
+          same = same;
+          waits = waits;
+          started = started;
+          going = run;
+        }
 
 -- All that is unreturned is returned.
 pub return_credit_up : (e : End) (log : Log) → Up e log
     → Up (return_credit e) (with_credit_returned log)
 unfolding with_sent
 return_credit_up e log is =
-    let run = is.running in
-    let unreturned : RepresentsWhileUp (record e { windows = record e.windows { unreturned = 0 } })
-    (record log { unreturned = 0 }) = unreturned_runs e log 0 0 refl run in
-    let wide = widened_runs (record e { windows = record e.windows { unreturned = 0 } })
-    (record log { unreturned = 0 }) e.windows.unreturned unreturned in
+    let g = is.going in
+    let paid = unreturned_advances (core_facts e) (core log) 0 0 refl g in
+    let wide = widened_advances (core_facts (record e {
+      windows = record e.windows { unreturned = 0 };
+    })) (record (core log) { unreturned = 0 }) e.windows.unreturned paid in
     let all : Up (return_credit e)
     (with_sent (record log { unreturned = 0 })
     (alone (WindowUpdate 0 e.windows.unreturned) ∷ [])) =
@@ -178,29 +144,24 @@ return_credit_up e log is =
     })
     (record log { unreturned = 0 }) (alone (WindowUpdate 0 e.windows.unreturned) ∷ [])
     is.role is.up is.same
-    (waits_unreturned e log e.windows.unreturned 0 is.waits) wide in
+    is.waits is.started wide in
     subst (λ (n : ℕ). Up (return_credit e)
-    (with_sent (record log { unreturned = 0 }) (alone (WindowUpdate 0 n) ∷ []))) run.unreturned
-    all
-
--- As much waits as the log says.
-pub waits_much : (e : End) (log : Log) → Waits e log → length e.output.waiting ≡ waiting log
-unfolding waiting
-waits_much e log w = ap length w.waiting ∙ length-drop log.given (output log)
+    (with_sent (record log { unreturned = 0 }) (alone (WindowUpdate 0 n) ∷ [])))
+    g.windows.unreturned all
 
 -- More is unreturned.
 unreturned_up : (e : End) (log : Log) (more : ℕ) → Up e log
     → Up (record e { windows = record e.windows { unreturned = e.windows.unreturned + more } })
     (record log { unreturned = log.unreturned + more })
 unreturned_up e log more is =
-    let unreturned = is.running.unreturned in
     record {
       role = is.role;
       up = is.up;
       same = is.same;
-      waits = waits_unreturned e log (e.windows.unreturned + more) (log.unreturned + more) is.waits;
-      running = unreturned_runs e log (e.windows.unreturned + more) (log.unreturned + more)
-          (ap (λ (n : ℕ). n + more) unreturned) is.running;
+      waits = is.waits;
+      started = is.started;
+      going = unreturned_advances (core_facts e) (core log) (e.windows.unreturned + more)
+          (log.unreturned + more) (ap (λ (n : ℕ). n + more) is.going.windows.unreturned) is.going;
     }
 
 -- More is unreturned, by the test whether all is returned.
@@ -252,11 +213,16 @@ pub nothing_unreturned : (e : End) (log after : Log) (i : ℕ) → owed_at_close
     → Up e after → Up e (with_unreturned (owed_at_close log after i) after)
 nothing_unreturned e log after i none is = rw (none, with_unreturned_none after) is
 
--- The call is recorded, where what is kept changes with it.
-pub called_waits : (e : End) (log : Log) (act : Act) (answer : Answer) → Waits e log
-    → Waits e (called log act answer)
-unfolding output
-called_waits e log act answer w = record { waiting = w.waiting; given = w.given }
+-- The call is recorded, with the encoder after it.
+pub called_going : (e : End) (log : Log) (act : Act) (answer : Answer) (encoder : EncoderState)
+    → encoder ≡ encoder_after_call log.encoder act answer
+    → ((i : ℕ) → released i ((act, answer) ∷ log.calls) ≡ released i log.calls)
+    → Going e (core log)
+    → Going (record e { output = record e.output { encoder = encoder } })
+    (core (called log act answer))
+called_going e log act answer encoder is same g =
+    rw is (called_advances (core_facts e) (core log) ((act, answer) ∷ log.calls)
+    (encoder_after_call log.encoder act answer) same g)
 
 -- The call is recorded.
 pub called_up : (e : End) (log : Log) (act : Act) (answer : Answer)
@@ -268,9 +234,10 @@ called_up e log act answer keeps same is =
       role = is.role;
       up = is.up;
       same = is.same;
-      waits = called_waits e log act answer is.waits;
-      running = called_runs e log act answer e.output.encoder (is.running.encoder
-          ∙ keeps) same is.running;
+      waits = is.waits;
+      started = is.started;
+      going = called_going e log act answer e.output.encoder (is.going.encoder ∙ keeps) same
+          is.going;
     }
 
 -- An end makes ready to put octets out, by the test.
@@ -282,7 +249,8 @@ ready_by e log false is = is
 -- An end that is up is viewed as its log is.
 pub views_of_up : (e : End) (log : Log) → Up e log → end_view e ≡ view_beside e log
 views_of_up e log is =
-    views_agree e log is.role (is.up ∙ sym is.same) (waits_much e log is.waits) is.running
+    views_agree e log is.role (is.up ∙ sym is.same) (waits_much e log is.waits) is.going.streams
+    (runs e log is.started is.going)
 
 -- the end with what a call writes, by a view
 abbrev pub queue_by : End → View → Act → End

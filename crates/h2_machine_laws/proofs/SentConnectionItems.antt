@@ -1,9 +1,11 @@
--- What PING, GOAWAY, SETTINGS and the connection's WINDOW_UPDATE change of what an end keeps.
-use Rattle.std.proofs.Common.{◌≡◌, ℕ, ◌+◌, ◌≤◌, max, nat_lt, Bool, true, false, List, [], ◌∷◌, Some}
-use Rattle.std.proofs.Common.{refl, sym, ap, ◌∙◌, arith}
-use Rattle.std.proofs.lemmas.Bool.{lt-ltb, le-ltb, false_from_ne_true, both_ways}
+-- What PING, GOAWAY, SETTINGS and the connection's WINDOW_UPDATE that are sent make of an end.
+use Rattle.std.proofs.Common.{◌≡◌, ◌≢◌, ℕ, ◌+◌, ◌≤◌, max, nat_lt, Bool, true, false, List, [], ◌∷◌}
+use Rattle.std.proofs.Common.{Some, refl, sym, ap, ◌∙◌, arith}
+use Rattle.std.proofs.lemmas.Bool.{lt-ltb, le-ltb, false_from_ne_true, both_ways, ne_eqb}
 use Rattle.std.specs.List.{list_any}
 use Rattle.h2_frame.specs.Frames.{Settings, Ping, GoAway, WindowUpdate}
+use Rattle.h2_frame.specs.declared.code.Code.{Code}
+use Rattle.h2_frame.specs.Codes.{code_number}
 use Rattle.h2_block.specs.Grouping.{Item, alone}
 use Rattle.h2_log.specs.declared.role.Role.{Role}
 use Rattle.h2_log.specs.declared.role.Role.TheVariants.{Client, Server}
@@ -13,168 +15,110 @@ use Rattle.h2_log.specs.Events.{one_pong, reported_total}
 use Rattle.h2_log.specs.Acts.{Values}
 use Rattle.h2_log.specs.Settings.{is_server, value_read, value_after, one_settings, settings_count}
 use Rattle.h2_log.specs.Settings.{own_value}
-use Rattle.h2_log.specs.States.{openings, is_above, is_active, when}
-use Rattle.h2_log.specs.Windows.{first_window, granted_on, granted_on_connection, window}
-use Rattle.h2_log.specs.Log.{Log, acked, active, last_processed, max_streams, unreleased}
-use Rattle.h2_log.specs.Log.{newest_ping}
-use Rattle.h2_log.specs.LogView.{stream_of_log}
+use Rattle.h2_log.specs.States.{openings, is_above}
+use Rattle.h2_log.specs.Windows.{first_window, granted_on}
+use Rattle.h2_log.specs.Log.{Log, newest_ping}
+use Rattle.h2_log.specs.LogSteps.{with_sent, with_failure}
 use Rattle.h2_log.specs.CallRules.{changed_pairs}
-use Rattle.h2_machine.specs.End.{End}
-use Rattle.h2_machine.specs.Represents.{RepresentsWhileUp, goaway_sent_last}
+use Rattle.h2_machine.specs.End.{Streams, OwnSettings}
+use Rattle.h2_machine.specs.Represents.{RepresentsOwn, goaway_sent_last}
 use Rattle.h2_log_laws.proofs.SettingsLists.{up_to_next, up_to_here, settings_one, value_changed}
 use Rattle.h2_log_laws.proofs.ReaderStates.{active_parts}
 use Rattle.h2_log_laws.proofs.LogInvariant.{active_before}
-use Rattle.h2_log_laws.proofs.InvariantSteps.{update_elsewhere}
-use Rattle.h2_machine_laws.proofs.SentQuietItems.{IsQuiet, Valued, total_quiet, total_one}
-use Rattle.h2_machine_laws.proofs.SentQuietItems.{active_kept, active_quiet, greatest_quiet}
-use Rattle.h2_machine_laws.proofs.SentQuietItems.{active_count_kept, same_entry, same_stream}
-use Rattle.h2_machine_laws.proofs.SentQuietItems.{streams_quiet, valued_quiet, own_quiet}
+use Rattle.h2_machine_laws.proofs.LogCore.{Core, core, CoreFacts, Advances, StreamsOf, confirmed, active_by_items}
+use Rattle.h2_machine_laws.proofs.OneItemMore.{total_quiet, total_one, own_quiet}
+use Rattle.h2_machine_laws.proofs.SentQuietItems.{sends, active_like, used_wrote, LeavesStreams, streams_sent, windows_sent, own_sent, goaways_sent, ping_sent, IsQuietOut, quiet_wrote}
+use Rattle.h2_machine_laws.proofs.StreamsSame.{streams_same}
 
 -- opens what computes
 unfoldable pub computing : Unit {0}
 unfolding data_on data_of increment_on is_block_on ends resets is_goaway is_goaway_below one_ping
-    one_reset greatest_block one_settings granted_on_connection last_processed max_streams
-    unreleased goaway_sent_last newest_ping
+    one_reset greatest_block one_settings goaway_sent_last newest_ping
 computing = tt
 
 -- PING says nothing of streams.
-ping_quiet : (ack : Bool) (octets : List ℕ) → IsQuiet (alone (Ping ack octets))
+pub ping_leaves : (ack : Bool) (octets : List ℕ) → LeavesStreams (alone (Ping ack octets))
 unfolding computing
-ping_quiet ack octets = record {
-  block = λ i. refl;
-  below = λ i. refl;
-  ends = λ i. refl;
-  resets =
-      λ i. refl;
-  greatest = λ items. refl;
-}
-
--- Nor do SETTINGS.
-settings_are_quiet : (ack : Bool) (pairs : List (ℕ × ℕ)) → IsQuiet (alone (Settings ack pairs))
-unfolding computing
-settings_are_quiet ack pairs = record {
-  block = λ i. refl;
-  below = λ i. refl;
-  ends = λ i. refl;
-  resets = λ i. refl;
-  greatest = λ items. refl;
-}
-
--- Nor does WINDOW_UPDATE, save for windows.
-pub update_quiet : (i increment : ℕ) → IsQuiet (alone (WindowUpdate i increment))
-unfolding computing
-update_quiet i increment = record {
-  block = λ j. refl;
-  below = λ j. refl;
-  ends = λ j. refl;
-  resets =
-      λ j. refl;
-  greatest = λ items. refl;
-}
-
--- A PING was written, where none awaits its answer.
-pub ping_runs : (e : End) (log : Log) (octets : List ℕ)
-    → reported_total one_pong log.reported ≤ total one_ping log.sent → RepresentsWhileUp e log
-    → RepresentsWhileUp (record e { ping = Some octets })
-    (record log { sent = alone (Ping false octets) ∷ log.sent })
-unfolding computing
-ping_runs e log octets enough h =
-    let q = ping_quiet false octets in
-    let v = valued_quiet e log (alone (Ping false octets)) refl h in
-    let greatest = greatest_quiet log.role log.received log.sent (alone (Ping false octets))
-    q.greatest in
-    let waits : nat_lt (reported_total one_pong log.reported)
-    (total one_ping (alone (Ping false octets) ∷ log.sent)) ≡ true =
-    lt-ltb _ _ (omega (arith, total_one one_ping (alone (Ping false octets)) log.sent)) in
+ping_leaves ack octets =
     record {
-      started = h.started;
-      begun = h.begun;
-      table = h.table;
-      encoder = h.encoder;
-      streams = streams_quiet e log (alone (Ping false octets)) q (λ i. refl) (λ i some. refl)
-          (own_quiet 4 first_window (acked log) (alone (Ping false octets)) log.sent refl) h;
-      active_count = h.active_count
-          ∙ sym (active_count_kept log (alone (Ping false octets) ∷ log.sent)
-          (λ i. active_quiet log.role i log.received log.sent log.reported
-          (alone (Ping false octets)) q) greatest);
-      highest = h.highest ∙ sym greatest;
-      last_processed = h.last_processed;
-      goaway_sent = h.goaway_sent;
-      goaway_received = h.goaway_received;
-      send_window = omega (
-        arith,
-        h.send_window,
-        total_quiet data_of (alone (Ping false octets))
-            log.sent refl,
-      );
-      recv_window = omega (
-        arith,
-        h.recv_window,
-        total_quiet (increment_on 0)
-            (alone (Ping false octets)) log.sent refl,
-      );
-      unreturned = h.unreturned;
-      initial_window = h.initial_window;
-      streams_allowed = h.streams_allowed;
-      table_limit = v.table_limit;
-      own_window = v.own_window;
-      max_streams = v.max_streams;
-      awaits = v.awaits;
-      awaited = v.awaited;
-      ping = rw waits refl;
-      resets = h.resets ∙ sym (total_quiet one_reset (alone (Ping false octets)) log.sent refl);
+      apart = λ j. record { blocks = refl; ended = refl; was_reset = refl; below = refl; flow = refl };
+      greatest = λ items. refl;
+      reset = refl;
     }
 
--- The peer may send more on the connection.
-pub widened_runs : (e : End) (log : Log) (count : ℕ) → RepresentsWhileUp e log
-    → RepresentsWhileUp (record e { windows = record e.windows { recv = e.windows.recv + count } })
-    (record log { sent = alone (WindowUpdate 0 count) ∷ log.sent })
+-- Nor do SETTINGS.
+settings_leave : (ack : Bool) (pairs : List (ℕ × ℕ)) → LeavesStreams (alone (Settings ack pairs))
 unfolding computing
-widened_runs e log count h =
-    let q = update_quiet 0 count in
-    let v = valued_quiet e log (alone (WindowUpdate 0 count)) refl h in
-    let greatest = greatest_quiet log.role log.received log.sent (alone (WindowUpdate 0 count))
-    q.greatest in
+settings_leave ack pairs =
     record {
-      started = h.started;
-      begun = h.begun;
-      table = h.table;
-      encoder = h.encoder;
-      streams = streams_quiet e log (alone (WindowUpdate 0 count)) q (λ i. refl)
-          (λ i some. update_elsewhere i count some)
-          (own_quiet 4 first_window (acked log) (alone (WindowUpdate 0 count)) log.sent refl) h;
-      active_count = h.active_count
-          ∙ sym (active_count_kept log (alone (WindowUpdate 0 count) ∷ log.sent)
-          (λ i. active_quiet log.role i log.received log.sent log.reported
-          (alone (WindowUpdate 0 count)) q) greatest);
-      highest = h.highest ∙ sym greatest;
-      last_processed = h.last_processed;
-      goaway_sent = h.goaway_sent;
-      goaway_received = h.goaway_received;
-      send_window = omega (
-        arith,
-        h.send_window,
-        total_quiet data_of (alone (WindowUpdate 0 count))
-            log.sent refl,
-      );
-      recv_window = omega (
-        arith,
-        h.recv_window,
-        total_one (increment_on 0)
-            (alone (WindowUpdate 0 count)) log.sent,
-      );
-      unreturned = h.unreturned;
-      initial_window = h.initial_window;
-      streams_allowed = h.streams_allowed;
-      table_limit = v.table_limit;
-      own_window = v.own_window;
-      max_streams = v.max_streams;
-      awaits = v.awaits;
-      awaited = v.awaited;
-      ping = h.ping ∙ ap (λ (n : ℕ). when (nat_lt (reported_total one_pong log.reported) n)
-          (newest_ping log.sent))
-          (sym (total_quiet one_ping (alone (WindowUpdate 0 count)) log.sent refl));
-      resets = h.resets ∙ sym (total_quiet one_reset (alone (WindowUpdate 0 count)) log.sent refl);
+      apart = λ j. record { blocks = refl; ended = refl; was_reset = refl; below = refl; flow = refl };
+      greatest = λ items. refl;
+      reset = refl;
+    }
+
+-- Nor does WINDOW_UPDATE, save for receive windows; and it changes nothing else.
+pub update_quiet : (i increment : ℕ) → IsQuietOut (alone (WindowUpdate i increment))
+unfolding computing
+update_quiet i increment =
+    record {
+      streams = record {
+        apart = λ j. record {
+          blocks = refl;
+          ended = refl;
+          was_reset = refl;
+          below = refl;
+          flow = refl;
+        };
+        greatest = λ items. refl;
+        reset = refl;
+      };
+      leaves = refl;
+      newest = λ items. refl;
+      ping = λ items. refl;
+      pings = refl;
+      settings = refl;
+      flow_of = refl;
+    }
+
+-- An update gives nothing to other numbers.
+pub update_other : (j i increment : ℕ) → j ≢ i
+    → increment_on j (alone (WindowUpdate i increment)) ≡ 0
+unfolding increment_on
+update_other j i increment other = rw (ne_eqb i j (λ same. other (sym same))) refl
+
+-- The connection's update gives the connection all.
+pub update_all : (count : ℕ) → increment_on 0 (alone (WindowUpdate 0 count)) ≡ count
+unfolding increment_on
+update_all count = refl
+
+-- The peer may send more on the connection.
+pub widened_advances : (h : CoreFacts) (c : Core) (count : ℕ) → Advances h c
+    → Advances (record h { windows = record h.windows { recv = h.windows.recv + count } })
+    (sends c (alone (WindowUpdate 0 count)))
+widened_advances h c count g =
+    quiet_wrote h c (alone (WindowUpdate 0 count)) (h.windows.recv + count) (update_quiet 0 count)
+    (λ j some. update_other j 0 count some) (omega (arith, update_all count)) g
+
+-- A PING was sent, where none awaits its answer.
+pub ping_advances : (h : CoreFacts) (c : Core) (octets : List ℕ)
+    → reported_total one_pong c.reported ≤ total one_ping c.sent → Advances h c
+    → Advances (record h { ping = Some octets }) (sends c (alone (Ping false octets)))
+unfolding computing
+ping_advances h c octets enough g =
+    let item : Item = alone (Ping false octets) in
+    let waits : nat_lt (reported_total one_pong c.reported) (total one_ping (item ∷ c.sent))
+    ≡ true = lt-ltb _ _ (omega (arith, total_one one_ping item c.sent)) in
+    record {
+      reading = g.reading;
+      encoder = g.encoder;
+      streams = streams_sent h.streams c item (ping_leaves false octets) (λ j some. refl)
+          (own_quiet 4 first_window (confirmed c) item c.sent refl) g.streams;
+      windows = windows_sent h.windows c.received c.sent c.unreturned item h.windows.recv refl
+          (omega arith) g.windows;
+      peer = g.peer;
+      own = own_sent h.own c.role (confirmed c) c.sent item refl g.own;
+      goaway = goaways_sent h.goaway c.received c.sent item refl refl g.goaway;
+      ping = rw waits refl;
     }
 
 -- the values of SETTINGS that change them
@@ -206,92 +150,64 @@ value_stays id first count pairs items enough =
     ap (value_read id first) (up_to_next count (alone (Settings false pairs)) items
     (λ one. omega (arith, enough)))
 
--- The values, where SETTINGS are written, all before being acknowledged.
-valued_changed : (e : End) (log : Log) (values : Values) → acked log ≤ settings_count log.sent
-    → 1 ≤ settings_count log.sent → RepresentsWhileUp e log
-    → Valued e.own.in_force (Some values)
-    (record log { sent = alone (Settings false (changed_pairs log.role values)) ∷ log.sent })
-unfolding max_streams settings_count
-valued_changed e log values enough some h =
-    let pairs = changed_pairs log.role values in
-    let set = changed_values log.role values (value_read 1 4096 log.sent)
-    (value_read 4 first_window log.sent) (value_read 3 100 log.sent) in
+-- The values, where SETTINGS are sent, all before being acknowledged.
+own_changed : (own : OwnSettings) (role : Role) (count : ℕ) (sent : List Item) (values : Values)
+    → count ≤ settings_count sent → 1 ≤ settings_count sent → RepresentsOwn own role count sent
+    → RepresentsOwn (record own { awaited = Some values }) role count
+    (alone (Settings false (changed_pairs role values)) ∷ sent)
+unfolding settings_count
+own_changed own role count sent values enough some g =
+    let pairs = changed_pairs role values in
+    let w = g.in_force in
+    let set = changed_values role values (value_read 1 4096 sent) (value_read 4 first_window sent)
+    (value_read 3 100 sent) in
     record {
-      table_limit = h.table_limit ∙ sym (value_stays 1 4096 (acked log) pairs log.sent enough);
-      own_window = h.own_window
-          ∙ sym (value_stays 4 first_window (acked log) pairs log.sent enough);
-      max_streams = λ server. h.max_streams server
-          ∙ sym (value_stays 3 100 (max 1 (acked log)) pairs log.sent (omega arith));
+      in_force = record {
+        table_limit = w.table_limit ∙ sym (value_stays 1 4096 count pairs sent enough);
+        initial_window = w.initial_window
+            ∙ sym (value_stays 4 first_window count pairs sent enough);
+        max_streams = λ server. w.max_streams server
+            ∙ sym (value_stays 3 100 (max 1 count) pairs sent (omega arith));
+      };
       awaits = sym (lt-ltb _ _ (omega (arith, settings_one pairs)));
       awaited = λ others is.
           let same : values ≡ others = cc in
           rw (← same) (record {
-            table_limit = changed_value 1 4096 pairs log.sent ∙ set.0;
-            initial_window = changed_value 4 first_window pairs log.sent ∙ set.1;
-            max_streams = λ server. changed_value 3 100 pairs log.sent ∙ set.2 server;
+            table_limit = changed_value 1 4096 pairs sent ∙ set.0;
+            initial_window = changed_value 4 first_window pairs sent ∙ set.1;
+            max_streams = λ server. changed_value 3 100 pairs sent ∙ set.2 server;
           });
     }
 
--- SETTINGS were written, all before being acknowledged.
-pub settings_runs : (e : End) (log : Log) (values : Values) → acked log ≤ settings_count log.sent
-    → 1 ≤ settings_count log.sent → RepresentsWhileUp e log
-    → RepresentsWhileUp (record e { own = record e.own { awaited = Some values } })
-    (record log { sent = alone (Settings false (changed_pairs log.role values)) ∷ log.sent })
+-- SETTINGS were sent, all before being acknowledged.
+pub settings_advance : (h : CoreFacts) (c : Core) (values : Values)
+    → confirmed c ≤ settings_count c.sent → 1 ≤ settings_count c.sent → Advances h c
+    → Advances (record h { own = record h.own { awaited = Some values } })
+    (sends c (alone (Settings false (changed_pairs c.role values))))
 unfolding computing
-settings_runs e log values enough some h =
-    let pairs = changed_pairs log.role values in
-    let q = settings_are_quiet false pairs in
-    let v = valued_changed e log values enough some h in
-    let greatest = greatest_quiet log.role log.received log.sent (alone (Settings false pairs))
-    q.greatest in
+settings_advance h c values enough some g =
+    let pairs = changed_pairs c.role values in
+    let item : Item = alone (Settings false pairs) in
     record {
-      started = h.started;
-      begun = h.begun;
-      table = h.table;
-      encoder = h.encoder;
-      streams = streams_quiet e log (alone (Settings false pairs)) q (λ i. refl) (λ i some. refl)
-          (value_stays 4 first_window (acked log) pairs log.sent enough) h;
-      active_count = h.active_count
-          ∙ sym (active_count_kept log (alone (Settings false pairs) ∷ log.sent)
-          (λ i. active_quiet log.role i log.received log.sent log.reported
-          (alone (Settings false pairs)) q) greatest);
-      highest = h.highest ∙ sym greatest;
-      last_processed = h.last_processed;
-      goaway_sent = h.goaway_sent;
-      goaway_received = h.goaway_received;
-      send_window = omega (
-        arith,
-        h.send_window,
-        total_quiet data_of (alone (Settings false pairs))
-            log.sent refl,
-      );
-      recv_window = omega (
-        arith,
-        h.recv_window,
-        total_quiet (increment_on 0)
-            (alone (Settings false pairs)) log.sent refl,
-      );
-      unreturned = h.unreturned;
-      initial_window = h.initial_window;
-      streams_allowed = h.streams_allowed;
-      table_limit = v.table_limit;
-      own_window = v.own_window;
-      max_streams = v.max_streams;
-      awaits = v.awaits;
-      awaited = v.awaited;
-      ping = h.ping ∙ ap (λ (n : ℕ). when (nat_lt (reported_total one_pong log.reported) n)
-          (newest_ping log.sent))
-          (sym (total_quiet one_ping (alone (Settings false pairs)) log.sent refl));
-      resets = h.resets ∙ sym (total_quiet one_reset (alone (Settings false pairs)) log.sent refl);
+      reading = g.reading;
+      encoder = g.encoder;
+      streams = streams_sent h.streams c item (settings_leave false pairs) (λ j some. refl)
+          (value_stays 4 first_window (confirmed c) pairs c.sent enough) g.streams;
+      windows = windows_sent h.windows c.received c.sent c.unreturned item h.windows.recv refl
+          (omega arith) g.windows;
+      peer = g.peer;
+      own = own_changed h.own c.role (confirmed c) c.sent values enough some g.own;
+      goaway = goaways_sent h.goaway c.received c.sent item refl refl g.goaway;
+      ping = ping_sent h.ping c item refl refl g.ping;
     }
 
--- GOAWAY opens nothing
-opened_goaway : (role : Role) (i last code : ℕ) (received sent : List Item)
-    → list_any (is_block_on i) (openings role received (alone (GoAway last code []) ∷ sent)) ≡ true
-    → list_any (is_block_on i) (openings role received sent) ≡ true
+-- GOAWAY opens nothing.
+goaway_blocks : (role : Role) (i last code : ℕ) (received sent : List Item)
+    → list_any (is_block_on i) (openings role received (alone (GoAway last code []) ∷ sent))
+    ≡ list_any (is_block_on i) (openings role received sent)
 unfolding is_block_on
-opened_goaway Client i last code received sent here = here
-opened_goaway Server i last code received sent here = here
+goaway_blocks Client i last code received sent = refl
+goaway_blocks Server i last code received sent = refl
 
 -- an active stream isn't above the last one of a GOAWAY
 above_goaway : (role : Role) (i last code : ℕ) (sent : List Item)
@@ -302,82 +218,64 @@ above_goaway Client i last code sent low = refl
 above_goaway Server i last code sent low = rw (low refl) refl
 
 -- the same streams are active after a GOAWAY, by whether the stream was
-active_goaway : (log : Log) (i last code : ℕ) (b : Bool) → active log i ≡ b
-    → (is_server log.role ≡ true → active log i ≡ true → i ≤ last)
-    → is_active log.role i log.received (alone (GoAway last code []) ∷ log.sent) log.reported
-    ≡ active log i
+active_goaway : (c : Core) (i last code : ℕ) (b : Bool) → active_by_items c i ≡ b
+    → (is_server c.role ≡ true → active_by_items c i ≡ true → i ≤ last)
+    → active_by_items (sends c (alone (GoAway last code []))) i ≡ active_by_items c i
 unfolding computing
-active_goaway log i last code true is low =
-    active_kept log.role i log.received log.sent (alone (GoAway last code []) ∷ log.sent)
-    log.reported refl
-    (above_goaway log.role i last code log.sent (λ server. le-ltb last i (low server is))) refl refl
-active_goaway log i last code false is low =
-    false_from_ne_true _ (λ active_is. both_ways (active log i) is
-    (active_before log.role i [] (alone (GoAway last code []) ∷ []) log.received log.sent []
-    log.reported active_is
-    (opened_goaway log.role i last code log.received log.sent
-    (active_parts log.role i log.received _ log.reported active_is).opened))) ∙ sym is
+active_goaway c i last code true is low =
+    active_like c.role i c.received c.sent (alone (GoAway last code []) ∷ c.sent) c.reported
+    (goaway_blocks c.role i last code c.received c.sent)
+    (above_goaway c.role i last code c.sent (λ server. le-ltb last i (low server is))) refl refl
+active_goaway c i last code false is low =
+    false_from_ne_true _ (λ active_is. both_ways (active_by_items c i) is
+    (active_before c.role i [] (alone (GoAway last code []) ∷ []) c.received c.sent [] c.reported
+    active_is
+    (sym (goaway_blocks c.role i last code c.received c.sent)
+    ∙ (active_parts c.role i c.received _ c.reported active_is).opened))) ∙ sym is
 
--- GOAWAY was written, with a last stream that no active one is above.
-pub goaway_runs : (e : End) (log : Log) (last code : ℕ)
-    → (is_server log.role ≡ true → (i : ℕ) → active log i ≡ true → i ≤ last)
-    → RepresentsWhileUp e log
-    → RepresentsWhileUp (record e { goaway = record e.goaway { sent = Some last } })
-    (record log { sent = alone (GoAway last code []) ∷ log.sent })
+-- The streams are the same after a GOAWAY with a last stream that no active one is above.
+pub goaway_streams : (s : Streams) (c : Core) (last code : ℕ)
+    → (is_server c.role ≡ true → (i : ℕ) → active_by_items c i ≡ true → i ≤ last)
+    → StreamsOf s c → StreamsOf s (sends c (alone (GoAway last code [])))
 unfolding computing granted_on
-goaway_runs e log last code low h =
-    let same : (i : ℕ) → is_active log.role i log.received (alone (GoAway last code []) ∷ log.sent)
-    log.reported ≡ active log i =
-    λ i. active_goaway log i last code (active log i) refl (λ server. low server i) in
-    let v = valued_quiet e log (alone (GoAway last code [])) refl h in
-    let greatest = greatest_quiet log.role log.received log.sent (alone (GoAway last code []))
-    (λ items. refl) in
+goaway_streams s c last code low g =
+    let item : Item = alone (GoAway last code []) in
+    streams_same s c (sends c item)
+    (λ i. record {
+      active = active_goaway c i last code (active_by_items c i) refl (λ server. low server i);
+      was_reset = refl;
+      stream = λ alive. rw (
+        own_quiet 4 first_window (confirmed c) item c.sent refl,
+        total_quiet (data_on i) item c.sent refl,
+        total_quiet (increment_on i) item c.sent refl,
+      ) refl;
+    })
+    (used_wrote c.role item c.received c.sent (λ items. refl)) refl
+    (total_quiet one_reset item c.sent refl) g
+
+-- They are the same after the GOAWAY of a failure.
+pub failing_streams : (s : Streams) (log : Log) (code : Code) (last : ℕ)
+    → (is_server log.role ≡ true → (i : ℕ) → active_by_items (core log) i ≡ true → i ≤ last)
+    → StreamsOf s (core log) → StreamsOf s (core (with_failure code last log))
+unfolding with_sent
+failing_streams s log code last low g = goaway_streams s (core log) last (code_number code) low g
+
+-- GOAWAY was sent, with a last stream that no active one is above.
+pub goaway_advances : (h : CoreFacts) (c : Core) (last code : ℕ)
+    → (is_server c.role ≡ true → (i : ℕ) → active_by_items c i ≡ true → i ≤ last) → Advances h c
+    → Advances (record h { goaway = record h.goaway { sent = Some last } })
+    (sends c (alone (GoAway last code [])))
+unfolding computing
+goaway_advances h c last code low g =
+    let item : Item = alone (GoAway last code []) in
     record {
-      started = h.started;
-      begun = h.begun;
-      table = h.table;
-      encoder = h.encoder;
-      streams = λ i. h.streams i
-          ∙ same_entry (active log i) _ (list_any (resets i) log.sent) _ (stream_of_log log i)
-          (stream_of_log (record log { sent = alone (GoAway last code []) ∷ log.sent }) i) (same i)
-          refl
-          (λ active_is. same_stream _ _
-          (ap (window _) (total_quiet (data_on i) (alone (GoAway last code [])) log.sent refl))
-          (let more : total (increment_on i) (alone (GoAway last code []) ∷ log.sent)
-          ≡ total (increment_on i) log.sent = total_quiet (increment_on i)
-          (alone (GoAway last code [])) log.sent refl in
-          let own = own_quiet 4 first_window (acked log) (alone (GoAway last code [])) log.sent
-          refl in
-          ap (λ (n : ℕ). window n (total (data_on i) log.received)) (rw (own, more) refl)) refl refl
-          refl);
-      active_count = h.active_count
-          ∙ sym (active_count_kept log (alone (GoAway last code []) ∷ log.sent) same greatest);
-      highest = h.highest ∙ sym greatest;
-      last_processed = h.last_processed;
-      goaway_sent = refl;
-      goaway_received = h.goaway_received;
-      send_window = omega (
-        arith,
-        h.send_window,
-        total_quiet data_of (alone (GoAway last code []))
-            log.sent refl,
-      );
-      recv_window = omega (
-        arith,
-        h.recv_window,
-        total_quiet (increment_on 0)
-            (alone (GoAway last code [])) log.sent refl,
-      );
-      unreturned = h.unreturned;
-      initial_window = h.initial_window;
-      streams_allowed = h.streams_allowed;
-      table_limit = v.table_limit;
-      own_window = v.own_window;
-      max_streams = v.max_streams;
-      awaits = v.awaits;
-      awaited = v.awaited;
-      ping = h.ping ∙ ap (λ (n : ℕ). when (nat_lt (reported_total one_pong log.reported) n)
-          (newest_ping log.sent))
-          (sym (total_quiet one_ping (alone (GoAway last code [])) log.sent refl));
-      resets = h.resets ∙ sym (total_quiet one_reset (alone (GoAway last code [])) log.sent refl);
+      reading = g.reading;
+      encoder = g.encoder;
+      streams = goaway_streams h.streams c last code low g.streams;
+      windows = windows_sent h.windows c.received c.sent c.unreturned item h.windows.recv refl
+          (omega arith) g.windows;
+      peer = g.peer;
+      own = own_sent h.own c.role (confirmed c) c.sent item refl g.own;
+      goaway = record { last_sent = refl; least_received = g.goaway.least_received };
+      ping = ping_sent h.ping c item refl refl g.ping;
     }

@@ -1,231 +1,52 @@
--- What items that concern no stream, and calls, change of what an end keeps.
-use Rattle.std.proofs.Common.{◌≡◌, ◌≢◌, ℕ, zero, suc, ◌+◌, max, nat_lt, Bool, true, false, List}
-use Rattle.std.proofs.Common.{◌∷◌, Option, Some, is_some, refl, sym, ap, ◌∙◌, arith}
+-- What an item that is sent leaves of each subject of an end.
+use Rattle.std.proofs.Common.{◌≡◌, ◌≢◌, ℕ, ◌+◌, max, nat_lt, true, false, List, ◌∷◌, Option}
+use Rattle.std.proofs.Common.{refl, sym, ap, ◌∙◌, arith, zero-add}
 use Rattle.std.specs.List.{list_any}
-use Rattle.std.specs.FinMap as map
-use Rattle.hpack.specs.Lists.{EncoderState}
 use Rattle.h2_block.specs.Grouping.{Item}
 use Rattle.h2_log.specs.declared.role.Role.{Role}
 use Rattle.h2_log.specs.declared.role.Role.TheVariants.{Client, Server}
-use Rattle.h2_log.specs.Items.{data_on, increment_on, is_block_on, ends, resets, is_goaway_below}
-use Rattle.h2_log.specs.Items.{total, greatest_block}
+use Rattle.h2_log.specs.Items.{data_on, data_of, increment_on, is_block_on, ends, resets, one_reset}
+use Rattle.h2_log.specs.Items.{one_ping, is_goaway, is_goaway_below, total, greatest_block}
 use Rattle.h2_log.specs.Events.{Event}
-use Rattle.h2_log.specs.Acts.{Values, Act, Answer, Turn}
-use Rattle.h2_log.specs.Settings.{is_server, value_read, one_settings, settings_count, own_value}
-use Rattle.h2_log.specs.States.{openings, is_above, is_over, is_active, count_below}
-use Rattle.h2_log.specs.Windows.{first_window, granted_on, window}
-use Rattle.h2_log.specs.Log.{Log, acked, active, active_count, last_processed, max_streams}
-use Rattle.h2_log.specs.Log.{released, unreleased, settings_wait}
-use Rattle.h2_log.specs.LogView.{stream_of_log}
-use Rattle.h2_log.specs.LogCalls.{called}
-use Rattle.h2_log.specs.CallRules.{encoder_after_call}
-use Rattle.h2_machine.specs.End.{End}
-use Rattle.h2_log.specs.View.{StreamView}
-use Rattle.h2_machine.specs.Represents.{RepresentsWhileUp, AwaitsValues, entry_by}
-use Rattle.h2_log_laws.proofs.SettingsLists.{up_to_next}
-use Rattle.h2_log_laws.proofs.InvariantCalls.{active_some}
+use Rattle.h2_log.specs.Settings.{one_settings, settings_count, own_value}
+use Rattle.h2_log.specs.States.{openings, is_above, is_over, is_active}
+use Rattle.h2_log.specs.Windows.{first_window, granted_on, granted_on_connection}
+use Rattle.hpack.specs.Lists.{EncoderState}
+use Rattle.h2_log.specs.Acts.{Act, Answer}
+use Rattle.h2_log.specs.Log.{newest_ping, released}
+use Rattle.h2_machine.specs.End.{ConnectionWindows, Streams, OwnSettings, GoAways}
+use Rattle.h2_machine.specs.Represents.{goaway_sent_last, RepresentsWindows, RepresentsOwn}
+use Rattle.h2_machine.specs.Represents.{RepresentsGoAways}
+use Rattle.h2_machine_laws.proofs.LogCore.{Core, CoreFacts, Advances, StreamsOf, PingOf, confirmed, active_by_items}
+use Rattle.h2_machine_laws.proofs.OneItemMore.{total_quiet, any_quiet, own_quiet, settings_quiet}
+use Rattle.h2_machine_laws.proofs.StreamsSame.{SameAt, active_some, streams_same}
 
--- Waiting output, and what was written, are no part of what is represented.
-pub waiting_runs : (e : End) (log : Log) (waits written : List ℕ) (turns : List Turn)
-    → RepresentsWhileUp e log
-    → RepresentsWhileUp (record e { output = record e.output { waiting = waits } })
-    (record log { written = written; turns = turns })
-unfolding active_count last_processed max_streams unreleased
-waiting_runs e log waits written turns h =
-    record {
-      started = h.started;
-      begun = h.begun;
-      table = h.table;
-      encoder = h.encoder;
-      streams = h.streams;
-      active_count = h.active_count;
-      highest = h.highest;
-      last_processed = h.last_processed;
-      goaway_sent = h.goaway_sent;
-      goaway_received = h.goaway_received;
-      send_window = h.send_window;
-      recv_window = h.recv_window;
-      unreturned = h.unreturned;
-      initial_window = h.initial_window;
-      streams_allowed = h.streams_allowed;
-      table_limit = h.table_limit;
-      own_window = h.own_window;
-      max_streams = h.max_streams;
-      awaits = h.awaits;
-      awaited = λ values is. let a = h.awaited values is in record {
-        table_limit = a.table_limit;
-        initial_window = a.initial_window;
-        max_streams = a.max_streams;
-      };
-      ping = h.ping;
-      resets = h.resets;
-    }
+-- the core with an item that was sent
+abbrev pub sends : Core → Item → Core
+sends c item = record c { sent = item ∷ c.sent }
 
--- A call that releases nothing changes no more than the encoder.
-pub called_runs : (e : End) (log : Log) (act : Act) (answer : Answer) (encoder : EncoderState)
-    → encoder ≡ encoder_after_call log.encoder act answer
-    → ((i : ℕ) → released i ((act, answer) ∷ log.calls) ≡ released i log.calls)
-    → RepresentsWhileUp e log
-    → RepresentsWhileUp (record e { output = record e.output { encoder = encoder } })
-    (called log act answer)
-unfolding active_count last_processed max_streams unreleased
-called_runs e log act answer encoder is same h =
-    record {
-      started = h.started;
-      begun = h.begun;
-      table = h.table;
-      encoder = is;
-      streams = λ i. rw (same i) (h.streams i);
-      active_count = h.active_count;
-      highest = h.highest;
-      last_processed = h.last_processed;
-      goaway_sent = h.goaway_sent;
-      goaway_received = h.goaway_received;
-      send_window = h.send_window;
-      recv_window = h.recv_window;
-      unreturned = h.unreturned;
-      initial_window = h.initial_window;
-      streams_allowed = h.streams_allowed;
-      table_limit = h.table_limit;
-      own_window = h.own_window;
-      max_streams = h.max_streams;
-      awaits = h.awaits;
-      awaited = λ values is. let a = h.awaited values is in record {
-        table_limit = a.table_limit;
-        initial_window = a.initial_window;
-        max_streams = a.max_streams;
-      };
-      ping = h.ping;
-      resets = h.resets;
-    }
-
--- Unreturned octets are kept as they are.
-pub unreturned_runs : (e : End) (log : Log) (here there : ℕ) → here ≡ there
-    → RepresentsWhileUp e log → RepresentsWhileUp
-    (record e { windows = record e.windows { unreturned = here } })
-    (record log { unreturned = there })
-unfolding active_count last_processed max_streams unreleased
-unreturned_runs e log here there is h =
-    record {
-      started = h.started;
-      begun = h.begun;
-      table = h.table;
-      encoder = h.encoder;
-      streams = h.streams;
-      active_count = h.active_count;
-      highest = h.highest;
-      last_processed = h.last_processed;
-      goaway_sent = h.goaway_sent;
-      goaway_received = h.goaway_received;
-      send_window = h.send_window;
-      recv_window = h.recv_window;
-      unreturned = is;
-      initial_window = h.initial_window;
-      streams_allowed = h.streams_allowed;
-      table_limit = h.table_limit;
-      own_window = h.own_window;
-      max_streams = h.max_streams;
-      awaits = h.awaits;
-      awaited = λ values is. let a = h.awaited values is in record {
-        table_limit = a.table_limit;
-        initial_window = a.initial_window;
-        max_streams = a.max_streams;
-      };
-      ping = h.ping;
-      resets = h.resets;
-    }
-
--- Octets that were put out are no part of what is kept.
-pub given_runs : (e : End) (log : Log) (waits : List ℕ) (given : ℕ) → RepresentsWhileUp e log
-    → RepresentsWhileUp (record e { output = record e.output { waiting = waits } })
-    (record log { given = given })
-unfolding active_count last_processed max_streams unreleased
-given_runs e log waits given h =
-    record {
-      started = h.started;
-      begun = h.begun;
-      table = h.table;
-      encoder = h.encoder;
-      streams = h.streams;
-      active_count = h.active_count;
-      highest = h.highest;
-      last_processed = h.last_processed;
-      goaway_sent = h.goaway_sent;
-      goaway_received = h.goaway_received;
-      send_window = h.send_window;
-      recv_window = h.recv_window;
-      unreturned = h.unreturned;
-      initial_window = h.initial_window;
-      streams_allowed = h.streams_allowed;
-      table_limit = h.table_limit;
-      own_window = h.own_window;
-      max_streams = h.max_streams;
-      awaits = h.awaits;
-      awaited = λ values is. let a = h.awaited values is in record {
-        table_limit = a.table_limit;
-        initial_window = a.initial_window;
-        max_streams = a.max_streams;
-      };
-      ping = h.ping;
-      resets = h.resets;
-    }
-
--- A sum with an item that counts nothing.
-pub total_quiet : (f : Item → ℕ) (item : Item) (items : List Item) → f item ≡ 0
-    → total f (item ∷ items) ≡ total f items
-unfolding total
-total_quiet f item items none = omega (arith, none)
-
--- A sum with one item more.
-pub total_one : (f : Item → ℕ) (item : Item) (items : List Item)
-    → total f (item ∷ items) ≡ f item + total f items
-unfolding total
-total_one f item items = refl
-
--- A test that an item doesn't pass.
-pub any_quiet : (p : Item → Bool) (item : Item) (items : List Item) → p item ≡ false
-    → list_any p (item ∷ items) ≡ list_any p items
-any_quiet p item items none = rw none refl
-
--- An item that isn't SETTINGS leaves the values.
-pub own_quiet : (id first count : ℕ) (item : Item) (items : List Item) → one_settings item ≡ 0
-    → own_value id first count (item ∷ items) ≡ own_value id first count items
-own_quiet id first count item items none =
-    ap (value_read id first) (up_to_next count item items (λ one. absurd (omega arith)))
-
--- the count of SETTINGS with an item that isn't SETTINGS
-pub settings_quiet : (item : Item) (items : List Item) → one_settings item ≡ 0
-    → settings_count (item ∷ items) ≡ settings_count items
-unfolding settings_count
-settings_quiet item items none = omega (arith, none)
-
--- Numbers that pass the same tests are as many.
-pub count_same : (n : ℕ) (f g : ℕ → Bool) → ((i : ℕ) → f i ≡ g i)
-    → count_below n f ≡ count_below n g
-unfolding count_below
-count_same zero f g same = refl
-count_same (suc n) f g same = rw (same n, count_same n f g same) refl
-
--- An item that says nothing of streams.
-pub record IsQuiet (item : Item) : Type 0 where
-  pub block : (i : ℕ) → is_block_on i item ≡ false
-  pub below : (i : ℕ) → is_goaway_below i item ≡ false
-  pub ends : (i : ℕ) → ends i item ≡ false
-  pub resets : (i : ℕ) → resets i item ≡ false
-  pub greatest : (items : List Item) → greatest_block (item ∷ items) ≡ greatest_block items
-
--- The same streams are active after items that keep what makes them so.
-pub active_kept : (role : Role) (i : ℕ) (received sent news : List Item) (reported : List Event)
-    → list_any (is_block_on i) news ≡ list_any (is_block_on i) sent
-    → is_above role i news ≡ is_above role i sent
-    → list_any (ends i) news ≡ list_any (ends i) sent
+-- Whether a stream is active hangs on these.
+pub active_like : (role : Role) (i : ℕ) (received sent news : List Item) (reported : List Event)
+    → list_any (is_block_on i) (openings role received news) ≡ list_any (is_block_on i)
+    (openings role received sent)
+    → is_above role i news ≡ is_above role i sent → list_any (ends i) news ≡ list_any (ends i) sent
     → list_any (resets i) news ≡ list_any (resets i) sent
     → is_active role i received news reported ≡ is_active role i received sent reported
 unfolding is_active is_over
-active_kept Client i received sent news reported blocks above ended reset =
+active_like role i received sent news reported blocks above ended reset =
     rw (blocks, above, ended, reset) refl
-active_kept Server i received sent news reported blocks above ended reset =
-    rw (above, ended, reset) refl
+
+-- Streams are active as before, where an item is sent that is no block, no end and no reset of
+-- them, and no GOAWAY.
+pub active_wrote : (role : Role) (i : ℕ) (item : Item) (received sent : List Item)
+    (reported : List Event) → is_block_on i item ≡ false → ends i item ≡ false
+    → resets i item ≡ false → is_goaway_below i item ≡ false → is_active role i received
+    (item ∷ sent) reported ≡ is_active role i received sent reported
+unfolding is_active is_over is_above
+active_wrote Client i item received sent reported blocks ended was below = rw (blocks, ended, was)
+    refl
+active_wrote Server i item received sent reported blocks ended was below = rw (below, ended, was)
+    refl
 
 -- An item that has no last stream.
 pub above_quiet : (role : Role) (i : ℕ) (item : Item) (sent : List Item)
@@ -235,110 +56,183 @@ unfolding is_above
 above_quiet Client i item sent none = refl
 above_quiet Server i item sent none = any_quiet (is_goaway_below i) item sent none
 
--- The same streams are active after an item that says nothing of streams.
-pub active_quiet : (role : Role) (i : ℕ) (received sent : List Item) (reported : List Event)
-    (item : Item) → IsQuiet item
-    → is_active role i received (item ∷ sent) reported ≡ is_active role i received sent reported
-active_quiet role i received sent reported item q =
-    active_kept role i received sent (item ∷ sent) reported
-    (any_quiet (is_block_on i) item sent (q.block i)) (above_quiet role i item sent (q.below i))
-    (any_quiet (ends i) item sent (q.ends i)) (any_quiet (resets i) item sent (q.resets i))
+-- The greatest number that was used is as before, where an item is sent that is no block.
+pub used_wrote : (role : Role) (item : Item) (received sent : List Item) → ((items : List Item)
+    → greatest_block (item ∷ items) ≡ greatest_block items)
+    → greatest_block (openings role received (item ∷ sent)) ≡ greatest_block (openings role received
+    sent)
+used_wrote Client item received sent none = none sent
+used_wrote Server item received sent none = refl
 
--- The greatest number is the same.
-pub greatest_quiet : (role : Role) (received sent : List Item) (item : Item)
-    → ((items : List Item) → greatest_block (item ∷ items) ≡ greatest_block items)
-    → greatest_block (openings role received (item ∷ sent)) ≡ greatest_block
-    (openings role received sent)
-greatest_quiet Client received sent item same = same sent
-greatest_quiet Server received sent item same = refl
+-- An item that touches nothing of a number but perhaps its receive window.
+pub record IsApartSent (j : ℕ) (item : Item) : Type 0 where
+  pub blocks : is_block_on j item ≡ false
+  pub ended : ends j item ≡ false
+  pub was_reset : resets j item ≡ false
+  pub below : is_goaway_below j item ≡ false
+  pub flow : data_on j item ≡ 0
 
--- As many streams are active where the same are, and the greatest number is the same.
-pub active_count_kept : (log : Log) (sent : List Item)
-    → ((i : ℕ) → is_active log.role i log.received sent log.reported ≡ active log i)
-    → greatest_block (openings log.role log.received sent) ≡ greatest_block
-    (openings log.role log.received log.sent)
-    → active_count (record log { sent = sent }) ≡ active_count log
-unfolding active_count
-active_count_kept log sent same greatest = rw greatest (count_same _ _ _ same)
-
--- The entry of a number is the same where it is active just as before, was reset just as before,
--- and, if it is active, is the same
--- stream.
-pub same_entry : (l k r p : Bool) (s t : StreamView) → k ≡ l → p ≡ r → (l ≡ true → t ≡ s)
-    → entry_by l r s ≡ entry_by k p t
-same_entry true k r p s t active was is = rw (active, is refl) refl
-same_entry false k r p s t active was is = rw (active, was) (closed r)
-  where
-    closed : (b : Bool) → entry_by false b s ≡ entry_by false b t
-    closed true = refl
-    closed false = refl
-
--- Streams of the same values are the same.
-pub same_stream : (s t : StreamView) → s.send_window ≡ t.send_window → s.recv_window ≡ t.recv_window
-    → s.owed ≡ t.owed → s.ended_in ≡ t.ended_in → s.ended_out ≡ t.ended_out → s ≡ t
-same_stream s t a b c d f =
-    let expanded : record {
-      send_window = s.send_window;
-      recv_window = s.recv_window;
-      owed = s.owed;
-      ended_in = s.ended_in;
-      ended_out = s.ended_out;
-    } ≡ t =
-    rw (a, b, c, d, f) refl in
-    expanded
-
--- The entry of streams is the same after an item that says nothing of streams, has no DATA, and
--- increments at most the connection's window.
-pub streams_quiet : (e : End) (log : Log) (item : Item) → IsQuiet item
-    → ((i : ℕ) → data_on i item ≡ 0) → ((i : ℕ) → i ≢ 0 → increment_on i item ≡ 0)
-    → own_value 4 first_window (acked log) (item ∷ log.sent) ≡ own_value 4 first_window (acked log)
-    log.sent → RepresentsWhileUp e log
-    → (i : ℕ) → map.get e.streams.entries i
-    ≡ entry_by (active (record log { sent = item ∷ log.sent }) i)
-    (list_any (resets i) (item ∷ log.sent))
-    (stream_of_log (record log { sent = item ∷ log.sent }) i)
-unfolding granted_on unreleased
-streams_quiet e log item q takes gives own h i =
-    h.streams i ∙ same_entry (active log i) _ (list_any (resets i) log.sent) _ (stream_of_log log i)
-    (stream_of_log (record log { sent = item ∷ log.sent }) i)
-    (active_quiet log.role i log.received log.sent log.reported item q)
-    (any_quiet (resets i) item log.sent (q.resets i))
-    (λ active_is. same_stream _ _ (ap (window _) (total_quiet (data_on i) item log.sent (takes i)))
-    (let more : total (increment_on i) (item ∷ log.sent) ≡ total (increment_on i) log.sent =
-    total_quiet (increment_on i) item log.sent (gives i (active_some log i active_is)) in
-    ap (λ (n : ℕ). window n (total (data_on i) log.received)) (rw (own, more) refl)) refl refl
-    (any_quiet (ends i) item log.sent (q.ends i)))
-
--- The values that are in force, and those that await their acknowledgment.
-pub record Valued (values : Values) (waits : Option Values) (log : Log) : Type 0 where
-  pub table_limit : values.table_limit ≡ own_value 1 4096 (acked log) log.sent
-  pub own_window : values.initial_window ≡ own_value 4 first_window (acked log) log.sent
-  pub max_streams : is_server log.role ≡ true → values.max_streams ≡ max_streams log
-  pub awaits : is_some waits ≡ settings_wait log
-  pub awaited : (others : Values) → waits ≡ Some others → AwaitsValues log others
-
--- They are the same after an item that isn't SETTINGS.
-pub valued_quiet : (e : End) (log : Log) (item : Item) → one_settings item ≡ 0
-    → RepresentsWhileUp e log
-    → Valued e.own.in_force e.own.awaited (record log { sent = item ∷ log.sent })
-unfolding max_streams
-valued_quiet e log item none h =
-    let count = settings_quiet item log.sent none in
+-- The log says the same of a number after such an item, which leaves its receive window.
+pub same_sent : (j : ℕ) (c : Core) (item : Item) → IsApartSent j item
+    → (active_by_items c j ≡ true → increment_on j item ≡ 0)
+    → own_value 4 first_window (confirmed c) (item ∷ c.sent)
+    ≡ own_value 4 first_window (confirmed c) c.sent → SameAt j c (sends c item)
+unfolding total granted_on
+same_sent j c item a gives own =
     record {
-      table_limit = h.table_limit ∙ sym (own_quiet 1 4096 (acked log) item log.sent none);
-      own_window = h.own_window ∙ sym (own_quiet 4 first_window (acked log) item log.sent none);
-      max_streams = λ server. h.max_streams server
-          ∙ sym (own_quiet 3 100 (max 1 (acked log)) item log.sent none);
-      awaits = h.awaits ∙ ap (nat_lt (acked log)) (sym count);
-      awaited = λ others is.
-          let a = h.awaited others is in
+      active = active_wrote c.role j item c.received c.sent c.reported a.blocks a.ended a.was_reset
+          a.below;
+      was_reset = any_quiet (resets j) item c.sent a.was_reset;
+      stream = λ alive. rw (own, gives alive, a.flow, a.ended, zero-add, zero-add) refl;
+    }
+
+-- An item that touches nothing of any stream but perhaps receive windows.
+pub record LeavesStreams (item : Item) : Type 0 where
+  pub apart : (j : ℕ) → IsApartSent j item
+  pub greatest : (items : List Item) → greatest_block (item ∷ items) ≡ greatest_block items
+  pub reset : one_reset item ≡ 0
+
+-- The streams are as before, where such an item is sent that leaves receive windows.
+pub streams_sent : (s : Streams) (c : Core) (item : Item) → LeavesStreams item
+    → ((j : ℕ) → j ≢ 0 → increment_on j item ≡ 0)
+    → own_value 4 first_window (confirmed c) (item ∷ c.sent)
+    ≡ own_value 4 first_window (confirmed c) c.sent → StreamsOf s c → StreamsOf s (sends c item)
+streams_sent s c item q gives own g =
+    streams_same s c (sends c item)
+    (λ j. same_sent j c item (q.apart j) (λ alive. gives j (active_some c j alive)) own)
+    (used_wrote c.role item c.received c.sent q.greatest) refl
+    (total_quiet one_reset item c.sent q.reset) g
+
+-- The connection's windows, where an item is sent that isn't DATA.
+pub windows_sent : (windows : ConnectionWindows) (received sent : List Item) (unreturned : ℕ)
+    (item : Item) (recv : ℕ) → data_of item ≡ 0 → recv ≡ windows.recv + increment_on 0 item
+    → RepresentsWindows windows received sent unreturned
+    → RepresentsWindows (record windows { recv = recv }) received (item ∷ sent) unreturned
+unfolding granted_on_connection total
+windows_sent windows received sent unreturned item recv none more g =
+    record {
+      send = omega (arith, none, g.send);
+      recv = omega (arith, more, g.recv);
+      unreturned = g.unreturned;
+    }
+
+-- Own settings, where an item is sent that isn't SETTINGS.
+pub own_sent : (own : OwnSettings) (role : Role) (count : ℕ) (sent : List Item) (item : Item)
+    → one_settings item ≡ 0 → RepresentsOwn own role count sent
+    → RepresentsOwn own role count (item ∷ sent)
+own_sent own role count sent item none g =
+    let w = g.in_force in
+    let counted = settings_quiet item sent none in
+    record {
+      in_force = record {
+        table_limit = w.table_limit ∙ sym (own_quiet 1 4096 count item sent none);
+        initial_window = w.initial_window ∙ sym (own_quiet 4 first_window count item sent none);
+        max_streams = λ server. w.max_streams server
+            ∙ sym (own_quiet 3 100 (max 1 count) item sent none);
+      };
+      awaits = g.awaits ∙ ap (nat_lt count) (sym counted);
+      awaited = λ values is.
+          let a = g.awaited values is in
           record {
-            table_limit = rw count (own_quiet 1 4096 (settings_count log.sent) item log.sent none
+            table_limit = rw counted (own_quiet 1 4096 (settings_count sent) item sent none
                 ∙ a.table_limit);
-            initial_window = rw count (own_quiet 4 first_window (settings_count log.sent) item
-                log.sent none ∙ a.initial_window);
-            max_streams = λ server. rw count
-                (own_quiet 3 100 (settings_count log.sent) item log.sent none
+            initial_window = rw counted (own_quiet 4 first_window (settings_count sent) item sent
+                none ∙ a.initial_window);
+            max_streams = λ server. rw counted (own_quiet 3 100 (settings_count sent) item sent none
                 ∙ a.max_streams server);
           };
+    }
+
+-- The GOAWAYs, where an item is sent that is none.
+pub goaways_sent : (goaway : GoAways) (received sent : List Item) (item : Item)
+    → is_goaway item ≡ false → goaway_sent_last (item ∷ sent) ≡ goaway_sent_last sent
+    → RepresentsGoAways goaway received sent → RepresentsGoAways goaway received (item ∷ sent)
+goaways_sent goaway received sent item none last g =
+    record { last_sent = rw (none, last) g.last_sent; least_received = g.least_received }
+
+-- The own PING that awaits its answer, where an item is sent that is no own PING.
+pub ping_sent : (ping : Option (List ℕ)) (c : Core) (item : Item) → one_ping item ≡ 0
+    → newest_ping (item ∷ c.sent) ≡ newest_ping c.sent → PingOf ping c → PingOf ping (sends c item)
+unfolding total
+ping_sent ping c item none newest g = rw (none, zero-add, newest) g
+
+-- An item that changes nothing of what an end keeps, but perhaps receive windows.
+pub record IsQuietOut (item : Item) : Type 0 where
+  pub streams : LeavesStreams item
+  pub leaves : is_goaway item ≡ false
+  pub newest : (items : List Item) → goaway_sent_last (item ∷ items) ≡ goaway_sent_last items
+  pub ping : (items : List Item) → newest_ping (item ∷ items) ≡ newest_ping items
+  pub pings : one_ping item ≡ 0
+  pub settings : one_settings item ≡ 0
+  pub flow_of : data_of item ≡ 0
+
+-- What an end keeps is as before, where such an item is sent, but for the streams and the receive
+-- window.
+pub quiet_sent : (h : CoreFacts) (c : Core) (item : Item) (streams : Streams) (recv : ℕ)
+    → IsQuietOut item → recv ≡ h.windows.recv + increment_on 0 item
+    → StreamsOf streams (sends c item) → Advances h c
+    → Advances (record h { streams = streams; windows = record h.windows { recv = recv } })
+    (sends c item)
+quiet_sent h c item streams recv q more are g =
+    record {
+      reading = g.reading;
+      encoder = g.encoder;
+      streams = are;
+      windows = windows_sent h.windows c.received c.sent c.unreturned item recv q.flow_of more
+          g.windows;
+      peer = g.peer;
+      own = own_sent h.own c.role (confirmed c) c.sent item q.settings g.own;
+      goaway = goaways_sent h.goaway c.received c.sent item q.leaves (q.newest c.sent) g.goaway;
+      ping = ping_sent h.ping c item q.pings (q.ping c.sent) g.ping;
+    }
+
+-- It is as before but for the receive window, where the item leaves the windows of streams.
+pub quiet_wrote : (h : CoreFacts) (c : Core) (item : Item) (recv : ℕ) → IsQuietOut item
+    → ((j : ℕ) → j ≢ 0 → increment_on j item ≡ 0) → recv ≡ h.windows.recv + increment_on 0 item
+    → Advances h c
+    → Advances (record h { windows = record h.windows { recv = recv } }) (sends c item)
+quiet_wrote h c item recv q gives more g =
+    quiet_sent h c item h.streams recv q more (streams_sent h.streams c item q.streams gives
+    (own_quiet 4 first_window (confirmed c) item c.sent q.settings) g.streams) g
+
+-- More or less is unreturned.
+pub unreturned_advances : (h : CoreFacts) (c : Core) (unreturned given : ℕ) → unreturned ≡ given
+    → Advances h c
+    → Advances (record h { windows = record h.windows { unreturned = unreturned } })
+    (record c { unreturned = given })
+unreturned_advances h c unreturned given same g =
+    record {
+      reading = g.reading;
+      encoder = g.encoder;
+      streams = g.streams;
+      windows = record { send = g.windows.send; recv = g.windows.recv; unreturned = same };
+      peer = g.peer;
+      own = g.own;
+      goaway = g.goaway;
+      ping = g.ping;
+    }
+
+-- The streams don't hang on calls that release nothing.
+pub called_streams : (s : Streams) (c : Core) (calls : List (Act × Answer))
+    → ((i : ℕ) → released i calls ≡ released i c.calls) → StreamsOf s c
+    → StreamsOf s (record c { calls = calls })
+called_streams s c calls same g =
+    streams_same s c (record c { calls = calls })
+    (λ j. record { active = refl; was_reset = refl; stream = λ alive. rw (same j) refl }) refl refl
+    refl g
+
+-- A call that releases nothing changes no more than the encoder.
+pub called_advances : (h : CoreFacts) (c : Core) (calls : List (Act × Answer))
+    (encoder : EncoderState) → ((i : ℕ) → released i calls ≡ released i c.calls) → Advances h c
+    → Advances (record h { encoder = encoder }) (record c { calls = calls; encoder = encoder })
+called_advances h c calls encoder same g =
+    record {
+      reading = g.reading;
+      encoder = refl;
+      streams = called_streams h.streams c calls same g.streams;
+      windows = g.windows;
+      peer = g.peer;
+      own = g.own;
+      goaway = g.goaway;
+      ping = g.ping;
     }

@@ -25,7 +25,7 @@ use Rattle.h2_log_laws.proofs.ReaderStates.{active_parts, lasts_parts}
 use Rattle.h2_log_laws.proofs.LogInvariant.{active_before}
 use Rattle.h2_log_laws.proofs.LogHistory.{reported_append}
 use Rattle.h2_log_laws.proofs.LogGrowth.{Grows}
-use Rattle.h2_machine_laws.proofs.SentQuietItems.{any_quiet, total_quiet}
+use Rattle.h2_machine_laws.proofs.OneItemMore.{any_quiet, total_quiet}
 
 -- Nothing was read or reported of a number.
 pub record IsUnseen (received : List Item) (reported : List Event) (i : ℕ) : Type 0 where
@@ -102,7 +102,7 @@ pub record Reads (role : Role) (received sent news : List Item) (reported events
   pub clear : role ≡ Client → (i : ℕ) → greatest_block sent < i → IsUnseen (item ∷ []) events i
 
 -- More events have no lesser greatest number.
-processed_after : (events reported : List Event)
+pub processed_after : (events reported : List Event)
     → greatest_processed reported ≤ greatest_processed (events ++ reported)
 unfolding greatest_processed
 processed_after [] reported = omega arith

@@ -35,8 +35,7 @@ use Rattle.h2_log_laws.proofs.ReaderStates.{active_parts}
 use Rattle.h2_log_laws.proofs.LogInvariant.{active_before}
 use Rattle.h2_log_laws.proofs.LogGrowth.{grows_twice, grows_wrote, grows_with_unreturned}
 use Rattle.h2_log_laws.proofs.LogGrowth.{grows_call}
-use Rattle.h2_machine_laws.proofs.UpInvariant.{IsUpLog, IsUpLogBy, up_log_grown, up_log_read}
-use Rattle.h2_machine_laws.proofs.UpInvariant.{openings_server, greatest_after}
+use Rattle.h2_machine_laws.proofs.UpInvariant.{IsUpLog, IsUpLogBy, up_log_grown, up_log_read, openings_server, greatest_after}
 use Rattle.h2_machine_laws.proofs.UpInvariantReads.{item_reads}
 
 -- A verdict after the limits that is no fault of the connection is that before them, by the test.

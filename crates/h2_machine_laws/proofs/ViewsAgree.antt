@@ -1,29 +1,22 @@
 -- An end that represents a log and hasn't failed is viewed as the log is: every observation agrees.
 use Rattle.std.proofs.Common.{◌≡◌, ℕ, ◌+◌, Bool, true, false, if◌then◌else◌, List, length}
 use Rattle.std.proofs.Common.{pos, is_some, refl, ap, ◌∙◌, arith}
-use Rattle.std.proofs.Common.{length-drop}
 use Rattle.std.proofs.lemmas.Int.{ints}
 use Rattle.std.specs.List.{list_any}
 use Rattle.h2_block.specs.Grouping.{Item}
 use Rattle.h2_log.specs.declared.role.Role.{Role}
 use Rattle.h2_log.specs.declared.role.Role.TheVariants.{Client, Server}
 use Rattle.h2_log.specs.Items.{resets, data_of, total, greatest_block}
-use Rattle.h2_log.specs.Acts.{Values}
 use Rattle.h2_log.specs.Settings.{is_server}
 use Rattle.h2_log.specs.States.{openings, when}
 use Rattle.h2_log.specs.Windows.{window, given_on_connection, granted_on_connection}
-use Rattle.h2_log.specs.Log.{Log, active, waiting, output, next_number, max_streams, goaway_written}
+use Rattle.h2_log.specs.Log.{Log, active, waiting, next_number, max_streams, goaway_written}
+use Rattle.h2_log.specs.Log.{active_count, last_processed, unreleased}
 use Rattle.h2_log.specs.LogView.{log_view, stream_of_log}
 use Rattle.h2_log.specs.View.{StreamView, View}
 use Rattle.h2_machine.specs.End.{End, end_view, stream_in, stream_at, number_after}
-use Rattle.h2_machine.specs.Represents.{Represents, RepresentsWhileUp, entry_by}
-
--- As much output waits as the log says.
-pub waiting_agrees : (values : Values) (e : End) (log : Log) → Represents values e log
-    → length e.output.waiting ≡ waiting log
-unfolding waiting
-waiting_agrees values e log represents = ap length represents.waiting
-    ∙ length-drop log.given (output log)
+use Rattle.h2_machine.specs.Represents.{RepresentsWhileUp, entry_by}
+use Rattle.h2_machine_laws.proofs.LogCore.{core, StreamsOf}
 
 -- An entry has a stream where it is active.
 entry_stream : (active was_reset : Bool) (s : StreamView)
@@ -33,10 +26,11 @@ entry_stream false true s = refl
 entry_stream false false s = refl
 
 -- Each stream is active where the log says so, and is the stream that it says.
-pub stream_agrees : (e : End) (log : Log) (i : ℕ) → RepresentsWhileUp e log
+pub stream_agrees : (e : End) (log : Log) (i : ℕ) → StreamsOf e.streams (core log)
     → stream_at e i ≡ when (active log i) (stream_of_log log i)
-stream_agrees e log i run =
-    ap stream_in (run.streams i)
+unfolding unreleased
+stream_agrees e log i streams =
+    ap stream_in (streams.entries i)
     ∙ entry_stream (active log i) (list_any (resets i) log.sent) (stream_of_log log i)
 
 -- There is something where the test holds.
@@ -45,9 +39,9 @@ when_some true x = refl
 when_some false x = refl
 
 -- A stream is active at the end just where the log says so.
-pub active_agrees : (e : End) (log : Log) (i : ℕ) → RepresentsWhileUp e log
+pub active_agrees : (e : End) (log : Log) (i : ℕ) → StreamsOf e.streams (core log)
     → is_some (stream_at e i) ≡ active log i
-active_agrees e log i run = ap is_some (stream_agrees e log i run) ∙ when_some _ _
+active_agrees e log i streams = ap is_some (stream_agrees e log i streams) ∙ when_some _ _
 
 -- The number of streams that a server allows is the log's.
 max_streams_agree : (role : Role) (ours logs : ℕ) → (is_server role ≡ true → ours ≡ logs)
@@ -81,45 +75,45 @@ view_beside e log =
 -- The two views are the same.
 pub views_agree : (e : End) (log : Log) → e.role ≡ log.role → e.failed ≡ log.failed
     → length e.output.waiting ≡ waiting log
-    → RepresentsWhileUp e log → end_view e ≡ view_beside e log
-unfolding next_number
-views_agree e log role failed waits run =
-    let stream = λ (k : ℕ). stream_agrees e log k run in
+    → StreamsOf e.streams (core log) → RepresentsWhileUp e log → end_view e ≡ view_beside e log
+unfolding next_number active_count last_processed max_streams
+views_agree e log role failed waits streams run =
+    let stream = λ (k : ℕ). stream_agrees e log k streams in
     let max_streams : (if is_server e.role then e.own.in_force.max_streams else 0)
     ≡ (log_view log).max_streams =
     rw role (max_streams_agree log.role e.own.in_force.max_streams (max_streams log)
-    run.max_streams) in
+    run.own.in_force.max_streams) in
     let next : (if is_server e.role then 0 else number_after e.streams.highest)
     ≡ (log_view log).next_number =
-    rw role (next_agrees log.role e.streams.highest log.received log.sent run.highest) in
+    rw role (next_agrees log.role e.streams.highest log.received log.sent streams.highest) in
     let send = window_agrees e.windows.send (total data_of log.sent)
-    (given_on_connection log.received) run.send_window in
+    (given_on_connection log.received) run.windows.send in
     let recv = window_agrees e.windows.recv (total data_of log.received)
-    (granted_on_connection log.sent) run.recv_window in
-    let goaway : is_some e.goaway.sent ≡ goaway_written log = ap is_some run.goaway_sent
+    (granted_on_connection log.sent) run.windows.recv in
+    let goaway : is_some e.goaway.sent ≡ goaway_written log = ap is_some run.goaway.last_sent
     ∙ when_some _ _ in
     λ i.
     record {
       role = role i;
       failed = failed i;
       started = run.started i;
-      begun = run.begun i;
+      begun = run.reading.begun i;
       state = (end_view e).state;
       stream = λ k. stream k i;
       overflows = (end_view e).overflows;
-      active_count = run.active_count i;
+      active_count = streams.active_count i;
       max_streams = max_streams i;
-      streams_allowed = run.streams_allowed i;
+      streams_allowed = run.peer.max_streams i;
       next_number = next i;
-      last_processed = run.last_processed i;
+      last_processed = streams.last_processed i;
       send_window = send i;
       recv_window = recv i;
-      unreturned = run.unreturned i;
+      unreturned = run.windows.unreturned i;
       goaway_sent = goaway i;
-      goaway_received = run.goaway_received i;
-      settings_wait = run.awaits i;
+      goaway_received = run.goaway.least_received i;
+      settings_wait = run.own.awaits i;
       ping = run.ping i;
-      resets = run.resets i;
+      resets = streams.resets i;
       waiting = waits i;
       max_payload = 16384;
       encoder = run.encoder i;

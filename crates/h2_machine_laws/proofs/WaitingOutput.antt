@@ -1,0 +1,125 @@
+-- An end's role, whether it has failed, and what waits of its output, are the log's: what steps make
+-- of them.
+use Rattle.std.proofs.Common.{◌≡◌, ℕ, ◌+◌, Bool, true, false, if◌then◌else◌, List, [], ◌∷◌}
+use Rattle.std.proofs.Common.{◌++◌, length, Option, Some, refl, ap, sym, ◌∙◌, arith}
+use Rattle.std.proofs.Common.{append-nil, length-append, length-drop}
+use Rattle.std.proofs.lemmas.List.{drop-append-le}
+use Rattle.h2_frame.specs.declared.code.Code.{Code}
+use Rattle.h2_frame.specs.Codes.{code_number}
+use Rattle.h2_frame.specs.Frames.{GoAway, WindowUpdate}
+use Rattle.h2_block.specs.Grouping.{Item, alone}
+use Rattle.h2_log.specs.declared.role.Role.{Role}
+use Rattle.h2_log.specs.Items.{encoding_of_items}
+use Rattle.h2_log.specs.Events.{Event}
+use Rattle.h2_log.specs.Limits.{max_frame_size_sent}
+use Rattle.h2_log.specs.Log.{Log, waiting, output, max_payload_sent}
+use Rattle.h2_log.proofs.SentPayloads.{most_is_limit}
+use Rattle.h2_log.specs.LogSteps.{with_sent, with_reported, with_failure}
+use Rattle.h2_log.specs.LogSteps.{with_credit_returned}
+use Rattle.h2_machine.specs.End.{End}
+use Rattle.h2_machine.specs.Machine.{queue_output}
+use Rattle.h2_log.specs.Acts.{Values}
+use Rattle.h2_machine.specs.Represents.{Represents, RepresentsOutput}
+
+-- An end's role, whether it has failed, and what waits, are these of a log.
+pub record SameConnection (role log_role : Role) (failed log_failed : Option Code)
+    (octets : List ℕ) (log_given : ℕ) (written : List ℕ) : Type 0 where
+  pub same_role : role ≡ log_role
+  pub same_failed : failed ≡ log_failed
+  pub output : RepresentsOutput octets log_given written
+
+-- the same of a log
+abbrev pub ConnectionFacts : Role → Option Code → List ℕ → Log → Type 0
+ConnectionFacts role failed octets log = SameConnection role log.role failed log.failed octets
+    log.given log.written
+
+-- and of an end
+abbrev pub Waits : End → Log → Type 0
+Waits e log = ConnectionFacts e.role e.failed e.output.waiting log
+
+-- what waits alone
+abbrev pub OutputOf : End → Log → Type 0
+OutputOf e log = RepresentsOutput e.output.waiting log.given log.written
+
+-- A machine that represents a log has them.
+pub waits_of : (values : Values) (e : End) (log : Log) → Represents values e log → Waits e log
+waits_of values e log s =
+    record { same_role = s.role; same_failed = s.failed; output = s.output }
+
+-- Octets that are written wait.
+output_more : (octets : List ℕ) (given : ℕ) (written more : List ℕ)
+    → RepresentsOutput octets given written → RepresentsOutput (octets ++ more) given (written ++ more)
+output_more octets given written more s =
+    record {
+      waiting = ap (λ (xs : List ℕ). xs ++ more) s.waiting
+          ∙ sym (drop-append-le given written more s.given);
+      given = omega (arith, s.given, length-append written more);
+    }
+
+-- So do items.
+pub wrote_output : (e : End) (log : Log) (items : List Item) → OutputOf e log
+    → OutputOf (queue_output e items) (with_sent log items)
+unfolding with_sent encoding_of_items
+wrote_output e log [] is =
+    record { waiting = append-nil e.output.waiting ∙ is.waiting; given = is.given }
+wrote_output e log (item ∷ items) is =
+    let more = output_more e.output.waiting log.given log.written
+    (encoding_of_items (max_payload_sent log) (item ∷ items)) is in
+    record {
+      waiting = ap (λ (most : ℕ). e.output.waiting ++ encoding_of_items most (item ∷ items))
+          (sym (most_is_limit log.received)) ∙ more.waiting;
+      given = more.given;
+    }
+
+-- As much waits as the log says.
+pub waits_much : (e : End) (log : Log) → OutputOf e log → length e.output.waiting ≡ waiting log
+unfolding waiting output
+waits_much e log w = ap length w.waiting ∙ length-drop log.given log.written
+
+-- Items that are written wait.
+pub wrote_connection : (role : Role) (failed : Option Code) (waits : List ℕ) (log : Log)
+    (item : Item) (items : List Item) → ConnectionFacts role failed waits log
+    → ConnectionFacts role failed (waits ++ encoding_of_items max_frame_size_sent (item ∷ items))
+    (with_sent log (item ∷ items))
+unfolding with_sent
+wrote_connection role failed waits log item items s =
+    record {
+      same_role = s.same_role;
+      same_failed = s.same_failed;
+      output = rw (most_is_limit log.received) (output_more waits log.given log.written
+          (encoding_of_items max_frame_size_sent (item ∷ items)) s.output);
+    }
+
+-- Where the connection fails, GOAWAY waits.
+pub fails_connection : (role : Role) (failed : Option Code) (waits : List ℕ) (log : Log)
+    (code : Code) (last other : ℕ) → last ≡ other
+    → ConnectionFacts role failed waits log
+    → ConnectionFacts role (Some code) (waits
+    ++ encoding_of_items max_frame_size_sent (alone (GoAway last (code_number code) []) ∷ [])) (with_failure code other log)
+unfolding with_sent
+fails_connection role failed waits log code last other same s =
+    let wrote = wrote_connection role failed waits log (alone (GoAway other (code_number code) []))
+    [] s in
+    rw same (record { same_role = wrote.same_role; same_failed = refl; output = wrote.output })
+
+-- Events wait for nothing.
+pub reports_connection : (role : Role) (failed : Option Code) (waits : List ℕ) (log : Log)
+    (events : List Event) → ConnectionFacts role failed waits log
+    → ConnectionFacts role failed waits (with_reported log events)
+unfolding with_reported
+reports_connection role failed waits log [] s = s
+reports_connection role failed waits log (event ∷ events) s = s
+
+-- What is unreturned, by the test whether it is returned.
+pub with_unreturned_connection_by : (role : Role) (failed : Option Code) (waits : List ℕ)
+    (log : Log) (more unreturned : ℕ) (b : Bool) → unreturned ≡ log.unreturned
+    → ConnectionFacts role failed waits log
+    → ConnectionFacts role failed (if b then waits
+    ++ encoding_of_items max_frame_size_sent (alone (WindowUpdate 0 (unreturned + more)) ∷ []) else waits)
+    (if b then with_credit_returned (record log { unreturned = log.unreturned + more }) else record
+    log { unreturned = log.unreturned + more })
+unfolding with_sent
+with_unreturned_connection_by role failed waits log more unreturned true same s =
+    rw same (wrote_connection role failed waits log (alone (WindowUpdate 0 (log.unreturned + more)))
+    [] s)
+with_unreturned_connection_by role failed waits log more unreturned false same s = s
