@@ -11,7 +11,8 @@ mod windows;
 
 pub use bounds::{connection_window_is_kept, everything_is_bounded};
 pub use machine::{
-    calls_preserve_representation, new_end_represents, steps_without_frames_preserve_representation,
+    calls_preserve_representation, frames_preserve_representation, new_end_represents,
+    steps_preserve_representation, steps_without_frames_preserve_representation,
 };
 pub use windows::{
     connection_window_is_conserved, connection_window_of_a_log, owed_on_all_streams,

@@ -1,6 +1,8 @@
 //! The machine, and the logs that it represents.
 
-ghost use Rattle.std.specs.Prelude.{◌≡◌, ◌≢◌, ℕ, List, None};
+ghost use Rattle.std.specs.Prelude.{◌≡◌, ◌≢◌, ℕ, List, Option, None};
+ghost use Rattle.h2_frame.specs.Frames.{Frame};
+ghost use Rattle.h2_log.specs.ItemRules.{Decoded};
 ghost use Rattle.h2_frame.specs.declared.code.Code.TheVariants.{InternalError};
 ghost use Rattle.h2_wire.specs.declared.fault.WireFault.{WireFault};
 ghost use Rattle.h2_wire.specs.Faults.{wire_fault_code};
@@ -8,14 +10,17 @@ ghost use Rattle.h2_machine.specs.End.{end_view, End};
 ghost use Rattle.h2_log.specs.LogView.{log_view};
 ghost use Rattle.h2_log.specs.Acts.{Values, AreInRange, Act, Answer, IsTypedAct};
 ghost use Rattle.h2_log.specs.Log.{Log, next_unprocessed};
-ghost use Rattle.h2_log.specs.LogSteps.{took_part, took_fault, took_out_of_memory, took_none};
+ghost use Rattle.h2_log.specs.LogSteps.{took_part, took_frame, took_fault};
+ghost use Rattle.h2_log.specs.LogSteps.{took_out_of_memory, took_none};
 ghost use Rattle.h2_log.specs.LogCalls.{opened, MayAnswer, with_call};
 ghost use Rattle.h2_log.specs.CallRules.{refusal_of};
-ghost use Rattle.h2_log.specs.Histories.{TakesOctets, TakesPart, TakesFault, MayRunOutOfMemory};
-ghost use Rattle.h2_machine.specs.Machine.{new_end, fail, close_unprocessed, unprocessed_of_end};
+ghost use Rattle.h2_log.specs.Histories.{IsLog, TakesOctets, TakesPart, TakesFrame};
+ghost use Rattle.h2_log.specs.Histories.{TakesFault, IsDecodedFor, MayRunOutOfMemory};
+ghost use Rattle.h2_machine.specs.Machine.{new_end, after_frame, fail, close_unprocessed};
+ghost use Rattle.h2_machine.specs.Machine.{unprocessed_of_end};
 ghost use Rattle.h2_machine.specs.Represents.{Represents};
 ghost use Rattle.h2_log.specs.declared.role.Role.{Role};
-ghost use Rattle.h2_machine_laws.specs.Machines.{end_after};
+ghost use Rattle.h2_machine_laws.specs.Machines.{end_after, Step, MayStep, log_after, machine_after};
 
 /// A new machine represents the log of a new end.
 pub fn new_end_represents()
@@ -55,4 +60,22 @@ pub fn steps_without_frames_preserve_representation()
     ensures unprocessed { (values : Values) (e : End) (log : Log) → Represents values e log
         → log.failed ≡ None → next_unprocessed log ≢ 0
         → Represents values (close_unprocessed e (next_unprocessed log)) (took_none log) }
+{}
+
+/// After a frame a machine represents the log with it: whatever the frame, the field block that it
+/// ends, its fault and the limits that it meets.
+pub fn frames_preserve_representation()
+    ensures { (values : Values) (e : End) (log : Log) (octets : List ℕ) (frame : Frame)
+        (decoded : Option Decoded) → Represents values e log → TakesOctets log
+        → TakesFrame log.role log octets frame → IsDecodedFor log decoded frame
+        → Represents values (after_frame e decoded frame) (took_frame log octets decoded frame) }
+{}
+
+/// After every step that a log may take a machine that represents it represents the log after it.
+/// So of each log that comes about there is a machine that represents it.
+pub fn steps_preserve_representation()
+    ensures step { (values : Values) (e : End) (log : Log) (step : Step) → Represents values e log
+        → MayStep log step → Represents values (machine_after e step) (log_after log step) }
+    ensures every { (role : Role) (values : Values) (log : Log) → IsLog role values log
+        → (e : End) × Represents values e log }
 {}

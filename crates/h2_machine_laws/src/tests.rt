@@ -2,7 +2,8 @@
 
 use crate::{
     calls_preserve_representation, connection_window_is_conserved, connection_window_is_kept,
-    connection_window_of_a_log, everything_is_bounded, new_end_represents, owed_on_all_streams,
+    connection_window_of_a_log, everything_is_bounded, frames_preserve_representation,
+    new_end_represents, owed_on_all_streams, steps_preserve_representation,
     steps_without_frames_preserve_representation,
 };
 
@@ -13,7 +14,9 @@ fn laws_are_called() {
     connection_window_is_kept();
     connection_window_of_a_log();
     everything_is_bounded();
+    frames_preserve_representation();
     new_end_represents();
     owed_on_all_streams();
+    steps_preserve_representation();
     steps_without_frames_preserve_representation();
 }
