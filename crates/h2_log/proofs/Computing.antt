@@ -35,7 +35,6 @@ use Rattle.h2_log.specs.Items.{greatest_block, increment_on, is_block_on, is_goa
 use Rattle.h2_log.specs.Items.{is_goaway_below, one_answer, one_ping, one_reset, opens_from, resets}
 use Rattle.h2_log.specs.Items.{stream_of_item, total}
 use Rattle.h2_log.specs.ItemEffects.{discarded_flow, encoder_after_settings, events_of}
-use Rattle.h2_log.specs.Configs.{first_bad}
 use Rattle.h2_log.specs.Events.{flow_on, greatest_processed, one_acked, one_pong, processed_by}
 use Rattle.h2_log.specs.Events.{reported_total, reports_unprocessed}
 use Rattle.h2_log.specs.ItemRules.{frame_step, grouped, grouping_step, may_be_first, opened_by}
@@ -60,7 +59,7 @@ unfolding bits_of number_of octets_of groups code_in code huffman_bits continuat
     continuations spread_frames IsTypedAct active_count allowed_by any_block before
     before_put_out block_verdict changed_pairs conditions connection_update_verdict count_below
     data_frames data_items data_of data_on data_verdict discarded_flow encoder_after_call
-    encoder_after_settings encoding_of_item encoding_of_items ends events_of first_bad first_of
+    encoder_after_settings encoding_of_item encoding_of_items ends events_of first_of
     flow_on frame_step given_on given_on_connection granted_on granted_on_connection
     greatest_block greatest_processed grouped grouping_step increment_on is_above is_active
     is_block_on is_closed_by_us is_goaway is_goaway_below is_over is_used items_of

@@ -8,6 +8,7 @@ use Rattle.h2_frame.specs.declared.code.Code.{Code}
 use Rattle.h2_log.specs.declared.refusal.Refusal.{Refusal}
 use Rattle.h2_log.specs.Events.{Event}
 use Rattle.h2_log.specs.Windows.{greatest_window}
+use Rattle.h2_log.specs.Limits.{max_table_limit, least_max_streams, most_max_streams}
 
 -- the values of an end's own settings
 pub record Values : Type 0 where
@@ -17,11 +18,11 @@ pub record Values : Type 0 where
 
 -- An end's values are within their bounds (own).
 pub record AreInRange (values : Values) : Type 0 where
-  pub table_limit : values.table_limit ≤ 65536
+  pub table_limit : values.table_limit ≤ max_table_limit
   pub least_window : 1 ≤ values.initial_window
   pub initial_window : values.initial_window ≤ greatest_window
-  pub least_streams : 100 ≤ values.max_streams
-  pub max_streams : values.max_streams ≤ 1000
+  pub least_streams : least_max_streams ≤ values.max_streams
+  pub max_streams : values.max_streams ≤ most_max_streams
 
 -- A call with its arguments. Taking octets isn't among them: what an end makes of those is said
 -- frame by frame.

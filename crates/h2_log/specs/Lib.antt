@@ -16,5 +16,4 @@ pub mod LogSteps
 pub mod LogCalls
 pub mod Histories
 pub mod Allowed
-pub mod Configs
 pub mod WrittenFrames

@@ -24,3 +24,14 @@ max_frame_size_sent = 16384
 -- the most octets that one call sends of a body
 abbrev pub max_data : ℕ
 max_data = 65536
+
+-- the bounds of the values of an end's own settings: the greatest table limit; the least and the
+-- greatest number of streams. An initial window is from 1 to the greatest window.
+abbrev pub max_table_limit : ℕ
+max_table_limit = 65536
+
+abbrev pub least_max_streams : ℕ
+least_max_streams = 100
+
+abbrev pub most_max_streams : ℕ
+most_max_streams = 1000

@@ -5,14 +5,12 @@
 //! laws above them.
 #![tactic(auto)]
 
-mod config;
 mod refusal;
 mod role;
 mod streams;
 #[cfg(test)]
 mod tests;
 
-pub use config::{BadConfig, Config};
 pub use refusal::Refusal;
 pub use role::Role;
 pub use streams::{block_in_its_encoding, frame_in_its_encoding, frames_of_a_log};

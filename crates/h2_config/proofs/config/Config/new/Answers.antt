@@ -1,8 +1,8 @@
 -- By the tests of the code, which are those of the definition.
 use Rattle.std.proofs.Common.{arith}
 use Rattle.std.proofs.lemmas.Bool.Decides.{nat_tests}
-use Rattle.h2_log.specs.Configs.{first_bad}
-use Rattle.h2_log.proofs.config.Config.new.Goals as goal
+use Rattle.h2_config.specs.Configs.{first_bad}
+use Rattle.h2_config.proofs.config.Config.new.Goals as goal
 
 pub returns-then-table_limit-gt65536-clause-bad : goal.returns-then-table_limit-gt65536-clause-bad
 unfolding first_bad

@@ -1,7 +1,8 @@
 //! The values of an end's own settings.
 
-ghost use Rattle.std.specs.Prelude.{◌≡◌, ◌≤◌, ◌^◌, ◌-◌, None, Some, OnOk, IfOk, IfErr};
-ghost use Rattle.h2_log.specs.Configs.{first_bad};
+ghost use Rattle.std.specs.Prelude.{◌≡◌, None, Some, OnOk, IfOk, IfErr};
+ghost use Rattle.h2_log.specs.Acts.{AreInRange};
+ghost use Rattle.h2_config.specs.Configs.{first_bad};
 
 use thiserror::Error;
 
@@ -11,8 +12,11 @@ pub struct Config {
     table_limit: u32,
     initial_window: u32,
     max_streams: u32,
-    ghost in_range: { (table_limit ≤ 65536) × (1 ≤ initial_window)
-        × (initial_window ≤ 2 ^ 31 - 1) × (100 ≤ max_streams) × (max_streams ≤ 1000) },
+    ghost in_range: { AreInRange (record {
+      table_limit = table_limit;
+      initial_window = initial_window;
+      max_streams = max_streams;
+    }) },
 }
 
 /// Why there is no such [`Config`]: the first of its values that is out of its bounds.
@@ -40,9 +44,16 @@ impl Config {
     pub fn new(table_limit: u32, initial_window: u32, max_streams: u32) -> Result<Config, BadConfig>
         ensures values { IfOk result (λ config. (config.table_limit ≡ table_limit)
             × (config.initial_window ≡ initial_window) × (config.max_streams ≡ max_streams)) }
-        ensures good { OnOk result (first_bad table_limit initial_window max_streams ≡ None) }
-        ensures bad { IfErr result (λ bad. first_bad table_limit initial_window max_streams
-            ≡ Some bad) }
+        ensures good { OnOk result (first_bad (record {
+          table_limit = table_limit;
+          initial_window = initial_window;
+          max_streams = max_streams;
+        }) ≡ None) }
+        ensures bad { IfErr result (λ bad. first_bad (record {
+          table_limit = table_limit;
+          initial_window = initial_window;
+          max_streams = max_streams;
+        }) ≡ Some bad) }
     {
         if table_limit > 65_536 {
             Err(BadConfig::TableLimit)

@@ -1,0 +1,2 @@
+pub mod ConfigValues
+pub mod Configs

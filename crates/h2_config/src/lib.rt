@@ -1,0 +1,8 @@
+//! The values of an end's own settings (RFC 9113, section 6.5.2), each within its bounds.
+#![tactic(auto)]
+
+mod config;
+#[cfg(test)]
+mod tests;
+
+pub use config::{BadConfig, Config};
