@@ -1,0 +1,2 @@
+-- The lemmas of the laws.
+pub mod Failures
