@@ -1,2 +1,4 @@
 -- The lemmas of the laws.
 pub mod Failures
+pub mod Replies
+pub mod Unread
