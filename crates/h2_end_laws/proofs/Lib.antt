@@ -1,4 +1,5 @@
 -- The lemmas of the laws.
 pub mod Failures
+pub mod Grouped
 pub mod Replies
 pub mod Unread
