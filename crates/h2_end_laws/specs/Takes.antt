@@ -6,7 +6,6 @@ use Rattle.h2_frame.specs.declared.code.Code.TheVariants.{InternalError}
 use Rattle.h2_frame.specs.Frames.{Frame}
 use Rattle.h2_wire.specs.declared.fault.WireFault.{WireFault}
 use Rattle.h2_wire.specs.Faults.{wire_fault_code}
-use Rattle.h2_log.specs.declared.role.Role.{Role}
 use Rattle.h2_log.specs.Events.{Event, UnprocessedEvent}
 use Rattle.h2_log.specs.Log.{Log, next_unprocessed}
 use Rattle.h2_log.specs.ItemRules.{Decoded}
