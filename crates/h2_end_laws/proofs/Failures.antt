@@ -23,8 +23,8 @@ use Rattle.h2_log.specs.View.{View}
 use Rattle.h2_log.specs.LogView.{log_view}
 use Rattle.h2_log.specs.ItemRules.{Decoded, FrameStep, fails_with, begins_block, completes}
 use Rattle.h2_log.specs.ItemRules.{frame_step}
-use Rattle.h2_log.specs.CallRules.{conditions, refusal_of, has_failed, refuse_fault, may_lack_memory}
-use Rattle.h2_log.specs.CallRules.{returns_before_put_out}
+use Rattle.h2_log.specs.CallRules.{conditions, refusal_of, has_failed, refuse_fault}
+use Rattle.h2_log.specs.CallRules.{may_lack_memory, returns_before_put_out}
 use Rattle.h2_log.specs.LogSteps.{used, with_sent, with_reported, with_unreturned}
 use Rattle.h2_log.specs.LogSteps.{with_credit_returned, with_failure, with_verdict, with_step}
 use Rattle.h2_log.specs.LogSteps.{with_frame}

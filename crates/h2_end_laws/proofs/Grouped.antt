@@ -265,8 +265,9 @@ items_grouped role values _ (begins in_range) = grouped_opened role values
 items_grouped role values _ (took_some {log = log} is takes octets unparsed read) =
     grouped_used log octets unparsed (items_grouped role values log is)
 items_grouped role values _ (took_one {log = log} is takes octets frame decoded read sees) =
-    grouped_frame (used log octets []) decoded frame (groups_now (used log octets [])
-    (grouped_used log octets [] (items_grouped role values log is)) (used_up log octets [] takes.up))
+    let before = grouped_used log octets [] (items_grouped role values log is) in
+    grouped_frame (used log octets []) decoded frame (groups_now (used log octets []) before
+    (used_up log octets [] takes.up))
 items_grouped role values _ (met_fault {log = log} is takes octets fault at) =
     grouped_still (used log octets []) _ (reads_fails (wire_fault_code fault) _ _)
     (grouped_used log octets [] (items_grouped role values log is))

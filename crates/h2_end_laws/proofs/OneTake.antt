@@ -91,7 +91,8 @@ one_line before piece octets unused others left joined again =
     sym (line before piece octets unused joined) ∙ line before piece others left again
 
 -- The fault is made with the last octet.
-fault_made : (log : Log) (octets : List ℕ) (fault : WireFault) → TakesFault log.role log octets fault
+fault_made : (log : Log) (octets : List ℕ) (fault : WireFault)
+    → TakesFault log.role log octets fault
     → EndsWithFault (is_server log.role) (limits_from log) log.frames (log.input ++ octets) fault
 fault_made log octets fault at =
     subst (λ (stream : List ℕ). EndsWithFault (is_server log.role) (limits_from log) log.frames
@@ -191,8 +192,8 @@ one_fault log after other piece octets unused others left fault another answer a
     )
 
 -- What was answered again once the connection had failed is what any call answers.
-after_failure : (log after other : Log) (piece : List ℕ) (answer answered : TakeAnswer) (code : Code)
-    → log.failed ≡ Some code → answer ≡ Failed code → after ≡ log
+after_failure : (log after other : Log) (piece : List ℕ) (answer answered : TakeAnswer)
+    (code : Code) → log.failed ≡ Some code → answer ≡ Failed code → after ≡ log
     → (b : MayTake log piece answered other) → HadMemory b → IsSame answer answered after other
 after_failure log after other piece answer answered code failed answers same
     (has_failed again fails tells is) had =

@@ -244,9 +244,8 @@ take_tells role values log after piece (Took count event) is
 take_tells role values log after piece (Failed code) is
     (ends_frame takes octets unused joined frame decoded framed sees same answers) = (
       answers,
-      ap (λ (log : Log). log.reported) same
-          ∙ failed_reported log (took_frame log octets decoded frame) code (frame_answers log octets decoded frame takes.up)
-          (ap (λ (log : Log). log.failed) (sym same) ∙ answers),
+      failed_reported log after code (subst (λ (now : Log). Answers log now) (sym same)
+          (frame_answers log octets decoded frame takes.up)) answers,
     )
 take_tells role values log after piece answer is
     (meets_fault takes octets unused joined fault at answers same) =

@@ -23,6 +23,16 @@ same_frame limit frame other first second tail end sound complete line =
     ∙ ap (λ head. 9 + head.length) same ∙ sym complete.encodes.complete in
     same_prefix first second tail end long line
 
+-- What follows the octets of a frame, after what follows them in another list.
+longer_body : (first following second beyond others body another : List ℕ)
+    → body ≡ first ++ following → another ≡ second ++ beyond → first ≡ second
+    → beyond ≡ following ++ others → another ≡ body ++ others
+longer_body first following second beyond others body another split parted same more =
+    parted ∙ ap (λ (octets : List ℕ). octets ++ beyond) (sym same)
+    ∙ ap (λ (octets : List ℕ). first ++ octets) more
+    ∙ sym (append_assoc first following others)
+    ∙ ap (λ (octets : List ℕ). octets ++ others) (sym split)
+
 -- Where one line begins with frames, and with the same frames and more, the same octets are those
 -- that both begin with.
 same_begin : (limits : Limits) (preceding : ℕ) (frames more : List Frame)
@@ -49,10 +59,7 @@ same_begin limits preceding (frame ∷ frames) more body another tail end
     let at : preceding + length first + length following ≡ preceding + length body =
     rw (split, length-append) (omega arith) in (
       others.0,
-      parted ∙ ap (λ (octets : List ℕ). octets ++ beyond) (sym one)
-          ∙ ap (λ (octets : List ℕ). first ++ octets) others.1
-          ∙ sym (append_assoc first following others.0)
-          ∙ ap (λ (octets : List ℕ). octets ++ others.0) (sym split),
+      longer_body first following second beyond others.0 body another split parted one others.1,
       subst (λ (n : ℕ). AreFrames limits n more others.0) at others.2,
     )
 

@@ -10,9 +10,10 @@ ghost use Rattle.h2_log.specs.LogSteps.{took_frame};
 ghost use Rattle.h2_log.specs.Histories.{IsLog, TakesOctets, TakesFrame, IsDecodedFor};
 ghost use Rattle.h2_end_laws.specs.Takes.{TakeAnswer, MayTake, HadMemory, TakeTells};
 
-/// After each call an end has a log that comes about. The octets used are a prefix of the piece, the
-/// event is the newest of the log, and there is none but that; a failed end answers its code. Of each
-/// frame there is an answer. Where memory isn't refused, what is answered and the log after it follow from the log and the piece.
+/// After each call an end has a log that comes about. The octets used are a prefix of the piece,
+/// the event is the newest of the log, and there is none but that; a failed end answers its code.
+/// Of each frame there is an answer. Where memory isn't refused, what is answered and the log after
+/// it follow from the log and the piece.
 pub fn take_answers()
     ensures closed { (role : Role) (values : Values) (log after : Log) (piece : List ℕ)
         (answer : TakeAnswer) → IsLog role values log → MayTake log piece answer after
