@@ -1,0 +1,316 @@
+-- What an end that has failed has written last: GOAWAY with its code, and nothing after it.
+use Rattle.std.proofs.Common.{◌≡◌, ◌≤◌, ℕ, ◌+◌, nat_lt, ◌&&◌, not, max, Bool, true, false}
+use Rattle.std.proofs.Common.{if◌then◌else◌, List, [], ◌∷◌, ◌++◌, Option, Some, None, is_some, refl}
+use Rattle.std.proofs.Common.{sym, ap, ◌∙◌, arith, subst}
+use Rattle.std.proofs.lemmas.Bool.{both_ways}
+use Rattle.h2_frame.specs.declared.code.Code.{Code}
+use Rattle.h2_frame.specs.declared.code.Code.TheVariants.{InternalError}
+use Rattle.h2_frame.specs.Frames.{Frame}
+use Rattle.h2_wire.specs.Faults.{wire_fault_code}
+use Rattle.h2_wire.proofs.ReadingLemmas.{none_some, one_code}
+use Rattle.h2_block.specs.Grouping.{Item}
+use Rattle.h2_log.specs.declared.role.Role.{Role}
+use Rattle.h2_log.specs.declared.refusal.Refusal.TheVariants.{Memory}
+use Rattle.h2_log.specs.Items.{encoding_of_item, encoding_of_items}
+use Rattle.h2_log.specs.Events.{Event}
+use Rattle.h2_log.specs.Acts.{Values, Act, Answer, Open, SendFields, SendData, Release, ResetStream}
+use Rattle.h2_log.specs.Acts.{Refuse, SendPing, SendGoAway, PutOut, ChangeSettings, Count}
+use Rattle.h2_log.specs.Acts.{OutOfMemory, Refused}
+use Rattle.h2_log.specs.Log.{Log, last_processed, waiting}
+use Rattle.h2_log.specs.Limits.{full_output}
+use Rattle.h2_log.specs.Verdicts.{Verdict, ConnectionFault, StreamFault, NoEvent, Reported}
+use Rattle.h2_log.specs.View.{View}
+use Rattle.h2_log.specs.LogView.{log_view}
+use Rattle.h2_log.specs.ItemRules.{Decoded, FrameStep, fails_with, begins_block, completes}
+use Rattle.h2_log.specs.ItemRules.{frame_step}
+use Rattle.h2_log.specs.CallRules.{conditions, refusal_of, has_failed, refuse_fault}
+use Rattle.h2_log.specs.CallRules.{may_lack_memory, returns_before_put_out}
+use Rattle.h2_log.specs.LogSteps.{used, with_sent, with_reported, with_unreturned}
+use Rattle.h2_log.specs.LogSteps.{with_credit_returned, with_failure, with_verdict, with_step}
+use Rattle.h2_log.specs.LogSteps.{with_frame}
+use Rattle.h2_log.specs.LogCalls.{called, with_items, refused_with, before_put_out, with_call}
+use Rattle.h2_log.specs.LogCalls.{MayAnswer, accepts, refuses, lacks, fails, opened}
+use Rattle.h2_log.specs.Histories.{IsLog, begins, took_some, took_one, met_fault, ran_out_of_memory}
+use Rattle.h2_log.specs.Histories.{reported_one, called_one}
+use Rattle.h2_log_laws.proofs.CallConditions.{none_holds}
+use Rattle.h2_end_laws.specs.Failures.{EndsInGoAway}
+
+-- What is written fails nothing.
+pub sent_failed : (log : Log) (items : List Item) → (with_sent log items).failed ≡ log.failed
+unfolding with_sent
+sent_failed log [] = refl
+sent_failed log (item ∷ items) = refl
+
+-- Nor does what is reported.
+pub reported_failed : (log : Log) (events : List Event)
+    → (with_reported log events).failed ≡ log.failed
+unfolding with_reported
+reported_failed log [] = refl
+reported_failed log (event ∷ events) = refl
+
+-- What is due, by the test whether it is returned.
+unreturned_by : (more : ℕ) (log : Log) (b : Bool)
+    → (if b then with_credit_returned (record log { unreturned = log.unreturned + more })
+    else record log { unreturned = log.unreturned + more }).failed ≡ log.failed
+unfolding with_sent
+unreturned_by more log true = refl
+unreturned_by more log false = refl
+
+-- Nor what is due.
+pub unreturned_failed : (more : ℕ) (log : Log) → (with_unreturned more log).failed ≡ log.failed
+unfolding with_unreturned
+unreturned_failed more log = unreturned_by more log (nat_lt 0 more && nat_lt (waiting log)
+    full_output)
+
+-- Nor what a call writes.
+items_failed : (log : Log) (act : Act) (answer : Answer)
+    → (with_items log act answer).failed ≡ log.failed
+unfolding with_items
+items_failed log act answer = unreturned_failed _ _ ∙ sent_failed _ _
+
+-- Nor what is returned before octets are given out, by the test whether it is.
+put_out_by : (log : Log) (b : Bool) → (if b then with_credit_returned log else log).failed
+    ≡ log.failed
+unfolding with_sent
+put_out_by log true = refl
+put_out_by log false = refl
+
+put_out_failed : (log : Log) → (before_put_out log).failed ≡ log.failed
+unfolding before_put_out
+put_out_failed log = put_out_by log (returns_before_put_out (log_view log))
+
+-- Nor a verdict that is no fault of the connection.
+replied_failed : (log read : Log) (more : ℕ) (replies : List Item) (events : List Event)
+    → read.failed ≡ log.failed
+    → (with_reported (with_unreturned more (with_sent read replies)) events).failed ≡ log.failed
+replied_failed log read more replies events same =
+    reported_failed _ events ∙ unreturned_failed more _ ∙ sent_failed read replies ∙ same
+
+-- A number is not above itself.
+at_most : (n : ℕ) → n ≤ n
+at_most n = omega arith
+
+-- nor above the greater of two
+at_most_max : (n m : ℕ) → n ≤ max n m
+at_most_max n m = omega arith
+
+-- A failure writes GOAWAY with its code last.
+fails_ends : (fault : Code) (last : ℕ) (log : Log) → last_processed log ≤ last → (code : Code)
+    → (with_failure fault last log).failed ≡ Some code
+    → EndsInGoAway (with_failure fault last log) code
+unfolding with_sent encoding_of_items encoding_of_item last_processed
+fails_ends fault last log processed code is =
+    subst (λ (c : Code). EndsInGoAway (with_failure fault last log) c) (one_code fault code is)
+    (record {
+      last = last;
+      earlier = log.sent;
+      front = log.written;
+      newest = refl;
+      processed = processed;
+      written = refl;
+    })
+
+-- What was up and hasn't changed isn't failed.
+still_up : {Goal : Type 0} (old new : Option Code) (code : Code) → old ≡ None
+    → new ≡ old → new ≡ Some code → Goal
+still_up old new code up same is = none_some code (sym up ∙ sym same ∙ is)
+
+-- After an item, by its verdict.
+verdict_ends : (log : Log) (decoded : Option Decoded) (item : Item) (verdict : Verdict)
+    → log.failed ≡ None → (code : Code)
+    → (with_verdict log decoded item verdict).failed ≡ Some code
+    → EndsInGoAway (with_verdict log decoded item verdict) code
+unfolding with_verdict
+verdict_ends log decoded item (ConnectionFault fault) up code is =
+    fails_ends fault _ log (at_most_max _ _) code is
+verdict_ends log decoded item (StreamFault fault) up code is =
+    still_up log.failed _ code up (replied_failed log _ _ _ _ refl) is
+verdict_ends log decoded item NoEvent up code is =
+    still_up log.failed _ code up (replied_failed log _ _ _ _ refl) is
+verdict_ends log decoded item Reported up code is =
+    still_up log.failed _ code up (replied_failed log _ _ _ _ refl) is
+
+-- After what a frame makes of the block that has begun.
+step_ends : (log : Log) (decoded : Option Decoded) (step : FrameStep) → log.failed ≡ None
+    → (code : Code) → (with_step log decoded step).failed ≡ Some code
+    → EndsInGoAway (with_step log decoded step) code
+unfolding with_step
+step_ends log decoded (fails_with fault) up code is =
+    fails_ends fault (last_processed log) log (at_most _) code is
+step_ends log decoded (begins_block begun) up code is = none_some code (sym up ∙ is)
+step_ends log decoded (completes item) up code is =
+    verdict_ends (record log { begun = None }) decoded item _ up code is
+
+-- After a frame.
+frame_ends : (log : Log) (decoded : Option Decoded) (frame : Frame) → log.failed ≡ None
+    → (code : Code) → (with_frame log decoded frame).failed ≡ Some code
+    → EndsInGoAway (with_frame log decoded frame) code
+unfolding with_frame
+frame_ends log decoded frame up code is =
+    step_ends (record log { frames = log.frames ++ frame ∷ [] }) decoded
+    (frame_step (log_view log) frame) up code is
+
+-- After a stream that was refused, by the fault that this makes.
+refused_ends : (log : Log) (act : Act) (answer : Answer) (fault : Option Code)
+    → log.failed ≡ None → (code : Code)
+    → (refused_with log act answer fault).failed ≡ Some code
+    → EndsInGoAway (refused_with log act answer fault) code
+unfolding refused_with last_processed
+refused_ends log act answer (Some fault) up code is =
+    fails_ends fault (last_processed log) (called log act answer) (at_most _) code is
+refused_ends log act answer None up code is =
+    still_up log.failed _ code up (items_failed log act answer) is
+
+-- After a call of a connection that hadn't failed.
+call_ends : (log : Log) (act : Act) (answer : Answer) → log.failed ≡ None → (code : Code)
+    → (with_call log act answer).failed ≡ Some code
+    → EndsInGoAway (with_call log act answer) code
+unfolding with_call last_processed
+call_ends log act (Refused refusal) up code is = none_some code (sym up ∙ is)
+call_ends log act OutOfMemory up code is =
+    fails_ends InternalError (last_processed log) (called log act OutOfMemory) (at_most _) code is
+call_ends log (Refuse id number) answer up code is =
+    refused_ends log (Refuse id number) answer (refuse_fault (log_view log) number) up code is
+call_ends log (PutOut count) (Count given) up code is =
+    still_up log.failed _ code up (put_out_failed (called log (PutOut count) (Count given))) is
+call_ends log act answer up code is = still_up log.failed _ code up (items_failed log act answer) is
+
+-- A log with the same output as another, and the same failure.
+pub record SameOutput (old new : Log) : Type 0 where
+  pub role : new.role ≡ old.role
+  pub sent : new.sent ≡ old.sent
+  pub written : new.written ≡ old.written
+  pub reported : new.reported ≡ old.reported
+  pub failed : new.failed ≡ old.failed
+
+-- Of a failed connection no call is accepted but to put output out.
+only_put_out : (view : View) (act : Act) → has_failed view ≡ true → refusal_of view act ≡ None
+    → (count : ℕ) × (act ≡ PutOut count)
+unfolding conditions
+only_put_out view (Open fields end) failed none =
+    absurd (both_ways _ (none_holds _ none).0 failed)
+only_put_out view (SendFields id fields end) failed none =
+    absurd (both_ways _ (none_holds _ none).0 failed)
+only_put_out view (SendData id octets end) failed none =
+    absurd (both_ways _ (none_holds _ none).0 failed)
+only_put_out view (Release id count) failed none =
+    absurd (both_ways _ (none_holds _ none).0 failed)
+only_put_out view (ResetStream id code) failed none =
+    absurd (both_ways _ (none_holds _ none).0 failed)
+only_put_out view (Refuse id code) failed none =
+    absurd (both_ways _ (none_holds _ none).0 failed)
+only_put_out view (SendPing octets) failed none =
+    absurd (both_ways _ (none_holds _ none).0 failed)
+only_put_out view SendGoAway failed none = absurd (both_ways _ (none_holds _ none).0 failed)
+only_put_out view (PutOut count) failed none = (count, refl)
+only_put_out view (ChangeSettings values) failed none =
+    absurd (both_ways _ (none_holds _ none).0 failed)
+
+-- Output that is put out where nothing is returned first, by the test whether it is.
+same_put_out_by : (log put : Log) (given : ℕ) (b : Bool) → b ≡ false → SameOutput log put
+    → SameOutput log (record (if b then with_credit_returned put else put) { given = given })
+same_put_out_by log put given true not_set same = absurd (both_ways true not_set refl)
+same_put_out_by log put given false not_set same =
+    record {
+      role = same.role;
+      sent = same.sent;
+      written = same.written;
+      reported = same.reported;
+      failed = same.failed;
+    }
+
+-- The output stays the same where a call is refused.
+same_called : (log : Log) (act : Act) (answer : Answer) → SameOutput log (called log act answer)
+same_called log act answer =
+    record { role = refl; sent = refl; written = refl; reported = refl; failed = refl }
+
+-- what is no condition, where the first of two isn't
+no_return : (failed : Option Code) (code : Code) (b : Bool) → failed ≡ Some code
+    → (not (is_some failed) && b) ≡ false
+no_return failed code b is = rw is refl
+
+-- And where output is put out of a connection that has failed.
+same_put_out : (log : Log) (code : Code) (count given : ℕ) → log.failed ≡ Some code
+    → SameOutput log (with_call log (PutOut count) (Count given))
+unfolding with_call before_put_out
+same_put_out log code count given failed =
+    let put = called log (PutOut count) (Count given) in
+    same_put_out_by log put _ (returns_before_put_out (log_view put))
+    (no_return log.failed code _ failed) (same_called log (PutOut count) (Count given))
+
+-- No call of a connection that has failed writes.
+pub same_output : (log : Log) (code : Code) (act : Act) (answer : Answer)
+    → log.failed ≡ Some code → MayAnswer log act answer
+    → SameOutput log (with_call log act answer)
+unfolding with_call may_lack_memory
+same_output log code act answer failed (accepts none is) =
+    let put = only_put_out (log_view log) act (ap is_some failed) none in
+    rw (is, put.1) (same_put_out log code put.0 _ failed)
+same_output log code act answer failed (refuses refusal some is) =
+    rw is (same_called log act (Refused refusal))
+same_output log code act answer failed (lacks none may is) =
+    rw is (same_called log act (Refused Memory))
+same_output log code act answer failed (fails none may is) =
+    let put = only_put_out (log_view log) act (ap is_some failed) none in
+    absurd (both_ways _ (rw put.1 at may) refl)
+
+-- GOAWAY that stands last still does in a log with the same output.
+ends_still : (old new : Log) (code : Code) → SameOutput old new → EndsInGoAway old code
+    → EndsInGoAway new code
+unfolding last_processed
+ends_still old new code same ends =
+    record {
+      last = ends.last;
+      earlier = ends.earlier;
+      front = ends.front;
+      newest = same.sent ∙ ends.newest;
+      processed = rw (same.role, same.reported) ends.processed;
+      written = same.written ∙ ends.written;
+    }
+
+-- After a call, by whether the connection had failed.
+called_ends : (log : Log) (act : Act) (answer : Answer) (before : Option Code)
+    → log.failed ≡ before → MayAnswer log act answer
+    → ((code : Code) → log.failed ≡ Some code → EndsInGoAway log code) → (code : Code)
+    → (with_call log act answer).failed ≡ Some code
+    → EndsInGoAway (with_call log act answer) code
+called_ends log act answer None up may last code is = call_ends log act answer up code is
+called_ends log act answer (Some before) failed may last code is =
+    let same = same_output log before act answer failed may in
+    ends_still log _ code same (last code (sym same.failed ∙ is))
+
+-- octets that were used fail nothing
+used_up : (log : Log) (octets unparsed : List ℕ) → (used log octets unparsed).failed ≡ log.failed
+unfolding used
+used_up log octets unparsed = refl
+
+-- a new end hasn't failed
+opened_up : (role : Role) (values : Values) → (opened role values).failed ≡ None
+unfolding opened with_sent
+opened_up role values = refl
+
+-- the same stream was processed once octets were used
+used_processed : (log : Log) (octets : List ℕ) → last_processed (used log octets [])
+    ≤ last_processed log
+unfolding used last_processed
+used_processed log octets = at_most _
+
+-- What an end that has failed has written last.
+pub failed_last : (role : Role) (values : Values) (log : Log) (code : Code)
+    → IsLog role values log → log.failed ≡ Some code → EndsInGoAway log code
+failed_last role values _ code (begins in_range) is =
+    none_some code (sym (opened_up role values) ∙ is)
+failed_last role values _ code (took_some {log = log} before takes octets unparsed read) is =
+    still_up log.failed _ code takes.up (used_up log octets unparsed) is
+failed_last role values _ code (took_one {log = log} before takes octets frame decoded read sees)
+    is =
+    frame_ends (used log octets []) decoded frame (used_up log octets [] ∙ takes.up) code is
+failed_last role values _ code (met_fault {log = log} before takes octets fault at) is =
+    fails_ends (wire_fault_code fault) _ (used log octets []) (used_processed log octets) code is
+failed_last role values _ code (ran_out_of_memory {log = log} before up octets may) is =
+    fails_ends InternalError _ (used log octets []) (used_processed log octets) code is
+failed_last role values _ code (reported_one {log = log} before up some) is =
+    still_up log.failed _ code up (reported_failed _ _ ∙ unreturned_failed _ _) is
+failed_last role values _ code (called_one {log = log} before act answer typed may) is =
+    called_ends log act answer log.failed refl may
+    (λ other failed. failed_last role values log other before failed) code is

@@ -1,0 +1,8 @@
+-- The lemmas of the laws.
+pub mod Failures
+pub mod Grouped
+pub mod OneTake
+pub mod Replies
+pub mod TakeAnswers
+pub mod TakenFrames
+pub mod Unread

@@ -1,0 +1,278 @@
+-- What a call of `take` answers, and the log after it.
+use Rattle.std.proofs.Common.{◌≡◌, ◌⊎◌, ℕ, ◌+◌, nat_lt, ◌&&◌, Bool, true, false, if◌then◌else◌}
+use Rattle.std.proofs.Common.{List, [], ◌∷◌, ◌++◌, length, Option, Some, None, refl, sym, ap}
+use Rattle.std.proofs.Common.{◌∙◌, subst, inl, inr, append-nil}
+use Rattle.h2_frame.specs.declared.code.Code.{Code}
+use Rattle.h2_frame.specs.declared.code.Code.TheVariants.{InternalError}
+use Rattle.h2_frame.specs.Frames.{Frame, Data, Headers, Priority, Reset, Settings, Ping, GoAway}
+use Rattle.h2_frame.specs.Frames.{WindowUpdate, Continuation, Unknown}
+use Rattle.h2_wire.specs.Faults.{wire_fault_code}
+use Rattle.h2_wire.proofs.ReadingLemmas.{none_some}
+use Rattle.h2_block.specs.Grouping.{Item, alone, block}
+use Rattle.h2_log.specs.declared.role.Role.{Role}
+use Rattle.h2_log.specs.Events.{Event, UnprocessedEvent}
+use Rattle.h2_log.specs.Acts.{Values}
+use Rattle.h2_log.specs.Limits.{full_output}
+use Rattle.h2_log.specs.Log.{Log, waiting, next_unprocessed}
+use Rattle.h2_log.specs.View.{View}
+use Rattle.h2_log.specs.LogView.{log_view}
+use Rattle.h2_log.specs.Verdicts.{Verdict, ConnectionFault, StreamFault, NoEvent, Reported}
+use Rattle.h2_log.specs.ItemRules.{Decoded, FrameStep, fails_with, begins_block, completes}
+use Rattle.h2_log.specs.ItemRules.{frame_step}
+use Rattle.h2_log.specs.ItemEffects.{events_of}
+use Rattle.h2_log.specs.LogSteps.{used, read, with_sent, with_reported, with_unreturned}
+use Rattle.h2_log.specs.LogSteps.{with_credit_returned, with_failure, with_verdict, with_step}
+use Rattle.h2_log.specs.LogSteps.{with_frame, took_frame}
+use Rattle.h2_log.specs.LogSteps.{took_none}
+use Rattle.h2_log.specs.Histories.{IsLog, took_some, took_one, met_fault, ran_out_of_memory}
+use Rattle.h2_log.specs.Histories.{reported_one, TakesOctets, TakesPart, TakesFrame, TakesFault}
+use Rattle.h2_log.specs.Histories.{IsDecodedFor, MayRunOutOfMemory}
+use Rattle.h2_log.proofs.StreamLemmas.{Keeps-frame, Keeps-none, stream_of_log}
+use Rattle.h2_end_laws.specs.Takes.{TakeAnswer, Took, Failed, events_answered}
+use Rattle.h2_end_laws.specs.Takes.{MayTake, has_failed, reports_unprocessed, ends_no_frame}
+use Rattle.h2_end_laws.specs.Takes.{ends_frame, meets_fault, runs_out_of_memory}
+use Rattle.h2_end_laws.specs.Takes.{TakeTells}
+use Rattle.h2_end_laws.proofs.Failures.{sent_failed, reported_failed, unreturned_failed}
+
+-- After each call there is a log that comes about.
+pub take_closed : (role : Role) (values : Values) (log after : Log) (piece : List ℕ)
+    (answer : TakeAnswer) → IsLog role values log → MayTake log piece answer after
+    → IsLog role values after
+take_closed role values log after piece answer is (has_failed code failed answers same) =
+    rw same is
+take_closed role values log after piece answer is (reports_unprocessed up some answers same) =
+    rw same (reported_one is up some)
+take_closed role values log after piece answer is
+    (ends_no_frame takes unparsed part answers same) =
+    let own = (stream_of_log role values log is).role in
+    rw same (took_some is takes piece unparsed
+    (subst (λ (r : Role). TakesPart r log piece unparsed) own part))
+take_closed role values log after piece answer is
+    (ends_frame takes octets unused joined frame decoded framed sees same answers) =
+    let own = (stream_of_log role values log is).role in
+    rw same (took_one is takes octets frame decoded
+    (subst (λ (r : Role). TakesFrame r log octets frame) own framed) sees)
+take_closed role values log after piece answer is
+    (meets_fault takes octets unused joined fault at answers same) =
+    let own = (stream_of_log role values log is).role in
+    rw same (met_fault is takes octets fault
+    (subst (λ (r : Role). TakesFault r log octets fault) own at))
+take_closed role values log after piece answer is
+    (runs_out_of_memory up octets unused joined may answers same) =
+    let own = (stream_of_log role values log is).role in
+    rw same (ran_out_of_memory is up octets
+    (subst (λ (r : Role). MayRunOutOfMemory r log octets) own may))
+
+-- Events that are reported stand before those before.
+reported_is : (log : Log) (events : List Event)
+    → (with_reported log events).reported ≡ events ++ log.reported
+unfolding with_reported
+reported_is log [] = refl
+reported_is log (event ∷ events) = refl
+
+-- What is written reports nothing.
+sent_reported : (log : Log) (items : List Item) → (with_sent log items).reported ≡ log.reported
+unfolding with_sent
+sent_reported log [] = refl
+sent_reported log (item ∷ items) = refl
+
+-- Nor does what is due, by the test whether it is returned.
+unreturned_by : (more : ℕ) (log : Log) (b : Bool)
+    → (if b then with_credit_returned (record log { unreturned = log.unreturned + more })
+    else record log { unreturned = log.unreturned + more }).reported ≡ log.reported
+unfolding with_sent
+unreturned_by more log true = refl
+unreturned_by more log false = refl
+
+unreturned_reported : (more : ℕ) (log : Log)
+    → (with_unreturned more log).reported ≡ log.reported
+unfolding with_unreturned
+unreturned_reported more log = unreturned_by more log (nat_lt 0 more && nat_lt (waiting log)
+    full_output)
+
+-- Of an item at most one event is reported.
+one_event_of : (view : View) (decoded : Option Decoded) (verdict : Verdict) (item : Item)
+    → (event : Option Event) × (events_of view decoded verdict item ≡ events_answered event)
+unfolding events_of
+one_event_of view decoded (ConnectionFault code) item = (None, refl)
+one_event_of view decoded (StreamFault code) item = (Some _, refl)
+one_event_of view decoded NoEvent item = (None, refl)
+one_event_of view decoded Reported (block stream end octets) = (Some _, refl)
+one_event_of view decoded Reported (alone (Data stream end octets pad)) = (Some _, refl)
+one_event_of view decoded Reported (alone (Reset stream code)) = (Some _, refl)
+one_event_of view decoded Reported (alone (Settings ack pairs)) = (Some _, refl)
+one_event_of view decoded Reported (alone (Ping ack octets)) = (Some _, refl)
+one_event_of view decoded Reported (alone (GoAway last code debug)) = (Some _, refl)
+one_event_of view decoded Reported (alone (Headers stream end whole fragment pad priority)) =
+    (None, refl)
+one_event_of view decoded Reported (alone (Priority stream octets)) = (None, refl)
+one_event_of view decoded Reported (alone (WindowUpdate stream increment)) = (None, refl)
+one_event_of view decoded Reported (alone (Continuation stream whole fragment)) = (None, refl)
+one_event_of view decoded Reported (alone (Unknown kind flags stream payload)) = (None, refl)
+
+-- After a frame the connection has failed, and nothing more was reported; or it hasn't, and at most
+-- one event was.
+abbrev Answers : (before after : Log) → Type 0
+Answers before after =
+    ((code : Code) × (after.failed ≡ Some code) × (after.reported ≡ before.reported))
+    ⊎ ((event : Option Event) × (after.failed ≡ None)
+    × (after.reported ≡ events_answered event ++ before.reported))
+
+-- A failure.
+fails_answers : (before : Log) (code : Code) (last : ℕ) (log : Log)
+    → log.reported ≡ before.reported → Answers before (with_failure code last log)
+fails_answers before code last log same = inl (code, refl, sent_reported log _ ∙ same)
+
+-- An item that was read and replied to.
+replied_answers : (before log : Log) (more : ℕ) (replies : List Item) (events : List Event)
+    (event : Option Event) → log.failed ≡ None → log.reported ≡ before.reported
+    → events ≡ events_answered event
+    → Answers before (with_reported (with_unreturned more (with_sent log replies)) events)
+replied_answers before log more replies events event up same one = inr (
+  event,
+  reported_failed _ events ∙ unreturned_failed more _ ∙ sent_failed log replies ∙ up,
+  reported_is _ events ∙ ap (λ (reported : List Event). events ++ reported)
+      (unreturned_reported more (with_sent log replies) ∙ sent_reported log replies ∙ same)
+      ∙ ap (λ (events : List Event). events ++ before.reported) one,
+)
+
+-- An item, by its verdict.
+verdict_answers : (before log : Log) (decoded : Option Decoded) (item : Item) (verdict : Verdict)
+    → log.failed ≡ None → log.reported ≡ before.reported
+    → Answers before (with_verdict log decoded item verdict)
+unfolding with_verdict
+verdict_answers before log decoded item (ConnectionFault code) up same =
+    fails_answers before code _ log same
+verdict_answers before log decoded item (StreamFault code) up same =
+    let one = one_event_of (log_view log) decoded (StreamFault code) item in
+    replied_answers before (read log decoded item) _ _ _ one.0 up same one.1
+verdict_answers before log decoded item NoEvent up same =
+    let one = one_event_of (log_view log) decoded NoEvent item in
+    replied_answers before (read log decoded item) _ _ _ one.0 up same one.1
+verdict_answers before log decoded item Reported up same =
+    let one = one_event_of (log_view log) decoded Reported item in
+    replied_answers before (read log decoded item) _ _ _ one.0 up same one.1
+
+-- What the frame makes of the block that has begun.
+step_answers : (before log : Log) (decoded : Option Decoded) (step : FrameStep)
+    → log.failed ≡ None → log.reported ≡ before.reported
+    → Answers before (with_step log decoded step)
+unfolding with_step
+step_answers before log decoded (fails_with code) up same = fails_answers before code _ log same
+step_answers before log decoded (begins_block begun) up same = inr (None, up, same)
+step_answers before log decoded (completes item) up same =
+    verdict_answers before (record log { begun = None }) decoded item _ up same
+
+-- A frame.
+frame_answers : (log : Log) (octets : List ℕ) (decoded : Option Decoded) (frame : Frame)
+    → log.failed ≡ None → Answers log (took_frame log octets decoded frame)
+unfolding with_frame used
+frame_answers log octets decoded frame up =
+    step_answers log _ decoded (frame_step (log_view (used log octets [])) frame) up refl
+
+-- The octets that a frame ended are used.
+frame_input : (log : Log) (octets : List ℕ) (decoded : Option Decoded) (frame : Frame)
+    → (took_frame log octets decoded frame).input ≡ log.input ++ octets
+unfolding used
+frame_input log octets decoded frame = (Keeps-frame (used log octets []) decoded frame).input
+
+-- What was reported once a stream was that the peer doesn't process.
+unprocessed_reported : (log : Log) → (took_none log).reported
+    ≡ UnprocessedEvent (next_unprocessed log) ∷ log.reported
+unprocessed_reported log = reported_is _ _
+    ∙ ap (λ (reported : List Event). UnprocessedEvent (next_unprocessed log) ∷ reported)
+    (unreturned_reported _ log)
+
+-- What is reported of a frame with which the connection failed.
+failed_reported : (log after : Log) (code : Code) → Answers log after → after.failed ≡ Some code
+    → after.reported ≡ log.reported
+failed_reported log after code (inl (other, failed, same)) is = same
+failed_reported log after code (inr (event, up, reported)) is = none_some code (sym up ∙ is)
+
+-- octets that were used up to a fault, or without memory, report nothing
+used_reported : (log : Log) (octets : List ℕ) (code : Code) (last : ℕ)
+    → (with_failure code last (used log octets [])).reported ≡ log.reported
+unfolding used with_sent
+used_reported log octets code last = refl
+
+-- octets that were used
+used_input : (log : Log) (octets unparsed : List ℕ)
+    → ((used log octets unparsed).input ≡ log.input ++ octets)
+    × ((used log octets unparsed).reported ≡ log.reported)
+    × ((used log octets unparsed).failed ≡ log.failed)
+unfolding used
+used_input log octets unparsed = (refl, refl, refl)
+
+-- What each answer says.
+pub take_tells : (role : Role) (values : Values) (log after : Log) (piece : List ℕ)
+    (answer : TakeAnswer) → IsLog role values log → MayTake log piece answer after
+    → TakeTells log after piece answer
+take_tells role values log after piece answer is (has_failed code failed answers same) =
+    rw (answers, same) (failed, refl)
+take_tells role values log after piece answer is (reports_unprocessed up some answers same) =
+    rw (answers, same) (
+      [],
+      piece,
+      refl,
+      refl,
+      (Keeps-none log).input ∙ sym (append-nil log.input),
+      unprocessed_reported log,
+      reported_failed _ _ ∙ unreturned_failed _ log ∙ up,
+    )
+take_tells role values log after piece answer is
+    (ends_no_frame takes unparsed part answers same) =
+    let after_it = used_input log piece unparsed in
+    rw (answers, same) (
+      piece,
+      [],
+      sym (append-nil piece),
+      refl,
+      after_it.0,
+      after_it.1,
+      after_it.2 ∙ takes.up,
+    )
+take_tells role values log after piece (Took count event) is
+    (ends_frame takes octets unused joined frame decoded framed sees same answers) = (
+      octets,
+      unused,
+      joined,
+      sym answers.0,
+      ap (λ (log : Log). log.input) same ∙ frame_input log octets decoded frame,
+      answers.2,
+      answers.1,
+    )
+take_tells role values log after piece (Failed code) is
+    (ends_frame takes octets unused joined frame decoded framed sees same answers) = (
+      answers,
+      failed_reported log after code (subst (λ (now : Log). Answers log now) (sym same)
+          (frame_answers log octets decoded frame takes.up)) answers,
+    )
+take_tells role values log after piece answer is
+    (meets_fault takes octets unused joined fault at answers same) =
+    rw (answers, same) (refl, used_reported log octets (wire_fault_code fault) _)
+take_tells role values log after piece answer is
+    (runs_out_of_memory up octets unused joined may answers same) =
+    rw (answers, same) (refl, used_reported log octets InternalError _)
+
+-- Of each frame there is an answer.
+some_by : (log : Log) (octets : List ℕ) (frame : Frame) (decoded : Option Decoded)
+    → TakesOctets log → TakesFrame log.role log octets frame → IsDecodedFor log decoded frame
+    → Answers log (took_frame log octets decoded frame)
+    → (answer : TakeAnswer) × MayTake log octets answer (took_frame log octets decoded frame)
+some_by log octets frame decoded takes framed sees (inl (code, failed, reported)) = (
+  Failed code,
+  ends_frame takes octets [] (sym (append-nil octets)) frame decoded framed sees refl failed,
+)
+some_by log octets frame decoded takes framed sees (inr (event, up, reported)) = (
+  Took (length octets) event,
+  ends_frame takes octets [] (sym (append-nil octets)) frame decoded framed sees refl
+      (refl, up, reported),
+)
+
+pub some_answer : (role : Role) (values : Values) (log : Log) (octets : List ℕ) (frame : Frame)
+    (decoded : Option Decoded) → IsLog role values log → TakesOctets log
+    → TakesFrame log.role log octets frame → IsDecodedFor log decoded frame
+    → (answer : TakeAnswer) × MayTake log octets answer (took_frame log octets decoded frame)
+some_answer role values log octets frame decoded is takes framed sees =
+    some_by log octets frame decoded takes framed sees
+    (frame_answers log octets decoded frame takes.up)

@@ -1,0 +1,6 @@
+pub mod Failures
+pub mod Grouped
+pub mod Readings
+pub mod Replies
+pub mod Sendings
+pub mod Takes

@@ -1,0 +1,107 @@
+-- What an end has made of the items that it read, one after another: what their blocks decode to,
+-- and which events were reported of them (RFC 9113, sections 4.3, 5.1, 6 and 8.1). Lists have the
+-- newest first.
+use Rattle.std.specs.Prelude.{◌≡◌, ◌≢◌, ◌≤◌, ℕ, Bool, true, false, List, [], ◌∷◌, ◌++◌, length}
+use Rattle.std.specs.Prelude.{Option, Some, None}
+use Rattle.hpack.specs.Blocks.{Block}
+use Rattle.hpack.specs.Tables.{Entries}
+use Rattle.hpack.specs.Lists.{empty_table}
+use Rattle.h2_frame.specs.Frames.{Data, Reset, Settings, Ping, GoAway}
+use Rattle.h2_frame.specs.Encoding.{payload_of}
+use Rattle.h2_block.specs.Grouping.{Item, alone, block}
+use Rattle.h2_log.specs.declared.role.Role.{Role}
+use Rattle.h2_log.specs.Items.{stream_of_item}
+use Rattle.h2_log.specs.Events.{Event, FieldsEvent, DataEvent, ResetEvent, GoAwayEvent}
+use Rattle.h2_log.specs.Events.{UnprocessedEvent, AckedEvent, PongEvent, one_acked, reported_total}
+use Rattle.h2_log.specs.ItemRules.{Decoded}
+use Rattle.h2_log.specs.Settings.{own_value}
+use Rattle.h2_log.specs.States.{is_closed_by_us}
+use Rattle.h2_log.specs.Log.{Log}
+
+-- an item that was read; what had been written and reported by then; what its block decodes to; and
+-- what was reported of it
+pub record Reading : Type 0 where
+  pub item : Item
+  pub sent : List Item
+  pub reported : List Event
+  pub decoded : Option Decoded
+  pub events : List Event
+
+-- The event is what the item says. A stream's fault is an own reset of the item's stream.
+pub data IsEventOf : Item → Option Decoded → Event → Type 0 where
+  its_fields : (stream : ℕ) (end : Bool) (octets : List ℕ) (decoded : Decoded)
+      → IsEventOf (block stream end octets) (Some decoded) (FieldsEvent stream decoded.fields end)
+  its_octets : (stream : ℕ) (end : Bool) (octets : List ℕ) (pad : Option ℕ)
+      → IsEventOf (alone (Data stream end octets pad)) None
+      (DataEvent stream octets (length (payload_of (Data stream end octets pad))) end)
+  its_reset : (stream code : ℕ)
+      → IsEventOf (alone (Reset stream code)) None (ResetEvent stream code false)
+  its_fault : (item : Item) (decoded : Option Decoded) (code : ℕ) → stream_of_item item ≢ 0
+      → IsEventOf item decoded (ResetEvent (stream_of_item item) code true)
+  its_goaway : (last code least : ℕ) (debug : List ℕ) → least ≤ last
+      → IsEventOf (alone (GoAway last code debug)) None (GoAwayEvent least code)
+  its_acknowledgment : (pairs : List (ℕ × ℕ))
+      → IsEventOf (alone (Settings true pairs)) None AckedEvent
+  its_pong : (octets : List ℕ) → IsEventOf (alone (Ping true octets)) None (PongEvent octets)
+
+-- Items of which nothing need be reported: field blocks and DATA of a stream that this end has
+-- closed by then, and whatever isn't GOAWAY.
+abbrev pub MayBeSilent : Role → List Item → Item → Type 0
+MayBeSilent role sent (block stream end octets) = is_closed_by_us role stream sent ≡ true
+MayBeSilent role sent (alone (Data stream end octets pad)) =
+    is_closed_by_us role stream sent ≡ true
+MayBeSilent role sent (alone (GoAway last code debug)) = ⊥
+MayBeSilent role sent (alone frame) = Unit {0}
+
+-- At most one event is reported of an item, and it is what the item says.
+abbrev pub AreEventsOf : Role → Reading → List Event → Type 0
+AreEventsOf role reading [] = MayBeSilent role reading.sent reading.item
+AreEventsOf role reading (event ∷ []) = IsEventOf reading.item reading.decoded event
+AreEventsOf role reading (event ∷ other ∷ events) = ⊥
+
+-- A block decodes at the table after all blocks before it, with the table limit that was in force;
+-- other items change no table.
+abbrev pub DecodesTo : Entries → Item → Reading → Entries → Type 0
+DecodesTo before (alone frame) reading after = (reading.decoded ≡ None) × (after ≡ before)
+DecodesTo before (block stream end octets) reading after =
+    (decoded : Decoded) × (reading.decoded ≡ Some decoded)
+    × Block before (own_value 1 4096 (reported_total one_acked reading.reported) reading.sent)
+    octets decoded.fields decoded.after
+    × (after ≡ decoded.after)
+
+-- The items decode one after another, from the first table on.
+abbrev pub AreDecoded : List Reading → Entries → Type 0
+AreDecoded [] after = after ≡ empty_table 4096
+AreDecoded (reading ∷ readings) after =
+    (before : Entries) × AreDecoded readings before × DecodesTo before reading.item reading after
+
+-- the items of readings, and their events
+unfoldable pub items_read : List Reading → List Item
+items_read [] = []
+items_read (reading ∷ readings) = reading.item ∷ items_read readings
+
+unfoldable pub events_read : List Reading → List Event
+events_read [] = []
+events_read (reading ∷ readings) = reading.events ++ events_read readings
+
+-- events without the streams that were reported as unprocessed, which follow a GOAWAY
+unfoldable pub events_of_items : List Event → List Event
+events_of_items [] = []
+events_of_items (UnprocessedEvent id ∷ events) = events_of_items events
+events_of_items (event ∷ events) = event ∷ events_of_items events
+
+-- Each reading stands in the log: what had been written and reported by then is the older part.
+abbrev pub AreReadings : Role → (sent : List Item) → (reported : List Event) → List Reading → Type 0
+AreReadings role sent reported [] = Unit {0}
+AreReadings role sent reported (reading ∷ readings) =
+    (newer : List Item) × (later : List Event) × (sent ≡ newer ++ reading.sent)
+    × (reported ≡ later ++ reading.reported) × AreEventsOf role reading reading.events
+    × AreReadings role reading.sent reading.reported readings
+
+-- What a log has read, and what it has made of it.
+pub record HasReadings (log : Log) : Type 0 where
+  pub readings : List Reading
+  pub items : items_read readings ≡ log.received
+  pub events : events_read readings ≡ events_of_items log.reported
+  pub each : AreReadings log.role log.sent log.reported readings
+  pub decoded : AreDecoded readings log.table

@@ -1,0 +1,20 @@
+-- What an end replies: to SETTINGS an acknowledgment, and to PING its octets (RFC 9113, sections
+-- 6.5.3 and 6.7). Lists have the newest first.
+use Rattle.std.specs.Prelude.{true, false, List, [], ◌∷◌}
+use Rattle.h2_frame.specs.Frames.{Settings, Ping}
+use Rattle.h2_block.specs.Grouping.{Item, alone}
+
+-- the replies that items ask for, one for each SETTINGS and each PING that is no reply itself
+unfoldable pub replies_due : List Item → List Item
+replies_due [] = []
+replies_due (alone (Settings false pairs) ∷ items) = alone (Settings true []) ∷ replies_due items
+replies_due (alone (Ping false octets) ∷ items) = alone (Ping true octets) ∷ replies_due items
+replies_due (_ ∷ items) = replies_due items
+
+-- the replies among items
+unfoldable pub replies_among : List Item → List Item
+replies_among [] = []
+replies_among (alone (Settings true pairs) ∷ items) =
+    alone (Settings true pairs) ∷ replies_among items
+replies_among (alone (Ping true octets) ∷ items) = alone (Ping true octets) ∷ replies_among items
+replies_among (_ ∷ items) = replies_among items

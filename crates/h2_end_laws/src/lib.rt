@@ -1,0 +1,17 @@
+//! Laws of one end of a connection, over every log that comes about: its items are its frames,
+//! grouped; what a call of `take` answers; what it replies; what it writes can be sent; what it
+//! reports. Each is the contract of a function that does nothing.
+#![tactic(auto)]
+
+mod reads;
+mod takes;
+#[cfg(test)]
+mod tests;
+mod writes;
+
+pub use reads::{events_are_of_the_items, items_are_frames_grouped};
+pub use takes::take_answers;
+pub use writes::{
+    blocks_are_of_the_lists, each_is_replied_to, nothing_follows_a_failure, receive_window_is_kept,
+    written_items_can_be_sent,
+};

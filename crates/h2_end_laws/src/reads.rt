@@ -1,0 +1,23 @@
+//! What an end makes of the frames that it reads.
+
+ghost use Rattle.h2_log.specs.declared.role.Role.{Role};
+ghost use Rattle.h2_log.specs.Acts.{Values};
+ghost use Rattle.h2_log.specs.Log.{Log};
+ghost use Rattle.h2_log.specs.Histories.{IsLog};
+ghost use Rattle.h2_end_laws.specs.Grouped.{AreGrouped};
+ghost use Rattle.h2_end_laws.specs.Readings.{HasReadings};
+
+/// The items that an end has read, and the field block that has begun, are its frames, grouped, up
+/// to a frame with which the connection failed (RFC 9113, sections 4.3 and 6.10).
+pub fn items_are_frames_grouped()
+    ensures { (role : Role) (values : Values) (log : Log) → IsLog role values log
+        → AreGrouped log }
+{}
+
+/// The events are those of the items, in order, at most one of each, and besides them the streams
+/// that the peer didn't process. Each field block is decoded at the table after all before it, and
+/// each is reported with its fields unless this end had closed its stream by then; so is DATA.
+pub fn events_are_of_the_items()
+    ensures { (role : Role) (values : Values) (log : Log) → IsLog role values log
+        → HasReadings log }
+{}

@@ -1,0 +1,33 @@
+//! What a call of `take` answers.
+
+ghost use Rattle.std.specs.Prelude.{◌≡◌, List, ℕ, Option};
+ghost use Rattle.h2_frame.specs.Frames.{Frame};
+ghost use Rattle.h2_log.specs.declared.role.Role.{Role};
+ghost use Rattle.h2_log.specs.Acts.{Values};
+ghost use Rattle.h2_log.specs.Log.{Log};
+ghost use Rattle.h2_log.specs.ItemRules.{Decoded};
+ghost use Rattle.h2_log.specs.LogSteps.{took_frame};
+ghost use Rattle.h2_log.specs.Histories.{IsLog, TakesOctets, TakesFrame, IsDecodedFor};
+ghost use Rattle.h2_end_laws.specs.Takes.{TakeAnswer, MayTake, HadMemory, TakeTells};
+
+/// After each call an end has a log that comes about. The octets used are a prefix of the piece,
+/// the event is the newest of the log, and there is none but that; a failed end answers its code.
+/// Of each frame there is an answer. Where memory isn't refused, what is answered and the log after
+/// it follow from the log and the piece.
+pub fn take_answers()
+    ensures closed { (role : Role) (values : Values) (log after : Log) (piece : List ℕ)
+        (answer : TakeAnswer) → IsLog role values log → MayTake log piece answer after
+        → IsLog role values after }
+    ensures tells { (role : Role) (values : Values) (log after : Log) (piece : List ℕ)
+        (answer : TakeAnswer) → IsLog role values log → MayTake log piece answer after
+        → TakeTells log after piece answer }
+    ensures some { (role : Role) (values : Values) (log : Log) (octets : List ℕ) (frame : Frame)
+        (decoded : Option Decoded) → IsLog role values log → TakesOctets log
+        → TakesFrame log.role log octets frame → IsDecodedFor log decoded frame
+        → (answer : TakeAnswer)
+        × MayTake log octets answer (took_frame log octets decoded frame) }
+    ensures one { (role : Role) (values : Values) (log after other : Log) (piece : List ℕ)
+        (answer answered : TakeAnswer) → IsLog role values log
+        → (a : MayTake log piece answer after) → (b : MayTake log piece answered other)
+        → HadMemory a → HadMemory b → (answer ≡ answered) × (after ≡ other) }
+{}

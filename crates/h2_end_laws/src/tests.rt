@@ -1,0 +1,18 @@
+//! The laws are called.
+
+use crate::{
+    blocks_are_of_the_lists, each_is_replied_to, events_are_of_the_items, items_are_frames_grouped,
+    nothing_follows_a_failure, receive_window_is_kept, take_answers, written_items_can_be_sent,
+};
+
+#[test]
+fn laws_are_called() {
+    blocks_are_of_the_lists();
+    each_is_replied_to();
+    events_are_of_the_items();
+    items_are_frames_grouped();
+    nothing_follows_a_failure();
+    receive_window_is_kept();
+    take_answers();
+    written_items_can_be_sent();
+}
