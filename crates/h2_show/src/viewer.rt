@@ -22,22 +22,19 @@ use std::io::{self, ErrorKind, Write};
 /// The limit of payloads before any SETTINGS (RFC 9113, section 6.5.2).
 const LIMIT: u32 = 16_384;
 
-/// The octets of the preface (RFC 9113, section 3.4).
-const PREFACE: usize = 24;
-
 /// Shows a stream of frames.
 #[derive(Debug, Drop)]
 pub(crate) struct Viewer {
     cutter: Cutter,
     blocks: Blocks,
-    preface: Preface,
+    preface: PrefaceLine,
 }
 
-/// How much of the preface has come.
+/// The line of the preface (RFC 9113, section 3.4).
 #[derive(Clone, Copy, Debug)]
-struct Preface {
-    // How many of its octets are missing.
-    missing: usize,
+struct PrefaceLine {
+    // Whether it is still to be printed.
+    is_due: bool,
 }
 
 /// Why no more of a stream is shown.
@@ -75,15 +72,11 @@ impl From<io::Error> for ShowError {
     }
 }
 
-impl Preface {
-    // So many octets more were used, without fault. Prints the preface's line where they complete
-    // it.
-    fn advance<W: Write>(&mut self, used: usize, out: &mut W) -> io::Result<()> {
-        if self.missing == 0 {
-            return Ok(());
-        }
-        self.missing = self.missing.saturating_sub(used);
-        if self.missing == 0 {
+impl PrefaceLine {
+    // Prints the line where it is still to be printed and the preface is complete.
+    fn advance<W: Write>(&mut self, is_complete: bool, out: &mut W) -> io::Result<()> {
+        if self.is_due && is_complete {
+            self.is_due = false;
             out.write_all(b"preface\n")?;
         }
         Ok(())
@@ -104,8 +97,8 @@ impl Viewer {
         Ok(Viewer {
             cutter: Cutter::new(alloc, LIMIT, expect_preface),
             blocks: Blocks::new(alloc)?,
-            preface: Preface {
-                missing: if expect_preface { PREFACE } else { 0 },
+            preface: PrefaceLine {
+                is_due: expect_preface,
             },
         })
     }
@@ -135,11 +128,11 @@ impl Viewer {
             let cut = self.cutter.cut(&piece[done..])?;
             done += cut.used;
             let Some(frame) = cut.frame else {
-                self.preface.advance(cut.used, out)?;
+                self.preface.advance(self.cutter.is_past_preface(), out)?;
                 continue;
             };
             let list = self.blocks.take(frame)?;
-            self.preface.advance(cut.used, out)?;
+            self.preface.advance(true, out)?;
             writeln!(out, "{}", FrameLine(frame))?;
             if let Some(list) = list {
                 write_list(&list, out)?;
@@ -169,7 +162,7 @@ impl Viewer {
             ShowError::Wire(WireFault::BadPreface) => self.show_fault(Code::ProtocolError, out),
             ShowError::Wire(WireFault::HeadFault(code) | WireFault::PayloadFault(code))
             | ShowError::Block(BlockError::Fault(code)) => {
-                self.preface.advance(PREFACE, out)?;
+                self.preface.advance(true, out)?;
                 self.show_fault(code, out)
             }
         }
