@@ -29,8 +29,9 @@ use Rattle.h2_log.specs.Events.{Event}
 use Rattle.h2_log.specs.Windows.{given_on}
 use Rattle.h2_machine_laws.proofs.LogCore.{Core, core, CoreFacts, core_facts, Advances, confirmed, active_by_items, said, kept_back}
 use Rattle.h2_machine_laws.proofs.OneItemMore.{total_one, total_quiet, own_quiet}
+use Rattle.h2_machine_laws.proofs.OwedAtClose.{owes_active}
 use Rattle.h2_machine_laws.proofs.OwedSums.{get_set}
-use Rattle.h2_machine_laws.proofs.RepresentedSteps.{Up, views_of_up, wrote_up, nothing_unreturned, owes_active, wrote_active}
+use Rattle.h2_machine_laws.proofs.RepresentedSteps.{Up, views_of_up, wrote_up, nothing_unreturned, wrote_active}
 use Rattle.h2_machine_laws.proofs.SentConnectionItems.{update_other, widened_advances, computing, update_quiet}
 use Rattle.h2_machine_laws.proofs.SentQuietItems.{sends, same_sent, used_wrote, active_wrote, quiet_sent}
 use Rattle.h2_machine_laws.proofs.StreamsSame.{same_stream, streams_set, active_some}

@@ -26,8 +26,9 @@ use Rattle.h2_machine.specs.Machine.{after_fields_sent, after_data, after_call}
 use Rattle.h2_log_laws.proofs.ReaderStates.{active_parts}
 use Rattle.h2_machine_laws.proofs.CallSendItems.{adds_block, adds_all}
 use Rattle.h2_machine_laws.proofs.LogCore.{core, core_facts, Going}
+use Rattle.h2_machine_laws.proofs.OwedAtClose.{owes_active, owes_all}
 use Rattle.h2_machine_laws.proofs.OwedSums.{get_set_same}
-use Rattle.h2_machine_laws.proofs.RepresentedSteps.{called_going, Up, views_of_up, queue_by, wrote_up, called_up, with_unreturned_up, nothing_unreturned, owes_active, owes_all, wrote_active, wrote_owes}
+use Rattle.h2_machine_laws.proofs.RepresentedSteps.{called_going, Up, views_of_up, queue_by, wrote_up, called_up, with_unreturned_up, nothing_unreturned, wrote_active, wrote_owes}
 use Rattle.h2_machine_laws.proofs.SentStreamItems.{set_advances, over_advances, Adds, stream_with, active_here, closed_here}
 use Rattle.h2_machine_laws.proofs.ViewsAgree.{view_beside}
 use Rattle.h2_machine_laws.proofs.WaitingOutput.{OutputOf}

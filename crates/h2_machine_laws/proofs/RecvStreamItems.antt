@@ -27,7 +27,7 @@ use Rattle.h2_machine.specs.End.{End, active_entry, stream_at}
 use Rattle.h2_machine.specs.Machine.{widen_send_window, set_stream, after_ignored, after_reported}
 use Rattle.h2_log_laws.proofs.StreamNumbers.{last_none}
 use Rattle.h2_machine_laws.proofs.LogCore.{said, Core, core, CoreFacts, core_facts, Advances, Going, active_by_items, greatest_used}
-use Rattle.h2_machine_laws.proofs.RecvConnectionItems.{none_owing, dead_owing, zero_dead}
+use Rattle.h2_machine_laws.proofs.OwedAtClose.{none_owing, dead_owing, zero_dead}
 use Rattle.h2_machine_laws.proofs.RecvEvents.{ChangesNoStream, quiet_reported}
 use Rattle.h2_machine_laws.proofs.RecvRead.{windows_read, peer_read, active_read, used_read, reads, IsCommon, read_step, IsApart, same_read, same_dead}
 use Rattle.h2_machine_laws.proofs.RecvReturnedCredit.{After, unsettled}
