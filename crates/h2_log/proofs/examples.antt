@@ -22,5 +22,7 @@ pub mod LongBodies
 pub mod AnyBody
 pub mod Coming
 pub mod ServersCome
+pub mod ServersSettingsCome
+pub mod ServersResetsCome
 pub mod ClientsCome
 pub mod ManyStreamsCome

@@ -11,6 +11,7 @@ pub mod EncoderOfLogs
 pub mod EncoderSteps
 pub mod EveryLog
 pub mod InvariantCalls
+pub mod InvariantSends
 pub mod InvariantLogs
 pub mod InvariantReads
 pub mod InvariantSteps

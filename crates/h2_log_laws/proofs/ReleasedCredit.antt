@@ -17,13 +17,13 @@ use Rattle.h2_log.specs.LogCalls.{with_call}
 use Rattle.h2_log.specs.Allowed.{HasAcknowledged, AllowedHistory, writes, active_by_items}
 use Rattle.h2_log.specs.Allowed.{MayUpdateWindow}
 use Rattle.h2_log_laws.specs.Sums.{sum_below}
+use Rattle.h2_log_laws.proofs.CallConditions.{first_none, none_since}
+use Rattle.h2_log_laws.proofs.DataOfCalls.{total_next}
+use Rattle.h2_log_laws.proofs.InvariantCalls.{active_is_active, active_some, items_represent}
+use Rattle.h2_log_laws.proofs.InvariantSteps.{update_elsewhere, update_here}
 use Rattle.h2_log_laws.proofs.LogHistory.{History, history_of, active_in_view, left, owes}
 use Rattle.h2_log_laws.proofs.LogInvariant.{Good, Represents, Moves}
-use Rattle.h2_log_laws.proofs.InvariantSteps.{update_elsewhere, update_here}
-use Rattle.h2_log_laws.proofs.DataOfCalls.{total_next}
 use Rattle.h2_log_laws.proofs.LogViewLemmas.{stream_is_active, owed_there}
-use Rattle.h2_log_laws.proofs.InvariantCalls.{first_none, none_since, active_is_active, active_some}
-use Rattle.h2_log_laws.proofs.InvariantCalls.{items_represent}
 
 -- an update gives to its stream
 gives_here : (i count : ℕ) → increment_on i (alone (WindowUpdate i count)) ≡ count

@@ -22,7 +22,8 @@ use Rattle.h2_log.specs.Histories.{IsLog, called_one}
 use Rattle.h2_machine.specs.Machine.{queue_output, fail, after_refuse, after_call, reset_stream}
 use Rattle.h2_machine.specs.Represents.{Represents}
 use Rattle.h2_log.specs.declared.refusal.Refusal.{Refusal}
-use Rattle.h2_log_laws.proofs.InvariantCalls.{released_refused, first_none}
+use Rattle.h2_log_laws.proofs.InvariantCalls.{released_refused, no_fault}
+use Rattle.h2_log_laws.proofs.CallConditions.{first_none, and_other}
 use Rattle.h2_log_laws.proofs.LogViewLemmas.{stream_is_active}
 use Rattle.h2_machine_laws.proofs.CallReset.{reset_up}
 use Rattle.h2_machine_laws.proofs.GoAwaysSent.{active_processed}
@@ -124,17 +125,6 @@ unfolding refuse_fault
 fault_same values e log code represents up =
     ap (λ (view : View). refuse_fault view code)
     (views_of_up e log (up_of values e log represents up))
-
--- Where a code ends no connection, it isn't 2.
-no_fault : (b other : Bool) → (if b then Some InternalError else if other then Some EnhanceYourCalm
-    else None) ≡ None → b ≡ false
-no_fault true other none = cc
-no_fault false other none = refl
-
--- a test that doesn't fail where another holds
-and_other : (a b : Bool) → (not a && b) ≡ false → a ≡ false → b ≡ false
-and_other true b both is = cc
-and_other false b both is = both
 
 -- Where a stream may be refused, and the connection doesn't fail, it is active.
 refused_active : (log : Log) (id code : ℕ) → refusal_of (log_view log) (Refuse id code) ≡ None
