@@ -38,7 +38,7 @@ use Rattle.h2_machine_laws.proofs.SentQuietItems.{sends, same_sent, windows_sent
 use Rattle.h2_machine_laws.proofs.StreamsSame.{count_apart, SameAt, same_stream, said_set}
 use Rattle.h2_machine_laws.proofs.ViewsAgree.{view_beside}
 use Rattle.h2_log_laws.proofs.ReaderStates.{active_parts}
-use Rattle.h2_log_laws.proofs.NextStreams.{greatest_above}
+use Rattle.h2_log_laws.proofs.StreamNumbers.{block_below}
 
 -- Nothing was read, written or reported of a number, and nothing is kept back of it.
 pub record IsClearBy (received sent : List Item) (reported : List Event) (kept i : ℕ) : Type 0 where
@@ -181,7 +181,7 @@ new_is h c i end octets clear g =
 none_above : (c : Core) (j : ℕ) → greatest_used c < j → active_by_items c j ≡ false
 none_above c j above =
     false_from_ne_true (active_by_items c j) (λ active_is.
-    let low = greatest_above j (openings c.role c.received c.sent)
+    let low = block_below j (openings c.role c.received c.sent)
     (active_parts c.role j c.received c.sent c.reported active_is).opened in omega arith)
 
 -- One stream more is active.

@@ -13,11 +13,12 @@ use Rattle.h2_log.specs.LogSteps.{with_verdict}
 use Rattle.h2_machine.specs.Machine.{after_verdict}
 use Rattle.h2_machine.specs.Represents.{goaway_sent_last}
 use Rattle.h2_log.specs.Events.{greatest_processed}
+use Rattle.h2_log_laws.proofs.LogViewLemmas.{when_some}
 use Rattle.h2_machine_laws.proofs.LogCore.{core, Going}
 use Rattle.h2_machine_laws.proofs.RecvReturnedCredit.{After}
 use Rattle.h2_machine_laws.proofs.RecvVerdict.{Sound, state_same}
 use Rattle.h2_machine_laws.proofs.SentConnectionItems.{failing_streams}
-use Rattle.h2_machine_laws.proofs.ViewsAgree.{max_streams_agree, when_some}
+use Rattle.h2_machine_laws.proofs.ViewsAgree.{max_streams_agree}
 use Rattle.h2_machine_laws.proofs.WaitingOutput.{Waits, fails_connection}
 
 -- The number that an item opens is the same.

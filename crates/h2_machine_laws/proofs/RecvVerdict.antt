@@ -1,11 +1,9 @@
 -- The verdict of an item is the same at an end as at its log.
 use Rattle.std.proofs.Common.{◌≡◌, ◌≢◌, ℕ, ◌≤◌, ◌+◌, ◌%◌, Bool, true, false, not}
-use Rattle.std.proofs.Common.{◌==◌, nat_lt, nat_le, ◌&&◌, ◌||◌, pos, ◌+ℤ◌, ◌-ℤ◌, Option, Some, None}
+use Rattle.std.proofs.Common.{◌==◌, nat_lt, nat_le, ◌&&◌, ◌||◌, pos, Option, Some, None}
 use Rattle.std.proofs.Common.{refl, ap, sym, ◌∙◌, arith}
-use Rattle.std.specs.Prelude.{int_lt}
 use Rattle.std.specs.List.{list_any}
 use Rattle.std.specs.FinMap as map
-use Rattle.std.proofs.lemmas.Int.{ints}
 use Rattle.std.proofs.lemmas.Bool.Decides.{nat_tests}
 use Rattle.h2_machine.specs.End.{end_view, End, active_entry, stream_in, stream_at, is_beyond}
 use Rattle.h2_machine.specs.End.{state_by_entry, state_at}
@@ -26,8 +24,9 @@ use Rattle.h2_log.specs.View.{StreamView}
 use Rattle.h2_machine.specs.Represents.{entry_by, goaway_sent_last}
 use Rattle.h2_log_laws.proofs.ReplyInvariant.{resets_used}
 use Rattle.h2_log_laws.proofs.ReaderStates.{active_used}
+use Rattle.h2_log_laws.proofs.LogViewLemmas.{when_some}
 use Rattle.h2_machine_laws.proofs.LogCore.{said, Core, core, Going, confirmed, active_by_items, greatest_used}
-use Rattle.h2_machine_laws.proofs.ViewsAgree.{stream_same, when_some, max_streams_agree, window_agrees}
+use Rattle.h2_machine_laws.proofs.ViewsAgree.{stream_same, max_streams_agree, window_agrees}
 
 -- Nothing was read of a number, nor written but perhaps increments.
 pub record IsUnread (i : ℕ) (c : Core) : Type 0 where
@@ -120,11 +119,6 @@ state_same e c i role sound g =
     (i % 2 == 0 || nat_lt (greatest_used c) i) (said c i) (active_used c.role i c.received c.sent
     c.reported) (resets_used c.role i c.received c.sent sound.with_sent)
     (idle_by i (greatest_used c) ∙ ap not (sym (sound.used i))))
-
--- An offset that is brought above a bound, by natural numbers.
-pub int_above : (top g t n : ℕ) → int_lt (pos top) ((pos g -ℤ pos t) +ℤ pos n) ≡ nat_lt (top + t)
-    (g + n)
-int_above top g t n = grind (arith, nat_tests, ints)
 
 -- The peer may send as much on the connection as the log says; and so may this end.
 pub recv_same : (e : End) (c : Core) → Going e c → pos e.windows.recv ≡ connection_recv_window

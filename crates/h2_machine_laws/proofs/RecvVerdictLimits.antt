@@ -30,9 +30,10 @@ use Rattle.h2_log.specs.ItemRules.{settings_fault, verdict_of_fault, verdict_by_
 use Rattle.h2_log.specs.ItemRules.{is_awaited_ping}
 use Rattle.h2_log.specs.View.{StreamView, ended_in}
 use Rattle.h2_machine.specs.Represents.{entry_by}
+use Rattle.h2_log_laws.proofs.LogViewLemmas.{int_above}
 use Rattle.h2_machine_laws.proofs.LogCore.{said, Core, core, Going}
 use Rattle.h2_machine_laws.proofs.OwedSums.{first, second, less}
-use Rattle.h2_machine_laws.proofs.RecvVerdict.{Sound, active_said, state_same, block_verdict_same, recv_same, send_same, int_above}
+use Rattle.h2_machine_laws.proofs.RecvVerdict.{Sound, active_said, state_same, block_verdict_same, recv_same, send_same}
 use Rattle.h2_machine_laws.proofs.ViewsAgree.{stream_same}
 use Rattle.h2_machine_laws.proofs.WaitingOutput.{Waits, waits_much}
 use Rattle.h2_log_laws.proofs.ReaderStates.{active_parts}

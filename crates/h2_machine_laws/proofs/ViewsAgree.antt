@@ -18,6 +18,7 @@ use Rattle.h2_machine.specs.End.{End, end_view, stream_in, stream_at, number_aft
 use Rattle.h2_machine.specs.Represents.{RepresentsWhileUp, entry_by}
 use Rattle.std.specs.FinMap as map
 use Rattle.h2_machine.specs.End.{Streams}
+use Rattle.h2_log_laws.proofs.LogViewLemmas.{when_some}
 use Rattle.h2_machine_laws.proofs.LogCore.{Core, active_by_items, said, core, StreamsOf}
 
 -- An entry has a stream where it is active.
@@ -39,11 +40,6 @@ pub stream_agrees : (e : End) (log : Log) (i : ℕ) → StreamsOf e.streams (cor
     → stream_at e i ≡ when (active log i) (stream_of_log log i)
 unfolding unreleased
 stream_agrees e log i streams = stream_same e.streams (core log) i streams
-
--- There is something where the test holds.
-pub when_some : {A : Type 0} (b : Bool) (x : A) → is_some (when b x) ≡ b
-when_some true x = refl
-when_some false x = refl
 
 -- A stream is active at the end just where the log says so.
 pub active_agrees : (e : End) (log : Log) (i : ℕ) → StreamsOf e.streams (core log)
