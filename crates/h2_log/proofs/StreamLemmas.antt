@@ -1,10 +1,10 @@
 -- What a log keeps of its stream: items, calls and faults leave the octets, their limits, their
 -- frames and the rest as they are; so the frames of a log that comes about are those of its octets.
-use Rattle.std.proofs.Common.{◌≡◌, ℕ, ◌+◌, ◌==◌, nat_lt, not, ◌&&◌, Bool, true, false}
-use Rattle.std.proofs.Common.{if◌then◌else◌, List, [], ◌∷◌, ◌++◌, length, Option, Some, None, refl}
-use Rattle.std.proofs.Common.{◌∙◌, arith, inl, inr}
+use Rattle.std.proofs.Common.{◌≡◌, ℕ, ◌+◌, nat_lt, ◌&&◌, Bool, true, false}
+use Rattle.std.proofs.Common.{if◌then◌else◌, List, [], ◌∷◌, ◌++◌, Option, Some, None, refl}
+use Rattle.std.proofs.Common.{sym, ◌∙◌, arith, inl, inr}
 use Rattle.h2_frame.specs.declared.code.Code.{Code}
-use Rattle.h2_frame.specs.declared.code.Code.TheVariants.{ProtocolError, InternalError}
+use Rattle.h2_frame.specs.declared.code.Code.TheVariants.{InternalError}
 use Rattle.h2_frame.specs.Frames.{Frame}
 use Rattle.h2_wire.specs.Streams.{preface, expected_preface, Frames}
 use Rattle.h2_block.specs.Grouping.{Item}
@@ -37,16 +37,23 @@ pub record Keeps (old new : Log) : Type 0 where
   pub unparsed : new.unparsed ≡ old.unparsed
   pub up : new.failed ≡ None → old.failed ≡ None
 
+-- a log with the same stream
+Keeps-same : (log next : Log) → next.role ≡ log.role → next.input ≡ log.input
+    → next.limits ≡ log.limits → next.frames ≡ log.frames → next.unparsed ≡ log.unparsed
+    → next.failed ≡ log.failed → Keeps log next
+Keeps-same log next role input limits frames unparsed failed =
+    record {
+      role = role;
+      input = input;
+      limits = limits;
+      frames = frames;
+      unparsed = unparsed;
+      up = λ up. sym failed ∙ up;
+    }
+
 -- a log that is left as it is
 Keeps-refl : (log : Log) → Keeps log log
-Keeps-refl log = record {
-  role = refl;
-  input = refl;
-  limits = refl;
-  frames = refl;
-  unparsed = refl;
-  up = λ h. h;
-}
+Keeps-refl log = Keeps-same log _ refl refl refl refl refl refl
 
 -- one step after another
 Keeps-trans : (one two three : Log) → Keeps one two → Keeps two three → Keeps one three
@@ -70,39 +77,18 @@ Keeps-with_sent : (log : Log) (items : List Item) → Keeps log (with_sent log i
 unfolding with_sent
 Keeps-with_sent log [] = Keeps-refl log
 Keeps-with_sent log
-    (item ∷ items) = record {
-      role = refl;
-      input = refl;
-      limits = refl;
-      frames = refl;
-      unparsed = refl;
-      up = λ h. h;
-    }
+    (item ∷ items) = Keeps-same log _ refl refl refl refl refl refl
 
 -- reporting
 Keeps-with_reported : (log : Log) (events : List Event) → Keeps log (with_reported log events)
 unfolding with_reported
 Keeps-with_reported log [] = Keeps-refl log
 Keeps-with_reported log
-    (event ∷ events) = record {
-      role = refl;
-      input = refl;
-      limits = refl;
-      frames = refl;
-      unparsed = refl;
-      up = λ h. h;
-    }
+    (event ∷ events) = Keeps-same log _ refl refl refl refl refl refl
 
 -- octets that are due
 Keeps-unreturned : (log : Log) (count : ℕ) → Keeps log (record log { unreturned = count })
-Keeps-unreturned log count = record {
-  role = refl;
-  input = refl;
-  limits = refl;
-  frames = refl;
-  unparsed = refl;
-  up = λ h. h;
-}
+Keeps-unreturned log count = Keeps-same log _ refl refl refl refl refl refl
 
 -- returning what is due
 Keeps-with_credit_returned : (log : Log) → Keeps log (with_credit_returned log)
@@ -133,14 +119,7 @@ Keeps-with_failure code last log =
 -- reading an item
 Keeps-read : (log : Log) (decoded : Option Decoded) (item : Item)
     → Keeps log (read log decoded item)
-Keeps-read log decoded item = record {
-  role = refl;
-  input = refl;
-  limits = refl;
-  frames = refl;
-  unparsed = refl;
-  up = λ h. h;
-}
+Keeps-read log decoded item = Keeps-same log _ refl refl refl refl refl refl
 
 -- and all that it makes
 Keeps-verdict : (log : Log) (decoded : Option Decoded) (item : Item) (verdict : Verdict)
@@ -160,17 +139,9 @@ Keeps-step : (log : Log) (decoded : Option Decoded) (step : FrameStep)
 unfolding with_step
 Keeps-step log decoded (fails_with code) = Keeps-with_failure _ _ log
 Keeps-step log decoded
-    (begins_block begun) = record {
-      role = refl;
-      input = refl;
-      limits = refl;
-      frames = refl;
-      unparsed = refl;
-      up = λ h. h;
-    }
+    (begins_block begun) = Keeps-same log _ refl refl refl refl refl refl
 Keeps-step log decoded (completes item) =
-    Keeps-trans log (record log { begun = None }) _ (record
-    { role = refl; input = refl; limits = refl; frames = refl; unparsed = refl; up = λ h. h })
+    Keeps-trans log (record log { begun = None }) _ (Keeps-same log _ refl refl refl refl refl refl)
     (Keeps-verdict _ _ _ _)
 
 -- a frame stands after those before it
@@ -183,14 +154,7 @@ Keeps-frame log decoded frame = Keeps-step _ decoded (frame_step (log_view log) 
 
 -- a call
 Keeps-called : (log : Log) (act : Act) (answer : Answer) → Keeps log (called log act answer)
-Keeps-called log act answer = record {
-  role = refl;
-  input = refl;
-  limits = refl;
-  frames = refl;
-  unparsed = refl;
-  up = λ h. h;
-}
+Keeps-called log act answer = Keeps-same log _ refl refl refl refl refl refl
 
 -- and what it writes
 Keeps-items : (log : Log) (act : Act) (answer : Answer) → Keeps log (with_items log act answer)
@@ -218,16 +182,10 @@ Keeps-before_put_out log = Keeps-if _ log _ _ (Keeps-with_credit_returned log) (
 Keeps-given : (log : Log) (act : Act) (answer : Answer) (count : ℕ)
     → Keeps log (record (before_put_out (called log act answer)) { given = count })
 Keeps-given log act answer count =
-    let k = Keeps-trans log (called log act answer) (before_put_out (called log act answer))
-    (Keeps-called log act answer) (Keeps-before_put_out _) in
-    record {
-      role = k.role;
-      input = k.input;
-      limits = k.limits;
-      frames = k.frames;
-      unparsed = k.unparsed;
-      up = k.up;
-    }
+    Keeps-trans log (before_put_out (called log act answer)) _
+    (Keeps-trans log (called log act answer) (before_put_out (called log act answer))
+    (Keeps-called log act answer) (Keeps-before_put_out _))
+    (Keeps-same _ _ refl refl refl refl refl refl)
 
 -- all calls
 pub Keeps-call : (log : Log) (act : Act) (answer : Answer) → Keeps log (with_call log act answer)

@@ -23,5 +23,7 @@ pub mod AnyBody
 pub mod LargerFrames
 pub mod Coming
 pub mod ServersCome
+pub mod ServersSettingsCome
+pub mod ServersResetsCome
 pub mod ClientsCome
 pub mod ManyStreamsCome

@@ -1,7 +1,7 @@
 -- SETTINGS that an end may write are no fault for its reader.
-use Rattle.std.proofs.Common.{◌≡◌, ◌≢◌, ℕ, ◌+◌, ◌%◌, ◌≤◌, ◌==◌, ◌&&◌, Bool, true, false, List, []}
+use Rattle.std.proofs.Common.{◌≡◌, ◌≢◌, ℕ, ◌+◌, ◌≤◌, ◌==◌, ◌&&◌, Bool, false, List, []}
 use Rattle.std.proofs.Common.{◌∷◌, Option, None, refl, inl, inr, arith}
-use Rattle.std.proofs.lemmas.Bool.{both_ways, cases_Bool, le-ltb, and_left, and_right, or_from}
+use Rattle.std.proofs.lemmas.Bool.{cases_Bool, le-ltb, and_left, and_right, or_from}
 use Rattle.h2_frame.specs.declared.code.Code.{Code}
 use Rattle.h2_frame.specs.Frames.{Settings}
 use Rattle.h2_block.specs.Grouping.{Item, alone, block}
@@ -19,8 +19,8 @@ use Rattle.h2_log.specs.ItemRules.{verdict_by_rules, settings_fault, verdict_of_
 use Rattle.h2_log.specs.LogView.{overflows, log_view}
 use Rattle.h2_log.specs.CallRules.{opening_pairs, changed_pairs}
 use Rattle.h2_log.specs.Allowed.{MayChangeSettings, AllowedHistory, IsReader}
+use Rattle.h2_log_laws.proofs.InvariantCalls.{active_some}
 use Rattle.h2_log_laws.proofs.ItemLists.{total_after}
-use Rattle.h2_log_laws.proofs.ReaderStates.{active_parts}
 use Rattle.h2_log_laws.proofs.AllowedHistories.{increments_read}
 
 -- no block passes a test that nothing passes
@@ -31,12 +31,6 @@ any_block_none test [] none = refl
 any_block_none test (block stream end octets ∷ items) none =
     or_from (test stream) (any_block test items) (none stream) (any_block_none test items none)
 any_block_none test (alone frame ∷ items) none = any_block_none test items none
-
--- an active stream isn't stream 0
-active_some : (log : Log) (j : ℕ) → active log j ≡ true → j ≢ 0
-active_some log j alive none =
-    let parts = active_parts log.role j log.received log.sent log.reported alive in
-    both_ways (0 % 2 == 1) refl (rw none at parts.odd)
 
 -- an initial window within its bounds brings no stream's above the greatest, where no more was
 -- returned than was read

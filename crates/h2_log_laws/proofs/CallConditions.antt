@@ -1,6 +1,9 @@
 -- What a call that isn't refused says: none of its conditions holds.
 use Rattle.std.proofs.Common.{◌≡◌, ◌||◌, if◌then◌else◌, Bool, true, false, List, [], ◌∷◌, Option}
 use Rattle.std.proofs.Common.{Some, None, refl}
+use Rattle.std.proofs.lemmas.Bool.{both_ways}
+use Rattle.std.specs.Option.{is_some}
+use Rattle.std.proofs.Common.{◌&&◌, not}
 use Rattle.h2_log.specs.declared.refusal.Refusal.{Refusal}
 use Rattle.h2_log.specs.CallRules.{first_of}
 
@@ -41,3 +44,26 @@ neither_one false b is = refl
 pub neither_other : (a b : Bool) → (a || b) ≡ false → b ≡ false
 neither_other true b is = cc
 neither_other false b is = is
+
+-- Where no condition holds, the first doesn't, and none after it.
+pub first_none : (b : Bool) (refusal : Refusal) (after : List (Bool × Refusal))
+    → first_of ((b, refusal) ∷ after) ≡ None
+    → (b ≡ false) × (first_of after ≡ None)
+unfolding first_of
+first_none true refusal after none = absurd (cc)
+first_none false refusal after none = (refl, none)
+
+-- what isn't some is none
+pub none_since : {X : Type 0} (o : Option X) → is_some o ≡ false → o ≡ None
+none_since None none = refl
+none_since (Some x) none = absurd (both_ways true none refl)
+
+-- a test whose negation fails holds
+pub not_false : (b : Bool) → not b ≡ false → b ≡ true
+not_false true is = refl
+not_false false is = absurd (both_ways true is refl)
+
+-- a test that doesn't fail where another holds
+pub and_other : (a b : Bool) → (not a && b) ≡ false → a ≡ false → b ≡ false
+and_other true b both is = absurd (both_ways true is refl)
+and_other false b both is = both

@@ -19,6 +19,7 @@ use Rattle.h2_log.specs.LogView.{log_view}
 use Rattle.h2_log.specs.Limits.{max_data}
 use Rattle.h2_log.specs.CallRules.{data_count, data_frames, data_items}
 use Rattle.h2_log.specs.Allowed.{HasAcknowledged, MayContinue, AllowedHistory, writes}
+use Rattle.h2_log_laws.proofs.ItemLists.{total_one}
 use Rattle.h2_log_laws.proofs.WindowsOfTwoEnds.{total-append}
 use Rattle.h2_log_laws.proofs.LogViewLemmas.{count_by_sums}
 use Rattle.h2_log_laws.proofs.ReaderStates.{active_parts, active_from, lasts_parts, lasts_from}
@@ -100,12 +101,6 @@ pub data_ack : (i : ℕ) (end : Bool) (octets : List ℕ) → one_ack (alone (Da
 unfolding one_ack
 data_ack i end octets = refl
 
--- A sum with one item more.
-pub total_next : (f : Item → ℕ) (item : Item) (items : List Item) → total f (item ∷ items)
-    ≡ f item + total f items
-unfolding total
-total_next f item items = refl
-
 -- what one DATA takes, and what is left for those after it
 pub record SendWindow (id : ℕ) (role : Role) (octets : List ℕ)
     (received sent : List Item) : Type 0 where
@@ -148,7 +143,7 @@ send_window_after most id role octets received sent more is send_window =
       returned =
           omega (
             arith,
-            total_next one_ack (alone (Data id false
+            total_one one_ack (alone (Data id false
                 (take most octets) None)) sent,
             data_ack id false
                 (take most octets),
@@ -157,12 +152,12 @@ send_window_after most id role octets received sent more is send_window =
       goes = goes_on_data role id received sent (take most octets) None send_window.goes;
       fits = λ some. omega (
         arith,
-        total_next (data_on id) (alone (Data id false
+        total_one (data_on id) (alone (Data id false
             (take most octets) None)) sent,
       );
       fits_connection = λ some. omega (
         arith,
-        total_next data_of (alone (Data id false
+        total_one data_of (alone (Data id false
             (take most octets) None)) sent,
       );
     }

@@ -1,70 +1,39 @@
--- The invariant of a log holds after a call.
-use Rattle.std.proofs.Common.{◌≡◌, ◌⊎◌, ◌≢◌, ℕ, zero, suc, zero-add, ◌+◌, ◌≤◌, ◌<◌, ◌==◌, ◌&&◌}
-use Rattle.std.proofs.Common.{◌||◌, ◌%◌, not, nat_lt, nat_le, Bool, true, false, if◌then◌else◌}
-use Rattle.std.proofs.Common.{List, [], ◌∷◌, ◌++◌, length, Option, None, Some, refl, sym, ◌∙◌, inl}
-use Rattle.std.proofs.Common.{inr, arith}
-use Rattle.std.specs.List.{list_any}
+-- The invariant of a log holds after a call, other than those that send fields and bodies.
+use Rattle.std.proofs.Common.{◌≡◌, ◌≢◌, ℕ, zero, suc, zero-add, ◌==◌}
+use Rattle.std.proofs.Common.{◌%◌, nat_lt, Bool, true, false, if◌then◌else◌}
+use Rattle.std.proofs.Common.{List, [], ◌∷◌, ◌++◌, Option, None, Some, refl, sym, ◌∙◌}
+use Rattle.std.proofs.Common.{arith}
 use Rattle.std.specs.Option.{is_some}
-use Rattle.std.proofs.lemmas.Bool.{both_ways, or_parts, and_parts, ltb-true, ltb-false, leb-false}
-use Rattle.std.proofs.lemmas.Bool.{false_from_ne_true, not-true}
-use Rattle.hpack.specs.Lists.{list_size}
-use Rattle.hpack.specs.Choice.{block_of}
-use Rattle.hpack.specs.declared.types.field.Field.{Field}
+use Rattle.std.proofs.lemmas.Bool.{both_ways, and_parts, ltb-true, ltb-false}
+use Rattle.std.proofs.lemmas.Bool.{not-true}
 use Rattle.h2_frame.specs.declared.code.Code.{Code}
 use Rattle.h2_frame.specs.declared.code.Code.TheVariants.{InternalError, EnhanceYourCalm}
-use Rattle.h2_frame.specs.Frames.{Data, Reset, Settings, Ping, GoAway}
-use Rattle.h2_block.specs.Grouping.{Item, alone, block}
+use Rattle.h2_frame.specs.Frames.{Reset, Settings, Ping, GoAway}
+use Rattle.h2_block.specs.Grouping.{Item, alone}
 use Rattle.h2_log.specs.declared.role.Role.{Role}
-use Rattle.h2_log.specs.declared.role.Role.TheVariants.{Client, Server}
 use Rattle.h2_log.specs.declared.refusal.Refusal.{Refusal}
-use Rattle.h2_log.specs.Items.{total, increment_on, one_ping, one_answer, ends, is_goaway}
-use Rattle.h2_log.specs.Items.{greatest_block}
-use Rattle.h2_log.specs.Settings.{settings_count, one_ack, is_server}
+use Rattle.h2_log.specs.Items.{total, increment_on, one_ping, one_answer}
+use Rattle.h2_log.specs.Settings.{settings_count, one_ack}
 use Rattle.h2_log.specs.Events.{reported_total, one_pong}
 use Rattle.h2_log.specs.Acts.{Values, AreInRange, Act, Answer, Open, SendFields, SendData, Release}
 use Rattle.h2_log.specs.Acts.{ResetStream, Refuse, SendPing, SendGoAway, PutOut, ChangeSettings}
-use Rattle.h2_log.specs.Acts.{Number, Count, Done, OutOfMemory, Refused}
-use Rattle.h2_log.specs.States.{openings, count_below, greatest_number}
-use Rattle.h2_log.specs.Log.{Log, active, active_count, released, acked, next_number, allowed_by}
-use Rattle.h2_log.specs.Log.{streams_allowed, last_processed, waiting, goaway_written, goaway_read}
-use Rattle.h2_log.specs.Log.{least_goaway, newest_ping, ping_waits, max_payload_sent}
+use Rattle.h2_log.specs.Acts.{Count, Done, OutOfMemory, Refused}
+use Rattle.h2_log.specs.Log.{Log, active, released, acked}
+use Rattle.h2_log.specs.Log.{last_processed}
+use Rattle.h2_log.specs.Log.{newest_ping, ping_waits}
 use Rattle.h2_log.specs.LogView.{log_view}
-use Rattle.h2_log.specs.CallRules.{may_lack_memory, returns_before_put_out, first_of, conditions}
+use Rattle.h2_log.specs.CallRules.{may_lack_memory, returns_before_put_out, conditions}
 use Rattle.h2_log.specs.CallRules.{refusal_of, items_of, stream_of_act, refuse_fault, changed_pairs}
-use Rattle.h2_log.specs.CallRules.{data_items}
 use Rattle.h2_log.specs.LogSteps.{with_sent, with_reported, with_credit_returned, owed_at_close}
-use Rattle.h2_log.specs.Limits.{full_output, max_list, max_output, max_resets}
 use Rattle.h2_log.specs.LogCalls.{called, with_items, refused_with, before_put_out, with_call}
-use Rattle.h2_log.specs.Allowed.{AllowedHistory, writes, MayContinue, active_by_items}
-use Rattle.h2_log_laws.proofs.ItemLists.{count_below_more}
-use Rattle.h2_log_laws.proofs.BlockSizes.{block_is_gathered}
-use Rattle.h2_log_laws.proofs.ReaderStates.{active_parts, active_from}
+use Rattle.h2_log.specs.Allowed.{AllowedHistory, writes, active_by_items}
+use Rattle.h2_log_laws.proofs.CallConditions.{first_none, none_since, and_other}
+use Rattle.h2_log_laws.proofs.InvariantSteps.{give_represents, fails_represents, recalled_represents, step_log}
 use Rattle.h2_log_laws.proofs.LogHistory.{History, history_of, active_in_view, given_by}
 use Rattle.h2_log_laws.proofs.LogInvariant.{Good, Represents, Moves}
-use Rattle.h2_log_laws.proofs.InvariantSteps.{give_represents, fails_represents}
-use Rattle.h2_log_laws.proofs.InvariantSteps.{recalled_represents, step_log}
+use Rattle.h2_log_laws.proofs.LogViewLemmas.{when_some, stream_is_active}
+use Rattle.h2_log_laws.proofs.ReaderStates.{active_parts, active_from}
 use Rattle.h2_log_laws.proofs.ReplyInvariant.{active_resets}
-use Rattle.h2_log_laws.proofs.StreamNumbers.{next_odd}
-use Rattle.h2_log_laws.proofs.LogViewLemmas.{when_some, stream_is_active, open_out}
-use Rattle.h2_log_laws.proofs.DataOfCalls.{count_of, data_ack, none_of_items, data_items_written}
-
--- Where no condition holds, the first doesn't, and none after it.
-pub first_none : (b : Bool) (refusal : Refusal) (after : List (Bool × Refusal))
-    → first_of ((b, refusal) ∷ after) ≡ None
-    → (b ≡ false) × (first_of after ≡ None)
-unfolding first_of
-first_none true refusal after none = absurd (cc)
-first_none false refusal after none = (refl, none)
-
--- what isn't some is none
-pub none_since : {X : Type 0} (o : Option X) → is_some o ≡ false → o ≡ None
-none_since None none = refl
-none_since (Some x) none = absurd (both_ways true none refl)
-
--- a test whose negation fails holds
-pub not_false : (b : Bool) → not b ≡ false → b ≡ true
-not_false true is = refl
-not_false false is = absurd (both_ways true is refl)
 
 -- An active stream is active by what was read and written.
 pub active_is_active : (log : Log) (i : ℕ) → active log i ≡ true
@@ -91,7 +60,7 @@ active_some log i active = odd_some i
     (active_parts log.role i log.received log.sent log.reported active).odd
 
 -- A step of a call that writes items which neither answer nor give.
-writes_only : (v : History) (i : ℕ) (items : List Item) (calls : List (Act × Answer))
+pub writes_only : (v : History) (i : ℕ) (items : List Item) (calls : List (Act × Answer))
     → AllowedHistory v.role v.received (items ++ v.sent) → total one_ack items ≡ 0
     → total one_answer items ≡ 0 → ((j : ℕ) → total (increment_on j) items ≡ 0) → ((j : ℕ)
     → released j calls ≡ released j v.calls)
@@ -116,7 +85,7 @@ writes_only v i items calls with_sent acks answers gives same =
     }
 
 -- The same of one item.
-writes_one : (v : History) (i : ℕ) (item : Item) (calls : List (Act × Answer))
+pub writes_one : (v : History) (i : ℕ) (item : Item) (calls : List (Act × Answer))
     → AllowedHistory v.role v.received (item ∷ v.sent) → one_ack item ≡ 0
     → one_answer item ≡ 0 → ((j : ℕ) → increment_on j item ≡ 0) → ((j : ℕ) → released j calls
     ≡ released j v.calls)
@@ -163,193 +132,6 @@ refused_represents role log act refusal represents =
     recalled_represents role (history_of log) ((act, Refused refusal) ∷ log.calls)
     (λ j. released_refused j act refusal log.calls) represents
 
--- A stream on which this end goes on.
-active_goes : (log : Log) (i : ℕ) → active log i ≡ true → list_any (ends i) log.sent ≡ false
-    → MayContinue log.role i log.received log.sent
-active_goes log i active ended = record { active = active_is_active log i active; goes = ended }
-
--- the role of an end that isn't a server
-client_since : (role : Role) → is_server role ≡ false → role ≡ Client
-client_since Client is = refl
-client_since Server is = absurd (both_ways true is refl)
-
--- Where no GOAWAY was read, a stream that is active by its items is active.
-is_active_active : (log : Log) → Good (history_of log) → list_any is_goaway log.received ≡ false
-    → (j : ℕ) → active_by_items log.role j log.received log.sent ≡ true → active log j ≡ true
-is_active_active log good stays j active =
-    let parts = active_parts log.role j log.received log.sent [] active in
-    active_from log.role j log.received log.sent log.reported (record {
-      odd = parts.odd;
-      opened = parts.opened;
-      below = parts.below;
-      lasts = parts.lasts;
-      unnamed = false_from_ne_true _ (λ with_reported. both_ways _ stays
-          (good.named j with_reported));
-    })
-
--- what a client counts
-count_of_client : (role : Role) (received sent : List Item) (n : ℕ) (test : ℕ → Bool)
-    → is_server role ≡ false
-    → count_below (greatest_block (openings role received sent) + 1) test < n
-    → count_below (greatest_block sent + 1) test < n
-count_of_client Client received sent n test is few = few
-count_of_client Server received sent n test is few = absurd (both_ways true is refl)
-
--- a client's streams are fewer than the server allows
-few_active : (log : Log) → Good (history_of log) → list_any is_goaway log.received ≡ false
-    → is_server log.role ≡ false → active_count log < streams_allowed log
-    → count_below (greatest_block log.sent + 1)
-    (λ j. active_by_items log.role j log.received log.sent) < allowed_by log.received
-unfolding active_count
-few_active log good stays client few =
-    let counts = count_of_client log.role log.received log.sent (streams_allowed log)
-    (active log) client few in
-    let fewer = count_below_more (greatest_block log.sent + 1)
-    (λ j. active_by_items log.role j log.received log.sent) (active log)
-    (is_active_active log good stays) in
-    omega (arith, counts, fewer)
-
--- a test that doesn't fail where another holds
-and_other : (a b : Bool) → (not a && b) ≡ false → a ≡ false → b ≡ false
-and_other true b both is = absurd (both_ways true is refl)
-and_other false b both is = both
-
--- A block acknowledges, answers and gives nothing.
-block_writes : (v : History) (i id : ℕ) (end : Bool) (octets : List ℕ) (calls : List (Act
-    × Answer)) → AllowedHistory v.role v.received (block id end octets ∷ v.sent)
-    → ((j : ℕ) → released j calls ≡ released j v.calls)
-    → Moves v i [] (block id end octets ∷ []) [] calls 0
-unfolding one_ack one_answer increment_on
-block_writes v i id end octets calls with_sent same = writes_one v i
-    (block id end octets) calls with_sent refl refl (λ j. refl) same
-
--- The invariant holds after opening a stream with a number that is the next one.
-open_with : (role : Role) (log : Log) (fields : List Field) (end : Bool) (number : ℕ)
-    → Represents role (history_of log) → log.failed ≡ None
-    → is_server log.role ≡ false → nat_lt greatest_number number ≡ false → (goaway_written log
-    ≡ false) × (goaway_read log ≡ false)
-    → active_count log < streams_allowed log → list_size fields ≤ max_list → number
-    ≡ next_number log
-    → Represents role (history_of (with_call log (Open fields end) (Number number)))
-unfolding with_call items_of stream_of_act released
-open_with role log fields end number represents up server low went few small is =
-    let good = represents.good up in
-    let next = next_odd log represents.with_sent in
-    items_represent role log (Open fields end) (Number number) (block number end
-    (block_of log.encoder fields) ∷ []) represents up refl
-    (block_writes (history_of log) _ number end (block_of log.encoder fields) _
-    (writes (block number end (block_of log.encoder fields)) represents.with_sent (
-      good.returned,
-      inl (record {
-        client = client_since log.role server;
-        odd = rw is next.0;
-        rises = omega (arith, next.1, is);
-        low = ltb-false greatest_number number low;
-        few = few_active log good went.1 server few;
-        stays = went.0;
-        reported_to_stay = went.1;
-      }),
-      block_is_gathered log.encoder fields small,
-    )) (λ j. refl))
-
--- a choice that fails
-client_number : (b : Bool) (n : ℕ) → b ≡ false → (if b then 0 else n) ≡ n
-client_number true n is = absurd (both_ways true is refl)
-client_number false n is = refl
-
--- the number of a client's next stream
-number_of_client : (log : Log) → is_server log.role ≡ false → (log_view log).next_number
-    ≡ next_number log
-number_of_client log server = client_number (is_server log.role) (next_number log) server
-
--- The invariant holds after opening a stream.
-pub open_represents : (role : Role) (log : Log) (fields : List Field) (end : Bool)
-    → Represents role (history_of log)
-    → refusal_of (log_view log) (Open fields end) ≡ None
-    → Represents role (history_of (with_call log (Open fields end) (Number
-    (log_view log).next_number)))
-unfolding conditions
-open_represents role log fields end represents none =
-    let view = log_view log in
-    let c1 = first_none _ _ _ none in
-    let c2 = first_none _ _ _ c1.1 in
-    let c3 = first_none _ _ _ c2.1 in
-    let c4 = first_none _ _ _ c3.1 in
-    let c5 = first_none _ _ _ c4.1 in
-    let c6 = first_none _ _ _ c5.1 in
-    let server = or_parts (is_server log.role) (nat_lt greatest_number view.next_number) c3.0 in
-    let went = or_parts view.goaway_sent (is_some view.goaway_received) c4.0 in
-    let read : goaway_read log ≡ false = sym (when_some (goaway_read log)
-    (least_goaway log.received)) ∙ went.1 in
-    open_with role log fields end view.next_number represents
-    (none_since log.failed c1.0) server.0 server.1 (went.0, read)
-    (leb-false (streams_allowed log) (active_count log) (and_other
-    (is_server log.role) _ c2.0 server.0))
-    (ltb-false max_list (list_size fields) c6.0) (number_of_client log server.0)
-
--- The invariant holds after writing further fields.
-pub fields_represent : (role : Role) (log : Log) (id : ℕ) (fields : List Field) (end : Bool)
-    → Represents role (history_of log)
-    → refusal_of (log_view log) (SendFields id fields end) ≡ None
-    → Represents role (history_of (with_call log (SendFields id fields end) Done))
-unfolding conditions with_call items_of stream_of_act released
-fields_represent role log id fields end represents none =
-    let c1 = first_none _ _ _ none in
-    let c2 = first_none _ _ _ c1.1 in
-    let c3 = first_none _ _ _ c2.1 in
-    let c4 = first_none _ _ _ c3.1 in
-    let c5 = first_none _ _ _ c4.1 in
-    let up = none_since log.failed c1.0 in
-    let good = represents.good up in
-    items_represent role log (SendFields id fields end) Done (block id end
-    (block_of log.encoder fields) ∷ []) represents up refl
-    (block_writes (history_of log) _ id end (block_of log.encoder fields) _ (writes (block id end
-    (block_of log.encoder fields)) represents.with_sent (
-      good.returned,
-      inr (active_goes log id (stream_is_active log id c2.0) (open_out log id
-          (stream_is_active log id c2.0) c3.0)),
-      block_is_gathered log.encoder fields (ltb-false max_list (list_size fields) c5.0),
-    )) (λ j. refl))
-
--- DATA answers nothing
-data_answer : (id : ℕ) (end : Bool) (octets : List ℕ)
-    → one_answer (alone (Data id end octets None)) ≡ 0
-unfolding one_answer
-data_answer id end octets = refl
-
--- DATA gives nothing
-data_gives : (j id : ℕ) (end : Bool) (octets : List ℕ)
-    → increment_on j (alone (Data id end octets None)) ≡ 0
-unfolding increment_on
-data_gives j id end octets = refl
-
--- The invariant holds after writing a body.
-pub data_represents : (role : Role) (log : Log) (id : ℕ) (octets : List ℕ) (end : Bool)
-    → Represents role (history_of log)
-    → refusal_of (log_view log) (SendData id octets end) ≡ None
-    → Represents role (history_of (with_call log (SendData id octets end) (Count (count_of log id
-    (length octets)))))
-unfolding conditions with_call items_of stream_of_act released
-data_represents role log id octets end represents none =
-    let c1 = first_none _ _ _ none in
-    let c2 = first_none _ _ _ c1.1 in
-    let c3 = first_none _ _ _ c2.1 in
-    let up = none_since log.failed c1.0 in
-    let good = represents.good up in
-    let count = count_of log id (length octets) in
-    let alive = stream_is_active log id c2.0 in
-    items_represent role log (SendData id octets end) (Count (count_of log id (length octets)))
-    (data_items (max_payload_sent log) id octets end (count_of log id
-    (length octets))) represents up refl
-    (writes_only (history_of log) _ (data_items (max_payload_sent log) id octets end
-    (count_of log id (length octets))) _
-    (data_items_written log id octets end alive represents.with_sent good.returned
-    (active_goes log id alive (open_out log id alive c3.0)))
-    (none_of_items one_ack data_ack (max_payload_sent log) id octets end count)
-    (none_of_items one_answer data_answer (max_payload_sent log) id octets end count)
-    (λ j. none_of_items (increment_on j) (data_gives j)
-    (max_payload_sent log) id octets end count) (λ j. refl))
-
 -- Resetting a stream stands, whichever call does it.
 reset_moves : (v : History) (i id code : ℕ) (calls : List (Act × Answer)) → Good v
     → AllowedHistory v.role v.received v.sent → active_in_view v id ≡ true
@@ -377,7 +159,7 @@ reset_represents role log id code represents none =
     (stream_is_active log id c2.0) (λ j. refl))
 
 -- a fault of refusing, by the tests that make it
-no_fault : (b other : Bool) → (if b then Some InternalError
+pub no_fault : (b other : Bool) → (if b then Some InternalError
     else if other then Some EnhanceYourCalm else None) ≡ None → b ≡ false
 no_fault true other none = absurd (cc)
 no_fault false other none = refl

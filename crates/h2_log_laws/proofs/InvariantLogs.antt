@@ -21,16 +21,14 @@ use Rattle.h2_log.specs.Histories.{IsLog, begins, took_some, took_one, met_fault
 use Rattle.h2_log.specs.Histories.{reported_one, called_one}
 use Rattle.h2_log.specs.Allowed.{AllowedHistory, starts}
 use Rattle.h2_log_laws.specs.Sums.{sum_below}
+use Rattle.h2_log_laws.proofs.InvariantCalls.{refused_represents, reset_represents, refuse_represents, failed_represents, ping_represents, leave_represents, change_represents, put_out_represents}
+use Rattle.h2_log_laws.proofs.InvariantReads.{frame_represents}
+use Rattle.h2_log_laws.proofs.InvariantSends.{open_represents, fields_represent, data_represents}
+use Rattle.h2_log_laws.proofs.InvariantSteps.{fails_represents, step_log}
 use Rattle.h2_log_laws.proofs.LogHistory.{History, history_of, left, owes, used_view, sum_less}
 use Rattle.h2_log_laws.proofs.LogInvariant.{Represents, Moves}
-use Rattle.h2_log_laws.proofs.InvariantSteps.{fails_represents, step_log}
-use Rattle.h2_log_laws.proofs.InvariantReads.{frame_represents}
-use Rattle.h2_log_laws.proofs.StreamNumbers.{next_left}
-use Rattle.h2_log_laws.proofs.InvariantCalls.{refused_represents, open_represents, fields_represent}
-use Rattle.h2_log_laws.proofs.InvariantCalls.{data_represents, reset_represents, refuse_represents}
-use Rattle.h2_log_laws.proofs.InvariantCalls.{failed_represents, ping_represents, leave_represents}
-use Rattle.h2_log_laws.proofs.InvariantCalls.{change_represents, put_out_represents}
 use Rattle.h2_log_laws.proofs.ReleasedCredit.{release_represents}
+use Rattle.h2_log_laws.proofs.StreamNumbers.{next_left}
 
 -- To report a stream as unprocessed is sound, where a GOAWAY was read.
 unprocessed_moves : (v : History) (n : ℕ) → AllowedHistory v.role v.received v.sent

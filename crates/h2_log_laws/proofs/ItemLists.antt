@@ -21,6 +21,17 @@ none_after p more xs none =
     false_from_ne_true (list_any p xs) (λ some. both_ways (list_any p (more ++ xs)) none
     (any_after p more xs some))
 
+-- A sum over nothing.
+pub total_none : (f : Item → ℕ) → total f [] ≡ 0
+unfolding total
+total_none f = refl
+
+-- A sum over a list with one item more.
+pub total_one : (f : Item → ℕ) (item : Item) (items : List Item)
+    → total f (item ∷ items) ≡ f item + total f items
+unfolding total
+total_one f item items = refl
+
 -- A sum over a list is no greater than one over a longer list.
 pub total_after : (f : Item → ℕ) (more items : List Item) → total f items ≤ total f (more ++ items)
 unfolding total

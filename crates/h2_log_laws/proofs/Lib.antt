@@ -12,6 +12,7 @@ pub mod EncoderSteps
 pub mod EveryLog
 pub mod FrameSizes
 pub mod InvariantCalls
+pub mod InvariantSends
 pub mod InvariantLogs
 pub mod InvariantReads
 pub mod InvariantSteps

@@ -23,7 +23,7 @@ pub record Grows (old new : Log) : Type 0 where
   pub sent : new.sent ≡ items ++ old.sent
   pub up : new.failed ≡ None → old.failed ≡ None
 
--- A log that changes none of these grules by nothing.
+-- A log that changes none of these grows by nothing.
 pub grows_none : (old new : Log) → new.role ≡ old.role → new.received ≡ old.received
     → new.reported ≡ old.reported → new.sent ≡ old.sent → new.failed ≡ old.failed → Grows old new
 grows_none old new role received reported sent failed =
@@ -91,7 +91,7 @@ pub fails_down : (code : Code) (last : ℕ) (log : Log) → (with_failure code l
     ≡ None → ⊥
 fails_down code last log is = let wrong : Some code ≡ None = is in cc
 
--- what fails grules
+-- what fails grows
 grows_fails : (code : Code) (last : ℕ) (log : Log) → Grows log (with_failure code last log)
 grows_fails code last log =
     let k = grows_wrote log (alone (GoAway last (code_number code) []) ∷ []) in

@@ -1,7 +1,7 @@
 -- The rules over the view of a log, by what was read and written in all. Where a stream isn't
 -- active the rules ask nothing of it.
 use Rattle.std.proofs.Common.{◌≡◌, ℕ, ◌+◌, ◌-◌, min, not, Bool, true, false, if◌then◌else◌, ◌&&◌}
-use Rattle.std.proofs.Common.{◌==◌, nat_lt, ℤ, pos, negsuc, ◌+ℤ◌, ◌-ℤ◌, List, Option, Some, None}
+use Rattle.std.proofs.Common.{◌==◌, nat_lt, ℤ, pos, negsuc, ◌+ℤ◌, ◌-ℤ◌, List, Option, Some}
 use Rattle.std.proofs.Common.{length, subst, refl, ap, ap₂, ◌∙◌, arith}
 use Rattle.std.specs.Prelude.{int_lt}
 use Rattle.std.specs.Option.{is_some}
@@ -12,8 +12,8 @@ use Rattle.std.proofs.lemmas.Bool.Decides.{nat_tests}
 use Rattle.hpack.specs.Lists.{list_size}
 use Rattle.h2_frame.specs.Frames.{Data, WindowUpdate}
 use Rattle.h2_frame.specs.Encoding.{payload_of}
-use Rattle.h2_block.specs.Grouping.{Item, alone, block}
-use Rattle.h2_log.specs.Items.{data_on, data_of, increment_on, ends, total}
+use Rattle.h2_block.specs.Grouping.{alone, block}
+use Rattle.h2_log.specs.Items.{data_on, data_of, ends, total}
 use Rattle.h2_log.specs.States.{State, Idle, Active, ClosedByUs, Closed, when}
 use Rattle.h2_log.specs.Windows.{greatest_window, given_on, given_on_connection, granted_on}
 use Rattle.h2_log.specs.Windows.{granted_on_connection, connection_send_window, passes}
@@ -66,12 +66,12 @@ int_passes : (given consumed n : ℕ) → int_lt (pos given -ℤ pos consumed) (
 int_passes given consumed n = grind (arith, nat_tests, ints)
 
 -- A window is above a bound, by signed numbers.
-int_above : (top given consumed n : ℕ) → int_lt (pos top) ((pos given -ℤ pos consumed) +ℤ pos n)
+pub int_above : (top given consumed n : ℕ) → int_lt (pos top) ((pos given -ℤ pos consumed) +ℤ pos n)
     ≡ nat_lt (top + consumed) (given + n)
 int_above top given consumed n = grind (arith, nat_tests, ints)
 
 -- what a window lets through is a difference, or nothing
-natural_by : (z : ℤ) (given consumed : ℕ) → z ≡ pos given -ℤ pos consumed → at_least_none z
+pub natural_by : (z : ℤ) (given consumed : ℕ) → z ≡ pos given -ℤ pos consumed → at_least_none z
     ≡ given - consumed
 natural_by (pos n) given consumed is = omega (arith, ints, is)
 natural_by (negsuc n) given consumed is = omega (arith, ints, is)

@@ -9,6 +9,7 @@ use Rattle.h2_block.specs.Grouping.{Item, alone, block}
 use Rattle.h2_log.specs.Items.{is_block_on, greatest_block}
 use Rattle.h2_log.specs.States.{least_block, openings}
 use Rattle.h2_log.specs.Log.{Log, active, next_active}
+use Rattle.h2_log_laws.proofs.StreamNumbers.{block_below}
 use Rattle.h2_log_laws.proofs.ReaderStates.{active_parts}
 
 -- Of a number and the least of others, by the test of the number: what is chosen passes.
@@ -67,18 +68,6 @@ least_found test i (block stream end octets ∷ items) nonzero passes here = eli
           (nonzero stream) others.0 others.1
     ]
 
--- No block has a number above the greatest.
-pub greatest_above : (i : ℕ) (items : List Item) → list_any (is_block_on i) items ≡ true
-    → i ≤ greatest_block items
-unfolding greatest_block is_block_on
-greatest_above i [] here = absurd (both_ways false refl here)
-greatest_above i (alone frame ∷ items) here = greatest_above i items here
-greatest_above i (block stream end octets ∷ items) here = elim (or_cases (stream == i) (list_any
-    (is_block_on i) items) here) [
-      | inl same ↦ omega (arith, eqb-true stream i same)
-      | inr after ↦ omega (arith, greatest_above i items after)
-    ]
-
 -- An active stream's number isn't 0, and a block has it.
 active_nonzero : (log : Log) (id j : ℕ) → (active log j && nat_lt id j) ≡ true → j ≢ 0
 active_nonzero log id j both = λ none. let above = ltb-true id j
@@ -104,5 +93,5 @@ next_found log id i alive above =
 -- An active stream is among those that are counted.
 pub active_counted : (log : Log) (i : ℕ) → active log i ≡ true
     → i ≤ greatest_block (openings log.role log.received log.sent)
-active_counted log i alive = greatest_above i (openings log.role log.received log.sent)
+active_counted log i alive = block_below i (openings log.role log.received log.sent)
     (active_parts log.role i log.received log.sent log.reported alive).opened

@@ -17,21 +17,21 @@ use Rattle.h2_log.specs.LogCalls.{with_call}
 use Rattle.h2_log.specs.Allowed.{HasAcknowledged, AllowedHistory, writes, active_by_items}
 use Rattle.h2_log.specs.Allowed.{MayUpdateWindow}
 use Rattle.h2_log_laws.specs.Sums.{sum_below}
+use Rattle.h2_log_laws.proofs.ItemLists.{total_one, total_none}
+use Rattle.h2_log_laws.proofs.CallConditions.{first_none, none_since}
+use Rattle.h2_log_laws.proofs.InvariantCalls.{active_is_active, active_some, items_represent}
+use Rattle.h2_log_laws.proofs.InvariantSteps.{update_elsewhere, update_here}
 use Rattle.h2_log_laws.proofs.LogHistory.{History, history_of, active_in_view, left, owes}
 use Rattle.h2_log_laws.proofs.LogInvariant.{Good, Represents, Moves}
-use Rattle.h2_log_laws.proofs.InvariantSteps.{update_elsewhere, update_here}
-use Rattle.h2_log_laws.proofs.DataOfCalls.{total_next}
 use Rattle.h2_log_laws.proofs.LogViewLemmas.{stream_is_active, owed_there}
-use Rattle.h2_log_laws.proofs.InvariantCalls.{first_none, none_since, active_is_active, active_some}
-use Rattle.h2_log_laws.proofs.InvariantCalls.{items_represent}
 
 -- an update gives to its stream
-gives_here : (i count : ℕ) → increment_on i (alone (WindowUpdate i count)) ≡ count
+pub gives_here : (i count : ℕ) → increment_on i (alone (WindowUpdate i count)) ≡ count
 unfolding increment_on
 gives_here i count = rw (eq-eqb i i refl) refl
 
 -- an update gives to no other stream
-gives_elsewhere : (i j count : ℕ) → (i ≡ j → ⊥) → increment_on j (alone (WindowUpdate i count)) ≡ 0
+pub gives_elsewhere : (i j count : ℕ) → (i ≡ j → ⊥) → increment_on j (alone (WindowUpdate i count)) ≡ 0
 unfolding increment_on
 gives_elsewhere i j count other = rw (ne_eqb i j other) refl
 
@@ -43,7 +43,7 @@ unfolding increment_on released
 gives_released i j count calls = refl
 
 -- a release releases so much
-released_here : (i count : ℕ) (calls : List (Act × Answer))
+pub released_here : (i count : ℕ) (calls : List (Act × Answer))
     → released i ((Release i count, Done) ∷ calls) ≡ count + released i calls
 released_here i count calls = sym (gives_released i i count calls)
     ∙ ap (λ (n : ℕ). n + released i calls) (gives_here i count)
@@ -64,11 +64,6 @@ unreleased_is log i = refl
 owes_one : (v : History) (i : ℕ) → owes v i ≤ sum_below (suc i) (owes v)
 unfolding sum_below
 owes_one v i = omega arith
-
--- a total of none
-total_none : (f : Item → ℕ) → total f [] ≡ 0
-unfolding total
-total_none f = refl
 
 -- an update acknowledges nothing
 update_ack : (i count : ℕ) → one_ack (alone (WindowUpdate i count)) ≡ 0
@@ -123,7 +118,7 @@ updates_written v i count false good with_sent active gives =
     let gave = good.gave i gives.number in
     let reported = good.reported_read i in
     let much = gives.owed in
-    let next = total_next (increment_on 0) (alone (WindowUpdate i count)) v.sent in
+    let next = total_one (increment_on 0) (alone (WindowUpdate i count)) v.sent in
     let none = gives_elsewhere i 0 count gives.number in
     writes (alone (WindowUpdate 0 count))
     (writes (alone (WindowUpdate i count)) with_sent (
@@ -138,7 +133,7 @@ updates_written v i count false good with_sent active gives =
     (gives_all v i count (alone (WindowUpdate i count) ∷ v.sent) good gives
     (omega (
       arith,
-      total_next one_ack (alone
+      total_one one_ack (alone
           (WindowUpdate i count)) v.sent,
       update_ack i count,
       good.returned,

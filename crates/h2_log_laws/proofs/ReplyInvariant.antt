@@ -15,7 +15,7 @@ use Rattle.h2_log.specs.Items.{is_block_on, resets, opens_from}
 use Rattle.h2_log.specs.Settings.{settings_count, one_settings, one_ack, is_server}
 use Rattle.h2_log.specs.Events.{Event, DataEvent, ResetEvent, flow_on, reported_total, one_acked}
 use Rattle.h2_log.specs.Events.{one_pong, reports_unprocessed}
-use Rattle.h2_log.specs.States.{Idle, Active, is_active, is_used, openings, state_by}
+use Rattle.h2_log.specs.States.{Idle, is_active, is_used, openings, state_by}
 use Rattle.h2_log.specs.Log.{Log, active, state}
 use Rattle.h2_log.specs.LogView.{log_view}
 use Rattle.h2_log.specs.ItemRules.{peer_opens}
@@ -98,14 +98,6 @@ idle_unused false active closed_by_us idle = refl
 idle_unused true true closed_by_us idle = absurd (cc)
 idle_unused true false true idle = absurd (cc)
 idle_unused true false false idle = absurd (cc)
-
--- An active stream is active.
-pub state_active : (used active closed_by_us : Bool) → state_by used active closed_by_us ≡ Active
-    → active ≡ true
-state_active false active closed_by_us is = absurd (cc)
-state_active true true closed_by_us is = refl
-state_active true false true is = absurd (cc)
-state_active true false false is = absurd (cc)
 
 -- An active stream may be reset after whatever is read.
 pub active_resets : (role : Role) (i : ℕ) (news received sent : List Item)

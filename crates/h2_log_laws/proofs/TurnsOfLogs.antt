@@ -124,6 +124,20 @@ called_reported log act answer is =
       items = is.items;
     }
 
+-- A change that leaves the turns, and what they tell, as they are.
+same_turns : (log next : Log) → next.turns ≡ log.turns → next.input ≡ log.input
+    → next.written ≡ log.written → next.reported ≡ log.reported → next.calls ≡ log.calls
+    → next.role ≡ log.role → next.sent ≡ log.sent → TurnsRecord log → TurnsRecord next
+same_turns log next turns input written reported calls role sent is =
+    record {
+      input = rw (turns, input) is.input;
+      output = rw (turns, written) is.output;
+      events = rw (turns, reported) is.events;
+      acts = rw (turns, calls) is.acts;
+      answers = rw (turns, calls) is.answers;
+      items = rw (written, role, sent) is.items;
+    }
+
 -- Each small change keeps what the turns tell.
 turns_are_steady : IsSteady TurnsRecord
 turns_are_steady =
@@ -131,55 +145,13 @@ turns_are_steady =
       used = used_reported;
       with_sent = wrote_reported;
       with_reported = reports_reported;
-      read = λ log decoded item is. record {
-        input = is.input;
-        output = is.output;
-        events = is.events;
-        acts = is.acts;
-        answers = is.answers;
-        items = is.items;
-      };
+      read = λ log decoded item is. same_turns log _ refl refl refl refl refl refl refl is;
       called = called_reported;
-      unreturned = λ log n is. record {
-        input = is.input;
-        output = is.output;
-        events = is.events;
-        acts = is.acts;
-        answers = is.answers;
-        items = is.items;
-      };
-      given = λ log n is. record {
-        input = is.input;
-        output = is.output;
-        events = is.events;
-        acts = is.acts;
-        answers = is.answers;
-        items = is.items;
-      };
-      failed = λ log code is. record {
-        input = is.input;
-        output = is.output;
-        events = is.events;
-        acts = is.acts;
-        answers = is.answers;
-        items = is.items;
-      };
-      frames = λ log frames is. record {
-        input = is.input;
-        output = is.output;
-        events = is.events;
-        acts = is.acts;
-        answers = is.answers;
-        items = is.items;
-      };
-      begun = λ log begun is. record {
-        input = is.input;
-        output = is.output;
-        events = is.events;
-        acts = is.acts;
-        answers = is.answers;
-        items = is.items;
-      };
+      unreturned = λ log n is. same_turns log _ refl refl refl refl refl refl refl is;
+      given = λ log n is. same_turns log _ refl refl refl refl refl refl refl is;
+      failed = λ log code is. same_turns log _ refl refl refl refl refl refl refl is;
+      frames = λ log frames is. same_turns log _ refl refl refl refl refl refl refl is;
+      begun = λ log begun is. same_turns log _ refl refl refl refl refl refl refl is;
     }
 
 -- The turns of a new end.

@@ -9,8 +9,8 @@ use Rattle.h2_block.specs.Grouping.{alone}
 use Rattle.h2_machine.specs.End.{end_view, End}
 use Rattle.h2_log.specs.LogView.{log_view}
 use Rattle.h2_log.specs.View.{View}
-use Rattle.h2_log.specs.Acts.{Values, Act, Answer, IsTypedAct, Open, SendFields, SendData, Release}
-use Rattle.h2_log.specs.Acts.{ResetStream, Refuse, SendPing, SendGoAway, PutOut, ChangeSettings}
+use Rattle.h2_log.specs.Acts.{Values, Act, Answer, IsTypedAct, Open, Release}
+use Rattle.h2_log.specs.Acts.{Refuse}
 use Rattle.h2_log.specs.Acts.{Done, OutOfMemory, Refused}
 use Rattle.h2_log.specs.Log.{Log, active, last_processed, released}
 use Rattle.h2_frame.specs.Codes.{code_number}
@@ -22,7 +22,8 @@ use Rattle.h2_log.specs.Histories.{IsLog, called_one}
 use Rattle.h2_machine.specs.Machine.{queue_output, fail, after_refuse, after_call, reset_stream}
 use Rattle.h2_machine.specs.Represents.{Represents}
 use Rattle.h2_log.specs.declared.refusal.Refusal.{Refusal}
-use Rattle.h2_log_laws.proofs.InvariantCalls.{released_refused, first_none}
+use Rattle.h2_log_laws.proofs.InvariantCalls.{released_refused, no_fault}
+use Rattle.h2_log_laws.proofs.CallConditions.{first_none, and_other}
 use Rattle.h2_log_laws.proofs.LogViewLemmas.{stream_is_active}
 use Rattle.h2_machine_laws.proofs.CallReset.{reset_up}
 use Rattle.h2_machine_laws.proofs.GoAwaysSent.{active_processed}
@@ -72,15 +73,7 @@ refused_encoder : (log : Log) (act : Act) (refusal : Refusal)
     → log.encoder ≡ encoder_after_call log.encoder act (Refused refusal)
 unfolding encoder_after_call
 refused_encoder log (Open fields end) refusal = refl
-refused_encoder log (SendFields id fields end) refusal = refl
-refused_encoder log (SendData id octets end) refusal = refl
-refused_encoder log (Release id count) refusal = refl
-refused_encoder log (ResetStream id code) refusal = refl
-refused_encoder log (Refuse id code) refusal = refl
-refused_encoder log (SendPing octets) refusal = refl
-refused_encoder log SendGoAway refusal = refl
-refused_encoder log (PutOut count) refusal = refl
-refused_encoder log (ChangeSettings values) refusal = refl
+refused_encoder log act refusal = refl
 
 -- An end that refuses a call represents its log with the call.
 pub refused_represents : (values : Values) (e : End) (log : Log) (act : Act) (refusal : Refusal)
@@ -110,16 +103,8 @@ refused_represents values e log act refusal represents typed may =
 released_out_of_memory : (i : ℕ) (act : Act) (calls : List (Act × Answer))
     → released i ((act, OutOfMemory) ∷ calls) ≡ released i calls
 unfolding released
-released_out_of_memory i (Open fields end) calls = refl
-released_out_of_memory i (SendFields id fields end) calls = refl
-released_out_of_memory i (SendData id octets end) calls = refl
 released_out_of_memory i (Release id count) calls = refl
-released_out_of_memory i (ResetStream id code) calls = refl
-released_out_of_memory i (Refuse id code) calls = refl
-released_out_of_memory i (SendPing octets) calls = refl
-released_out_of_memory i SendGoAway calls = refl
-released_out_of_memory i (PutOut count) calls = refl
-released_out_of_memory i (ChangeSettings values) calls = refl
+released_out_of_memory i act calls = refl
 
 -- An end that is out of memory represents its log.
 pub out_of_memory_represents : (values : Values) (e : End) (log : Log) (act : Act)
@@ -140,17 +125,6 @@ unfolding refuse_fault
 fault_same values e log code represents up =
     ap (λ (view : View). refuse_fault view code)
     (views_of_up e log (up_of values e log represents up))
-
--- Where a code ends no connection, it isn't 2.
-no_fault : (b other : Bool) → (if b then Some InternalError else if other then Some EnhanceYourCalm
-    else None) ≡ None → b ≡ false
-no_fault true other none = cc
-no_fault false other none = refl
-
--- a test that doesn't fail where another holds
-and_other : (a b : Bool) → (not a && b) ≡ false → a ≡ false → b ≡ false
-and_other true b both is = cc
-and_other false b both is = both
 
 -- Where a stream may be refused, and the connection doesn't fail, it is active.
 refused_active : (log : Log) (id code : ℕ) → refusal_of (log_view log) (Refuse id code) ≡ None

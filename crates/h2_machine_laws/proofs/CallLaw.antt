@@ -24,7 +24,8 @@ use Rattle.h2_machine_laws.specs.Machines.{end_after}
 use Rattle.h2_log_laws.proofs.InvariantLogs.{log_represents}
 use Rattle.h2_log_laws.proofs.StreamNumbers.{next_odd}
 use Rattle.h2_log_laws.proofs.AllowedHistories.{wrote_settings}
-use Rattle.h2_log_laws.proofs.InvariantCalls.{first_none, none_since}
+use Rattle.h2_log_laws.proofs.InvariantSends.{client_since}
+use Rattle.h2_log_laws.proofs.CallConditions.{first_none, none_since}
 use Rattle.h2_log_laws.proofs.LogViewLemmas.{stream_is_active, open_out}
 use Rattle.h2_machine_laws.proofs.CallFailing.{refused_represents, out_of_memory_represents, refuse_represents}
 use Rattle.h2_machine_laws.proofs.CallOpen.{IsClear, open_up}
@@ -44,11 +45,6 @@ pub record IsSound (log : Log) : Type 0 where
   pub processed : is_server log.role ≡ true → (i : ℕ) → active log i ≡ true
       → i ≤ last_processed log
   pub clear : log.role ≡ Client → (i : ℕ) → greatest_block log.sent < i → IsClear (core log) i
-
--- the role of an end that isn't a server
-client_since : (role : Role) → is_server role ≡ false → role ≡ Client
-client_since Client is = refl
-client_since Server is = absurd (both_ways true is refl)
 
 -- A log that refuses no call, other than one that puts output out, hasn't failed.
 up_since : (log : Log) (act : Act) → ((count : ℕ) → act ≡ PutOut count → ⊥)

@@ -28,28 +28,34 @@ use Rattle.h2_machine.specs.End.{End, active_entry}
 use Rattle.h2_log.specs.View.{StreamView, View}
 use Rattle.h2_machine.specs.Machine.{new_stream, open_stream, with_encoder, after_call}
 use Rattle.h2_log_laws.proofs.ReaderStates.{active_from, lasts_from}
+use Rattle.h2_log.specs.Events.{Event}
 use Rattle.h2_machine_laws.proofs.LogCore.{Core, core, CoreFacts, core_facts, Advances, confirmed, active_by_items, greatest_used, said, kept_back}
 use Rattle.h2_machine_laws.proofs.OneItemMore.{total_quiet, own_quiet}
-use Rattle.h2_machine_laws.proofs.RepresentedSteps.{called_going, Up, views_of_up, queue_by, wrote_up, nothing_unreturned, owes_none}
+use Rattle.h2_machine_laws.proofs.OwedAtClose.{owes_none}
+use Rattle.h2_machine_laws.proofs.RepresentedSteps.{called_going, Up, views_of_up, queue_by, wrote_up, nothing_unreturned}
 use Rattle.h2_machine_laws.proofs.SentConnectionItems.{computing}
 use Rattle.h2_machine_laws.proofs.SentQuietItems.{sends, same_sent, windows_sent, own_sent, goaways_sent, ping_sent}
 use Rattle.h2_machine_laws.proofs.StreamsSame.{count_apart, SameAt, same_stream, said_set}
 use Rattle.h2_machine_laws.proofs.ViewsAgree.{view_beside}
 use Rattle.h2_log_laws.proofs.ReaderStates.{active_parts}
-use Rattle.h2_log_laws.proofs.NextStreams.{greatest_above}
+use Rattle.h2_log_laws.proofs.StreamNumbers.{block_below}
 
--- Nothing was read, written or reported of a number.
-pub record IsClear (c : Core) (i : ℕ) : Type 0 where
-  pub ended_in : list_any (ends i) c.received ≡ false
-  pub reset_in : list_any (resets i) c.received ≡ false
-  pub given : total (increment_on i) c.received ≡ 0
-  pub taken_in : total (data_on i) c.received ≡ 0
-  pub ended_out : list_any (ends i) c.sent ≡ false
-  pub reset_out : list_any (resets i) c.sent ≡ false
-  pub granted : total (increment_on i) c.sent ≡ 0
-  pub taken_out : total (data_on i) c.sent ≡ 0
-  pub unnamed : list_any (reports_unprocessed i) c.reported ≡ false
-  pub owed : kept_back c i ≡ 0
+-- Nothing was read, written or reported of a number, and nothing is kept back of it.
+pub record IsClearBy (received sent : List Item) (reported : List Event) (kept i : ℕ) : Type 0 where
+  pub ended_in : list_any (ends i) received ≡ false
+  pub reset_in : list_any (resets i) received ≡ false
+  pub given : total (increment_on i) received ≡ 0
+  pub taken_in : total (data_on i) received ≡ 0
+  pub ended_out : list_any (ends i) sent ≡ false
+  pub reset_out : list_any (resets i) sent ≡ false
+  pub granted : total (increment_on i) sent ≡ 0
+  pub taken_out : total (data_on i) sent ≡ 0
+  pub unnamed : list_any (reports_unprocessed i) reported ≡ false
+  pub owed : kept ≡ 0
+
+-- the same of a core
+abbrev pub IsClear : Core → ℕ → Type 0
+IsClear c i = IsClearBy c.received c.sent c.reported (kept_back c i) i
 
 -- a client's block opens its stream
 block_here : (role : Role) (i : ℕ) (end : Bool) (octets : List ℕ) (received sent : List Item)
@@ -175,7 +181,7 @@ new_is h c i end octets clear g =
 none_above : (c : Core) (j : ℕ) → greatest_used c < j → active_by_items c j ≡ false
 none_above c j above =
     false_from_ne_true (active_by_items c j) (λ active_is.
-    let low = greatest_above j (openings c.role c.received c.sent)
+    let low = block_below j (openings c.role c.received c.sent)
     (active_parts c.role j c.received c.sent c.reported active_is).opened in omega arith)
 
 -- One stream more is active.
@@ -248,19 +254,6 @@ open_up e log fields end client odd above clear is =
     let went = called_going e log act (Number id) (after_block log.encoder fields) refl (λ i. refl)
     is.going in
     let f = with_encoder e (after_block log.encoder fields) in
-    let clear_base : IsClear (core base) id =
-    record {
-      ended_in = clear.ended_in;
-      reset_in = clear.reset_in;
-      given = clear.given;
-      taken_in = clear.taken_in;
-      ended_out = clear.ended_out;
-      reset_out = clear.reset_out;
-      granted = clear.granted;
-      taken_out = clear.taken_out;
-      unnamed = clear.unnamed;
-      owed = clear.owed;
-    } in
     let opened_one =
     record f {
       streams = record f.streams {
@@ -271,7 +264,7 @@ open_up e log fields end client odd above clear is =
     } in
     let made = wrote_up e opened_one base (block id end octets ∷ []) is.role is.up is.same
     is.waits is.started
-    (open_advances (core_facts f) (core base) id end octets client odd above clear_base went) in
+    (open_advances (core_facts f) (core base) id end octets client odd above clear went) in
     let call = with_call log act (Number id) in
     let all : Up (open_stream (queue_by e (view_beside e log) act) id end) call =
     nothing_unreturned _ log _ 0 (owes_none log _) made in

@@ -1,8 +1,8 @@
 -- The call that releases octets preserves that an end represents its log.
 use Rattle.std.proofs.Common.{◌≡◌, ◌≢◌, ℕ, ◌+◌, ◌-◌, ◌==◌, Bool, true, false, if◌then◌else◌}
-use Rattle.std.proofs.Common.{List, [], ◌∷◌, ◌++◌, pos, ◌+ℤ◌, Option, Some, refl, sym, ap, subst}
+use Rattle.std.proofs.Common.{List, ◌∷◌, ◌++◌, pos, ◌+ℤ◌, Option, Some, refl, sym, ap, subst}
 use Rattle.std.proofs.Common.{◌∙◌, arith}
-use Rattle.std.proofs.lemmas.Bool.{eq-eqb, ne_eqb}
+use Rattle.std.proofs.lemmas.Bool.{ne_eqb}
 use Rattle.std.proofs.lemmas.Int.{ints}
 use Rattle.std.specs.List.{list_any}
 use Rattle.std.specs.FinMap as map
@@ -27,10 +27,13 @@ use Rattle.h2_log.specs.View.{StreamView, View, ended_in}
 use Rattle.h2_machine.specs.Machine.{queue_output, after_release, after_call}
 use Rattle.h2_log.specs.Events.{Event}
 use Rattle.h2_log.specs.Windows.{given_on}
+use Rattle.h2_log_laws.proofs.ReleasedCredit.{gives_here, released_here, updates}
 use Rattle.h2_machine_laws.proofs.LogCore.{Core, core, CoreFacts, core_facts, Advances, confirmed, active_by_items, said, kept_back}
-use Rattle.h2_machine_laws.proofs.OneItemMore.{total_one, total_quiet, own_quiet}
+use Rattle.h2_machine_laws.proofs.OneItemMore.{total_quiet, own_quiet}
+use Rattle.h2_log_laws.proofs.ItemLists.{total_one}
+use Rattle.h2_machine_laws.proofs.OwedAtClose.{owes_active}
 use Rattle.h2_machine_laws.proofs.OwedSums.{get_set}
-use Rattle.h2_machine_laws.proofs.RepresentedSteps.{Up, views_of_up, wrote_up, nothing_unreturned, owes_active, wrote_active}
+use Rattle.h2_machine_laws.proofs.RepresentedSteps.{Up, views_of_up, wrote_up, nothing_unreturned, wrote_active}
 use Rattle.h2_machine_laws.proofs.SentConnectionItems.{update_other, widened_advances, computing, update_quiet}
 use Rattle.h2_machine_laws.proofs.SentQuietItems.{sends, same_sent, used_wrote, active_wrote, quiet_sent}
 use Rattle.h2_machine_laws.proofs.StreamsSame.{same_stream, streams_set, active_some}
@@ -57,12 +60,6 @@ released_more : (i id count : ℕ) (calls : List (Act × Answer)) → i ≢ id
     → released i ((Release id count, Done) ∷ calls) ≡ released i calls
 unfolding released
 released_more i id count calls other = rw (ne_eqb id i (λ same. other (sym same))) (omega arith)
-
--- there they do
-released_here : (id count : ℕ) (calls : List (Act × Answer))
-    → released id ((Release id count, Done) ∷ calls) ≡ count + released id calls
-unfolding released
-released_here id count calls = rw (eq-eqb id id refl) refl
 
 -- the core with the call
 abbrev with_release : Core → ℕ → ℕ → Core
@@ -104,11 +101,6 @@ owed_less_advances h c id count active_is g =
       ping = g.ping;
     }
 
--- an update gives to its own stream
-update_here : (id count : ℕ) → increment_on id (alone (WindowUpdate id count)) ≡ count
-unfolding increment_on
-update_here id count = rw (eq-eqb id id refl) refl
-
 -- a window to which more was given
 more_granted : (own more consumed count : ℕ)
     → window (own + (count + more)) consumed ≡ window (own + more) consumed +ℤ pos count
@@ -126,7 +118,7 @@ granted_said c id count =
     (ap (window (given_on id c.received)) (sym (total_quiet (data_on id) item c.sent refl)))
     (let more : total (increment_on id) (item ∷ c.sent) ≡ count + total (increment_on id) c.sent =
     total_one (increment_on id) item c.sent
-    ∙ ap (λ (n : ℕ). n + total (increment_on id) c.sent) (update_here id count) in
+    ∙ ap (λ (n : ℕ). n + total (increment_on id) c.sent) (gives_here id count) in
     let own = own_quiet 4 first_window (confirmed c) item c.sent refl in
     sym (ap (λ (n : ℕ). window n (total (data_on id) c.received)) (rw (own, more) refl)
     ∙ more_granted (own_value 4 first_window (confirmed c) c.sent)
@@ -155,11 +147,6 @@ granted_advances h c id count active_is g =
     (active_wrote c.role id item c.received c.sent c.reported refl refl refl refl ∙ active_is)
     (granted_said c id count) (used_wrote c.role item c.received c.sent q.streams.greatest) refl
     (total_quiet one_reset item c.sent refl) g.streams) g
-
--- the updates of a release, by the test whether the peer has ended the stream
-abbrev updates : ℕ → ℕ → Bool → List Item
-updates id count ended = alone (WindowUpdate 0 count) ∷
-    (if ended then [] else alone (WindowUpdate id count) ∷ [])
 
 -- An active stream stays so after them.
 updates_active : (role : Role) (received sent : List Item) (reported : List Event) (id count : ℕ)

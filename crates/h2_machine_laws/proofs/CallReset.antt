@@ -20,8 +20,10 @@ use Rattle.h2_machine.specs.Machine.{is_one, reset_stream, queue_output, after_c
 use Rattle.h2_machine.specs.Represents.{entry_by}
 use Rattle.h2_log_laws.proofs.ReaderStates.{active_parts, lasts_parts}
 use Rattle.h2_machine_laws.proofs.LogCore.{Core, core, CoreFacts, core_facts, Advances, confirmed, active_by_items, said, kept_back}
-use Rattle.h2_machine_laws.proofs.OneItemMore.{total_one, own_quiet}
-use Rattle.h2_machine_laws.proofs.RepresentedSteps.{Up, wrote_up, called_up, with_unreturned_up, owes_all, wrote_active, wrote_owes}
+use Rattle.h2_machine_laws.proofs.OneItemMore.{own_quiet}
+use Rattle.h2_log_laws.proofs.ItemLists.{total_one}
+use Rattle.h2_machine_laws.proofs.OwedAtClose.{owes_all}
+use Rattle.h2_machine_laws.proofs.RepresentedSteps.{Up, wrote_up, called_up, with_unreturned_up, wrote_active, wrote_owes}
 use Rattle.h2_machine_laws.proofs.SentConnectionItems.{computing}
 use Rattle.h2_machine_laws.proofs.SentQuietItems.{sends, IsApartSent, same_sent, used_wrote, windows_sent, own_sent, goaways_sent, ping_sent}
 use Rattle.h2_machine_laws.proofs.StreamsSame.{SameAt, said_reset, streams_closed}

@@ -1,7 +1,7 @@
 -- The calls that send on an active stream preserve that an end represents its log: fields and a
 -- body.
 use Rattle.std.proofs.Common.{◌≡◌, ℕ, suc, ◌+◌, ◌-◌, ◌≤◌, ◌==◌, not, ◌&&◌, Bool, true, false}
-use Rattle.std.proofs.Common.{if◌then◌else◌, List, [], ◌∷◌, ◌++◌, length, take, ℤ, pos, negsuc}
+use Rattle.std.proofs.Common.{if◌then◌else◌, List, [], ◌∷◌, ◌++◌, length, take, ℤ, pos}
 use Rattle.std.proofs.Common.{◌-ℤ◌, Option, Some, None, refl, sym, ap, subst, ◌∙◌, arith}
 use Rattle.std.specs.List.{list_any}
 use Rattle.std.specs.FinMap as map
@@ -24,10 +24,12 @@ use Rattle.h2_log.specs.View.{StreamView, View}
 use Rattle.h2_machine.specs.Machine.{queue_output, set_stream, close_stream, update_stream}
 use Rattle.h2_machine.specs.Machine.{after_fields_sent, after_data, after_call}
 use Rattle.h2_log_laws.proofs.ReaderStates.{active_parts}
+use Rattle.h2_log_laws.proofs.LogViewLemmas.{natural_by}
 use Rattle.h2_machine_laws.proofs.CallSendItems.{adds_block, adds_all}
 use Rattle.h2_machine_laws.proofs.LogCore.{core, core_facts, Going}
+use Rattle.h2_machine_laws.proofs.OwedAtClose.{owes_active, owes_all}
 use Rattle.h2_machine_laws.proofs.OwedSums.{get_set_same}
-use Rattle.h2_machine_laws.proofs.RepresentedSteps.{called_going, Up, views_of_up, queue_by, wrote_up, called_up, with_unreturned_up, nothing_unreturned, owes_active, owes_all, wrote_active, wrote_owes}
+use Rattle.h2_machine_laws.proofs.RepresentedSteps.{called_going, Up, views_of_up, queue_by, wrote_up, called_up, with_unreturned_up, nothing_unreturned, wrote_active, wrote_owes}
 use Rattle.h2_machine_laws.proofs.SentStreamItems.{set_advances, over_advances, Adds, stream_with, active_here, closed_here}
 use Rattle.h2_machine_laws.proofs.ViewsAgree.{view_beside}
 use Rattle.h2_machine_laws.proofs.WaitingOutput.{OutputOf}
@@ -143,11 +145,6 @@ fields_up e log id fields end active_is goes is =
     (sym (stream_there log id active_is)) sent_data in
     subst (λ (view : View). Up (after_fields_sent (queue_by e view act) id end (view.stream id))
     call) (sym (views_of_up e log is)) there
-
--- the natural part of a difference
-natural_by : (z : ℤ) (g t : ℕ) → z ≡ pos g -ℤ pos t → at_least_none z ≡ g - t
-natural_by (pos n) g t is = omega (arith, ints, is)
-natural_by (negsuc n) g t is = omega (arith, ints, is)
 
 -- How many octets go is within each of these.
 record IsWithin (e : End) (log : Log) (id most count : ℕ) : Type 0 where

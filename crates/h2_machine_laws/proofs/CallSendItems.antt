@@ -15,7 +15,8 @@ use Rattle.h2_log.specs.Items.{one_reset, greatest_block}
 use Rattle.h2_log.specs.States.{openings}
 use Rattle.h2_log.specs.CallRules.{data_frames}
 use Rattle.h2_log_laws.proofs.StreamNumbers.{block_below}
-use Rattle.h2_machine_laws.proofs.OneItemMore.{total_quiet, total_one, any_quiet, own_quiet, settings_quiet}
+use Rattle.h2_machine_laws.proofs.OneItemMore.{total_quiet, any_quiet, own_quiet, settings_quiet}
+use Rattle.h2_log_laws.proofs.ItemLists.{total_one}
 use Rattle.h2_machine_laws.proofs.SentConnectionItems.{computing}
 use Rattle.h2_machine_laws.proofs.SentQuietItems.{above_quiet}
 use Rattle.h2_machine_laws.proofs.SentStreamItems.{Adds}

@@ -25,7 +25,8 @@ use Rattle.h2_log.specs.LogView.{log_view}
 use Rattle.h2_machine.specs.Machine.{queue_output, before_put_out_at, after_call}
 use Rattle.h2_machine.specs.Represents.{Represents}
 use Rattle.h2_machine_laws.proofs.LogCore.{core, core_facts, runs}
-use Rattle.h2_machine_laws.proofs.RepresentedSteps.{called_going, Up, up_of, represents_made, wrote_up, called_up, ready_up, nothing_unreturned, owes_none}
+use Rattle.h2_machine_laws.proofs.OwedAtClose.{owes_none}
+use Rattle.h2_machine_laws.proofs.RepresentedSteps.{called_going, Up, up_of, represents_made, wrote_up, called_up, ready_up, nothing_unreturned}
 use Rattle.h2_machine_laws.proofs.SentConnectionItems.{ping_advances, goaway_advances, settings_advance}
 use Rattle.h2_machine_laws.proofs.SentQuietItems.{called_streams}
 use Rattle.h2_machine_laws.proofs.WaitingOutput.{OutputOf}

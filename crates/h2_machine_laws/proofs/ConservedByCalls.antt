@@ -6,7 +6,6 @@ use Rattle.std.proofs.Common.{◌-ℤ◌, Option, Some, None, is_some, refl, ari
 use Rattle.std.specs.Ordering.{nat_cmp}
 use Rattle.std.specs.FinMap as map
 use Rattle.h2_frame.specs.declared.code.Code.{Code}
-use Rattle.h2_frame.specs.declared.code.Code.TheVariants.{InternalError, EnhanceYourCalm}
 use Rattle.h2_frame.specs.Frames.{Reset}
 use Rattle.h2_block.specs.Grouping.{alone}
 use Rattle.h2_machine.specs.End.{end_view, End, active_entry, stream_at, number_after}
@@ -24,6 +23,8 @@ use Rattle.h2_machine.specs.Machine.{open_stream, after_release, after_refuse, b
 use Rattle.h2_machine.specs.Machine.{after_call, new_end}
 use Rattle.h2_log.specs.View.{StreamView, owed_on}
 use Rattle.h2_log.specs.declared.role.Role.{Role}
+use Rattle.h2_log_laws.proofs.InvariantCalls.{no_fault}
+use Rattle.h2_log_laws.proofs.CallConditions.{and_other}
 use Rattle.h2_machine_laws.proofs.ConservedBySteps.{Holds, lacks_none, was_reset, stream_set, changed, active_is_kept, active_set, active_used}
 use Rattle.h2_machine_laws.proofs.OwedSums.{total-empty}
 use Rattle.h2_log_laws.proofs.CallConditions.{AreFalse, none_holds, neither_one, neither_other}
@@ -119,18 +120,6 @@ refused_by e i code None active h =
     reset_by_call (queue_output e (alone (Reset i code) ∷ [])) i (active refl) h
 refused_by e i code (Some fault) active h = h
 
--- A code that ends no connection isn't 2, by the tests.
-code_by : (is_two few : Bool)
-    → (if is_two then Some InternalError else if few then Some EnhanceYourCalm else None) ≡ None
-    → is_two ≡ false
-code_by true few is = cc
-code_by false few is = refl
-
--- Where a stream must be active unless the code is 2, and it isn't 2, the stream is active.
-active_unless : (is_two none : Bool) → (not is_two && none) ≡ false → is_two ≡ false → none ≡ false
-active_unless true none is two = cc
-active_unless false none is two = is
-
 -- The end is ready to put output out.
 made_ready : (e : End) → Holds e → Holds (before_put_out_at e)
 unfolding before_put_out_at
@@ -172,8 +161,8 @@ call_holds e (Refuse id code) is h =
     let none : AreFalse (conditions (end_view e) (Refuse id code)) =
     none_holds (conditions (end_view e) (Refuse id code)) is in
     refused_by e id code (refuse_fault (end_view e) code)
-    (λ up. active_unless (code == 2) (is_no_stream (end_view e) id) none.1.0
-    (code_by (code == 2)
+    (λ up. and_other (code == 2) (is_no_stream (end_view e) id) none.1.0
+    (no_fault (code == 2)
     (has_all_resets (end_view e) || nat_lt max_output (length e.output.waiting + reset_size))
     up)) h
 call_holds e (SendPing octets) is h = h

@@ -21,6 +21,7 @@ mod LogCore
 mod NewEnd
 mod NextUnprocessed
 mod OneItemMore
+mod OwedAtClose
 mod OwedOnStreams
 mod OwedSums
 mod RecvConnectionFault

@@ -1,5 +1,5 @@
 -- Sums, tests and values over a list with one item more.
-use Rattle.std.proofs.Common.{◌≡◌, ℕ, ◌+◌, Bool, false, List, ◌∷◌, refl, ap, arith}
+use Rattle.std.proofs.Common.{◌≡◌, ℕ, Bool, false, List, ◌∷◌, refl, ap, arith}
 use Rattle.std.specs.List.{list_any}
 use Rattle.h2_block.specs.Grouping.{Item}
 use Rattle.h2_log.specs.Items.{total}
@@ -11,12 +11,6 @@ pub total_quiet : (f : Item → ℕ) (item : Item) (items : List Item) → f ite
     → total f (item ∷ items) ≡ total f items
 unfolding total
 total_quiet f item items none = omega (arith, none)
-
--- A sum with one item more.
-pub total_one : (f : Item → ℕ) (item : Item) (items : List Item)
-    → total f (item ∷ items) ≡ f item + total f items
-unfolding total
-total_one f item items = refl
 
 -- A test that an item doesn't pass.
 pub any_quiet : (p : Item → Bool) (item : Item) (items : List Item) → p item ≡ false

@@ -13,10 +13,12 @@ use Rattle.h2_log.specs.LogSteps.{with_verdict}
 use Rattle.h2_machine.specs.Machine.{after_verdict}
 use Rattle.h2_machine.specs.Represents.{goaway_sent_last}
 use Rattle.h2_log.specs.Events.{greatest_processed}
+use Rattle.h2_log_laws.proofs.LogViewLemmas.{when_some}
 use Rattle.h2_machine_laws.proofs.LogCore.{core, Going}
 use Rattle.h2_machine_laws.proofs.RecvReturnedCredit.{After}
-use Rattle.h2_machine_laws.proofs.RecvVerdict.{Sound, when_some, state_same, allowed_same}
+use Rattle.h2_machine_laws.proofs.RecvVerdict.{Sound, state_same}
 use Rattle.h2_machine_laws.proofs.SentConnectionItems.{failing_streams}
+use Rattle.h2_machine_laws.proofs.ViewsAgree.{max_streams_agree}
 use Rattle.h2_machine_laws.proofs.WaitingOutput.{Waits, fails_connection}
 
 -- The number that an item opens is the same.
@@ -31,7 +33,7 @@ opened_same e log (Some decoded) (block i end octets) role sound g =
     rw (
       state_same e (core log) i role sound g,
       role,
-      allowed_same log.role e.own.in_force.max_streams (max_streams log) g.own.in_force.max_streams,
+      max_streams_agree log.role e.own.in_force.max_streams (max_streams log) g.own.in_force.max_streams,
       g.streams.active_count,
       g.goaway.last_sent,
       when_some (list_any is_goaway log.sent)

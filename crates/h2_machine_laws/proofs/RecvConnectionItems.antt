@@ -1,29 +1,29 @@
 -- What items make of an end and of its log that change nothing of its streams, but perhaps windows.
-use Rattle.std.proofs.Common.{◌≡◌, ℕ, Bool, true, false, not, ◌&&◌, if◌then◌else◌, List, [], ◌∷◌}
+use Rattle.std.proofs.Common.{◌≡◌, ℕ, Bool, true, false, List, [], ◌∷◌}
 use Rattle.std.proofs.Common.{Option, refl, arith}
-use Rattle.std.proofs.lemmas.Bool.{both_ways, false_from_ne_true}
+use Rattle.std.proofs.lemmas.Bool.{both_ways}
 use Rattle.h2_frame.specs.Frames.{Frame, Data, Headers, Priority, Reset, Settings, Ping, GoAway}
 use Rattle.h2_frame.specs.Frames.{WindowUpdate, Continuation, Unknown}
 use Rattle.h2_frame.specs.Encoding.{stream_of}
 use Rattle.h2_block.specs.Grouping.{Item, alone}
-use Rattle.h2_log.specs.Log.{least_goaway, Log, active, newest_ping, unreleased}
+use Rattle.h2_log.specs.Log.{least_goaway, Log, newest_ping}
 use Rattle.h2_log.specs.Items.{stream_of_item, data_on, data_of, increment_on, is_block_on, ends}
 use Rattle.h2_log.specs.Items.{resets, one_reset, one_ping, is_goaway, is_goaway_below}
 use Rattle.h2_log.specs.Items.{greatest_block}
 use Rattle.h2_log.specs.Settings.{one_settings}
 use Rattle.h2_log.specs.Verdicts.{NoEvent}
 use Rattle.h2_log.specs.ItemRules.{Decoded, replies_to}
-use Rattle.h2_log.specs.LogSteps.{read, with_sent, with_reported, owed_at_close, with_verdict}
+use Rattle.h2_log.specs.LogSteps.{read, with_sent, with_reported, with_verdict}
 use Rattle.h2_log.specs.ItemEffects.{events_of, discarded_flow}
 use Rattle.h2_machine.specs.End.{End}
 use Rattle.h2_machine.specs.Machine.{queue_output, after_ignored}
 use Rattle.h2_machine.specs.Represents.{goaway_sent_last}
-use Rattle.h2_machine_laws.proofs.LogCore.{Core, core, core_facts, Going, active_by_items}
+use Rattle.h2_machine_laws.proofs.LogCore.{core, core_facts, Going}
+use Rattle.h2_machine_laws.proofs.OwedAtClose.{none_owing, dead_owing, zero_dead}
 use Rattle.h2_machine_laws.proofs.RecvRead.{IsQuietIn, quiet_read, active_read, reads}
 use Rattle.h2_machine_laws.proofs.RecvReturnedCredit.{After, unsettled}
 use Rattle.h2_machine_laws.proofs.SentConnectionItems.{ping_leaves}
 use Rattle.h2_machine_laws.proofs.SentQuietItems.{IsQuietOut, quiet_wrote}
-use Rattle.h2_machine_laws.proofs.StreamsSame.{active_some}
 use Rattle.h2_machine_laws.proofs.WaitingOutput.{Waits, wrote_connection}
 
 -- Whether a frame changes nothing of what an end keeps, where it is read.
@@ -55,29 +55,6 @@ plain_quiet frame is =
       greatest = λ items. refl;
       flow_of = refl;
     }
-
--- A stream that is as active as before leaves nothing owing, by the tests.
-none_owing_by : (before after : Bool) (n : ℕ) → after ≡ before
-    → (if before && not after then n else 0) ≡ 0
-none_owing_by true true n same = refl
-none_owing_by false after n same = refl
-none_owing_by true false n same = absurd (cc)
-
--- A stream that is as active as before leaves nothing owing.
-pub none_owing : (log after : Log) (i : ℕ) → active after i ≡ active log i → owed_at_close log after
-    i ≡ 0
-unfolding owed_at_close
-none_owing log after i same = none_owing_by (active log i) (active after i) (unreleased after i)
-    same
-
--- A stream that wasn't active leaves nothing owing.
-pub dead_owing : (log after : Log) (i : ℕ) → active log i ≡ false → owed_at_close log after i ≡ 0
-unfolding owed_at_close
-dead_owing log after i dead = rw dead refl
-
--- No stream has number 0.
-pub zero_dead : (c : Core) → active_by_items c 0 ≡ false
-zero_dead c = false_from_ne_true (active_by_items c 0) (λ alive. active_some c 0 alive refl)
 
 -- What plain frames that need no answer make of an end.
 pub plain_ignored : (e : End) (log : Log) (decoded : Option Decoded) (frame : Frame)

@@ -30,13 +30,12 @@ use Rattle.h2_log.specs.declared.role.Role.{Role}
 use Rattle.h2_log.specs.declared.role.Role.TheVariants.{Client, Server}
 use Rattle.h2_machine.specs.End.{Streams}
 use Rattle.h2_machine_laws.proofs.LogCore.{StreamsOf, said, Core, core, CoreFacts, core_facts, Advances, Going, confirmed, active_by_items}
+use Rattle.h2_machine_laws.proofs.OwedAtClose.{none_owing, owes_all}
 use Rattle.h2_machine_laws.proofs.OwedSums.{get_set_same}
-use Rattle.h2_machine_laws.proofs.RecvConnectionItems.{none_owing}
 use Rattle.h2_machine_laws.proofs.RecvEvents.{reported_by, report, ChangesNoStream, active_reported, same_reported, taken_kept}
 use Rattle.h2_machine_laws.proofs.RecvRead.{reads, read_step, same_read}
 use Rattle.h2_machine_laws.proofs.RecvReset.{data_common, data_apart, data_used, data_gives, data_takes}
 use Rattle.h2_machine_laws.proofs.RecvReturnedCredit.{After, returned, unsettled}
-use Rattle.h2_machine_laws.proofs.RecvUnprocessed.{full_owing}
 use Rattle.h2_machine_laws.proofs.RecvVerdict.{stream_said}
 use Rattle.h2_machine_laws.proofs.StreamsSame.{streams_set, streams_closed, said_over, same_both, SameAt, same_stream}
 use Rattle.h2_machine_laws.proofs.WaitingOutput.{Waits}
@@ -246,7 +245,7 @@ data_reported_by e log decoded i end octets pad true over alive within rel w g =
     let s : StreamView = with_flow (said c i) n end in
     let is : s ≡ said d i = flow_said c i end octets pad rel in
     let dead : active_by_items d i ≡ false = data_dead c i end octets pad over in
-    let owing = full_owing log (with_reported (read log decoded item) (event ∷ [])) i alive dead in
+    let owing = owes_all log (with_reported (read log decoded item) (event ∷ [])) i alive dead in
     let streams : StreamMap = map.remove (map.insert e.streams.entries i (active_entry s)) i in
     returned (record e {
       streams = record e.streams {

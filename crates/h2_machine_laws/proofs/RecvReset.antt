@@ -22,11 +22,10 @@ use Rattle.h2_machine.specs.End.{End, owed_entry}
 use Rattle.h2_machine.specs.Machine.{after_ignored, after_reported}
 use Rattle.h2_log_laws.proofs.ReaderStates.{active_parts, lasts_parts}
 use Rattle.h2_machine_laws.proofs.LogCore.{Core, core, CoreFacts, core_facts, Advances, Going, active_by_items, kept_back, greatest_used}
-use Rattle.h2_machine_laws.proofs.RecvConnectionItems.{dead_owing}
+use Rattle.h2_machine_laws.proofs.OwedAtClose.{dead_owing, owes_all}
 use Rattle.h2_machine_laws.proofs.RecvEvents.{ChangesNoStream, quiet_reported, active_reported}
 use Rattle.h2_machine_laws.proofs.RecvRead.{used_read, reads, IsCommon, read_step, IsApart, same_read, same_dead, stays_dead}
 use Rattle.h2_machine_laws.proofs.RecvReturnedCredit.{After, returned, unsettled}
-use Rattle.h2_machine_laws.proofs.RecvUnprocessed.{full_owing}
 use Rattle.h2_machine_laws.proofs.RecvVerdict.{active_said}
 use Rattle.h2_machine_laws.proofs.StreamsSame.{streams_same, streams_closed, SameAt, said_removed}
 use Rattle.h2_machine_laws.proofs.WaitingOutput.{Waits}
@@ -165,7 +164,7 @@ unfolding with_reported unreleased reported_total flow_on
 reset_owing e log decoded i code alive g =
     let owed : owed_entry (map.get e.streams.entries i) ≡ kept_back (core log) i = ap owed_entry
     (active_said e (core log) i g alive) in
-    let owing = full_owing log (with_reported (read log decoded (alone (Reset i code)))
+    let owing = owes_all log (with_reported (read log decoded (alone (Reset i code)))
     (ResetEvent i code false ∷ [])) i alive (reset_reported_dead log decoded i code) in
     ap (λ (n : ℕ). 0 + n) (owed ∙ sym (owing ∙ ap (λ (x : ℕ). x - released i log.calls)
     (zero-add _)))

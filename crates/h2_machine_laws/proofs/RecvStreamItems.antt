@@ -5,7 +5,7 @@ use Rattle.std.proofs.Common.{inr, arith, zero-add}
 use Rattle.std.specs.List.{list_any}
 use Rattle.std.specs.FinMap as map
 use Rattle.std.proofs.lemmas.Int.{ints}
-use Rattle.std.proofs.lemmas.Bool.{cases_eq, ne_eqb, eq-eqb}
+use Rattle.std.proofs.lemmas.Bool.{cases_eq, ne_eqb}
 use Rattle.h2_frame.specs.Frames.{GoAway, WindowUpdate}
 use Rattle.h2_frame.specs.Encoding.{stream_of}
 use Rattle.h2_block.specs.Grouping.{Item, alone}
@@ -26,8 +26,9 @@ use Rattle.h2_log.specs.ItemEffects.{events_of, discarded_flow, least_last}
 use Rattle.h2_machine.specs.End.{End, active_entry, stream_at}
 use Rattle.h2_machine.specs.Machine.{widen_send_window, set_stream, after_ignored, after_reported}
 use Rattle.h2_log_laws.proofs.StreamNumbers.{last_none}
+use Rattle.h2_log_laws.proofs.ReleasedCredit.{gives_here}
 use Rattle.h2_machine_laws.proofs.LogCore.{said, Core, core, CoreFacts, core_facts, Advances, Going, active_by_items, greatest_used}
-use Rattle.h2_machine_laws.proofs.RecvConnectionItems.{none_owing, dead_owing, zero_dead}
+use Rattle.h2_machine_laws.proofs.OwedAtClose.{none_owing, dead_owing, zero_dead}
 use Rattle.h2_machine_laws.proofs.RecvEvents.{ChangesNoStream, quiet_reported}
 use Rattle.h2_machine_laws.proofs.RecvRead.{windows_read, peer_read, active_read, used_read, reads, IsCommon, read_step, IsApart, same_read, same_dead}
 use Rattle.h2_machine_laws.proofs.RecvReturnedCredit.{After, unsettled}
@@ -148,11 +149,6 @@ update_apart i n j other =
       gives = rw (ne_eqb i j (λ is. other (sym is))) refl;
     }
 
--- its increment on its own stream
-update_here : (i n : ℕ) → increment_on i (alone (WindowUpdate i n)) ≡ n
-unfolding increment_on
-update_here i n = rw (eq-eqb i i refl) refl
-
 -- its increment of the connection's, by the test
 update_all : (i n : ℕ) → increment_on 0 (alone (WindowUpdate i n)) ≡ (if i == 0 then n else 0)
 unfolding increment_on
@@ -191,7 +187,7 @@ update_said c i n =
     (wider (value_read 4 first_window c.received) n (total (increment_on i) c.received)
     (total (data_on i) c.sent)
     ∙ sym (ap (λ (k : ℕ). pos (value_read 4 first_window c.received + (k + total (increment_on i)
-    c.received)) -ℤ pos (total (data_on i) c.sent)) (update_here i n)))
+    c.received)) -ℤ pos (total (data_on i) c.sent)) (gives_here i n)))
     (rw zero-add refl) refl refl refl
 
 -- What an end keeps where a WINDOW_UPDATE of an active stream is read.

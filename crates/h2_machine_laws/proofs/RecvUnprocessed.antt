@@ -25,6 +25,7 @@ use Rattle.h2_log_laws.proofs.ReaderStates.{active_parts, lasts_parts}
 use Rattle.h2_log_laws.proofs.NextStreams.{least_passes}
 use Rattle.h2_machine_laws.proofs.ConservedBySteps.{holds, is_whole, ended, lacks_none}
 use Rattle.h2_machine_laws.proofs.LogCore.{Core, core, CoreFacts, core_facts, Advances, Going, active_by_items, kept_back, going, runs}
+use Rattle.h2_machine_laws.proofs.OwedAtClose.{owes_all}
 use Rattle.h2_machine_laws.proofs.RecvEvents.{report, reported_by, reported_kept, active_reported, taken_kept}
 use Rattle.h2_machine_laws.proofs.RecvReturnedCredit.{After, returned}
 use Rattle.h2_machine_laws.proofs.RecvVerdict.{active_said}
@@ -145,19 +146,6 @@ unfolding with_reported
 reported_frames log [] = refl
 reported_frames log (event ∷ events) = refl
 
--- what a stream leaves owing that is active before and not after, by the tests
-owing_by : (before after : Bool) (n : ℕ) → before ≡ true → after ≡ false
-    → (if before && not after then n else 0) ≡ n
-owing_by true false n was is = refl
-owing_by false after n was is = absurd (both_ways false refl was)
-owing_by true true n was is = absurd (both_ways true is refl)
-
--- What a stream leaves owing that is active before and not after.
-pub full_owing : (log after : Log) (i : ℕ) → active log i ≡ true → active after i ≡ false
-    → owed_at_close log after i ≡ unreleased after i
-unfolding owed_at_close
-full_owing log after i was is = owing_by (active log i) (active after i) (unreleased after i) was is
-
 -- What the stream that is named leaves owing.
 named_owing : (e : End) (log : Log) (n : ℕ) → active log n ≡ true → Going e (core log)
     → 0 + owed_entry (map.get e.streams.entries n) ≡ owed_at_close log
@@ -166,7 +154,7 @@ unfolding with_reported unreleased reported_total flow_on
 named_owing e log n alive g =
     let owed : owed_entry (map.get e.streams.entries n) ≡ kept_back (core log) n = ap owed_entry
     (active_said e (core log) n g alive) in
-    let owing = full_owing log (with_reported log (UnprocessedEvent n ∷ [])) n alive
+    let owing = owes_all log (with_reported log (UnprocessedEvent n ∷ [])) n alive
     (named_dead (core log) n) in
     zero-add _ ∙ owed ∙ sym (owing ∙ ap (λ (x : ℕ). x - released n log.calls) (zero-add _))
 

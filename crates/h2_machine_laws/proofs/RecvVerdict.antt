@@ -1,11 +1,9 @@
 -- The verdict of an item is the same at an end as at its log.
-use Rattle.std.proofs.Common.{◌≡◌, ◌≢◌, ℕ, ◌≤◌, ◌+◌, ◌%◌, Bool, true, false, not, if◌then◌else◌}
-use Rattle.std.proofs.Common.{◌==◌, nat_lt, nat_le, ◌&&◌, ◌||◌, pos, ◌+ℤ◌, ◌-ℤ◌, Option, Some, None}
-use Rattle.std.proofs.Common.{is_some, refl, ap, sym, ◌∙◌, arith}
-use Rattle.std.specs.Prelude.{int_lt}
+use Rattle.std.proofs.Common.{◌≡◌, ◌≢◌, ℕ, ◌≤◌, ◌+◌, ◌%◌, Bool, true, false, not}
+use Rattle.std.proofs.Common.{◌==◌, nat_lt, nat_le, ◌&&◌, ◌||◌, pos, Option, Some, None}
+use Rattle.std.proofs.Common.{refl, ap, sym, ◌∙◌, arith}
 use Rattle.std.specs.List.{list_any}
 use Rattle.std.specs.FinMap as map
-use Rattle.std.proofs.lemmas.Int.{ints}
 use Rattle.std.proofs.lemmas.Bool.Decides.{nat_tests}
 use Rattle.h2_machine.specs.End.{end_view, End, active_entry, stream_in, stream_at, is_beyond}
 use Rattle.h2_machine.specs.End.{state_by_entry, state_at}
@@ -18,17 +16,17 @@ use Rattle.h2_log.specs.Settings.{is_server, settings_count}
 use Rattle.h2_log.specs.States.{openings, is_used, is_above, is_closed_by_us, state_by, state_of}
 use Rattle.h2_log.specs.States.{when}
 use Rattle.h2_log.specs.Windows.{given_on_connection, granted_on_connection, connection_send_window}
-use Rattle.h2_log.specs.Windows.{connection_recv_window, window}
+use Rattle.h2_log.specs.Windows.{connection_recv_window}
 use Rattle.h2_log.specs.Log.{Log, active, released, unreleased, active_count, max_streams}
 use Rattle.h2_log.specs.ItemRules.{Decoded, verdict_of_block}
 use Rattle.h2_log.specs.Allowed.{AllowedHistory}
 use Rattle.h2_log.specs.View.{StreamView}
 use Rattle.h2_machine.specs.Represents.{entry_by, goaway_sent_last}
 use Rattle.h2_log_laws.proofs.ReplyInvariant.{resets_used}
-use Rattle.h2_log.specs.declared.role.Role.{Role}
-use Rattle.h2_log.specs.declared.role.Role.TheVariants.{Client, Server}
 use Rattle.h2_log_laws.proofs.ReaderStates.{active_used}
+use Rattle.h2_log_laws.proofs.LogViewLemmas.{when_some}
 use Rattle.h2_machine_laws.proofs.LogCore.{said, Core, core, Going, confirmed, active_by_items, greatest_used}
+use Rattle.h2_machine_laws.proofs.ViewsAgree.{stream_same, max_streams_agree, window_agrees}
 
 -- Nothing was read of a number, nor written but perhaps increments.
 pub record IsUnread (i : ℕ) (c : Core) : Type 0 where
@@ -122,49 +120,16 @@ state_same e c i role sound g =
     c.reported) (resets_used c.role i c.received c.sent sound.with_sent)
     (idle_by i (greatest_used c) ∙ ap not (sym (sound.used i))))
 
--- An offset that is brought above a bound, by natural numbers.
-pub int_above : (top g t n : ℕ) → int_lt (pos top) ((pos g -ℤ pos t) +ℤ pos n) ≡ nat_lt (top + t)
-    (g + n)
-int_above top g t n = grind (arith, nat_tests, ints)
-
--- A window is what was given, less what was taken.
-window_same : (left taken given : ℕ) → left + taken ≡ given → pos left ≡ window given taken
-window_same left taken given is = omega (arith, ints)
-
--- There is something where the test holds.
-pub when_some : {A : Type 0} (b : Bool) (a : A) → is_some (when b a) ≡ b
-when_some true a = refl
-when_some false a = refl
-
--- An entry has a stream where it is active.
-entry_stream : (active was_reset : Bool) (s : StreamView) → stream_in (entry_by active was_reset s)
-    ≡ when active s
-entry_stream true was_reset s = refl
-entry_stream false true s = refl
-entry_stream false false s = refl
-
--- An end has the stream that its log says, where it is active.
-pub stream_same : (e : End) (c : Core) (i : ℕ) → Going e c
-    → stream_at e i ≡ when (active_by_items c i) (said c i)
-stream_same e c i g = ap stream_in (g.streams.entries i) ∙ entry_stream (active_by_items c i)
-    (list_any (resets i) c.sent) (said c i)
-
 -- The peer may send as much on the connection as the log says; and so may this end.
 pub recv_same : (e : End) (c : Core) → Going e c → pos e.windows.recv ≡ connection_recv_window
     c.received c.sent
-recv_same e c g = window_same e.windows.recv (total data_of c.received) (granted_on_connection
+recv_same e c g = window_agrees e.windows.recv (total data_of c.received) (granted_on_connection
     c.sent) g.windows.recv
 
 pub send_same : (e : End) (c : Core) → Going e c → pos e.windows.send ≡ connection_send_window
     c.received c.sent
-send_same e c g = window_same e.windows.send (total data_of c.sent) (given_on_connection c.received)
+send_same e c g = window_agrees e.windows.send (total data_of c.sent) (given_on_connection c.received)
     g.windows.send
-
--- As many streams are allowed as the log says, at a server.
-pub allowed_same : (role : Role) (ours logs : ℕ) → (is_server role ≡ true → ours ≡ logs)
-    → (if is_server role then ours else 0) ≡ (if is_server role then logs else 0)
-allowed_same Client ours logs same = refl
-allowed_same Server ours logs same = same refl
 
 -- The verdict on a field block is the same at an end as at its log.
 pub block_verdict_same : (e : End) (log : Log) (i : ℕ) (decoded : Option Decoded)
@@ -176,9 +141,9 @@ block_verdict_same e log i None role sound g = refl
 block_verdict_same e log i (Some decoded) role sound g =
     rw (
       state_same e (core log) i role sound g,
-      stream_same e (core log) i g,
+      stream_same e.streams (core log) i g.streams,
       role,
-      allowed_same log.role e.own.in_force.max_streams (max_streams log) g.own.in_force.max_streams,
+      max_streams_agree log.role e.own.in_force.max_streams (max_streams log) g.own.in_force.max_streams,
       g.streams.active_count,
       g.goaway.last_sent,
       when_some (list_any is_goaway log.sent)

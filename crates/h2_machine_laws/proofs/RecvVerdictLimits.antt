@@ -30,9 +30,11 @@ use Rattle.h2_log.specs.ItemRules.{settings_fault, verdict_of_fault, verdict_by_
 use Rattle.h2_log.specs.ItemRules.{is_awaited_ping}
 use Rattle.h2_log.specs.View.{StreamView, ended_in}
 use Rattle.h2_machine.specs.Represents.{entry_by}
+use Rattle.h2_log_laws.proofs.LogViewLemmas.{int_above}
 use Rattle.h2_machine_laws.proofs.LogCore.{said, Core, core, Going}
 use Rattle.h2_machine_laws.proofs.OwedSums.{first, second, less}
-use Rattle.h2_machine_laws.proofs.RecvVerdict.{Sound, active_said, state_same, block_verdict_same, stream_same, recv_same, send_same, int_above}
+use Rattle.h2_machine_laws.proofs.RecvVerdict.{Sound, active_said, state_same, block_verdict_same, recv_same, send_same}
+use Rattle.h2_machine_laws.proofs.ViewsAgree.{stream_same}
 use Rattle.h2_machine_laws.proofs.WaitingOutput.{Waits, waits_much}
 use Rattle.h2_log_laws.proofs.ReaderStates.{active_parts}
 
@@ -239,7 +241,7 @@ verdict_same e log decoded (alone (Data stream end octets pad)) role sound g =
     (exceeds_stream n (stream_at e stream))) (state_same e (core log) stream role sound g)
     ∙ ap (λ (s : Option StreamView). data_verdict (state log stream)
     (exceeds n (log_view log).recv_window) (ended_in s)
-    (exceeds_stream n s)) (stream_same e (core log) stream g)
+    (exceeds_stream n s)) (stream_same e.streams (core log) stream g.streams)
 verdict_same e log decoded (alone (Headers stream end last fragment pad priority)) role sound g =
     refl
 verdict_same e log decoded (alone (Priority stream octets)) role sound g = refl
@@ -262,7 +264,7 @@ verdict_same e log decoded (alone (WindowUpdate stream increment)) role sound g 
     (state_same e (core log) stream role sound g)
     ∙ ap (λ (s : Option StreamView). update_verdict (state log stream) increment
     (overflows_stream increment s))
-    (stream_same e (core log) stream g))
+    (stream_same e.streams (core log) stream g.streams))
 verdict_same e log decoded (alone (Continuation stream last fragment)) role sound g = refl
 verdict_same e log decoded (alone (Unknown kind flags stream payload)) role sound g = refl
 

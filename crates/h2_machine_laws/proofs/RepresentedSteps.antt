@@ -189,25 +189,6 @@ unfolding with_unreturned
 with_unreturned_none log = let none : log.unreturned + 0 ≡ log.unreturned =
     omega arith in ap (λ (n : ℕ). record log { unreturned = n }) none
 
--- The connection is never active as a stream.
-zero_inactive : (log : Log) → active log 0 ≡ false
-unfolding is_active
-zero_inactive log = refl
-
--- What closes no stream leaves nothing owing.
-pub owes_none : (log after : Log) → owed_at_close log after 0 ≡ 0
-unfolding owed_at_close
-owes_none log after = rw (zero_inactive log) refl
-
--- what is left owing by a stream that stays active
-pub owes_active : (log after : Log) (i : ℕ) → active after i ≡ true → owed_at_close log after i ≡ 0
-unfolding owed_at_close
-owes_active log after i is = rw is (neither (active log i))
-  where
-    neither : (b : Bool) → (if b && false then unreleased after i else 0) ≡ 0
-    neither true = refl
-    neither false = refl
-
 -- A call that closes no stream leaves a log as it is.
 pub nothing_unreturned : (e : End) (log after : Log) (i : ℕ) → owed_at_close log after i ≡ 0
     → Up e after → Up e (with_unreturned (owed_at_close log after i) after)
@@ -267,12 +248,6 @@ ready_up e log is =
     subst (λ (b : Bool). Up (before_put_out_at e) (if b then with_credit_returned log else log))
     test
     (ready_by e log (returns_before_put_out (end_view e)) is)
-
--- A stream that is closed leaves what it owes to be returned.
-pub owes_all : (log after : Log) (i : ℕ) → active log i ≡ true → active after i ≡ false
-    → owed_at_close log after i ≡ unreleased after i
-unfolding owed_at_close
-owes_all log after i was is = rw (was, is) refl
 
 -- What is active after items that are written.
 pub wrote_active : (log : Log) (items : List Item) (i : ℕ)

@@ -25,8 +25,10 @@ use Rattle.h2_machine.specs.Represents.{RepresentsOwn, goaway_sent_last}
 use Rattle.h2_log_laws.proofs.SettingsLists.{up_to_next, up_to_here, settings_one, value_changed}
 use Rattle.h2_log_laws.proofs.ReaderStates.{active_parts}
 use Rattle.h2_log_laws.proofs.LogInvariant.{active_before}
+use Rattle.h2_log_laws.proofs.InvariantSteps.{update_here}
 use Rattle.h2_machine_laws.proofs.LogCore.{Core, core, CoreFacts, Advances, StreamsOf, confirmed, active_by_items}
-use Rattle.h2_machine_laws.proofs.OneItemMore.{total_quiet, total_one, own_quiet}
+use Rattle.h2_machine_laws.proofs.OneItemMore.{total_quiet, own_quiet}
+use Rattle.h2_log_laws.proofs.ItemLists.{total_one}
 use Rattle.h2_machine_laws.proofs.SentQuietItems.{sends, active_like, used_wrote, LeavesStreams, streams_sent, windows_sent, own_sent, goaways_sent, ping_sent, IsQuietOut, quiet_wrote}
 use Rattle.h2_machine_laws.proofs.StreamsSame.{streams_same}
 
@@ -86,18 +88,13 @@ pub update_other : (j i increment : ℕ) → j ≢ i
 unfolding increment_on
 update_other j i increment other = rw (ne_eqb i j (λ same. other (sym same))) refl
 
--- The connection's update gives the connection all.
-pub update_all : (count : ℕ) → increment_on 0 (alone (WindowUpdate 0 count)) ≡ count
-unfolding increment_on
-update_all count = refl
-
 -- The peer may send more on the connection.
 pub widened_advances : (h : CoreFacts) (c : Core) (count : ℕ) → Advances h c
     → Advances (record h { windows = record h.windows { recv = h.windows.recv + count } })
     (sends c (alone (WindowUpdate 0 count)))
 widened_advances h c count g =
     quiet_wrote h c (alone (WindowUpdate 0 count)) (h.windows.recv + count) (update_quiet 0 count)
-    (λ j some. update_other j 0 count some) (omega (arith, update_all count)) g
+    (λ j some. update_other j 0 count some) (omega (arith, update_here count)) g
 
 -- A PING was sent, where none awaits its answer.
 pub ping_advances : (h : CoreFacts) (c : Core) (octets : List ℕ)

@@ -11,7 +11,7 @@ use Rattle.h2_log.specs.View.{StreamView}
 use Rattle.h2_machine.specs.End.{StreamMap, Streams, Entry, active_entry, reset_entry}
 use Rattle.h2_machine.specs.Represents.{entry_by}
 use Rattle.h2_log_laws.proofs.ReaderStates.{active_parts}
-use Rattle.h2_log_laws.proofs.NextStreams.{greatest_above}
+use Rattle.h2_log_laws.proofs.StreamNumbers.{block_below}
 use Rattle.h2_machine_laws.proofs.LogCore.{Core, said, AreSaid, StreamsOf, active_by_items, greatest_used, processed}
 use Rattle.h2_machine_laws.proofs.OwedSums.{get_set_same, get_set_other, get_removed_same, get_removed_other}
 
@@ -202,7 +202,7 @@ one_less c d i n greatest same alive dead is =
     count_less (greatest_used c + 1) i (active_by_items d) (active_by_items c)
     (omega (
       arith,
-      greatest_above i (openings c.role c.received c.sent) (active_parts c.role i
+      block_below i (openings c.role c.received c.sent) (active_parts c.role i
           c.received c.sent c.reported alive).opened,
     ))
     (λ j other. (same j other).active) alive dead in

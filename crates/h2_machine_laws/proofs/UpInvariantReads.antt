@@ -29,7 +29,8 @@ use Rattle.h2_log.specs.declared.role.Role.{Role}
 use Rattle.h2_log.specs.declared.role.Role.TheVariants.{Client, Server}
 use Rattle.h2_log_laws.proofs.ItemLists.{any_after}
 use Rattle.h2_log_laws.proofs.ReaderStates.{state_idle}
-use Rattle.h2_machine_laws.proofs.OneItemMore.{total_one}
+use Rattle.h2_log_laws.proofs.ItemLists.{total_one}
+use Rattle.h2_log_laws.proofs.ItemLists.{total_none}
 use Rattle.h2_machine_laws.proofs.UpInvariant.{IsUpLog, Reads, idle_above, pairs_size}
 
 -- The events of an item report no stream as unprocessed.
@@ -313,11 +314,6 @@ active_processed log decoded Reported (block stream end octets) items news i is 
     stays kept = omega (arith, eqb-true stream i here)
 active_processed log decoded v (alone frame) items news i is line none reset here stays kept =
     absurd (both_ways false refl here)
-
--- a sum over nothing
-total_none : (f : Item → ℕ) → total f [] ≡ 0
-unfolding total
-total_none f = refl
 
 -- An item that isn't a fault of the connection keeps to what is asked of it.
 pub item_reads : (log : Log) (decoded : Option Decoded) (v : Verdict) (item : Item)

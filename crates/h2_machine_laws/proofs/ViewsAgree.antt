@@ -16,7 +16,10 @@ use Rattle.h2_log.specs.LogView.{log_view, stream_of_log}
 use Rattle.h2_log.specs.View.{StreamView, View}
 use Rattle.h2_machine.specs.End.{End, end_view, stream_in, stream_at, number_after}
 use Rattle.h2_machine.specs.Represents.{RepresentsWhileUp, entry_by}
-use Rattle.h2_machine_laws.proofs.LogCore.{core, StreamsOf}
+use Rattle.std.specs.FinMap as map
+use Rattle.h2_machine.specs.End.{Streams}
+use Rattle.h2_log_laws.proofs.LogViewLemmas.{when_some}
+use Rattle.h2_machine_laws.proofs.LogCore.{Core, active_by_items, said, core, StreamsOf}
 
 -- An entry has a stream where it is active.
 entry_stream : (active was_reset : Bool) (s : StreamView)
@@ -25,18 +28,18 @@ entry_stream true was_reset s = refl
 entry_stream false true s = refl
 entry_stream false false s = refl
 
+-- Each stream that is kept is one that is active, as the log says.
+pub stream_same : (s : Streams) (c : Core) (i : ℕ) → StreamsOf s c
+    → stream_in (map.get s.entries i) ≡ when (active_by_items c i) (said c i)
+stream_same s c i streams =
+    ap stream_in (streams.entries i)
+    ∙ entry_stream (active_by_items c i) (list_any (resets i) c.sent) (said c i)
+
 -- Each stream is active where the log says so, and is the stream that it says.
 pub stream_agrees : (e : End) (log : Log) (i : ℕ) → StreamsOf e.streams (core log)
     → stream_at e i ≡ when (active log i) (stream_of_log log i)
 unfolding unreleased
-stream_agrees e log i streams =
-    ap stream_in (streams.entries i)
-    ∙ entry_stream (active log i) (list_any (resets i) log.sent) (stream_of_log log i)
-
--- There is something where the test holds.
-when_some : {A : Type 0} (b : Bool) (x : A) → is_some (when b x) ≡ b
-when_some true x = refl
-when_some false x = refl
+stream_agrees e log i streams = stream_same e.streams (core log) i streams
 
 -- A stream is active at the end just where the log says so.
 pub active_agrees : (e : End) (log : Log) (i : ℕ) → StreamsOf e.streams (core log)
@@ -44,7 +47,7 @@ pub active_agrees : (e : End) (log : Log) (i : ℕ) → StreamsOf e.streams (cor
 active_agrees e log i streams = ap is_some (stream_agrees e log i streams) ∙ when_some _ _
 
 -- The number of streams that a server allows is the log's.
-max_streams_agree : (role : Role) (ours logs : ℕ) → (is_server role ≡ true → ours ≡ logs)
+pub max_streams_agree : (role : Role) (ours logs : ℕ) → (is_server role ≡ true → ours ≡ logs)
     → (if is_server role then ours else 0) ≡ (if is_server role then logs else 0)
 max_streams_agree Client ours logs same = refl
 max_streams_agree Server ours logs same = same refl
@@ -58,7 +61,7 @@ next_agrees Client highest received sent is = ap number_after is
 next_agrees Server highest received sent is = refl
 
 -- A window is what was given, less what was taken.
-window_agrees : (window_left taken given : ℕ) → window_left + taken ≡ given
+pub window_agrees : (window_left taken given : ℕ) → window_left + taken ≡ given
     → pos window_left ≡ window given taken
 window_agrees window_left taken given is = omega (arith, ints)
 
