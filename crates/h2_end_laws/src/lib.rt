@@ -3,12 +3,14 @@
 //! reports. Each is the contract of a function that does nothing.
 #![tactic(auto)]
 
+mod pieces;
 mod reads;
 mod takes;
 #[cfg(test)]
 mod tests;
 mod writes;
 
+pub use pieces::{pieces_do_not_matter, prefix_of_the_output};
 pub use reads::{events_are_of_the_items, items_are_frames_grouped};
 pub use takes::take_answers;
 pub use writes::{

@@ -8,6 +8,7 @@ ghost use Rattle.h2_log.specs.Items.{ends};
 ghost use Rattle.h2_log.specs.Acts.{Values, Act, Answer};
 ghost use Rattle.h2_log.specs.Settings.{own_value};
 ghost use Rattle.h2_log.specs.Windows.{first_window};
+ghost use Rattle.h2_log.specs.Limits.{max_frame_size_sent};
 ghost use Rattle.h2_log.specs.Log.{Log, acked, active, owed, recv_window};
 ghost use Rattle.h2_log.specs.LogCalls.{MayAnswer, with_call};
 ghost use Rattle.h2_log.specs.Histories.{IsLog};
@@ -38,7 +39,7 @@ pub fn nothing_follows_a_failure()
 /// and 4.3).
 pub fn written_items_can_be_sent()
     ensures { (role : Role) (values : Values) (log : Log) → IsLog role values log
-        → AllByRecursion IsSendable log.sent }
+        → AllByRecursion (IsSendable max_frame_size_sent) log.sent }
 {}
 
 /// The field blocks that an end has written are what its encoder makes of the lists of the calls

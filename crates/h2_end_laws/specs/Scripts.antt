@@ -1,0 +1,37 @@
+-- What happened to an end, octet by octet, however the octets were cut into pieces: the octets that
+-- were used, the calls with their answers, and the streams that were reported as unprocessed, in
+-- order.
+use Rattle.std.specs.Prelude.{◌≡◌, ℕ, List, [], ◌∷◌, ◌++◌}
+use Rattle.std.specs.Prelude.{map as each}
+use Rattle.h2_log.specs.declared.role.Role.{Role}
+use Rattle.h2_log.specs.Acts.{Values, Act, Answer}
+use Rattle.h2_log.specs.Log.{Log}
+use Rattle.h2_log.specs.Histories.{IsLog, begins, took_some, took_one, met_fault, ran_out_of_memory}
+use Rattle.h2_log.specs.Histories.{reported_one, called_one}
+
+pub data Mark : Type 0 where
+  -- an octet was used
+  Octet : (octet : ℕ) → Mark
+  -- a call was answered
+  Call : (act : Act) (answer : Answer) → Mark
+  -- a stream was reported that the peer doesn't process
+  Unprocessed : Mark
+  -- memory was refused
+  OutOfMemory : Mark
+
+-- the marks of a log's history, the first one first
+unfoldable pub script_of : {role : Role} → {values : Values} → {log : Log}
+    → IsLog role values log → List Mark
+script_of (begins in_range) = []
+script_of (took_some is takes octets unparsed part) = script_of is ++ each Octet octets
+script_of (took_one is takes octets frame decoded ends decodes) =
+    script_of is ++ each Octet octets
+script_of (met_fault is takes octets fault meets) = script_of is ++ each Octet octets
+script_of (ran_out_of_memory is up octets may) =
+    script_of is ++ (each Octet octets ++ OutOfMemory ∷ [])
+script_of (reported_one is up next) = script_of is ++ Unprocessed ∷ []
+script_of (called_one is act answer typed may) = script_of is ++ Call act answer ∷ []
+
+-- The logs are the same but for their turns, which say where the pieces ended.
+abbrev pub AreSameButTurns : Log → Log → Type 0
+AreSameButTurns log other = record log { turns = [] } ≡ record other { turns = [] }
