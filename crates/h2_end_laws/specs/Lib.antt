@@ -3,6 +3,7 @@ pub mod Grouped
 pub mod Prefixes
 pub mod Readings
 pub mod Replies
+pub mod Replays
 pub mod Scripts
 pub mod Sendings
 pub mod Takes

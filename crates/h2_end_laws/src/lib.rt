@@ -5,6 +5,7 @@
 
 mod pieces;
 mod reads;
+mod replays;
 mod takes;
 #[cfg(test)]
 mod tests;
@@ -12,6 +13,7 @@ mod writes;
 
 pub use pieces::{pieces_do_not_matter, prefix_of_the_output};
 pub use reads::{events_are_of_the_items, items_are_frames_grouped};
+pub use replays::replays_are_logs;
 pub use takes::take_answers;
 pub use writes::{
     blocks_are_of_the_lists, each_is_replied_to, nothing_follows_a_failure, receive_window_is_kept,

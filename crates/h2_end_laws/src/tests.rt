@@ -3,7 +3,7 @@
 use crate::{
     blocks_are_of_the_lists, each_is_replied_to, events_are_of_the_items, items_are_frames_grouped,
     nothing_follows_a_failure, pieces_do_not_matter, prefix_of_the_output, receive_window_is_kept,
-    take_answers, written_items_can_be_sent,
+    replays_are_logs, take_answers, written_items_can_be_sent,
 };
 
 #[test]
@@ -16,6 +16,7 @@ fn laws_are_called() {
     pieces_do_not_matter();
     prefix_of_the_output();
     receive_window_is_kept();
+    replays_are_logs();
     take_answers();
     written_items_can_be_sent();
 }

@@ -1,7 +1,10 @@
 //! What is bounded at one end, and that its connection's receive window is conserved: over the
 //! machine, whatever comes and whatever is asked of it.
 
-ghost use Rattle.std.specs.Prelude.{◌≡◌, ℕ, Option, None};
+ghost use Rattle.std.specs.Prelude.{◌≡◌, ℕ, ◌≤◌, length, Option, None};
+ghost use Rattle.std.specs.FinMap as map;
+ghost use Rattle.h2_frame.specs.Encoding.{stream_of};
+ghost use Rattle.h2_log.specs.States.{greatest_number};
 ghost use Rattle.h2_frame.specs.declared.code.Code.{Code};
 ghost use Rattle.h2_frame.specs.Frames.{Frame};
 ghost use Rattle.h2_machine.specs.End.{end_view, End};
@@ -12,6 +15,7 @@ ghost use Rattle.h2_machine.specs.Machine.{close_unprocessed};
 ghost use Rattle.h2_log.specs.CallRules.{refusal_of};
 ghost use Rattle.h2_log.specs.declared.role.Role.{Role};
 ghost use Rattle.h2_machine_laws.specs.Bounds.{IsBounded, KeepsConnectionWindow};
+ghost use Rattle.h2_machine_laws.specs.Ranges.{ValuesAreInRange, IsDecodedAt, CountsEntries};
 
 /// An end has at most 1,000 active streams, has reset at most 1,000, and has at most 262,144 octets
 /// of output waiting, and 17 more once it has failed: at first, and after each frame, fault, stream
@@ -44,4 +48,39 @@ pub fn connection_window_is_kept()
         → KeepsConnectionWindow (close_unprocessed e i) }
     ensures call { (e : End) (act : Act) → refusal_of (end_view e) act ≡ None
         → KeepsConnectionWindow e → KeepsConnectionWindow (after_call e act) }
+{}
+
+/// The values of an end are in the ranges that its definitions give them, so that code can keep
+/// them in numbers of 32 and 64 bits: at first, and after each frame whose stream has 31 bits and
+/// whose field block decodes as it was seen, fault, stream that is reported as unprocessed, and
+/// call.
+pub fn values_are_in_range()
+    ensures begins { (role : Role) (values : Values) → AreInRange values
+        → ValuesAreInRange (new_end role values) }
+    ensures frame { (e : End) (decoded : Option Decoded) (frame : Frame) → e.failed ≡ None
+        → stream_of frame ≤ greatest_number → IsDecodedAt e decoded frame → ValuesAreInRange e
+        → ValuesAreInRange (after_frame e decoded frame) }
+    ensures fault { (e : End) (code : Code) → ValuesAreInRange e
+        → ValuesAreInRange (fail code e.streams.last_processed e) }
+    ensures unprocessed { (e : End) (i : ℕ) → ValuesAreInRange e
+        → ValuesAreInRange (close_unprocessed e i) }
+    ensures call { (e : End) (act : Act) → refusal_of (end_view e) act ≡ None → IsTypedAct act
+        → ValuesAreInRange e → ValuesAreInRange (after_call e act) }
+{}
+
+/// An end keeps as many entries of streams as are active and as were reset, by its counts, so at
+/// most 2,000 where these are bounded: at first, and after each frame, fault, stream that is
+/// reported as unprocessed, and call.
+pub fn entries_are_counted()
+    ensures begins { (role : Role) (values : Values) → CountsEntries (new_end role values) }
+    ensures frame { (e : End) (decoded : Option Decoded) (frame : Frame) → e.failed ≡ None
+        → CountsEntries e → CountsEntries (after_frame e decoded frame) }
+    ensures fault { (e : End) (code : Code) → CountsEntries e
+        → CountsEntries (fail code e.streams.last_processed e) }
+    ensures unprocessed { (e : End) (i : ℕ) → CountsEntries e
+        → CountsEntries (close_unprocessed e i) }
+    ensures call { (e : End) (act : Act) → refusal_of (end_view e) act ≡ None → IsTypedAct act
+        → CountsEntries e → CountsEntries (after_call e act) }
+    ensures most { (e : End) → IsBounded e → CountsEntries e
+        → length (map.entries e.streams.entries) ≤ 2000 }
 {}

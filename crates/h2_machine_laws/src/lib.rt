@@ -9,7 +9,9 @@ mod machine;
 mod tests;
 mod windows;
 
-pub use bounds::{connection_window_is_kept, everything_is_bounded};
+pub use bounds::{
+    connection_window_is_kept, entries_are_counted, everything_is_bounded, values_are_in_range,
+};
 pub use machine::{
     calls_preserve_representation, frames_preserve_representation, new_end_represents,
     steps_preserve_representation, steps_without_frames_preserve_representation,
