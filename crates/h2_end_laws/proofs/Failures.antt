@@ -279,8 +279,9 @@ called_ends log act answer (Some before) failed may last code is =
     let same = same_output log before act answer failed may in
     ends_still log _ code same (last code (sym same.failed ∙ is))
 
--- octets that were used fail nothing
-used_up : (log : Log) (octets unparsed : List ℕ) → (used log octets unparsed).failed ≡ log.failed
+-- Octets that were used fail nothing.
+pub used_up : (log : Log) (octets unparsed : List ℕ)
+    → (used log octets unparsed).failed ≡ log.failed
 unfolding used
 used_up log octets unparsed = refl
 

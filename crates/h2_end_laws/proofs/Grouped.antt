@@ -7,7 +7,6 @@ use Rattle.h2_frame.specs.declared.code.Code.TheVariants.{ProtocolError, Interna
 use Rattle.h2_frame.specs.Frames.{Frame, Data, Headers, Priority, Reset, Settings, Ping, GoAway}
 use Rattle.h2_frame.specs.Frames.{WindowUpdate, Continuation, Unknown}
 use Rattle.h2_wire.specs.Faults.{wire_fault_code}
-use Rattle.h2_wire.proofs.ReadingLemmas.{none_some as no_code}
 use Rattle.h2_block.specs.declared.fault.BlockFault.{BlockFault}
 use Rattle.h2_block.specs.declared.fault.BlockFault.TheVariants.{Interrupted, Stray}
 use Rattle.h2_block.specs.Grouping.{Item, Begun, Groups, next_fault, fault_outside}
@@ -28,9 +27,11 @@ use Rattle.h2_log.specs.LogCalls.{opened}
 use Rattle.h2_log.specs.Histories.{IsLog, begins, took_some, took_one, met_fault, ran_out_of_memory}
 use Rattle.h2_log.specs.Histories.{reported_one, called_one}
 use Rattle.h2_log_laws.specs.Sending.{oldest_first}
+use Rattle.h2_log_laws.proofs.LogGrowth.{fails_down}
 use Rattle.h2_end_laws.specs.Grouped.{AreGrouped}
+use Rattle.h2_end_laws.proofs.Failures.{used_up}
 use Rattle.h2_end_laws.proofs.Unread.{ReadsNothing, reads_twice, reads_reported, reads_unreturned}
-use Rattle.h2_end_laws.proofs.Unread.{reads_fails, reads_call, reads_unprocessed}
+use Rattle.h2_end_laws.proofs.Unread.{wrote_reads, reads_fails, reads_call, reads_unprocessed}
 
 -- The step adds these items, and leaves this block begun.
 abbrev Makes : FrameStep → List Item → Option Begun → Type 0
@@ -122,10 +123,6 @@ grouped_still old new none are =
       up = λ up. let before = are.up (none.up up) in (before.0, none.begun ∙ before.1);
     }
 
--- A failed connection isn't up.
-fails_down : (code : Code) (last : ℕ) (log : Log) → (with_failure code last log).failed ≡ None → ⊥
-fails_down code last log up = no_code code (sym up)
-
 -- The log with one more frame fails.
 grouped_fails : (old log : Log) (frame : Frame) (code : Code) (last : ℕ)
     → log.frames ≡ old.frames ++ frame ∷ [] → log.received ≡ old.received
@@ -135,14 +132,6 @@ grouped_fails old log frame code last frames received groups =
     let none = reads_fails code last log in
     grouped_down old (with_failure code last log) frame (none.frames ∙ frames)
     (none.received ∙ received) groups (fails_down code last log)
-
--- What is written reads nothing.
-wrote_reads : (log : Log) (items : List Item)
-    → ((with_sent log items).frames ≡ log.frames) × ((with_sent log items).begun ≡ log.begun)
-    × ((with_sent log items).received ≡ log.received)
-unfolding with_sent
-wrote_reads log [] = (refl, refl, refl)
-wrote_reads log (item ∷ items) = (refl, refl, refl)
 
 -- The log groups once an item was read that its frames complete, and was replied to.
 grouped_replied : (log : Log) (decoded : Option Decoded) (item : Item) (replies : List Item)
@@ -240,12 +229,6 @@ grouped_used log octets unparsed are =
       up = are.up;
     }
 
--- nor do they fail
-used_up : (log : Log) (octets unparsed : List ℕ) → log.failed ≡ None
-    → (used log octets unparsed).failed ≡ None
-unfolding used
-used_up log octets unparsed up = up
-
 -- A new end has none.
 grouped_opened : (role : Role) (values : Values) → AreGrouped (opened role values)
 unfolding opened with_sent
@@ -267,7 +250,7 @@ items_grouped role values _ (took_some {log = log} is takes octets unparsed read
 items_grouped role values _ (took_one {log = log} is takes octets frame decoded read sees) =
     let before = grouped_used log octets [] (items_grouped role values log is) in
     grouped_frame (used log octets []) decoded frame (groups_now (used log octets []) before
-    (used_up log octets [] takes.up))
+    (used_up log octets [] ∙ takes.up))
 items_grouped role values _ (met_fault {log = log} is takes octets fault at) =
     grouped_still (used log octets []) _ (reads_fails (wire_fault_code fault) _ _)
     (grouped_used log octets [] (items_grouped role values log is))

@@ -21,7 +21,8 @@ use Rattle.h2_log.specs.LogCalls.{opened}
 use Rattle.h2_log.specs.Histories.{IsLog, begins, took_some, took_one, met_fault, ran_out_of_memory}
 use Rattle.h2_log.specs.Histories.{reported_one, called_one}
 use Rattle.h2_end_laws.specs.Replies.{replies_due, replies_among}
-use Rattle.h2_end_laws.proofs.Unread.{ReadsNothing, replies_append, reads_twice, reads_reported}
+use Rattle.h2_end_laws.proofs.Unread.{ReadsNothing, wrote_reads, replies_append, reads_twice}
+use Rattle.h2_end_laws.proofs.Unread.{reads_reported}
 use Rattle.h2_end_laws.proofs.Unread.{reads_unreturned, reads_fails, reads_call, reads_unprocessed}
 
 -- The replies that a log has written are those that are due.
@@ -97,27 +98,15 @@ replied : (view : View) (decoded : Option Decoded) (item : Item)
 unfolding verdict_of over_limits
 replied view decoded item = replied_if _ _ _ item (replied_by_rules view decoded item)
 
--- Items that are written stand before those before.
-wrote_sent : (log : Log) (items : List Item) → (with_sent log items).sent ≡ items ++ log.sent
-unfolding with_sent
-wrote_sent log [] = refl
-wrote_sent log (item ∷ items) = refl
-
--- And nothing is read.
-wrote_received : (log : Log) (items : List Item) → (with_sent log items).received ≡ log.received
-unfolding with_sent
-wrote_received log [] = refl
-wrote_received log (item ∷ items) = refl
-
 -- After an item that is replied to as is due.
 reply_written : (log : Log) (decoded : Option Decoded) (item : Item) (replies : List Item)
     → replies_among replies ≡ replies_due (item ∷ []) → Replies log
     → Replies (with_sent (read log decoded item) replies)
 reply_written log decoded item replies due is =
-    ap replies_among (wrote_sent (read log decoded item) replies)
-    ∙ replies_append replies log.sent
+    let wrote = wrote_reads (read log decoded item) replies in
+    ap replies_among wrote.3 ∙ replies_append replies log.sent
     ∙ rw (due, is) (sym (due_first item log.received))
-    ∙ ap replies_due (sym (wrote_received (read log decoded item) replies))
+    ∙ ap replies_due (sym wrote.2)
 
 -- After an item, by its verdict.
 verdict_replies : (log : Log) (decoded : Option Decoded) (item : Item) (verdict : Verdict)

@@ -129,6 +129,15 @@ reads_returned log =
     reads_twice log (record log { unreturned = 0 }) (with_credit_returned log) (reads_due log 0)
     (reads_wrote _ _ (update_replies 0 log.unreturned))
 
+-- What is written changes nothing that was read, and stands before what was written.
+pub wrote_reads : (log : Log) (items : List Item)
+    → ((with_sent log items).frames ≡ log.frames) × ((with_sent log items).begun ≡ log.begun)
+    × ((with_sent log items).received ≡ log.received)
+    × ((with_sent log items).sent ≡ items ++ log.sent)
+unfolding with_sent
+wrote_reads log [] = (refl, refl, refl, refl)
+wrote_reads log (item ∷ items) = (refl, refl, refl, refl)
+
 -- What is due is settled.
 pub reads_unreturned : (more : ℕ) (log : Log) → ReadsNothing log (with_unreturned more log)
 unfolding with_unreturned
