@@ -1,0 +1,5 @@
+-- The lemmas of the laws.
+pub mod ReadVerdicts
+pub mod ReceiveWindowCalls
+pub mod ReceiveWindowSteps
+pub mod ReceiveWindows
