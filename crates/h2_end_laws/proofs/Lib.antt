@@ -3,3 +3,4 @@ pub mod ReadVerdicts
 pub mod ReceiveWindowCalls
 pub mod ReceiveWindowSteps
 pub mod ReceiveWindows
+pub mod Sendings
