@@ -1,5 +1,8 @@
 -- The lemmas of the laws.
 pub mod ReadVerdicts
+pub mod ReadingCalls
+pub mod ReadingRules
+pub mod Readings
 pub mod ReceiveWindowCalls
 pub mod ReceiveWindowSteps
 pub mod ReceiveWindows
