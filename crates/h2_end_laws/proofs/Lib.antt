@@ -6,4 +6,7 @@ pub mod Readings
 pub mod ReceiveWindowCalls
 pub mod ReceiveWindowSteps
 pub mod ReceiveWindows
+pub mod Sendable
+pub mod SendableCalls
+pub mod SendableItems
 pub mod Sendings

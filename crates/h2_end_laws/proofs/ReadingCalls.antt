@@ -174,7 +174,7 @@ unprocessed_keeps log are =
     are))
 
 -- Every log.
-log_read : (role : Role) (values : Values) (log : Log) → IsLog role values log → LogIsRead log
+pub log_read : (role : Role) (values : Values) (log : Log) → IsLog role values log → LogIsRead log
 unfolding used frame_step
 log_read role values _ (begins in_range) = begins_read role values
 log_read role values _ (took_some {log = log} is takes octets unparsed read) =

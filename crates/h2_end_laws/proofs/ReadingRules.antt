@@ -231,8 +231,8 @@ rules_say log decoded (alone (WindowUpdate stream increment)) low =
 rules_say log decoded (alone (Continuation stream last fragment)) low = tt
 rules_say log decoded (alone (Unknown kind flags stream payload)) low = tt
 
--- one fact, whatever the verdict
-says_always : (T : Type 0) (verdict : Verdict) → T → Says T T T verdict
+-- One fact, whatever the verdict.
+pub says_always : (T : Type 0) (verdict : Verdict) → T → Says T T T verdict
 says_always T (ConnectionFault code) t = tt
 says_always T (StreamFault code) t = t
 says_always T NoEvent t = t
@@ -259,8 +259,8 @@ reading_of log decoded item verdict =
       events = events_of (log_view log) decoded verdict item;
     }
 
--- a used number isn't nothing
-used_some : (role : Role) (i : ℕ) (received sent : List Item)
+-- A used number isn't nothing.
+pub used_some : (role : Role) (i : ℕ) (received sent : List Item)
     → is_used role i received sent ≡ true → i ≢ 0
 unfolding is_used
 used_some role i received sent used = odd_some i (and_parts _ _ used).0

@@ -169,8 +169,8 @@ events_stay role reading (event ∷ []) reported are =
     event_stays reading.item reading.decoded event reported are
 events_stay role reading (event ∷ (other ∷ events)) reported are = absurd are
 
--- the greatest number of two lists of events
-processed_append : (events reported : List Event) (i : ℕ) → greatest_processed events < i
+-- The greatest number of two lists of events.
+pub processed_append : (events reported : List Event) (i : ℕ) → greatest_processed events < i
     → greatest_processed reported < i → greatest_processed (events ++ reported) < i
 unfolding greatest_processed
 processed_append [] reported i low below = below
