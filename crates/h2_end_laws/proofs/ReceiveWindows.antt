@@ -25,7 +25,8 @@ use Rattle.h2_log.specs.LogSteps.{with_sent, with_reported, with_unreturned, wit
 use Rattle.h2_log_laws.proofs.ItemLists.{none_after}
 use Rattle.h2_log_laws.proofs.WindowsOfTwoEnds.{total-append}
 use Rattle.h2_log_laws.proofs.ReaderStates.{active_parts, lasts_parts}
-use Rattle.h2_log_laws.proofs.LogHistory.{History, history_of, active_in_view, moved, give, given_by}
+use Rattle.h2_log_laws.proofs.LogHistory.{History, history_of, active_in_view, moved, give}
+use Rattle.h2_log_laws.proofs.LogHistory.{given_by}
 use Rattle.h2_log_laws.proofs.LogHistory.{wrote_view, reports_view, with_unreturned_view}
 use Rattle.h2_log_laws.proofs.LogHistory.{fails_view, reported_append}
 use Rattle.h2_log_laws.proofs.LogInvariant.{active_before}
@@ -135,7 +136,8 @@ step_keeps v i reads items events calls unreturned before step =
                 )
             | inr none ↦
                 let old = before.unopened none in
-                let unread = before.unread none (closed_before v.role i items v.sent (active_unclosed
+                let unread =
+                before.unread none (closed_before v.role i items v.sent (active_unclosed
                 v.role i (reads ++ v.received) (items ++ v.sent) (events ++ v.reported) active)) in
                 let calls_none = none_released _ _ before.within old.0 in (
                   omega (arith, old.1, new.0, gives, calls_none),

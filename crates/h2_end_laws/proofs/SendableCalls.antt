@@ -17,7 +17,8 @@ use Rattle.h2_log.specs.declared.role.Role.TheVariants.{Client, Server}
 use Rattle.h2_log.specs.Items.{is_block_on, total}
 use Rattle.h2_log.specs.Events.{UnprocessedEvent, greatest_processed, processed_by, flow_on}
 use Rattle.h2_log.specs.Events.{reported_total}
-use Rattle.h2_log.specs.Acts.{AreInRange, Values, Act, Answer, IsTypedAct, Open, SendFields, SendData, Release}
+use Rattle.h2_log.specs.Acts.{Values, AreInRange, Act, Answer, IsTypedAct, Open, SendFields}
+use Rattle.h2_log.specs.Acts.{SendData, Release}
 use Rattle.h2_log.specs.Acts.{ResetStream, Refuse, SendPing, SendGoAway, PutOut, ChangeSettings}
 use Rattle.h2_log.specs.Acts.{Done, OutOfMemory}
 use Rattle.h2_log.specs.Settings.{is_server}
@@ -125,7 +126,8 @@ number_low log with_sent none =
     )
 
 -- What opening a stream writes.
-open_sendable : (log : Log) (fields : List Field) (end : Bool) → AllowedHistory log.role log.received log.sent
+open_sendable : (log : Log) (fields : List Field) (end : Bool)
+    → AllowedHistory log.role log.received log.sent
     → refusal_of (log_view log) (Open fields end) ≡ None
     → IsSendable (block (log_view log).next_number end (block_of log.encoder fields))
 unfolding conditions

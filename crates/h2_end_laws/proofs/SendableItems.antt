@@ -1,7 +1,8 @@
 -- Which items can be sent; and what is known of those that were read.
 use Rattle.std.proofs.Common.{◌≡◌, ℕ, zero, suc, ◌+◌, ◌^◌, ◌≤◌, ◌<◌, ◌==◌}
-use Rattle.std.proofs.Common.{nat_le, ◌&&◌, not, Bool, true, false, if◌then◌else◌, List, [], ◌∷◌, ◌++◌}
-use Rattle.std.proofs.Common.{length, take, drop, Option, Some, None, refl, ap, ◌∙◌, inl, inr, arith}
+use Rattle.std.proofs.Common.{nat_le, ◌&&◌, not, Bool, true, false, if◌then◌else◌, List, [], ◌∷◌}
+use Rattle.std.proofs.Common.{◌++◌, length, take, drop, Option, Some, None, refl, ap, ◌∙◌, inl, inr}
+use Rattle.std.proofs.Common.{arith}
 use Rattle.std.proofs.Math.Nat.{mod-lt}
 use Rattle.std.specs.List.{AllByRecursion}
 use Rattle.std.proofs.lemmas.List.{length-take-le}
@@ -91,18 +92,44 @@ pub ack_sendable : IsSendable (alone (Settings true []))
 unfolding is_standalone stream_of kind_of_frame fits_stream has_good_values payload_of
 ack_sendable = frame_sendable (Settings true []) refl (omega arith) (omega arith) refl refl tt
 
+-- A pair of SETTINGS whose numbers fit.
+pair_fits : (id value : ℕ) → id < 2 ^ 16 → value < 2 ^ 32 → (id < 2 ^ 16) × (value < 2 ^ 32)
+pair_fits id value low small = (low, small)
+
 -- The SETTINGS of an opening.
 pub opening_sendable : (role : Role) (values : Values) → AreInRange values
     → IsSendable (alone (Settings false (opening_pairs role values)))
 unfolding is_standalone stream_of kind_of_frame fits_stream has_good_values payload_of opening_pairs
 opening_sendable Client values ok =
     frame_sendable (Settings false (opening_pairs Client values)) refl (omega arith) (omega arith)
-    refl refl
-    ((omega arith, omega (arith, ok.table_limit)), ((omega arith, omega arith), ((omega arith, omega (arith, ok.initial_window)), ((omega arith, omega arith), tt))))
+    refl refl (
+      pair_fits 1 values.table_limit (omega arith) (omega (arith, ok.table_limit)),
+      (
+        pair_fits 2 0 (omega arith) (omega arith),
+        (
+          pair_fits 4 values.initial_window (omega arith) (omega (arith, ok.initial_window)),
+          (
+            pair_fits 6 65536 (omega arith) (omega arith),
+            tt,
+          ),
+        ),
+      ),
+    )
 opening_sendable Server values ok =
     frame_sendable (Settings false (opening_pairs Server values)) refl (omega arith) (omega arith)
-    refl refl
-    ((omega arith, omega (arith, ok.table_limit)), ((omega arith, omega (arith, ok.max_streams)), ((omega arith, omega (arith, ok.initial_window)), ((omega arith, omega arith), tt))))
+    refl refl (
+      pair_fits 1 values.table_limit (omega arith) (omega (arith, ok.table_limit)),
+      (
+        pair_fits 3 values.max_streams (omega arith) (omega (arith, ok.max_streams)),
+        (
+          pair_fits 4 values.initial_window (omega arith) (omega (arith, ok.initial_window)),
+          (
+            pair_fits 6 65536 (omega arith) (omega arith),
+            tt,
+          ),
+        ),
+      ),
+    )
 
 -- Changed SETTINGS.
 pub change_sendable : (role : Role) (values : Values) → AreInRange values
@@ -110,12 +137,25 @@ pub change_sendable : (role : Role) (values : Values) → AreInRange values
 unfolding is_standalone stream_of kind_of_frame fits_stream has_good_values payload_of changed_pairs
 change_sendable Client values ok =
     frame_sendable (Settings false (changed_pairs Client values)) refl (omega arith) (omega arith)
-    refl refl
-    ((omega arith, omega (arith, ok.table_limit)), ((omega arith, omega (arith, ok.initial_window)), tt))
+    refl refl (
+      pair_fits 1 values.table_limit (omega arith) (omega (arith, ok.table_limit)),
+      (
+        pair_fits 4 values.initial_window (omega arith) (omega (arith, ok.initial_window)),
+        tt,
+      ),
+    )
 change_sendable Server values ok =
     frame_sendable (Settings false (changed_pairs Server values)) refl (omega arith) (omega arith)
-    refl refl
-    ((omega arith, omega (arith, ok.table_limit)), ((omega arith, omega (arith, ok.max_streams)), ((omega arith, omega (arith, ok.initial_window)), tt)))
+    refl refl (
+      pair_fits 1 values.table_limit (omega arith) (omega (arith, ok.table_limit)),
+      (
+        pair_fits 3 values.max_streams (omega arith) (omega (arith, ok.max_streams)),
+        (
+          pair_fits 4 values.initial_window (omega arith) (omega (arith, ok.initial_window)),
+          tt,
+        ),
+      ),
+    )
 
 -- The number of an error code has 32 bits.
 pub code_low : (code : Code) → code_number code < 2 ^ 32
