@@ -195,6 +195,12 @@ used_reported : (log : Log) (octets : List ℕ) (code : Code) (last : ℕ)
 unfolding used with_sent
 used_reported log octets code last = refl
 
+-- They were used all the same.
+used_failing : (log : Log) (octets : List ℕ) (code : Code) (last : ℕ)
+    → (with_failure code last (used log octets [])).input ≡ log.input ++ octets
+unfolding used with_sent
+used_failing log octets code last = refl
+
 -- octets that were used
 used_input : (log : Log) (octets unparsed : List ℕ)
     → ((used log octets unparsed).input ≡ log.input ++ octets)
@@ -204,12 +210,11 @@ unfolding used
 used_input log octets unparsed = (refl, refl, refl)
 
 -- What each answer says.
-pub take_tells : (role : Role) (values : Values) (log after : Log) (piece : List ℕ)
-    (answer : TakeAnswer) → IsLog role values log → MayTake log piece answer after
-    → TakeTells log after piece answer
-take_tells role values log after piece answer is (has_failed code failed answers same) =
-    rw (answers, same) (failed, refl)
-take_tells role values log after piece answer is (reports_unprocessed up some answers same) =
+pub take_tells : (log after : Log) (piece : List ℕ) (answer : TakeAnswer)
+    → MayTake log piece answer after → TakeTells log after piece answer
+take_tells log after piece answer (has_failed code failed answers same) =
+    rw (answers, same) ([], piece, refl, sym (append-nil log.input), refl, failed)
+take_tells log after piece answer (reports_unprocessed up some answers same) =
     rw (answers, same) (
       [],
       piece,
@@ -219,8 +224,7 @@ take_tells role values log after piece answer is (reports_unprocessed up some an
       unprocessed_reported log,
       reported_failed _ _ ∙ unreturned_failed _ log ∙ up,
     )
-take_tells role values log after piece answer is
-    (ends_no_frame takes unparsed part answers same) =
+take_tells log after piece answer (ends_no_frame takes unparsed part answers same) =
     let after_it = used_input log piece unparsed in
     rw (answers, same) (
       piece,
@@ -231,7 +235,7 @@ take_tells role values log after piece answer is
       after_it.1,
       after_it.2 ∙ takes.up,
     )
-take_tells role values log after piece (Took count event) is
+take_tells log after piece (Took count event)
     (ends_frame takes octets unused joined frame decoded framed sees same answers) = (
       octets,
       unused,
@@ -241,18 +245,35 @@ take_tells role values log after piece (Took count event) is
       answers.2,
       answers.1,
     )
-take_tells role values log after piece (Failed code) is
+take_tells log after piece (Failed code)
     (ends_frame takes octets unused joined frame decoded framed sees same answers) = (
-      answers,
+      octets,
+      unused,
+      joined,
+      ap (λ (log : Log). log.input) same ∙ frame_input log octets decoded frame,
       failed_reported log after code (subst (λ (now : Log). Answers log now) (sym same)
           (frame_answers log octets decoded frame takes.up)) answers,
+      answers,
     )
-take_tells role values log after piece answer is
-    (meets_fault takes octets unused joined fault at answers same) =
-    rw (answers, same) (refl, used_reported log octets (wire_fault_code fault) _)
-take_tells role values log after piece answer is
+take_tells log after piece answer (meets_fault takes octets unused joined fault at answers same) =
+    rw (answers, same) (
+      octets,
+      unused,
+      joined,
+      used_failing log octets (wire_fault_code fault) _,
+      used_reported log octets (wire_fault_code fault) _,
+      refl,
+    )
+take_tells log after piece answer
     (runs_out_of_memory up octets unused joined may answers same) =
-    rw (answers, same) (refl, used_reported log octets InternalError _)
+    rw (answers, same) (
+      octets,
+      unused,
+      joined,
+      used_failing log octets InternalError _,
+      used_reported log octets InternalError _,
+      refl,
+    )
 
 -- Of each frame there is an answer.
 some_by : (log : Log) (octets : List ℕ) (frame : Frame) (decoded : Option Decoded)
@@ -269,10 +290,9 @@ some_by log octets frame decoded takes framed sees (inr (event, up, reported)) =
       (refl, up, reported),
 )
 
-pub some_answer : (role : Role) (values : Values) (log : Log) (octets : List ℕ) (frame : Frame)
-    (decoded : Option Decoded) → IsLog role values log → TakesOctets log
-    → TakesFrame log.role log octets frame → IsDecodedFor log decoded frame
+pub some_answer : (log : Log) (octets : List ℕ) (frame : Frame) (decoded : Option Decoded)
+    → TakesOctets log → TakesFrame log.role log octets frame → IsDecodedFor log decoded frame
     → (answer : TakeAnswer) × MayTake log octets answer (took_frame log octets decoded frame)
-some_answer role values log octets frame decoded is takes framed sees =
+some_answer log octets frame decoded takes framed sees =
     some_by log octets frame decoded takes framed sees
     (frame_answers log octets decoded frame takes.up)

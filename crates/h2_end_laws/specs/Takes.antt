@@ -70,4 +70,6 @@ TakeTells before after piece (Took count event) =
     × (after.input ≡ before.input ++ octets)
     × (after.reported ≡ events_answered event ++ before.reported) × (after.failed ≡ None)
 TakeTells before after piece (Failed code) =
-    (after.failed ≡ Some code) × (after.reported ≡ before.reported)
+    (octets unused : List ℕ) × (piece ≡ octets ++ unused)
+    × (after.input ≡ before.input ++ octets) × (after.reported ≡ before.reported)
+    × (after.failed ≡ Some code)

@@ -18,16 +18,13 @@ pub fn take_answers()
     ensures closed { (role : Role) (values : Values) (log after : Log) (piece : List ℕ)
         (answer : TakeAnswer) → IsLog role values log → MayTake log piece answer after
         → IsLog role values after }
-    ensures tells { (role : Role) (values : Values) (log after : Log) (piece : List ℕ)
-        (answer : TakeAnswer) → IsLog role values log → MayTake log piece answer after
-        → TakeTells log after piece answer }
-    ensures some { (role : Role) (values : Values) (log : Log) (octets : List ℕ) (frame : Frame)
-        (decoded : Option Decoded) → IsLog role values log → TakesOctets log
-        → TakesFrame log.role log octets frame → IsDecodedFor log decoded frame
+    ensures tells { (log after : Log) (piece : List ℕ) (answer : TakeAnswer)
+        → MayTake log piece answer after → TakeTells log after piece answer }
+    ensures some { (log : Log) (octets : List ℕ) (frame : Frame) (decoded : Option Decoded)
+        → TakesOctets log → TakesFrame log.role log octets frame → IsDecodedFor log decoded frame
         → (answer : TakeAnswer)
         × MayTake log octets answer (took_frame log octets decoded frame) }
-    ensures one { (role : Role) (values : Values) (log after other : Log) (piece : List ℕ)
-        (answer answered : TakeAnswer) → IsLog role values log
+    ensures one { (log after other : Log) (piece : List ℕ) (answer answered : TakeAnswer)
         → (a : MayTake log piece answer after) → (b : MayTake log piece answered other)
         → HadMemory a → HadMemory b → (answer ≡ answered) × (after ≡ other) }
 {}

@@ -13,5 +13,4 @@ pub returns-clause-some : goal.returns-clause-some
 returns-clause-some c = some_answer
 
 pub returns-clause-one : goal.returns-clause-one
-returns-clause-one c = λ role values log after other piece answer answered is a b had also.
-    one_take log after other piece answer answered a b had also
+returns-clause-one c = one_take

@@ -1,0 +1,377 @@
+-- What the verdict on an item says of what is reported of it.
+use Rattle.std.proofs.Common.{◌≡◌, ◌≢◌, ℕ, zero, suc, ◌≤◌, ◌<◌, ◌==◌, ◌%◌, nat_le, ◌&&◌}
+use Rattle.std.proofs.Common.{max, Bool, true, false, if◌then◌else◌, List, [], ◌∷◌}
+use Rattle.std.proofs.Common.{Option, Some, None, refl, inl, inr, arith}
+use Rattle.std.specs.List.{list_any}
+use Rattle.std.proofs.lemmas.Bool.{both_ways, or_parts, or_cases, or_left, or_right, and_parts}
+use Rattle.std.proofs.lemmas.Bool.{and_from, eq-eqb, leb-true, leb-false}
+use Rattle.h2_frame.specs.declared.code.Code.{Code}
+use Rattle.h2_frame.specs.declared.code.Code.TheVariants.{ProtocolError, FlowControlError}
+use Rattle.h2_frame.specs.Codes.{code_number}
+use Rattle.h2_frame.specs.Frames.{Data, Headers, Priority, Reset, Settings, Ping, GoAway}
+use Rattle.h2_frame.specs.Frames.{WindowUpdate, Continuation, Unknown}
+use Rattle.h2_frame.specs.Encoding.{stream_of}
+use Rattle.h2_block.specs.Grouping.{Item, alone, block}
+use Rattle.h2_log.specs.declared.role.Role.{Role}
+use Rattle.h2_log.specs.declared.role.Role.TheVariants.{Client, Server}
+use Rattle.h2_log.specs.Items.{opens_from, is_block_on, is_goaway, is_goaway_below, stream_of_item}
+use Rattle.h2_log.specs.Events.{Event}
+use Rattle.h2_log.specs.Events.{processed_by, greatest_processed}
+use Rattle.h2_log.specs.Settings.{is_server}
+use Rattle.h2_log.specs.States.{State, Idle, Active, ClosedByUs, Closed, state_by, is_used}
+use Rattle.h2_log.specs.States.{is_above, is_closed_by_us}
+use Rattle.h2_log.specs.Log.{Log, active, state, settings_wait}
+use Rattle.h2_log.specs.LogView.{log_view}
+use Rattle.h2_log.specs.Verdicts.{Verdict, ConnectionFault, StreamFault, NoEvent, Reported}
+use Rattle.h2_log.specs.Verdicts.{reset_verdict, connection_update_verdict}
+use Rattle.h2_log.specs.Verdicts.{update_verdict, block_verdict, opening_verdict}
+use Rattle.h2_log.specs.ItemRules.{Decoded, peer_opens, verdict_of_fault, verdict_by_rules}
+use Rattle.h2_log.specs.ItemRules.{settings_fault, completes}
+use Rattle.h2_log.specs.ItemEffects.{events_of, least_last}
+use Rattle.h2_log.specs.Histories.{IsDecodedIn}
+use Rattle.h2_log_laws.proofs.ReaderStates.{active_used, opens_here}
+use Rattle.h2_log_laws.proofs.ReplyInvariant.{state_active, used_more}
+use Rattle.h2_end_laws.specs.Readings.{Reading, its_fields, its_octets, its_reset}
+use Rattle.h2_end_laws.specs.Readings.{its_fault, its_goaway, its_acknowledgment, its_pong}
+use Rattle.h2_end_laws.specs.Readings.{MayBeSilent, AreEventsOf}
+use Rattle.h2_end_laws.proofs.ReadVerdicts.{Says, says_data, closed_by_us_is}
+
+-- At a server, a number above all that were used is above all that were processed, and above the
+-- last stream of each own GOAWAY.
+abbrev pub IsLow : Role → List Item → List Item → List Event → Type 0
+IsLow role received sent reported = role ≡ Server → (i : ℕ) → i ≢ 0
+    → list_any (opens_from i) received ≡ false
+    → (greatest_processed reported < i)
+    × (list_any is_goaway sent ≡ true → list_any (is_goaway_below i) sent ≡ true)
+
+-- the same of a log
+abbrev pub LogIsLow : Log → Type 0
+LogIsLow log = IsLow log.role log.received log.sent log.reported
+
+-- A stream at fault is used.
+abbrev pub IsFaulty : Log → Item → Type 0
+IsFaulty log item =
+    is_used log.role (stream_of_item item) (item ∷ log.received) log.sent ≡ true
+
+-- What is reported: fields of a stream that is used; of SETTINGS and PING those that reply.
+abbrev pub IsSaid : Log → Item → Type 0
+IsSaid log (block stream end octets) =
+    is_used log.role stream (block stream end octets ∷ log.received) log.sent ≡ true
+IsSaid log (alone (Settings ack pairs)) = ack ≡ true
+IsSaid log (alone (Ping ack octets)) = ack ≡ true
+IsSaid log (alone frame) = Unit {0}
+
+-- A block decodes.
+abbrev pub IsSeen : Option Decoded → Item → Type 0
+IsSeen None (block stream end octets) = ⊥
+IsSeen decoded item = Unit {0}
+
+-- An idle stream isn't used.
+idle_unused : (used active closed_by_us : Bool) → state_by used active closed_by_us ≡ Idle → used
+    ≡ false
+idle_unused false active closed_by_us idle = refl
+idle_unused true true closed_by_us idle = absurd (cc)
+idle_unused true false true idle = absurd (cc)
+idle_unused true false false idle = absurd (cc)
+
+-- one of two tests fails where the other holds
+other_false : (a b : Bool) → (a && b) ≡ false → a ≡ true → b ≡ false
+other_false true b both is = both
+other_false false b both is = absurd (both_ways false refl is)
+
+-- A stream that is active is used after an item.
+active_faults : (log : Log) (item : Item) (i : ℕ) → active log i ≡ true
+    → is_used log.role i (item ∷ log.received) log.sent ≡ true
+active_faults log item i alive =
+    used_more log.role i (item ∷ []) [] log.received log.sent
+    (active_used log.role i log.received log.sent log.reported alive)
+
+-- An idle stream that the peer may open is used after a block on it.
+idle_faults : (role : Role) (i : ℕ) (end : Bool) (octets : List ℕ) (received sent : List Item)
+    → (is_server role && i % 2 == 1) ≡ true
+    → is_used role i (block i end octets ∷ received) sent ≡ true
+unfolding is_used is_block_on
+idle_faults Client i end octets received sent opens = absurd (both_ways false refl opens)
+idle_faults Server i end octets received sent opens =
+    and_from _ _ opens (opens_here i (block i end octets ∷ received) opens (or_left (i == i) _
+    (eq-eqb i i refl)))
+
+-- an odd number isn't nothing
+odd_some : (i : ℕ) → i % 2 == 1 ≡ true → i ≢ 0
+odd_some zero odd = λ none. both_ways false refl odd
+odd_some (suc i) odd = λ none. omega arith
+
+-- After an own GOAWAY an idle stream that the peer may open is above its last stream.
+idle_left : (role : Role) (i : ℕ) (received sent : List Item) (reported : List Event)
+    → IsLow role received sent reported → is_used role i received sent ≡ false
+    → (is_server role && i % 2 == 1) ≡ true → list_any is_goaway sent ≡ true
+    → is_closed_by_us role i sent ≡ true
+unfolding is_used is_closed_by_us is_above
+idle_left Client i received sent reported low unused opens left =
+    absurd (both_ways false refl opens)
+idle_left Server i received sent reported low unused opens left =
+    or_right _ _ ((low refl i (odd_some i opens) (other_false (i % 2 == 1) _ unused opens)).1 left)
+
+-- A block that opens is checked so, by whether GOAWAY was written.
+says_opening : (F S T : Type 0) (left full large : Bool) → F → (left ≡ true → S) → T
+    → Says F S T (opening_verdict left full large)
+unfolding opening_verdict
+says_opening F S T true full large f s t = s refl
+says_opening F S T false true large f s t = f
+says_opening F S T false false true f s t = f
+says_opening F S T false false false f s t = t
+
+-- A block is checked so.
+says_block : (F S T : Type 0) (state : State) (opens left full ended large : Bool)
+    → (state ≡ Active → F) → (state ≡ Idle → opens ≡ true → F) → (state ≡ ClosedByUs → S)
+    → (state ≡ Idle → opens ≡ true → left ≡ true → S) → (F → T)
+    → Says F S T (block_verdict state opens left full ended large)
+unfolding block_verdict
+says_block F S T Idle true left full ended large a o c l t =
+    says_opening F S T left full large (o refl refl) (l refl refl) (t (o refl refl))
+says_block F S T Idle false left full ended large a o c l t = tt
+says_block F S T Closed opens left full ended large a o c l t = tt
+says_block F S T ClosedByUs opens left full ended large a o c l t = c refl
+says_block F S T Active opens left full true large a o c l t = a refl
+says_block F S T Active opens left full false true a o c l t = a refl
+says_block F S T Active opens left full false false a o c l t = t (a refl)
+
+-- RST_STREAM is checked so.
+says_reset : (F : Type 0) (state : State) → Says F (Unit {0}) (Unit {0}) (reset_verdict state)
+unfolding reset_verdict
+says_reset F Idle = tt
+says_reset F Active = tt
+says_reset F ClosedByUs = tt
+says_reset F Closed = tt
+
+-- SETTINGS are checked so.
+says_settings : (F T : Type 0) (fault : Option Code)
+    → Says F (Unit {0}) T (verdict_of_fault fault)
+says_settings F T None = tt
+says_settings F T (Some code) = tt
+
+-- A reply is checked so.
+says_reply : (F T : Type 0) (b : Bool) → T
+    → Says F (Unit {0}) T (if b then Reported else NoEvent)
+says_reply F T true t = t
+says_reply F T false t = tt
+
+-- WINDOW_UPDATE of the connection is checked so, by its tests.
+says_connection : (F : Type 0) (none above : Bool)
+    → Says F (Unit {0}) (Unit {0}) (if none then ConnectionFault ProtocolError
+    else if above then ConnectionFault FlowControlError else NoEvent)
+says_connection F true above = tt
+says_connection F false true = tt
+says_connection F false false = tt
+
+-- WINDOW_UPDATE of a stream is checked so, by its tests.
+says_update_by : (F : Type 0) (none above : Bool) → F
+    → Says F (Unit {0}) (Unit {0}) (if none then StreamFault ProtocolError
+    else if above then StreamFault FlowControlError else NoEvent)
+says_update_by F true above f = f
+says_update_by F false true f = f
+says_update_by F false false f = tt
+
+says_update : (F : Type 0) (state : State) (increment : ℕ) (above : Bool) → (state ≡ Active → F)
+    → Says F (Unit {0}) (Unit {0}) (update_verdict state increment above)
+unfolding update_verdict
+says_update F Idle increment above f = tt
+says_update F ClosedByUs increment above f = tt
+says_update F Closed increment above f = tt
+says_update F Active increment above f = says_update_by F (increment == 0) above (f refl)
+
+says_updates : (F : Type 0) (b : Bool) (state : State) (increment : ℕ) (one other : Bool)
+    → (state ≡ Active → F)
+    → Says F (Unit {0}) (Unit {0}) (if b then connection_update_verdict increment one
+    else update_verdict state increment other)
+unfolding connection_update_verdict
+says_updates F true state increment one other f = says_connection F (increment == 0) one
+says_updates F false state increment one other f = says_update F state increment other f
+
+-- Each item is checked so, by the rules.
+pub rules_say : (log : Log) (decoded : Option Decoded) (item : Item) → LogIsLow log
+    → Says (IsFaulty log item) (MayBeSilent log.role log.sent item) (IsSaid log item)
+    (verdict_by_rules (log_view log) decoded item)
+unfolding verdict_by_rules stream_of_item stream_of
+rules_say log None (block stream end octets) low = tt
+rules_say log (Some decoded) (block stream end octets) low =
+    says_block (IsFaulty log (block stream end octets))
+    (MayBeSilent log.role log.sent (block stream end octets))
+    (IsSaid log (block stream end octets)) (state log stream) (peer_opens (log_view log) stream)
+    _ _ _ _
+    (λ is. active_faults log (block stream end octets) stream (state_active _ _ _ is))
+    (λ idle opens. idle_faults log.role stream end octets log.received log.sent opens)
+    (λ is. closed_by_us_is _ _ _ is)
+    (λ idle opens left. idle_left log.role stream log.received log.sent log.reported low
+    (idle_unused _ _ _ idle) opens left)
+    (λ used. used)
+rules_say log decoded (alone (Data stream end octets pad)) low =
+    says_data (IsFaulty log (alone (Data stream end octets pad)))
+    (is_closed_by_us log.role stream log.sent ≡ true) (Unit {0}) (state log stream) _ _ _
+    (λ is. active_faults log (alone (Data stream end octets pad)) stream (state_active _ _ _ is))
+    (λ is. closed_by_us_is _ _ _ is) (λ is. tt)
+rules_say log decoded (alone (Headers stream end last fragment pad priority)) low = tt
+rules_say log decoded (alone (Priority stream octets)) low = tt
+rules_say log decoded (alone (Reset stream code)) low =
+    says_reset (IsFaulty log (alone (Reset stream code))) (state log stream)
+rules_say log decoded (alone (Settings false pairs)) low =
+    says_settings (IsFaulty log (alone (Settings false pairs))) (false ≡ true)
+    (settings_fault (log_view log) pairs)
+rules_say log decoded (alone (Settings true pairs)) low =
+    says_reply (IsFaulty log (alone (Settings true pairs))) (true ≡ true) (settings_wait log) refl
+rules_say log decoded (alone (Ping false octets)) low = tt
+rules_say log decoded (alone (Ping true octets)) low =
+    says_reply (IsFaulty log (alone (Ping true octets))) (true ≡ true) _ refl
+rules_say log decoded (alone (GoAway last code debug)) low = tt
+rules_say log decoded (alone (WindowUpdate stream increment)) low =
+    says_updates (IsFaulty log (alone (WindowUpdate stream increment))) (stream == 0)
+    (state log stream) increment _ _
+    (λ is. active_faults log (alone (WindowUpdate stream increment)) stream
+    (state_active _ _ _ is))
+rules_say log decoded (alone (Continuation stream last fragment)) low = tt
+rules_say log decoded (alone (Unknown kind flags stream payload)) low = tt
+
+-- One fact, whatever the verdict.
+pub says_always : (T : Type 0) (verdict : Verdict) → T → Says T T T verdict
+says_always T (ConnectionFault code) t = tt
+says_always T (StreamFault code) t = t
+says_always T NoEvent t = t
+says_always T Reported t = t
+
+-- A block that doesn't decode is a fault of the connection.
+pub rules_see : (log : Log) (decoded : Option Decoded) (item : Item)
+    → Says (IsSeen decoded item) (IsSeen decoded item) (IsSeen decoded item)
+    (verdict_by_rules (log_view log) decoded item)
+unfolding verdict_by_rules
+rules_see log None (block stream end octets) = tt
+rules_see log (Some decoded) (block stream end octets) = says_always (Unit {0}) _ tt
+rules_see log None (alone frame) = says_always (Unit {0}) _ tt
+rules_see log (Some decoded) (alone frame) = says_always (Unit {0}) _ tt
+
+-- what is read of an item, by its verdict
+abbrev pub reading_of : Log → Option Decoded → Item → Verdict → Reading
+reading_of log decoded item verdict =
+    record {
+      item = item;
+      sent = log.sent;
+      reported = log.reported;
+      decoded = decoded;
+      events = events_of (log_view log) decoded verdict item;
+    }
+
+-- A used number isn't nothing.
+pub used_some : (role : Role) (i : ℕ) (received sent : List Item)
+    → is_used role i received sent ≡ true → i ≢ 0
+unfolding is_used
+used_some role i received sent used = odd_some i (and_parts _ _ used).0
+
+-- the least of a last stream and another is no greater
+least_less : (last : ℕ) (before : Option ℕ) → least_last last before ≤ last
+least_less last None = omega arith
+least_less last (Some before) = omega arith
+
+-- What is reported is what the item says.
+pub events_said : (log : Log) (decoded : Option Decoded) (item : Item) (verdict : Verdict)
+    → ((code : Code) → verdict ≡ ConnectionFault code → ⊥)
+    → IsDecodedIn log decoded (completes item) → IsSeen decoded item
+    → Says (IsFaulty log item) (MayBeSilent log.role log.sent item) (IsSaid log item) verdict
+    → AreEventsOf log.role (reading_of log decoded item verdict) (events_of
+    (log_view log) decoded verdict item)
+unfolding events_of
+events_said log decoded item (ConnectionFault code) none sees seen says = absurd (none code refl)
+events_said log decoded item (StreamFault code) none sees seen says =
+    its_fault item decoded (code_number code) (used_some log.role (stream_of_item item)
+    (item ∷ log.received) log.sent says)
+events_said log decoded item NoEvent none sees seen says = says
+events_said log None (block stream end octets) Reported none sees seen says = absurd seen
+events_said log (Some decoded) (block stream end octets) Reported none sees seen says =
+    its_fields stream end octets decoded
+events_said log decoded (alone (Data stream end octets pad)) Reported none sees seen says =
+    rw sees (its_octets stream end octets pad)
+events_said log decoded (alone (Headers stream end last fragment pad priority)) Reported none sees
+    seen says = tt
+events_said log decoded (alone (Priority stream octets)) Reported none sees seen says = tt
+events_said log decoded (alone (Reset stream code)) Reported none sees seen says =
+    rw sees (its_reset stream code)
+events_said log decoded (alone (Settings ack pairs)) Reported none sees seen says =
+    rw (sees, says) (its_acknowledgment pairs)
+events_said log decoded (alone (Ping ack octets)) Reported none sees seen says =
+    rw (sees, says) (its_pong octets)
+events_said log decoded (alone (GoAway last code debug)) Reported none sees seen says =
+    rw sees (its_goaway last code _ debug (least_less last (log_view log).goaway_received))
+events_said log decoded (alone (WindowUpdate stream increment)) Reported none sees seen says = tt
+events_said log decoded (alone (Continuation stream last fragment)) Reported none sees seen says =
+    tt
+events_said log decoded (alone (Unknown kind flags stream payload)) Reported none sees seen says =
+    tt
+
+-- Numbers from which a block opens are below those from which none does.
+pub opens_less : (a b : ℕ) (items : List Item) → list_any (opens_from a) items ≡ true
+    → list_any (opens_from b) items ≡ false → a < b
+unfolding opens_from
+opens_less a b [] some none = absurd (both_ways false refl some)
+opens_less a b (alone frame ∷ items) some none = opens_less a b items some none
+opens_less a b (block stream end octets ∷ items) some none =
+    let parts = or_parts (stream % 2 == 1 && nat_le b stream) (list_any (opens_from b) items)
+    none in
+    elim (or_cases (stream % 2 == 1 && nat_le a stream) (list_any (opens_from a) items) some) [
+      | inl here ↦
+          let both = and_parts (stream % 2 == 1) (nat_le a stream) here in
+          omega (
+            arith,
+            leb-true a stream both.1,
+            leb-false b stream (other_false (stream % 2 == 1) (nat_le b stream) parts.0 both.0),
+          )
+      | inr after ↦ opens_less a b items after parts.1
+    ]
+
+-- what is used at a server is below what isn't
+used_less : (a b : ℕ) (received sent : List Item) → is_used Server a received sent ≡ true
+    → list_any (opens_from b) received ≡ false → a < b
+unfolding is_used
+used_less a b received sent used none = opens_less a b received (and_parts _ _ used).1 none
+
+-- the number that a reset's event names, or nothing
+named_by : (b : Bool) (n i : ℕ) → n < i → max (if b then n else 0) 0 < i
+named_by true n i less = omega arith
+named_by false n i less = omega arith
+
+-- something is above nothing
+some_above : (i : ℕ) → i ≢ 0 → 0 < i
+some_above zero some = absurd (some refl)
+some_above (suc i) some = omega arith
+
+-- What is processed of an item is used after it.
+pub processed_low : (log : Log) (decoded : Option Decoded) (item : Item) (verdict : Verdict)
+    (i : ℕ) → log.role ≡ Server → i ≢ 0 → list_any (opens_from i) (item ∷ log.received) ≡ false
+    → Says (IsFaulty log item) (MayBeSilent log.role log.sent item) (IsSaid log item) verdict
+    → greatest_processed (events_of (log_view log) decoded verdict item) < i
+unfolding events_of greatest_processed processed_by
+processed_low log decoded item (ConnectionFault code) i server some none says = some_above i some
+processed_low log decoded item (StreamFault code) i server some none says =
+    named_by (code_number code == 11) (stream_of_item item) i
+    (used_less (stream_of_item item) i (item ∷ log.received) log.sent (rw server at says) none)
+processed_low log decoded item NoEvent i server some none says = some_above i some
+processed_low log decoded (block stream end octets) Reported i server some none says =
+    named_by true stream i (used_less stream i (block stream end octets ∷ log.received) log.sent
+    (rw server at says) none)
+processed_low log decoded (alone (Data stream end octets pad)) Reported i server some none says =
+    some_above i some
+processed_low log decoded (alone (Headers stream end last fragment pad priority)) Reported i server
+    some none says = some_above i some
+processed_low log decoded (alone (Priority stream octets)) Reported i server some none says =
+    some_above i some
+processed_low log decoded (alone (Reset stream code)) Reported i server some none says =
+    some_above i some
+processed_low log decoded (alone (Settings ack pairs)) Reported i server some none says =
+    some_above i some
+processed_low log decoded (alone (Ping ack octets)) Reported i server some none says =
+    some_above i some
+processed_low log decoded (alone (GoAway last code debug)) Reported i server some none says =
+    some_above i some
+processed_low log decoded (alone (WindowUpdate stream increment)) Reported i server some none says =
+    some_above i some
+processed_low log decoded (alone (Continuation stream last fragment)) Reported i server some none
+    says = some_above i some
+processed_low log decoded (alone (Unknown kind flags stream payload)) Reported i server some none
+    says = some_above i some

@@ -1,0 +1,344 @@
+-- What every log has read, and what was reported of it.
+use Rattle.std.proofs.Common.{◌≡◌, ℕ, ◌+◌, ◌<◌, nat_lt, ◌&&◌}
+use Rattle.std.proofs.Common.{Bool, true, false, if◌then◌else◌, List, [], ◌∷◌, ◌++◌}
+use Rattle.std.proofs.Common.{Option, Some, None, refl, sym, ap, ◌∙◌, inl, inr, arith}
+use Rattle.std.proofs.Common.{append_assoc}
+use Rattle.std.specs.List.{list_any}
+use Rattle.std.proofs.lemmas.Bool.{both_ways, or_parts, or_left, lt-ltb}
+use Rattle.hpack.specs.Tables.{Entries}
+use Rattle.h2_frame.specs.declared.code.Code.{Code}
+use Rattle.h2_frame.specs.Codes.{code_number}
+use Rattle.h2_frame.specs.Frames.{Frame, Data, Headers, Priority, Reset, Settings, Ping, GoAway}
+use Rattle.h2_frame.specs.Frames.{WindowUpdate, Continuation, Unknown}
+use Rattle.h2_block.specs.Grouping.{Item, alone, block}
+use Rattle.h2_log.specs.declared.role.Role.{Role}
+use Rattle.h2_log.specs.declared.role.Role.TheVariants.{Server}
+use Rattle.h2_log.specs.Items.{opens_from, is_goaway, is_goaway_below}
+use Rattle.h2_log.specs.Events.{Event, UnprocessedEvent, processed_by, greatest_processed}
+use Rattle.h2_log.specs.Log.{Log, waiting, last_processed}
+use Rattle.h2_log.specs.LogView.{log_view}
+use Rattle.h2_log.specs.Verdicts.{Verdict, ConnectionFault, StreamFault, NoEvent, Reported}
+use Rattle.h2_log.specs.ItemRules.{Decoded, replies_to, FrameStep, fails_with, begins_block}
+use Rattle.h2_log.specs.ItemRules.{completes, frame_step}
+use Rattle.h2_log.specs.ItemEffects.{events_of, table_after}
+use Rattle.h2_log.specs.Limits.{full_output}
+use Rattle.h2_log.specs.LogSteps.{read, with_sent, with_reported, with_unreturned, with_failure}
+use Rattle.h2_log.specs.LogSteps.{with_credit_returned, with_verdict, with_step, with_frame}
+use Rattle.h2_log.specs.Histories.{IsDecodedIn}
+use Rattle.h2_log_laws.proofs.ItemLists.{any_after}
+use Rattle.h2_log_laws.proofs.LogHistory.{any_either}
+use Rattle.h2_end_laws.specs.Readings.{Reading, IsEventOf, its_fields, its_octets, its_reset}
+use Rattle.h2_end_laws.specs.Readings.{its_fault, its_goaway, its_acknowledgment, its_pong}
+use Rattle.h2_end_laws.specs.Readings.{AreEventsOf, DecodesTo, AreDecoded, items_read, events_read}
+use Rattle.h2_end_laws.specs.Readings.{MayBeSilent, events_of_items, AreReadings}
+use Rattle.h2_end_laws.proofs.ReadVerdicts.{Says, says_of}
+use Rattle.h2_end_laws.proofs.ReadingRules.{IsLow, IsFaulty, IsSaid, IsSeen, rules_say}
+use Rattle.h2_end_laws.proofs.ReadingRules.{rules_see, reading_of, events_said, processed_low}
+
+-- What HasReadings says, by the parts of a log; and, as long as the connection hasn't failed, that
+-- at a server unused numbers are above those processed.
+pub record AreRead (role : Role) (received sent : List Item) (reported : List Event)
+    (table : Entries) (failed : Option Code) : Type 0 where
+  pub readings : List Reading
+  pub items : items_read readings ≡ received
+  pub events : events_read readings ≡ events_of_items reported
+  pub each : AreReadings role sent reported readings
+  pub decoded_in : AreDecoded readings table
+  pub low : failed ≡ None → IsLow role received sent reported
+
+-- The same of a log of which these events are still to be reported.
+abbrev pub PendingRead : List Event → Log → Type 0
+PendingRead events log =
+    AreRead log.role log.received log.sent (events ++ log.reported) log.table log.failed
+
+-- The same of a log.
+abbrev pub LogIsRead : Log → Type 0
+LogIsRead log = PendingRead [] log
+
+-- Readings still stand where more was written and reported.
+readings_more : (role : Role) (items sent : List Item) (events reported : List Event)
+    (readings : List Reading) → AreReadings role sent reported readings
+    → AreReadings role (items ++ sent) (events ++ reported) readings
+readings_more role items sent events reported [] are = tt
+readings_more role items sent events reported (reading ∷ readings) are = (
+  items ++ are.0,
+  events ++ are.1,
+  ap (λ (line : List Item). items ++ line) are.2 ∙ sym (append_assoc items are.0 reading.sent),
+  ap (λ (line : List Event). events ++ line) are.3
+      ∙ sym (append_assoc events are.1 reading.reported),
+  are.4,
+  are.5,
+)
+
+-- Items that are written keep this, if no GOAWAY is among them.
+wrote : (role : Role) (received items sent : List Item) (reported : List Event) (table : Entries)
+    (failed : Option Code) → list_any is_goaway items ≡ false
+    → AreRead role received sent reported table failed
+    → AreRead role received (items ++ sent) reported table failed
+wrote role received items sent reported table failed none are =
+    record {
+      readings = are.readings;
+      items = are.items;
+      events = are.events;
+      each = readings_more role items sent [] reported are.readings are.each;
+      decoded_in = are.decoded_in;
+      low = λ up server i some unused.
+          let old = are.low up server i some unused in (
+            old.0,
+            λ left. elim (any_either is_goaway items sent left) [
+              | inl here ↦ absurd (both_ways _ none here)
+              | inr before ↦ any_after (is_goaway_below i) items sent (old.1 before)
+            ],
+          );
+    }
+
+-- The GOAWAY of a failure keeps it.
+wrote_failure : (role : Role) (received items sent : List Item) (reported : List Event)
+    (table : Entries) (failed : Option Code) (code : Code)
+    → AreRead role received sent reported table failed
+    → AreRead role received (items ++ sent) reported table (Some code)
+wrote_failure role received items sent reported table failed code are =
+    record {
+      readings = are.readings;
+      items = are.items;
+      events = are.events;
+      each = readings_more role items sent [] reported are.readings are.each;
+      decoded_in = are.decoded_in;
+      low = λ up. absurd (cc);
+    }
+
+-- GOAWAY's last stream is below what is above it.
+goaway_here : (i last code : ℕ) (sent : List Item) → last < i
+    → list_any (is_goaway_below i) (alone (GoAway last code []) ∷ sent) ≡ true
+unfolding is_goaway_below
+goaway_here i last code sent below = or_left _ _ (lt-ltb last i below)
+
+-- So does a GOAWAY with the greatest stream that was processed.
+pub wrote_goaway : (role : Role) (received sent : List Item) (reported : List Event)
+    (table : Entries) (failed : Option Code) (last : ℕ) → (role ≡ Server → last
+    ≡ greatest_processed reported)
+    → AreRead role received sent reported table failed
+    → AreRead role received (alone (GoAway last 0 []) ∷ sent) reported table failed
+wrote_goaway role received sent reported table failed last is are =
+    record {
+      readings = are.readings;
+      items = are.items;
+      events = are.events;
+      each = readings_more role (alone (GoAway last 0 []) ∷ []) sent [] reported are.readings
+          are.each;
+      decoded_in = are.decoded_in;
+      low = λ up server i some unused.
+          let old = are.low up server i some unused in
+          (old.0, λ left. goaway_here i last 0 sent (omega (arith, old.0, is server)));
+    }
+
+-- A stream that is reported as unprocessed keeps it.
+pub named : (role : Role) (received sent : List Item) (reported : List Event) (table : Entries)
+    (failed : Option Code) (id : ℕ) → AreRead role received sent reported table failed
+    → AreRead role received sent (UnprocessedEvent id ∷ reported) table failed
+unfolding events_of_items greatest_processed processed_by
+named role received sent reported table failed id are =
+    record {
+      readings = are.readings;
+      items = are.items;
+      events = are.events;
+      each = readings_more role [] sent (UnprocessedEvent id ∷ []) reported are.readings are.each;
+      decoded_in = are.decoded_in;
+      low = λ up server i some unused.
+          let old = are.low up server i some unused in (omega (arith, old.0), old.1);
+    }
+
+-- An event of an item is none of those that follow a GOAWAY.
+event_stays : (item : Item) (decoded : Option Decoded) (event : Event) (reported : List Event)
+    → IsEventOf item decoded event
+    → events_of_items (event ∷ reported) ≡ event ∷ events_of_items reported
+unfolding events_of_items
+event_stays _ _ _ reported (its_fields stream end octets decoded) = refl
+event_stays _ _ _ reported (its_octets stream end octets pad) = refl
+event_stays _ _ _ reported (its_reset stream code) = refl
+event_stays _ _ _ reported (its_fault item decoded code some) = refl
+event_stays _ _ _ reported (its_goaway last code least debug less) = refl
+event_stays _ _ _ reported (its_acknowledgment pairs) = refl
+event_stays _ _ _ reported (its_pong octets) = refl
+
+events_stay : (role : Role) (reading : Reading) (events reported : List Event)
+    → AreEventsOf role reading events
+    → events_of_items (events ++ reported) ≡ events ++ events_of_items reported
+events_stay role reading [] reported are = refl
+events_stay role reading (event ∷ []) reported are =
+    event_stays reading.item reading.decoded event reported are
+events_stay role reading (event ∷ (other ∷ events)) reported are = absurd are
+
+-- The greatest number of two lists of events.
+pub processed_append : (events reported : List Event) (i : ℕ) → greatest_processed events < i
+    → greatest_processed reported < i → greatest_processed (events ++ reported) < i
+unfolding greatest_processed
+processed_append [] reported i low below = below
+processed_append (event ∷ events) reported i low below =
+    omega (arith, processed_append events reported i (omega (arith, low)) below, low)
+
+-- What a block decodes to, and the table after it.
+decodes : (log : Log) (decoded : Option Decoded) (item : Item) (verdict : Verdict)
+    → IsDecodedIn log decoded (completes item) → IsSeen decoded item
+    → DecodesTo log.table item (reading_of log decoded item verdict)
+    (table_after log.table decoded item)
+decodes log decoded (alone frame) verdict sees seen = (sees, refl)
+decodes log None (block stream end octets) verdict sees seen = absurd seen
+decodes log (Some decoded) (block stream end octets) verdict sees seen = (decoded, refl, sees, refl)
+
+-- the items and events of one reading more
+items_next : (reading : Reading) (readings : List Reading)
+    → items_read (reading ∷ readings) ≡ reading.item ∷ items_read readings
+unfolding items_read
+items_next reading readings = refl
+
+events_next : (reading : Reading) (readings : List Reading)
+    → events_read (reading ∷ readings) ≡ reading.events ++ events_read readings
+unfolding events_read
+events_next reading readings = refl
+
+-- An item that is read keeps it, by its verdict.
+item_read : (log : Log) (decoded : Option Decoded) (item : Item) (verdict : Verdict)
+    → ((code : Code) → verdict ≡ ConnectionFault code → ⊥)
+    → IsDecodedIn log decoded (completes item)
+    → Says (IsSeen decoded item) (IsSeen decoded item) (IsSeen decoded item) verdict
+    → Says (IsFaulty log item) (MayBeSilent log.role log.sent item) (IsSaid log item) verdict
+    → LogIsRead log
+    → PendingRead (events_of (log_view log) decoded verdict item) (read log decoded item)
+item_read log decoded item verdict none sees seen says are =
+    let is_seen = seen_by decoded item verdict none seen in
+    let said = events_said log decoded item verdict none sees is_seen says in
+    let reading = reading_of log decoded item verdict in
+    record {
+      readings = reading ∷ are.readings;
+      items = items_next reading are.readings
+          ∙ ap (λ (line : List Item). item ∷ line) are.items;
+      events = events_next reading are.readings
+          ∙ ap (λ (line : List Event). reading.events ++ line) are.events
+          ∙ sym (events_stay log.role reading reading.events log.reported said);
+      each = ([], reading.events, refl, refl, said, are.each);
+      decoded_in = (log.table, are.decoded_in, decodes log decoded item verdict sees is_seen);
+      low = λ up server i some unused.
+          let before = or_parts (opens_from i item) (list_any (opens_from i) log.received) unused in
+          let old = are.low up server i some before.1 in (
+            processed_append reading.events log.reported i
+                (processed_low log decoded item verdict i server some unused says) old.0,
+            old.1,
+          );
+    }
+  where
+    seen_by : (decoded : Option Decoded) (item : Item) (verdict : Verdict)
+        → ((code : Code) → verdict ≡ ConnectionFault code → ⊥)
+        → Says (IsSeen decoded item) (IsSeen decoded item) (IsSeen decoded item) verdict
+        → IsSeen decoded item
+    seen_by decoded item (ConnectionFault code) none seen = absurd (none code refl)
+    seen_by decoded item (StreamFault code) none seen = seen
+    seen_by decoded item NoEvent none seen = seen
+    seen_by decoded item Reported none seen = seen
+
+-- Items that are written.
+pub wrote_keeps : (events : List Event) (log : Log) (items : List Item)
+    → list_any is_goaway items ≡ false → PendingRead events log
+    → PendingRead events (with_sent log items)
+unfolding with_sent
+wrote_keeps events log [] none are = are
+wrote_keeps events log (item ∷ items) none are =
+    wrote log.role log.received (item ∷ items) log.sent (events ++ log.reported) log.table
+    log.failed none are
+
+-- Events that are reported.
+pub reports_keep : (log : Log) (events : List Event) → PendingRead events log
+    → LogIsRead (with_reported log events)
+unfolding with_reported
+reports_keep log [] are = are
+reports_keep log (event ∷ events) are = are
+
+-- An update is no GOAWAY.
+pub update_stays : (i count : ℕ) → list_any is_goaway (alone (WindowUpdate i count) ∷ []) ≡ false
+unfolding is_goaway
+update_stays i count = refl
+
+-- What is unreturned.
+unreturned_by : (events : List Event) (more : ℕ) (log : Log) (b : Bool) → PendingRead events log
+    → PendingRead events (if b then with_credit_returned
+    (record log { unreturned = log.unreturned + more })
+    else record log { unreturned = log.unreturned + more })
+unreturned_by events more log true are =
+    wrote_keeps events (record log { unreturned = 0 }) _ (update_stays 0 _) are
+unreturned_by events more log false are = are
+
+pub unreturned_keeps : (events : List Event) (more : ℕ) (log : Log) → PendingRead events log
+    → PendingRead events (with_unreturned more log)
+unfolding with_unreturned
+unreturned_keeps events more log are =
+    unreturned_by events more log (nat_lt 0 more && nat_lt (waiting log) full_output) are
+
+-- A failure.
+pub failure_keeps : (code : Code) (last : ℕ) (log : Log) → LogIsRead log
+    → LogIsRead (with_failure code last log)
+unfolding with_sent
+failure_keeps code last log are =
+    wrote_failure log.role log.received (alone (GoAway last (code_number code) []) ∷ []) log.sent
+    log.reported log.table log.failed code are
+
+-- Replies are no GOAWAY.
+replies_stay : (verdict : Verdict) (item : Item)
+    → list_any is_goaway (replies_to verdict item) ≡ false
+unfolding replies_to is_goaway
+replies_stay (ConnectionFault code) item = refl
+replies_stay (StreamFault code) item = refl
+replies_stay Reported item = refl
+replies_stay NoEvent (block stream end octets) = refl
+replies_stay NoEvent (alone (Data stream end octets pad)) = refl
+replies_stay NoEvent (alone (Headers stream end last fragment pad priority)) = refl
+replies_stay NoEvent (alone (Priority stream octets)) = refl
+replies_stay NoEvent (alone (Reset stream code)) = refl
+replies_stay NoEvent (alone (Settings true pairs)) = refl
+replies_stay NoEvent (alone (Settings false pairs)) = refl
+replies_stay NoEvent (alone (Ping true octets)) = refl
+replies_stay NoEvent (alone (Ping false octets)) = refl
+replies_stay NoEvent (alone (GoAway last code debug)) = refl
+replies_stay NoEvent (alone (WindowUpdate stream increment)) = refl
+replies_stay NoEvent (alone (Continuation stream last fragment)) = refl
+replies_stay NoEvent (alone (Unknown kind flags stream payload)) = refl
+
+-- An item, by its verdict.
+verdict_keeps : (log : Log) (decoded : Option Decoded) (item : Item) (verdict : Verdict)
+    → IsDecodedIn log decoded (completes item)
+    → Says (IsSeen decoded item) (IsSeen decoded item) (IsSeen decoded item) verdict
+    → Says (IsFaulty log item) (MayBeSilent log.role log.sent item) (IsSaid log item) verdict
+    → LogIsRead log → LogIsRead (with_verdict log decoded item verdict)
+unfolding with_verdict
+verdict_keeps log decoded item (ConnectionFault code) sees seen says are =
+    failure_keeps code _ log are
+verdict_keeps log decoded item (StreamFault code) sees seen says are =
+    reports_keep _ _ (unreturned_keeps _ _ _ (wrote_keeps _ _ _ (replies_stay (StreamFault code)
+    item) (item_read log decoded item (StreamFault code) (λ other is. cc) sees seen says are)))
+verdict_keeps log decoded item NoEvent sees seen says are =
+    reports_keep _ _ (unreturned_keeps _ _ _ (wrote_keeps _ _ _ (replies_stay NoEvent item)
+    (item_read log decoded item NoEvent (λ other is. cc) sees seen says are)))
+verdict_keeps log decoded item Reported sees seen says are =
+    reports_keep _ _ (unreturned_keeps _ _ _ (wrote_keeps _ _ _ (replies_stay Reported item)
+    (item_read log decoded item Reported (λ other is. cc) sees seen says are)))
+
+-- What a frame makes of the block that has begun.
+step_keeps : (log : Log) (decoded : Option Decoded) (step : FrameStep) → log.failed ≡ None
+    → IsDecodedIn log decoded step → LogIsRead log → LogIsRead (with_step log decoded step)
+unfolding with_step
+step_keeps log decoded (fails_with code) up sees are =
+    failure_keeps code (last_processed log) log are
+step_keeps log decoded (begins_block begun) up sees are = are
+step_keeps log decoded (completes item) up sees are =
+    let here = record log { begun = None } in
+    verdict_keeps here decoded item _ sees
+    (says_of _ _ _ here decoded item (rules_see here decoded item))
+    (says_of _ _ _ here decoded item (rules_say here decoded item (are.low up))) are
+
+-- A frame.
+pub frame_keeps : (log : Log) (decoded : Option Decoded) (frame : Frame) → log.failed ≡ None
+    → IsDecodedIn log decoded (frame_step (log_view log) frame) → LogIsRead log
+    → LogIsRead (with_frame log decoded frame)
+unfolding with_frame
+frame_keeps log decoded frame up sees are =
+    step_keeps (record log { frames = log.frames ++ frame ∷ [] }) decoded
+    (frame_step (log_view log) frame) up sees are

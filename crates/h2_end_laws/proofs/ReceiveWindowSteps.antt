@@ -1,0 +1,315 @@
+-- What keeps a stream's receive window, and what is owed of it, in step: items that are read, and
+-- calls.
+use Rattle.std.proofs.Common.{◌≡◌, ◌≢◌, ℕ, Bool, true, false}
+use Rattle.std.proofs.Common.{List, [], ◌∷◌, ◌++◌, length, Option, None}
+use Rattle.std.proofs.Common.{refl, ◌∙◌, inl, inr, arith}
+use Rattle.std.proofs.lemmas.Bool.{both_ways, or_left, eq-eqb}
+use Rattle.std.proofs.lemmas.Bool.{ne_eqb, cases_eq}
+use Rattle.h2_frame.specs.declared.code.Code.{Code}
+use Rattle.h2_frame.specs.Codes.{code_number}
+use Rattle.h2_frame.specs.Frames.{Frame, Data, Headers, Priority, Reset, Settings, Ping, GoAway}
+use Rattle.h2_frame.specs.Frames.{WindowUpdate, Continuation, Unknown}
+use Rattle.h2_frame.specs.Encoding.{payload_of, stream_of}
+use Rattle.h2_block.specs.Grouping.{Item, alone, block}
+use Rattle.h2_log.specs.declared.role.Role.{Role}
+use Rattle.h2_log.specs.Items.{total, increment_on, data_on, resets}
+use Rattle.h2_log.specs.Items.{stream_of_item}
+use Rattle.h2_log.specs.Events.{Event, DataEvent, ResetEvent, flow_on, reported_total}
+use Rattle.h2_log.specs.States.{is_closed_by_us}
+use Rattle.h2_log.specs.Log.{Log, active, state}
+use Rattle.h2_log.specs.Log.{last_processed}
+use Rattle.h2_log.specs.LogView.{log_view}
+use Rattle.h2_log.specs.Verdicts.{Verdict, ConnectionFault, StreamFault, NoEvent, Reported}
+use Rattle.h2_log.specs.ItemRules.{Decoded, replies_to, verdict_by_rules, FrameStep}
+use Rattle.h2_log.specs.ItemRules.{fails_with, begins_block, completes, frame_step}
+use Rattle.h2_log.specs.ItemEffects.{events_of}
+use Rattle.h2_log.specs.LogSteps.{read}
+use Rattle.h2_log.specs.LogSteps.{with_verdict, with_step, with_frame}
+use Rattle.h2_log_laws.proofs.ReaderStates.{active_parts}
+use Rattle.h2_log_laws.proofs.ReplyInvariant.{state_active}
+use Rattle.h2_log_laws.proofs.LogHistory.{History, history_of}
+use Rattle.h2_end_laws.proofs.ReadVerdicts.{Says, says_of, says_data, closed_by_us_is}
+use Rattle.h2_end_laws.proofs.ReceiveWindows.{Kept, Steps, opened_in, quiet_steps}
+use Rattle.h2_end_laws.proofs.ReceiveWindows.{active_unclosed, log_step_keeps}
+use Rattle.h2_end_laws.proofs.ReceiveWindows.{failure_keeps, total_one, total_none, flow_none}
+
+-- Items but DATA.
+abbrev pub IsOther : Item → Type 0
+IsOther (alone (Data stream end octets pad)) = ⊥
+IsOther item = Unit {0}
+
+-- They take nothing of a window.
+data_none : (item : Item) (i : ℕ) → IsOther item → data_on i item ≡ 0
+unfolding data_on
+data_none (block stream end octets) i other = refl
+data_none (alone (Data stream end octets pad)) i other = absurd other
+data_none (alone (Headers stream end last fragment pad priority)) i other = refl
+data_none (alone (Priority stream octets)) i other = refl
+data_none (alone (Reset stream code)) i other = refl
+data_none (alone (Settings ack pairs)) i other = refl
+data_none (alone (Ping ack octets)) i other = refl
+data_none (alone (GoAway last code debug)) i other = refl
+data_none (alone (WindowUpdate stream increment)) i other = refl
+data_none (alone (Continuation stream last fragment)) i other = refl
+data_none (alone (Unknown kind flags stream payload)) i other = refl
+
+-- No flow is reported of them.
+events_flow : (log : Log) (decoded : Option Decoded) (verdict : Verdict) (item : Item) (i : ℕ)
+    → IsOther item
+    → reported_total (flow_on i) (events_of (log_view log) decoded verdict item) ≡ 0
+unfolding events_of reported_total flow_on
+events_flow log decoded (ConnectionFault code) item i other = refl
+events_flow log decoded (StreamFault code) item i other = refl
+events_flow log decoded NoEvent item i other = refl
+events_flow log decoded Reported (block stream end octets) i other = refl
+events_flow log decoded Reported (alone (Data stream end octets pad)) i other = absurd other
+events_flow log decoded Reported (alone
+    (Headers stream end last fragment pad priority)) i other = refl
+events_flow log decoded Reported (alone (Priority stream octets)) i other = refl
+events_flow log decoded Reported (alone (Reset stream code)) i other = refl
+events_flow log decoded Reported (alone (Settings ack pairs)) i other = refl
+events_flow log decoded Reported (alone (Ping ack octets)) i other = refl
+events_flow log decoded Reported (alone (GoAway last code debug)) i other = refl
+events_flow log decoded Reported (alone (WindowUpdate stream increment)) i other = refl
+events_flow log decoded Reported (alone (Continuation stream last fragment)) i other = refl
+events_flow log decoded Reported (alone (Unknown kind flags stream payload)) i other = refl
+
+-- Replies return nothing.
+replies_give : (verdict : Verdict) (item : Item) (i : ℕ)
+    → total (increment_on i) (replies_to verdict item) ≡ 0
+unfolding replies_to total increment_on
+replies_give (ConnectionFault code) item i = refl
+replies_give (StreamFault code) item i = refl
+replies_give Reported item i = refl
+replies_give NoEvent (block stream end octets) i = refl
+replies_give NoEvent (alone (Data stream end octets pad)) i = refl
+replies_give NoEvent (alone (Headers stream end last fragment pad priority)) i = refl
+replies_give NoEvent (alone (Priority stream octets)) i = refl
+replies_give NoEvent (alone (Reset stream code)) i = refl
+replies_give NoEvent (alone (Settings true pairs)) i = refl
+replies_give NoEvent (alone (Settings false pairs)) i = refl
+replies_give NoEvent (alone (Ping true octets)) i = refl
+replies_give NoEvent (alone (Ping false octets)) i = refl
+replies_give NoEvent (alone (GoAway last code debug)) i = refl
+replies_give NoEvent (alone (WindowUpdate stream increment)) i = refl
+replies_give NoEvent (alone (Continuation stream last fragment)) i = refl
+replies_give NoEvent (alone (Unknown kind flags stream payload)) i = refl
+
+-- Items but DATA have nothing to do with a stream's octets.
+other_steps : (log : Log) (decoded : Option Decoded) (item : Item) (verdict : Verdict) (i : ℕ)
+    → IsOther item → Kept (history_of log) i
+    → Steps (history_of log) i (item ∷ []) (replies_to verdict item) (events_of
+    (log_view log) decoded verdict item) log.calls
+other_steps log decoded item verdict i other before =
+    quiet_steps (history_of log) i (item ∷ []) (replies_to verdict item) _ log.calls before
+    (total_one _ item (data_none item i other)) (replies_give verdict item i)
+    (events_flow log decoded verdict item i other) refl
+
+-- DATA takes nothing of other streams.
+data_elsewhere : (stream : ℕ) (end : Bool) (octets : List ℕ) (pad : Option ℕ) (i : ℕ)
+    → (stream ≡ i → ⊥) → data_on i (alone (Data stream end octets pad)) ≡ 0
+unfolding data_on
+data_elsewhere stream end octets pad i other = rw (ne_eqb stream i other) refl
+
+-- What is reported of DATA is what it takes.
+flow_same : (stream : ℕ) (end : Bool) (octets : List ℕ) (pad : Option ℕ) (i : ℕ)
+    → reported_total (flow_on i) (DataEvent stream octets (length (payload_of
+    (Data stream end octets pad))) end ∷ []) ≡ total (data_on i) (alone
+    (Data stream end octets pad) ∷ [])
+unfolding reported_total flow_on total data_on
+flow_same stream end octets pad i = refl
+
+-- On a stream that this end has closed by then nothing needs to be kept.
+closed_steps : (v : History) (i : ℕ) (reads items : List Item) (events : List Event) → Kept v i
+    → is_closed_by_us v.role i (items ++ v.sent) ≡ true
+    → total (increment_on i) items ≡ 0 → reported_total (flow_on i) events ≡ 0
+    → Steps v i reads items events v.calls
+closed_steps v i reads items events before closed gives flows =
+    record {
+      within = omega (arith, before.within);
+      unopened = λ was none. (flows, gives);
+      unread = λ none kept_open. absurd (both_ways _ kept_open closed);
+      kept = λ active goes. absurd (both_ways _ (active_unclosed v.role i (reads ++ v.received)
+          (items ++ v.sent) (events ++ v.reported) active) closed);
+    }
+
+-- A stream that is reset is closed by this end.
+reset_closed : (role : Role) (i code : ℕ) (sent : List Item)
+    → is_closed_by_us role i (alone (Reset i code) ∷ sent) ≡ true
+unfolding is_closed_by_us resets
+reset_closed role i code sent = or_left _ _ (or_left _ _ (eq-eqb i i refl))
+
+-- A reset's event has no flow.
+reset_flow : (i stream code : ℕ) (ours : Bool)
+    → reported_total (flow_on i) (ResetEvent stream code ours ∷ []) ≡ 0
+unfolding reported_total flow_on
+reset_flow i stream code ours = refl
+
+-- a reset returns nothing
+reset_gives : (i stream code : ℕ) → total (increment_on i) (alone (Reset stream code) ∷ []) ≡ 0
+unfolding total increment_on
+reset_gives i stream code = refl
+
+-- DATA that is a fault of its stream.
+data_fault_steps : (log : Log) (stream : ℕ) (end : Bool) (octets : List ℕ) (pad : Option ℕ)
+    (code i : ℕ) → Kept (history_of log) i
+    → Steps (history_of log) i (alone (Data stream end octets pad) ∷ []) (alone
+    (Reset stream code) ∷ []) (ResetEvent stream code true ∷ []) log.calls
+data_fault_steps log stream end octets pad code i before = elim (cases_eq stream i) [
+  | inl same ↦
+      closed_steps (history_of log) i _ (alone (Reset stream code) ∷ []) _ before
+      (rw same (reset_closed log.role i code log.sent)) (reset_gives i stream code)
+      (reset_flow i stream code true)
+  | inr other ↦
+      quiet_steps (history_of log) i _ _ _ log.calls before (total_one _ _
+      (data_elsewhere stream end octets pad i other)) (reset_gives i stream code)
+      (reset_flow i stream code true) refl
+]
+
+-- DATA that is ignored.
+data_ignored_steps : (log : Log) (stream : ℕ) (end : Bool) (octets : List ℕ) (pad : Option ℕ)
+    (i : ℕ) → Kept (history_of log) i → is_closed_by_us log.role stream log.sent ≡ true
+    → Steps (history_of log) i (alone (Data stream end octets pad) ∷ []) [] [] log.calls
+data_ignored_steps log stream end octets pad i before closed = elim (cases_eq stream i) [
+  | inl same ↦
+      closed_steps (history_of log) i _ [] [] before (rw (← same) closed) (total_none _)
+      (flow_none i)
+  | inr other ↦
+      quiet_steps (history_of log) i _ [] [] log.calls before (total_one _ _
+      (data_elsewhere stream end octets pad i other)) (total_none _) (flow_none i) refl
+]
+
+-- DATA that is reported.
+data_reported_steps : (log : Log) (stream : ℕ) (end : Bool) (octets : List ℕ) (pad : Option ℕ)
+    (i : ℕ) → Kept (history_of log) i → active log stream ≡ true
+    → Steps (history_of log) i (alone (Data stream end octets pad) ∷ []) [] (DataEvent stream octets
+    (length (payload_of (Data stream end octets pad))) end ∷ []) log.calls
+data_reported_steps log stream end octets pad i before alive = elim (cases_eq stream i) [
+  | inl same ↦
+      let opened_here : opened_in (history_of log) i ≡ true =
+      rw (← same) (active_parts log.role stream log.received log.sent log.reported alive).opened in
+      record {
+        within = omega (arith, before.within);
+        unopened = λ was none. absurd (both_ways _ was opened_here);
+        unread = λ none kept_open. absurd (both_ways _ none opened_here);
+        kept = λ active goes. (
+          omega (arith, total_none (increment_on i)),
+          flow_same stream end octets pad i,
+        );
+      }
+  | inr other ↦
+      let none = total_one (data_on i) _ (data_elsewhere stream end octets pad i other) in
+      quiet_steps (history_of log) i _ [] _ log.calls before none (total_none _)
+      (flow_same stream end octets pad i ∙ none) refl
+]
+
+-- DATA of which nothing is reported is on a stream that this end has closed; what is reported is on
+-- an active one.
+abbrev pub IsSilent : Log → Item → Type 0
+IsSilent log (alone (Data stream end octets pad)) = is_closed_by_us log.role stream log.sent ≡ true
+IsSilent log item = Unit {0}
+
+abbrev pub IsReported : Log → Item → Type 0
+IsReported log (alone (Data stream end octets pad)) = active log stream ≡ true
+IsReported log item = Unit {0}
+
+-- of other items nothing needs to be said
+says_nothing : (verdict : Verdict) → Says (Unit {0}) (Unit {0}) (Unit {0}) verdict
+says_nothing (ConnectionFault code) = tt
+says_nothing (StreamFault code) = tt
+says_nothing NoEvent = tt
+says_nothing Reported = tt
+
+-- So does the verdict by the rules.
+rules_say : (log : Log) (decoded : Option Decoded) (item : Item)
+    → Says (Unit {0}) (IsSilent log item) (IsReported log item) (verdict_by_rules
+    (log_view log) decoded item)
+unfolding verdict_by_rules
+rules_say log decoded (block stream end octets) = says_nothing _
+rules_say log decoded (alone (Data stream end octets pad)) =
+    says_data (Unit {0}) (is_closed_by_us log.role stream log.sent ≡ true) (active log stream
+    ≡ true) (state log stream) _ _ _ (λ is. tt) (λ is. closed_by_us_is _ _ _ is)
+    (λ is. state_active _ _ _ is)
+rules_say log decoded (alone (Headers stream end last fragment pad priority)) = tt
+rules_say log decoded (alone (Priority stream octets)) = tt
+rules_say log decoded (alone (Reset stream code)) = says_nothing _
+rules_say log decoded (alone (Settings ack pairs)) = says_nothing _
+rules_say log decoded (alone (Ping ack octets)) = says_nothing _
+rules_say log decoded (alone (GoAway last code debug)) = tt
+rules_say log decoded (alone (WindowUpdate stream increment)) = says_nothing _
+rules_say log decoded (alone (Continuation stream last fragment)) = tt
+rules_say log decoded (alone (Unknown kind flags stream payload)) = tt
+
+-- An item keeps to this, by its verdict.
+item_steps : (log : Log) (decoded : Option Decoded) (item : Item) (verdict : Verdict) (i : ℕ)
+    → Kept (history_of log) i → ((code : Code) → verdict ≡ ConnectionFault code → ⊥)
+    → Says (Unit {0}) (IsSilent log item) (IsReported log item) verdict
+    → Steps (history_of log) i (item ∷ []) (replies_to verdict item) (events_of
+    (log_view log) decoded verdict item) log.calls
+unfolding replies_to events_of stream_of_item stream_of
+item_steps log decoded (alone (Data stream end octets pad)) (ConnectionFault code) i before none
+    says = absurd (none code refl)
+item_steps log decoded (alone (Data stream end octets pad)) (StreamFault code) i before none says =
+    data_fault_steps log stream end octets pad (code_number code) i before
+item_steps log decoded (alone (Data stream end octets pad)) NoEvent i before none says =
+    data_ignored_steps log stream end octets pad i before says
+item_steps log decoded (alone (Data stream end octets pad)) Reported i before none says =
+    data_reported_steps log stream end octets pad i before says
+item_steps log decoded (block stream end octets) verdict i before none says =
+    other_steps log decoded _ verdict i tt before
+item_steps log decoded (alone (Headers stream end last fragment pad priority)) verdict i before none
+    says = other_steps log decoded _ verdict i tt before
+item_steps log decoded (alone (Priority stream octets)) verdict i before none says =
+    other_steps log decoded _ verdict i tt before
+item_steps log decoded (alone (Reset stream code)) verdict i before none says =
+    other_steps log decoded _ verdict i tt before
+item_steps log decoded (alone (Settings ack pairs)) verdict i before none says =
+    other_steps log decoded _ verdict i tt before
+item_steps log decoded (alone (Ping ack octets)) verdict i before none says =
+    other_steps log decoded _ verdict i tt before
+item_steps log decoded (alone (GoAway last code debug)) verdict i before none says =
+    other_steps log decoded _ verdict i tt before
+item_steps log decoded (alone (WindowUpdate stream increment)) verdict i before none says =
+    other_steps log decoded _ verdict i tt before
+item_steps log decoded (alone (Continuation stream last fragment)) verdict i before none says =
+    other_steps log decoded _ verdict i tt before
+item_steps log decoded (alone (Unknown kind flags stream payload)) verdict i before none says =
+    other_steps log decoded _ verdict i tt before
+
+-- What stands still stands after an item, by its verdict.
+verdict_keeps : (log : Log) (decoded : Option Decoded) (item : Item) (verdict : Verdict) (i : ℕ)
+    → i ≢ 0 → Kept (history_of log) i
+    → Says (Unit {0}) (IsSilent log item) (IsReported log item) verdict
+    → Kept (history_of (with_verdict log decoded item verdict)) i
+unfolding with_verdict
+verdict_keeps log decoded item (ConnectionFault code) i some before says =
+    failure_keeps code _ log i before
+verdict_keeps log decoded item (StreamFault code) i some before says =
+    log_step_keeps log (read log decoded item) i (item ∷ []) _ _ log.calls _ some before refl
+    (item_steps log decoded item (StreamFault code) i before (λ other is. cc) says)
+verdict_keeps log decoded item NoEvent i some before says =
+    log_step_keeps log (read log decoded item) i (item ∷ []) _ _ log.calls _ some before refl
+    (item_steps log decoded item NoEvent i before (λ other is. cc) says)
+verdict_keeps log decoded item Reported i some before says =
+    log_step_keeps log (read log decoded item) i (item ∷ []) _ _ log.calls _ some before refl
+    (item_steps log decoded item Reported i before (λ other is. cc) says)
+
+-- It still stands after what a frame makes of the block that has begun.
+frame_step_keeps : (log : Log) (decoded : Option Decoded) (step : FrameStep) (i : ℕ) → i ≢ 0
+    → Kept (history_of log) i → Kept (history_of (with_step log decoded step)) i
+unfolding with_step
+frame_step_keeps log decoded (fails_with code) i some before =
+    failure_keeps code (last_processed log) log i before
+frame_step_keeps log decoded (begins_block begun) i some before = before
+frame_step_keeps log decoded (completes item) i some before =
+    verdict_keeps (record log { begun = None }) decoded item _ i some before
+    (says_of _ _ _ (record log { begun = None }) decoded item
+    (rules_say (record log { begun = None }) decoded item))
+
+-- It still stands after a frame.
+pub frame_keeps : (log : Log) (decoded : Option Decoded) (frame : Frame) (i : ℕ) → i ≢ 0
+    → Kept (history_of log) i → Kept (history_of (with_frame log decoded frame)) i
+unfolding with_frame
+frame_keeps log decoded frame i some before =
+    frame_step_keeps (record log { frames = log.frames ++ frame ∷ [] }) decoded
+    (frame_step (log_view log) frame) i some before

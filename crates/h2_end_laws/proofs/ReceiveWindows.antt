@@ -1,0 +1,236 @@
+-- On an active stream that the peer hasn't ended, all DATA was reported, and what was released was
+-- returned.
+use Rattle.std.proofs.Common.{◌≡◌, ◌≢◌, ℕ, ◌+◌, ◌≤◌, nat_lt, ◌&&◌, Bool, true, false}
+use Rattle.std.proofs.Common.{List, [], ◌∷◌, ◌++◌}
+use Rattle.std.proofs.Common.{refl, ap, ◌∙◌, inl, inr, arith}
+use Rattle.std.specs.List.{list_any}
+use Rattle.std.proofs.lemmas.Bool.{or_parts, or_from}
+use Rattle.std.proofs.lemmas.Bool.{cases_Bool}
+use Rattle.h2_frame.specs.declared.code.Code.{Code}
+use Rattle.h2_frame.specs.Codes.{code_number}
+use Rattle.h2_frame.specs.Frames.{GoAway}
+use Rattle.h2_frame.specs.Frames.{WindowUpdate}
+use Rattle.h2_block.specs.Grouping.{Item, alone}
+use Rattle.h2_log.specs.declared.role.Role.{Role}
+use Rattle.h2_log.specs.declared.role.Role.TheVariants.{Client, Server}
+use Rattle.h2_log.specs.Items.{total, increment_on, data_on, is_block_on, ends, resets}
+use Rattle.h2_log.specs.Items.{is_goaway_below}
+use Rattle.h2_log.specs.Events.{Event, flow_on, reported_total}
+use Rattle.h2_log.specs.Acts.{Act, Answer}
+use Rattle.h2_log.specs.States.{openings, is_above, is_active, is_closed_by_us}
+use Rattle.h2_log.specs.Log.{Log, active, released}
+use Rattle.h2_log.specs.Log.{waiting}
+use Rattle.h2_log.specs.Limits.{full_output}
+use Rattle.h2_log.specs.LogSteps.{with_sent, with_reported, with_unreturned, with_failure}
+use Rattle.h2_log_laws.proofs.ItemLists.{none_after}
+use Rattle.h2_log_laws.proofs.WindowsOfTwoEnds.{total-append}
+use Rattle.h2_log_laws.proofs.ReaderStates.{active_parts, lasts_parts}
+use Rattle.h2_log_laws.proofs.LogHistory.{History, history_of, active_in_view, moved, give}
+use Rattle.h2_log_laws.proofs.LogHistory.{given_by}
+use Rattle.h2_log_laws.proofs.LogHistory.{wrote_view, reports_view, with_unreturned_view}
+use Rattle.h2_log_laws.proofs.LogHistory.{fails_view, reported_append}
+use Rattle.h2_log_laws.proofs.LogInvariant.{active_before}
+use Rattle.h2_log_laws.proofs.InvariantSteps.{update_elsewhere}
+
+-- Whether the stream was opened.
+abbrev pub opened_in : History → ℕ → Bool
+opened_in v i = list_any (is_block_on i) (openings v.role v.received v.sent)
+
+-- What stands of a stream: no more was released than reported; nothing was read, reported, released
+-- or returned of a stream that wasn't opened; and on an active one that the peer hasn't ended all
+-- DATA was reported, and what was released was returned.
+pub record Kept (v : History) (i : ℕ) : Type 0 where
+  pub within : released i v.calls ≤ reported_total (flow_on i) v.reported
+  pub unopened : opened_in v i ≡ false
+      → (reported_total (flow_on i) v.reported ≡ 0) × (total (increment_on i) v.sent ≡ 0)
+  pub unread : opened_in v i ≡ false → is_closed_by_us v.role i v.sent ≡ false
+      → total (data_on i) v.received ≡ 0
+  pub kept : active_in_view v i ≡ true → list_any (ends i) v.received ≡ false
+      → (total (increment_on i) v.sent ≡ released i v.calls)
+      × (reported_total (flow_on i) v.reported ≡ total (data_on i) v.received)
+
+-- What a step must keep to, for that.
+pub record Steps (v : History) (i : ℕ) (reads items : List Item) (events : List Event)
+    (calls : List (Act × Answer)) : Type 0 where
+  pub within : released i calls ≤ reported_total (flow_on i) events + reported_total
+      (flow_on i) v.reported
+  pub unopened : opened_in v i ≡ false
+      → list_any (is_block_on i) (openings v.role (reads ++ v.received) (items ++ v.sent)) ≡ false
+      → (reported_total (flow_on i) events ≡ 0) × (total (increment_on i) items ≡ 0)
+  pub unread : opened_in v i ≡ false → is_closed_by_us v.role i (items ++ v.sent) ≡ false
+      → total (data_on i) reads ≡ 0
+  pub kept : is_active v.role i (reads ++ v.received) (items ++ v.sent) (events ++ v.reported)
+      ≡ true → list_any (ends i) (reads ++ v.received) ≡ false
+      → (total (increment_on i) items + released i v.calls ≡ released i calls)
+      × (reported_total (flow_on i) events ≡ total (data_on i) reads)
+
+-- where no block stands among the openings, none stood before
+unopened_before : (i : ℕ) (role : Role) (reads items received sent : List Item)
+    → list_any (is_block_on i) (openings role (reads ++ received) (items ++ sent)) ≡ false
+    → list_any (is_block_on i) (openings role received sent) ≡ false
+unopened_before i Client reads items received sent none = none_after (is_block_on i) items sent none
+unopened_before i Server reads items received sent none =
+    none_after (is_block_on i) reads received none
+
+-- what isn't above an own GOAWAY wasn't before
+above_before : (role : Role) (i : ℕ) (items sent : List Item) → is_above role i (items ++ sent)
+    ≡ false → is_above role i sent ≡ false
+unfolding is_above
+above_before Client i items sent none = refl
+above_before Server i items sent none = none_after (is_goaway_below i) items sent none
+
+-- what this end hasn't closed it hadn't closed before
+closed_before : (role : Role) (i : ℕ) (items sent : List Item)
+    → is_closed_by_us role i (items ++ sent) ≡ false → is_closed_by_us role i sent ≡ false
+unfolding is_closed_by_us
+closed_before role i items sent none =
+    let parts = or_parts _ _ none in
+    or_from _ _ (none_after (resets i) items sent parts.0) (above_before role i items sent parts.1)
+
+-- an active stream isn't closed by this end
+pub active_unclosed : (role : Role) (i : ℕ) (received sent : List Item) (reported : List Event)
+    → is_active role i received sent reported ≡ true → is_closed_by_us role i sent ≡ false
+unfolding is_closed_by_us
+active_unclosed role i received sent reported active =
+    let parts = active_parts role i received sent reported active in
+    let lasts = lasts_parts i received sent parts.lasts in
+    or_from _ _ lasts.kept parts.below
+
+-- What was released is nothing where nothing was reported.
+none_released : (a b : ℕ) → a ≤ b → b ≡ 0 → a ≡ 0
+none_released a b le none = omega arith
+
+-- A step keeps what stands.
+pub step_keeps : (v : History) (i : ℕ) (reads items : List Item) (events : List Event)
+    (calls : List (Act × Answer)) (unreturned : ℕ) → Kept v i → Steps v i reads items events calls
+    → Kept (moved v reads items events calls unreturned) i
+step_keeps v i reads items events calls unreturned before step =
+    record {
+      within = omega (arith, step.within, reported_append (flow_on i) events v.reported);
+      unopened = λ none.
+          let was = unopened_before i v.role reads items v.received v.sent none in
+          let old = before.unopened was in
+          let new = step.unopened was none in (
+            omega (arith, old.0, new.0, reported_append (flow_on i) events v.reported),
+            omega (arith, old.1, new.1, total-append (increment_on i) items v.sent),
+          );
+      unread = λ none kept_open.
+          let was = unopened_before i v.role reads items v.received v.sent none in
+          omega (
+            arith,
+            before.unread was (closed_before v.role i items v.sent kept_open),
+            step.unread was kept_open,
+            total-append (data_on i) reads v.received,
+          );
+      kept = λ active goes.
+          let new = step.kept active goes in
+          let flows = reported_append (flow_on i) events v.reported in
+          let gives = total-append (increment_on i) items v.sent in
+          let comes = total-append (data_on i) reads v.received in
+          elim (cases_Bool (opened_in v i)) [
+            | inl was ↦
+                let old = before.kept (active_before v.role i reads items v.received v.sent events
+                v.reported active was) (none_after (ends i) reads v.received goes) in (
+                  omega (arith, old.0, new.0, gives),
+                  omega (arith, old.1, new.1, flows, comes),
+                )
+            | inr none ↦
+                let old = before.unopened none in
+                let unread =
+                before.unread none (closed_before v.role i items v.sent (active_unclosed
+                v.role i (reads ++ v.received) (items ++ v.sent) (events ++ v.reported) active)) in
+                let calls_none = none_released _ _ before.within old.0 in (
+                  omega (arith, old.1, new.0, gives, calls_none),
+                  omega (arith, old.0, new.1, flows, comes, unread),
+                )
+          ];
+    }
+
+-- A step that has nothing to do with the stream's octets.
+pub quiet_steps : (v : History) (i : ℕ) (reads items : List Item) (events : List Event)
+    (calls : List (Act × Answer)) → Kept v i → total (data_on i) reads ≡ 0
+    → total (increment_on i) items ≡ 0 → reported_total (flow_on i) events ≡ 0
+    → released i calls ≡ released i v.calls → Steps v i reads items events calls
+quiet_steps v i reads items events calls before comes gives flows same =
+    record {
+      within = omega (arith, before.within, same);
+      unopened = λ was none. (flows, gives);
+      unread = λ none kept_open. comes;
+      kept = λ active goes. (omega (arith, gives, same), omega (arith, comes, flows));
+    }
+
+-- A total of one item.
+pub total_one : (f : Item → ℕ) (item : Item) → f item ≡ 0 → total f (item ∷ []) ≡ 0
+unfolding total
+total_one f item none = omega (arith, none)
+
+-- A total of none.
+pub total_none : (f : Item → ℕ) → total f [] ≡ 0
+unfolding total
+total_none f = refl
+
+-- Events that aren't there have no flow.
+pub flow_none : (i : ℕ) → reported_total (flow_on i) [] ≡ 0
+unfolding reported_total
+flow_none i = refl
+
+-- What is unreturned may be returned.
+pub give_kept : (v : History) (i : ℕ) → i ≢ 0 → Kept v i → Kept (give v) i
+give_kept v i some before =
+    step_keeps v i [] (alone (WindowUpdate 0 v.unreturned) ∷ []) [] v.calls 0 before
+    (quiet_steps v i [] (alone (WindowUpdate 0 v.unreturned) ∷ []) [] v.calls before (total_none _)
+    (total_one _ _ (update_elsewhere i v.unreturned some)) (flow_none i) refl)
+
+-- the same after a step, before its events, by the test whether it is returned
+given_kept : (v : History) (i : ℕ) (reads items : List Item) (events : List Event)
+    (calls : List (Act × Answer)) (unreturned : ℕ) (b : Bool) → i ≢ 0
+    → Kept (moved v reads items events calls unreturned) i
+    → Kept (moved (given_by b (moved v reads items [] calls unreturned)) [] [] events
+    (given_by b (moved v reads items [] calls unreturned)).calls
+    (given_by b (moved v reads items [] calls unreturned)).unreturned) i
+given_kept v i reads items events calls unreturned true some kept =
+    give_kept (moved v reads items events calls unreturned) i some kept
+given_kept v i reads items events calls unreturned false some kept = kept
+
+-- A step of a log keeps what stands.
+pub log_step_keeps : (log base : Log) (i : ℕ) (reads items : List Item) (events : List Event)
+    (calls : List (Act × Answer)) (more : ℕ) → i ≢ 0 → Kept (history_of log) i
+    → history_of base ≡ moved (history_of log) reads [] [] calls log.unreturned
+    → Steps (history_of log) i reads items events calls
+    → Kept (history_of (with_reported (with_unreturned more (with_sent base items)) events)) i
+log_step_keeps log base i reads items events calls more some before is step =
+    let b = nat_lt 0 more && nat_lt (waiting (with_sent base items)) full_output in
+    let written : history_of (with_sent base items)
+    ≡ moved (history_of log) reads items [] calls log.unreturned =
+    wrote_view base items ∙ ap (λ (v : History). moved v [] items [] v.calls v.unreturned) is in
+    let returned : history_of (with_unreturned more (with_sent base items))
+    ≡ given_by b (moved (history_of log) reads items [] calls (log.unreturned + more)) =
+    with_unreturned_view more (with_sent base items)
+    ∙ ap (λ (v : History). given_by b (moved v [] [] [] v.calls (v.unreturned + more))) written in
+    let all : history_of (with_reported (with_unreturned more (with_sent base items)) events)
+    ≡ (λ (v : History). moved v [] [] events v.calls v.unreturned) (given_by b (moved
+    (history_of log) reads items [] calls (log.unreturned + more))) =
+    reports_view (with_unreturned more (with_sent base items)) events
+    ∙ ap (λ (v : History). moved v [] [] events v.calls v.unreturned) returned in
+    rw all (given_kept (history_of log) i reads items events calls (log.unreturned + more) b some
+    (step_keeps (history_of log) i reads items events calls (log.unreturned + more) before step))
+
+-- GOAWAY returns nothing
+goaway_gives : (i last code : ℕ) → increment_on i (alone (GoAway last code [])) ≡ 0
+unfolding increment_on
+goaway_gives i last code = refl
+
+-- What stands still stands after a failure.
+pub failure_keeps : (code : Code) (last : ℕ) (log : Log) (i : ℕ) → Kept (history_of log) i
+    → Kept (history_of (with_failure code last log)) i
+failure_keeps code last log i before =
+    let after = step_keeps (history_of log) i [] (alone (GoAway last (code_number code) []) ∷ []) []
+    log.calls log.unreturned before (quiet_steps (history_of log) i [] (alone (GoAway last
+    (code_number code) []) ∷ []) [] log.calls before (total_none _)
+    (total_one _ _ (goaway_gives i last (code_number code))) (flow_none i) refl) in
+    rw (fails_view code last log) (record {
+      within = after.within;
+      unopened = after.unopened;
+      unread = after.unread;
+      kept = after.kept;
+    })

@@ -1,0 +1,478 @@
+-- The field blocks that an end has written are of the lists of its calls.
+use Rattle.std.proofs.Common.{◌≡◌, ℕ, zero, suc, ◌+◌, ◌==◌, nat_le, nat_lt, ◌&&◌, not, min, Bool}
+use Rattle.std.proofs.Common.{true, false, if◌then◌else◌, List, [], ◌∷◌, ◌++◌, length, take, drop}
+use Rattle.std.proofs.Common.{Option, Some, None, fold, refl, sym, ap, ◌∙◌, append_assoc}
+use Rattle.std.proofs.Common.{append-nil}
+use Rattle.std.proofs.lemmas.List.Sums.{fold-append}
+use Rattle.hpack.specs.declared.types.field.Field.{Field}
+use Rattle.hpack.specs.Lists.{EncoderState}
+use Rattle.hpack.specs.Choice.{block_of, after_block}
+use Rattle.hpack.specs.Limits.{after_limit}
+use Rattle.h2_frame.specs.declared.code.Code.{Code}
+use Rattle.h2_frame.specs.declared.code.Code.TheVariants.{InternalError}
+use Rattle.h2_frame.specs.Codes.{code_number}
+use Rattle.h2_frame.specs.Frames.{Frame, Data, Headers, Priority, Reset, Settings, Ping, GoAway}
+use Rattle.h2_frame.specs.Frames.{WindowUpdate, Continuation, Unknown}
+use Rattle.h2_wire.specs.Faults.{wire_fault_code}
+use Rattle.h2_block.specs.Grouping.{Item, alone, block}
+use Rattle.h2_log.specs.declared.role.Role.{Role}
+use Rattle.h2_log.specs.declared.refusal.Refusal.{Refusal}
+use Rattle.h2_log.specs.Events.{Event}
+use Rattle.h2_log.specs.Acts.{Values, Act, Answer, Open, SendFields, SendData, Release, ResetStream}
+use Rattle.h2_log.specs.Acts.{Refuse, SendPing, SendGoAway, PutOut, ChangeSettings}
+use Rattle.h2_log.specs.Acts.{Done, OutOfMemory, Refused}
+use Rattle.h2_log.specs.Log.{Log, waiting, last_processed, max_payload_sent}
+use Rattle.h2_log.specs.LogView.{log_view}
+use Rattle.h2_log.specs.View.{ended_in}
+use Rattle.h2_log.specs.Verdicts.{Verdict, ConnectionFault, StreamFault, NoEvent, Reported}
+use Rattle.h2_log.specs.ItemRules.{Decoded, replies_to, FrameStep, fails_with, begins_block}
+use Rattle.h2_log.specs.ItemRules.{completes, frame_step}
+use Rattle.h2_log.specs.ItemEffects.{encoder_after_settings}
+use Rattle.h2_log.specs.CallRules.{items_of, answer_of, refuse_fault, encoder_after_call}
+use Rattle.h2_log.specs.CallRules.{returns_before_put_out, data_items, data_frames}
+use Rattle.h2_log.specs.Limits.{full_output}
+use Rattle.h2_log.specs.LogSteps.{read, with_sent, with_reported, with_unreturned, with_failure}
+use Rattle.h2_log.specs.LogSteps.{with_credit_returned, with_verdict, with_step, with_frame, used}
+use Rattle.h2_log.specs.LogCalls.{opened, called, with_items, refused_with, before_put_out}
+use Rattle.h2_log.specs.LogCalls.{with_call, MayAnswer, accepts, refuses, lacks, fails}
+use Rattle.h2_log.specs.Histories.{IsLog, begins, took_some, took_one, met_fault, ran_out_of_memory}
+use Rattle.h2_log.specs.Histories.{reported_one, called_one}
+use Rattle.h2_log_laws.specs.Tables.{Sending, encoder_before, octets_sent, encoder_after}
+use Rattle.h2_end_laws.specs.Sendings.{first_encoder, blocks_written, lists_accepted, lists_of}
+use Rattle.h2_end_laws.specs.Sendings.{HasSendings}
+
+-- What HasSendings says, by the calls, the items that were written, and the encoder.
+pub record AreSent (calls : List (Act × Answer)) (sent : List Item)
+    (encoder : EncoderState) : Type 0 where
+  pub sendings : List Sending
+  pub limits : List ℕ
+  pub lists : lists_of sendings ≡ lists_accepted calls
+  pub octets : blocks_written sent ≡ octets_sent first_encoder sendings
+  pub encoder_is : encoder ≡ fold after_limit (encoder_after first_encoder sendings) limits
+
+-- the same of a log
+abbrev pub LogIsSent : Log → Type 0
+LogIsSent log = AreSent log.calls log.sent log.encoder
+
+-- Blocks of two lists of items.
+blocks_append : (items sent : List Item)
+    → blocks_written (items ++ sent) ≡ blocks_written sent ++ blocks_written items
+unfolding blocks_written
+blocks_append [] sent = sym (append-nil (blocks_written sent))
+blocks_append (block stream end octets ∷ items) sent =
+    ap (λ (line : List (List ℕ)). line ++ octets ∷ []) (blocks_append items sent)
+    ∙ append_assoc (blocks_written sent) (blocks_written items) (octets ∷ [])
+blocks_append (alone frame ∷ items) sent = blocks_append items sent
+
+-- Items without a block change nothing.
+more_sent : (calls : List (Act × Answer)) (items sent : List Item) (encoder : EncoderState)
+    → blocks_written items ≡ [] → AreSent calls sent encoder → AreSent calls (items ++ sent) encoder
+more_sent calls items sent encoder none is =
+    record {
+      sendings = is.sendings;
+      limits = is.limits;
+      lists = is.lists;
+      octets = blocks_append items sent
+          ∙ ap (λ (line : List (List ℕ)). blocks_written sent ++ line) none
+          ∙ append-nil (blocks_written sent)
+          ∙ is.octets;
+      encoder_is = is.encoder_is;
+    }
+
+-- the lists of sendings with one more
+lists_next : (sendings : List Sending) (sending : Sending)
+    → lists_of (sendings ++ sending ∷ []) ≡ lists_of sendings ++ sending.fields ∷ []
+unfolding lists_of
+lists_next [] sending = refl
+lists_next (first ∷ sendings) sending =
+    ap (λ (line : List (List Field)). first.fields ∷ line) (lists_next sendings sending)
+
+-- the octets of sendings with one more
+octets_next : (encoder : EncoderState) (sendings : List Sending) (sending : Sending)
+    → octets_sent encoder (sendings ++ sending ∷ []) ≡ octets_sent encoder sendings
+    ++ block_of (encoder_before (encoder_after encoder sendings) sending) sending.fields ∷ []
+octets_next encoder [] sending = refl
+octets_next encoder (first ∷ sendings) sending =
+    ap (λ (line : List (List ℕ)). block_of (encoder_before encoder first) first.fields ∷ line)
+    (octets_next (after_block (encoder_before encoder first) first.fields) sendings sending)
+
+-- the encoder after them
+after_next : (encoder : EncoderState) (sendings : List Sending) (sending : Sending)
+    → encoder_after encoder (sendings ++ sending ∷ [])
+    ≡ after_block (encoder_before (encoder_after encoder sendings) sending) sending.fields
+after_next encoder [] sending = refl
+after_next encoder (first ∷ sendings) sending =
+    after_next (after_block (encoder_before encoder first) first.fields) sendings sending
+
+-- A block more, of a list that a call was given.
+block_sent : (calls : List (Act × Answer)) (call : Act × Answer) (sent : List Item)
+    (encoder : EncoderState) (stream : ℕ) (end : Bool) (fields : List Field)
+    → lists_accepted (call ∷ calls) ≡ lists_accepted calls ++ fields ∷ []
+    → AreSent calls sent encoder
+    → AreSent (call ∷ calls) (block stream end (block_of encoder fields) ∷ sent)
+    (after_block encoder fields)
+unfolding blocks_written
+block_sent calls call sent encoder stream end fields accepted is =
+    let sending : Sending = record { limits = is.limits; fields = fields; reader = 0 } in
+    record {
+      sendings = is.sendings ++ sending ∷ [];
+      limits = [];
+      lists = lists_next is.sendings sending
+          ∙ ap (λ (line : List (List Field)). line ++ fields ∷ []) is.lists ∙ sym accepted;
+      octets = ap (λ (line : List (List ℕ)). line ++ block_of encoder fields ∷ []) is.octets
+          ∙ ap (λ (state : EncoderState). octets_sent first_encoder is.sendings
+          ++ block_of state fields ∷ []) is.encoder_is
+          ∙ sym (octets_next first_encoder is.sendings sending);
+      encoder_is = ap (λ (state : EncoderState). after_block state fields) is.encoder_is
+          ∙ sym (after_next first_encoder is.sendings sending);
+    }
+
+-- The encoder after a pair, by the limits that those after it set.
+pair_limits : (encoder : EncoderState) (value : ℕ) (pairs : List (ℕ × ℕ)) (b : Bool)
+    → ((state : EncoderState) → (limits : List ℕ)
+    × (encoder_after_settings state pairs ≡ fold after_limit state limits))
+    → (limits : List ℕ)
+    × (encoder_after_settings (if b then after_limit encoder (min value 4096) else encoder) pairs
+    ≡ fold after_limit encoder limits)
+pair_limits encoder value pairs true goes =
+    let after = goes (after_limit encoder (min value 4096)) in
+    (min value 4096 ∷ after.0, after.1)
+pair_limits encoder value pairs false goes = goes encoder
+
+-- The encoder after SETTINGS, by the limits that they set.
+settings_limits : (pairs : List (ℕ × ℕ)) (encoder : EncoderState)
+    → (limits : List ℕ) × (encoder_after_settings encoder pairs ≡ fold after_limit encoder limits)
+unfolding encoder_after_settings
+settings_limits [] encoder = ([], refl)
+settings_limits (pair ∷ pairs) encoder =
+    pair_limits encoder pair.1 pairs (pair.0 == 1) (settings_limits pairs)
+
+-- More limits were read.
+more_limits : (calls : List (Act × Answer)) (sent : List Item) (encoder : EncoderState)
+    (limits : List ℕ) → AreSent calls sent encoder
+    → AreSent calls sent (fold after_limit encoder limits)
+more_limits calls sent encoder limits is =
+    record {
+      sendings = is.sendings;
+      limits = is.limits ++ limits;
+      lists = is.lists;
+      octets = is.octets;
+      encoder_is = ap (λ (state : EncoderState). fold after_limit state limits) is.encoder_is
+          ∙ sym (fold-append after_limit (encoder_after first_encoder is.sendings) is.limits
+          limits);
+    }
+
+-- An item that is read keeps this.
+read_keeps : (log : Log) (decoded : Option Decoded) (item : Item) → LogIsSent log
+    → LogIsSent (read log decoded item)
+read_keeps log decoded (alone (Settings false pairs)) is =
+    let after = settings_limits pairs log.encoder in
+    rw (after.1) (more_limits log.calls log.sent log.encoder after.0 is)
+read_keeps log decoded (alone (Settings true pairs)) is = is
+read_keeps log decoded (alone (Data stream end octets pad)) is = is
+read_keeps log decoded (alone (Headers stream end whole fragment pad priority)) is = is
+read_keeps log decoded (alone (Priority stream octets)) is = is
+read_keeps log decoded (alone (Reset stream code)) is = is
+read_keeps log decoded (alone (Ping ack octets)) is = is
+read_keeps log decoded (alone (GoAway last code debug)) is = is
+read_keeps log decoded (alone (WindowUpdate stream increment)) is = is
+read_keeps log decoded (alone (Continuation stream whole fragment)) is = is
+read_keeps log decoded (alone (Unknown kind flags stream payload)) is = is
+read_keeps log decoded (block stream end octets) is = is
+
+-- So do items that are written without a block, and events.
+wrote_keeps : (log : Log) (items : List Item) → blocks_written items ≡ [] → LogIsSent log
+    → LogIsSent (with_sent log items)
+unfolding with_sent
+wrote_keeps log [] none is = is
+wrote_keeps log (item ∷ items) none is =
+    more_sent log.calls (item ∷ items) log.sent log.encoder none is
+
+reports_keep : (log : Log) (events : List Event) → LogIsSent log → LogIsSent
+    (with_reported log events)
+unfolding with_reported
+reports_keep log [] is = is
+reports_keep log (event ∷ events) is = is
+
+-- one frame isn't a block
+no_block : (frame : Frame) → blocks_written (alone frame ∷ []) ≡ []
+unfolding blocks_written
+no_block frame = refl
+
+-- What is unreturned.
+unreturned_by : (more : ℕ) (log : Log) (b : Bool) → LogIsSent log
+    → LogIsSent (if b then with_credit_returned (record log { unreturned = log.unreturned + more })
+    else record log { unreturned = log.unreturned + more })
+unreturned_by more log true is = wrote_keeps (record log { unreturned = 0 }) _ (no_block _) is
+unreturned_by more log false is = is
+
+unreturned_keeps : (more : ℕ) (log : Log) → LogIsSent log → LogIsSent (with_unreturned more log)
+unfolding with_unreturned
+unreturned_keeps more log is = unreturned_by more log (nat_lt 0 more && nat_lt
+    (waiting log) full_output) is
+
+-- A failure.
+failure_keeps : (code : Code) (last : ℕ) (log : Log) → LogIsSent log
+    → LogIsSent (with_failure code last log)
+failure_keeps code last log is = wrote_keeps log (alone (GoAway last (code_number code) []) ∷ [])
+    (no_block _) is
+
+-- Replies have no block.
+replies_blocks : (verdict : Verdict) (item : Item) → blocks_written (replies_to verdict item) ≡ []
+unfolding replies_to blocks_written
+replies_blocks (ConnectionFault code) item = refl
+replies_blocks (StreamFault code) item = refl
+replies_blocks Reported item = refl
+replies_blocks NoEvent (block stream end octets) = refl
+replies_blocks NoEvent (alone (Data stream end octets pad)) = refl
+replies_blocks NoEvent (alone (Headers stream end last fragment pad priority)) = refl
+replies_blocks NoEvent (alone (Priority stream octets)) = refl
+replies_blocks NoEvent (alone (Reset stream code)) = refl
+replies_blocks NoEvent (alone (Settings true pairs)) = refl
+replies_blocks NoEvent (alone (Settings false pairs)) = refl
+replies_blocks NoEvent (alone (Ping true octets)) = refl
+replies_blocks NoEvent (alone (Ping false octets)) = refl
+replies_blocks NoEvent (alone (GoAway last code debug)) = refl
+replies_blocks NoEvent (alone (WindowUpdate stream increment)) = refl
+replies_blocks NoEvent (alone (Continuation stream last fragment)) = refl
+replies_blocks NoEvent (alone (Unknown kind flags stream payload)) = refl
+
+-- An item, by its verdict.
+verdict_keeps : (log : Log) (decoded : Option Decoded) (item : Item) (verdict : Verdict)
+    → LogIsSent log → LogIsSent (with_verdict log decoded item verdict)
+unfolding with_verdict
+verdict_keeps log decoded item (ConnectionFault code) is = failure_keeps code _ log is
+verdict_keeps log decoded item (StreamFault code) is =
+    reports_keep _ _ (unreturned_keeps _ _ (wrote_keeps _ _ (replies_blocks (StreamFault code)
+    item) (read_keeps log decoded item is)))
+verdict_keeps log decoded item NoEvent is =
+    reports_keep _ _ (unreturned_keeps _ _ (wrote_keeps _ _ (replies_blocks NoEvent item)
+    (read_keeps log decoded item is)))
+verdict_keeps log decoded item Reported is =
+    reports_keep _ _ (unreturned_keeps _ _ (wrote_keeps _ _ (replies_blocks Reported item)
+    (read_keeps log decoded item is)))
+
+-- A frame.
+step_keeps : (log : Log) (decoded : Option Decoded) (step : FrameStep) → LogIsSent log
+    → LogIsSent (with_step log decoded step)
+unfolding with_step
+step_keeps log decoded (fails_with code) is = failure_keeps code (last_processed log) log is
+step_keeps log decoded (begins_block begun) is = is
+step_keeps log decoded (completes item) is =
+    verdict_keeps (record log { begun = None }) decoded item _ is
+
+frame_keeps : (log : Log) (decoded : Option Decoded) (frame : Frame) → LogIsSent log
+    → LogIsSent (with_frame log decoded frame)
+unfolding with_frame
+frame_keeps log decoded frame is =
+    step_keeps (record log { frames = log.frames ++ frame ∷ [] }) decoded
+    (frame_step (log_view log) frame) is
+
+-- DATA has no block, by the test whether it is the last.
+data_by : (last one : Frame) (after : List Item) (b : Bool) → blocks_written after ≡ []
+    → blocks_written (if b then alone last ∷ [] else after ++ alone one ∷ []) ≡ []
+data_by last one after true none = no_block last
+data_by last one after false none = blocks_append after (alone one ∷ [])
+    ∙ ap (λ (line : List (List ℕ)). line ++ blocks_written after) (no_block one) ∙ none
+
+frames_blocks : (count most id : ℕ) (octets : List ℕ) (end : Bool)
+    → blocks_written (data_frames count most id octets end) ≡ []
+unfolding data_frames blocks_written
+frames_blocks zero most id octets end = refl
+frames_blocks (suc count) most id octets end =
+    data_by (Data id end octets None) (Data id false (take most octets) None)
+    (data_frames count most id (drop most octets) end) (nat_le (length octets) most)
+    (frames_blocks count most id (drop most octets) end)
+
+data_blocks_by : (items : List Item) (b : Bool) → blocks_written items ≡ []
+    → blocks_written (if b then [] else items) ≡ []
+unfolding blocks_written
+data_blocks_by items true none = refl
+data_blocks_by items false none = none
+
+data_blocks : (most id : ℕ) (octets : List ℕ) (end : Bool) (count : ℕ)
+    → blocks_written (data_items most id octets end count) ≡ []
+unfolding data_items
+data_blocks most id octets end count =
+    data_blocks_by (data_frames (suc count) most id (take count octets) (end && count
+    == length octets)) (count == 0 && not (length octets == 0 && end))
+    (frames_blocks (suc count) most id (take count octets) (end && count == length octets))
+
+-- What a release writes has no block.
+updates_blocks : (id count : ℕ) (ended : Bool) → blocks_written (alone (WindowUpdate 0 count)
+    ∷ (if ended then [] else alone (WindowUpdate id count) ∷ [])) ≡ []
+unfolding blocks_written
+updates_blocks id count true = refl
+updates_blocks id count false = refl
+
+-- A call of which nothing is written, and that was given no list.
+quiet_called : (log : Log) (act : Act) (answer : Answer)
+    → lists_accepted ((act, answer) ∷ log.calls) ≡ lists_accepted log.calls
+    → encoder_after_call log.encoder act answer ≡ log.encoder → LogIsSent log
+    → LogIsSent (called log act answer)
+quiet_called log act answer lists same is =
+    record {
+      sendings = is.sendings;
+      limits = is.limits;
+      lists = is.lists ∙ sym lists;
+      octets = is.octets;
+      encoder_is = same ∙ is.encoder_is;
+    }
+
+-- A call that writes no block, and was given no list.
+quiet_call : (log : Log) (act : Act) (answer : Answer)
+    → blocks_written (items_of (log_view log) act answer) ≡ []
+    → lists_accepted ((act, answer) ∷ log.calls) ≡ lists_accepted log.calls
+    → encoder_after_call log.encoder act answer ≡ log.encoder → LogIsSent log
+    → LogIsSent (with_items log act answer)
+unfolding with_items
+quiet_call log act answer none lists same is =
+    unreturned_keeps _ _ (wrote_keeps (called log act answer) _ none (quiet_called log act answer
+    lists same is))
+
+-- A call that writes a block of its list.
+block_call : (log : Log) (act : Act) (answer : Answer) (stream : ℕ) (end : Bool)
+    (fields : List Field)
+    → items_of (log_view log) act answer ≡ block stream end (block_of log.encoder fields) ∷ []
+    → lists_accepted ((act, answer) ∷ log.calls) ≡ lists_accepted log.calls ++ fields ∷ []
+    → encoder_after_call log.encoder act answer ≡ after_block log.encoder fields → LogIsSent log
+    → LogIsSent (with_items log act answer)
+unfolding with_items with_sent
+block_call log act answer stream end fields items lists after is =
+    let one = block_sent log.calls (act, answer) log.sent log.encoder stream end fields lists is in
+    rw items (unreturned_keeps _ _ (rw after one))
+
+-- A stream that was refused.
+refused_keeps : (log : Log) (id code : ℕ) (fault : Option Code) → LogIsSent log
+    → LogIsSent (refused_with log (Refuse id code) Done fault)
+unfolding refused_with items_of lists_accepted encoder_after_call
+refused_keeps log id code (Some fault) is =
+    failure_keeps fault (last_processed log) (called log (Refuse id code) Done)
+    (quiet_called log (Refuse id code) Done refl refl is)
+refused_keeps log id code None is =
+    quiet_call log (Refuse id code) Done (no_block (Reset id code)) refl refl is
+
+-- Output that is put out.
+ready_by : (log : Log) (b : Bool) → LogIsSent log
+    → LogIsSent (if b then with_credit_returned log else log)
+ready_by log true is = wrote_keeps (record log { unreturned = 0 }) _ (no_block _) is
+ready_by log false is = is
+
+ready_keeps : (log : Log) → LogIsSent log → LogIsSent (before_put_out log)
+unfolding before_put_out
+ready_keeps log is = ready_by log (returns_before_put_out (log_view log)) is
+
+-- A call that is accepted.
+accepted_keeps : (log : Log) (act : Act) → LogIsSent log
+    → LogIsSent (with_call log act (answer_of (log_view log) act))
+unfolding with_call items_of lists_accepted encoder_after_call
+accepted_keeps log (Open fields end) is =
+    block_call log (Open fields end) (answer_of (log_view log) (Open fields end)) _ end fields refl
+    refl refl is
+accepted_keeps log (SendFields id fields end) is =
+    block_call log (SendFields id fields end) Done id end fields refl refl refl is
+accepted_keeps log (SendData id octets end) is =
+    quiet_call log (SendData id octets end) (answer_of (log_view log) (SendData id octets end))
+    (data_blocks (max_payload_sent log) id octets end _) refl refl is
+accepted_keeps log (Release id count) is =
+    quiet_call log (Release id count) Done (updates_blocks id count (ended_in
+    ((log_view log).stream id))) refl refl is
+accepted_keeps log (ResetStream id code) is =
+    quiet_call log (ResetStream id code) Done (no_block (Reset id code)) refl refl is
+accepted_keeps log (Refuse id code) is =
+    refused_keeps log id code (refuse_fault (log_view log) code) is
+accepted_keeps log (SendPing octets) is =
+    quiet_call log (SendPing octets) Done (no_block (Ping false octets)) refl refl is
+accepted_keeps log SendGoAway is =
+    quiet_call log SendGoAway Done (no_block _) refl refl is
+accepted_keeps log (PutOut count) is =
+    ready_keeps (called log (PutOut count) (answer_of (log_view log) (PutOut count)))
+    (quiet_called log (PutOut count) (answer_of (log_view log) (PutOut count)) refl refl is)
+accepted_keeps log (ChangeSettings values) is =
+    quiet_call log (ChangeSettings values) Done (no_block _) refl refl is
+
+-- A refused call changes neither lists nor the encoder; nor does one in which memory ran out.
+refused_lists : (act : Act) (refusal : Refusal) (calls : List (Act × Answer))
+    (encoder : EncoderState)
+    → (lists_accepted ((act, Refused refusal) ∷ calls) ≡ lists_accepted calls)
+    × (encoder_after_call encoder act (Refused refusal) ≡ encoder)
+unfolding lists_accepted encoder_after_call
+refused_lists (Open fields end) refusal calls encoder = (refl, refl)
+refused_lists (SendFields id fields end) refusal calls encoder = (refl, refl)
+refused_lists (SendData id octets end) refusal calls encoder = (refl, refl)
+refused_lists (Release id count) refusal calls encoder = (refl, refl)
+refused_lists (ResetStream id code) refusal calls encoder = (refl, refl)
+refused_lists (Refuse id code) refusal calls encoder = (refl, refl)
+refused_lists (SendPing octets) refusal calls encoder = (refl, refl)
+refused_lists SendGoAway refusal calls encoder = (refl, refl)
+refused_lists (PutOut count) refusal calls encoder = (refl, refl)
+refused_lists (ChangeSettings values) refusal calls encoder = (refl, refl)
+
+failed_lists : (act : Act) (calls : List (Act × Answer)) (encoder : EncoderState)
+    → (lists_accepted ((act, OutOfMemory) ∷ calls) ≡ lists_accepted calls)
+    × (encoder_after_call encoder act OutOfMemory ≡ encoder)
+unfolding lists_accepted encoder_after_call
+failed_lists (Open fields end) calls encoder = (refl, refl)
+failed_lists (SendFields id fields end) calls encoder = (refl, refl)
+failed_lists (SendData id octets end) calls encoder = (refl, refl)
+failed_lists (Release id count) calls encoder = (refl, refl)
+failed_lists (ResetStream id code) calls encoder = (refl, refl)
+failed_lists (Refuse id code) calls encoder = (refl, refl)
+failed_lists (SendPing octets) calls encoder = (refl, refl)
+failed_lists SendGoAway calls encoder = (refl, refl)
+failed_lists (PutOut count) calls encoder = (refl, refl)
+failed_lists (ChangeSettings values) calls encoder = (refl, refl)
+
+-- A call.
+refused_call : (log : Log) (act : Act) (refusal : Refusal) → LogIsSent log
+    → LogIsSent (called log act (Refused refusal))
+refused_call log act refusal is =
+    let same = refused_lists act refusal log.calls log.encoder in
+    quiet_called log act (Refused refusal) same.0 same.1 is
+
+call_keeps : (log : Log) (act : Act) (answer : Answer) → LogIsSent log → MayAnswer log act answer
+    → LogIsSent (with_call log act answer)
+unfolding with_call
+call_keeps log act answer is (accepts none same) = rw same (accepted_keeps log act is)
+call_keeps log act answer is (refuses refusal condition same) =
+    rw same (refused_call log act refusal is)
+call_keeps log act answer is (lacks none may same) = rw same (refused_call log act _ is)
+call_keeps log act answer is (fails none may same) =
+    let lists = failed_lists act log.calls log.encoder in
+    rw same (failure_keeps InternalError (last_processed log) (called log act OutOfMemory)
+    (quiet_called log act OutOfMemory lists.0 lists.1 is))
+
+-- A new log.
+begins_sent : (role : Role) (values : Values) → LogIsSent (opened role values)
+unfolding opened with_sent blocks_written lists_accepted lists_of
+begins_sent role values =
+    record { sendings = []; limits = []; lists = refl; octets = refl; encoder_is = refl }
+
+-- Every log.
+log_sent : (role : Role) (values : Values) (log : Log) → IsLog role values log → LogIsSent log
+unfolding used
+log_sent role values _ (begins in_range) = begins_sent role values
+log_sent role values _ (took_some {log = log} is takes octets unparsed read) =
+    log_sent role values log is
+log_sent role values _ (took_one {log = log} is takes octets frame decoded read sees) =
+    frame_keeps (used log octets []) decoded frame (log_sent role values log is)
+log_sent role values _ (met_fault {log = log} is takes octets fault at) =
+    failure_keeps (wire_fault_code fault) _ (used log octets []) (log_sent role values log is)
+log_sent role values _ (ran_out_of_memory {log = log} is up octets may) =
+    failure_keeps InternalError _ (used log octets []) (log_sent role values log is)
+log_sent role values _ (reported_one {log = log} is up some) =
+    reports_keep _ _ (unreturned_keeps _ log (log_sent role values log is))
+log_sent role values _ (called_one {log = log} is act answer typed may) =
+    call_keeps log act answer (log_sent role values log is) may
+
+pub log_has_sendings : (role : Role) (values : Values) (log : Log) → IsLog role values log
+    → HasSendings log
+log_has_sendings role values log is =
+    let sent = log_sent role values log is in
+    record {
+      sendings = sent.sendings;
+      limits = sent.limits;
+      lists = sent.lists;
+      octets = sent.octets;
+      encoder = sent.encoder_is;
+    }
