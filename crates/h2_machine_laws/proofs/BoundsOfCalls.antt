@@ -36,7 +36,9 @@ use Rattle.h2_log_laws.proofs.ItemSizes.{size_of, size-reset, size-update, size-
 use Rattle.h2_log_laws.proofs.ItemSizes.{size-goaway, size-ping, size-opening, size-change}
 use Rattle.h2_log_laws.proofs.ItemSizes.{size-block, size-data}
 use Rattle.h2_log_laws.proofs.CallConditions.{AreFalse, none_holds, neither_one, neither_other}
-use Rattle.h2_machine_laws.proofs.BoundsOfSteps.{Up, is_up, is_bounded, failed_bounded, with_active, other_encoder, joined, credit_returned, reset_up, changed_up}
+use Rattle.h2_machine_laws.proofs.BoundsOfSteps.{Up, is_up, is_bounded, failed_bounded, with_active}
+use Rattle.h2_machine_laws.proofs.BoundsOfSteps.{other_encoder, joined, credit_returned, reset_up}
+use Rattle.h2_machine_laws.proofs.BoundsOfSteps.{changed_up}
 
 -- A connection hasn't failed where it isn't that it has.
 is_running : (x : Option Code) → is_some x ≡ false → x ≡ None

@@ -27,13 +27,15 @@ use Rattle.h2_log_laws.proofs.AllowedHistories.{wrote_settings}
 use Rattle.h2_log_laws.proofs.InvariantSends.{client_since}
 use Rattle.h2_log_laws.proofs.CallConditions.{first_none, none_since}
 use Rattle.h2_log_laws.proofs.LogViewLemmas.{stream_is_active, open_out}
-use Rattle.h2_machine_laws.proofs.CallFailing.{refused_represents, out_of_memory_represents, refuse_represents}
+use Rattle.h2_machine_laws.proofs.CallFailing.{refused_represents, out_of_memory_represents}
+use Rattle.h2_machine_laws.proofs.CallFailing.{refuse_represents}
 use Rattle.h2_machine_laws.proofs.CallOpen.{IsClear, open_up}
 use Rattle.h2_machine_laws.proofs.CallRefusals.{refusal_same}
 use Rattle.h2_machine_laws.proofs.CallRelease.{release_up}
 use Rattle.h2_machine_laws.proofs.CallReset.{reset_call_up}
 use Rattle.h2_machine_laws.proofs.CallSend.{fields_up, data_up}
-use Rattle.h2_machine_laws.proofs.CallWithoutStream.{ping_up, goaway_up, settings_up, put_out_represents}
+use Rattle.h2_machine_laws.proofs.CallWithoutStream.{ping_up, goaway_up, settings_up}
+use Rattle.h2_machine_laws.proofs.CallWithoutStream.{put_out_represents}
 use Rattle.h2_machine_laws.proofs.LogCore.{core}
 use Rattle.h2_machine_laws.proofs.RepresentedSteps.{Up, up_of, represents_after}
 

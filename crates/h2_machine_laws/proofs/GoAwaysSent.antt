@@ -1,8 +1,8 @@
 -- At a server that hasn't failed no active stream is above the last one that was processed, whether
 -- a GOAWAY was sent or not. So the GOAWAY of a failure closes none.
-use Rattle.std.proofs.Common.{◌≡◌, ℕ, ◌+◌, ◌≤◌, ◌<◌, ◌&&◌, ◌||◌, nat_lt, Bool}
-use Rattle.std.proofs.Common.{true, false, if◌then◌else◌, List, [], ◌∷◌, ◌++◌}
-use Rattle.std.proofs.Common.{Option, Some, None, refl, sym, ap, subst, ◌∙◌, arith}
+use Rattle.std.proofs.Common.{◌≡◌, ℕ, ◌+◌, ◌≤◌, ◌<◌, ◌&&◌, ◌||◌, nat_lt, Bool, true, false}
+use Rattle.std.proofs.Common.{if◌then◌else◌, List, [], ◌∷◌, ◌++◌, Option, Some, None, refl, sym, ap}
+use Rattle.std.proofs.Common.{subst, ◌∙◌, arith}
 use Rattle.std.specs.List.{list_any}
 use Rattle.std.proofs.lemmas.Bool.{both_ways, or_left, or_right, lt-ltb, ltb-false, ltb-true}
 use Rattle.h2_frame.specs.declared.code.Code.{Code}
@@ -27,11 +27,9 @@ use Rattle.h2_log.specs.Verdicts.{Verdict, ConnectionFault, StreamFault, NoEvent
 use Rattle.h2_log.specs.ItemRules.{Decoded, FrameStep, fails_with, begins_block, completes}
 use Rattle.h2_log.specs.ItemRules.{frame_step, replies_to}
 use Rattle.h2_log.specs.View.{ended_in}
-use Rattle.h2_log.specs.CallRules.{items_of, answer_of}
-use Rattle.h2_log.specs.CallRules.{returns_before_put_out}
+use Rattle.h2_log.specs.CallRules.{items_of, answer_of, returns_before_put_out}
 use Rattle.h2_log.specs.LogSteps.{read, used, with_sent, with_reported, with_credit_returned}
-use Rattle.h2_log.specs.LogSteps.{with_unreturned, with_verdict, with_step}
-use Rattle.h2_log.specs.LogSteps.{with_frame, took_none}
+use Rattle.h2_log.specs.LogSteps.{with_unreturned, with_verdict, with_step, with_frame, took_none}
 use Rattle.h2_log.specs.LogCalls.{opened, called, with_items, refused_with, before_put_out}
 use Rattle.h2_log.specs.LogCalls.{with_call, MayAnswer, accepts, refuses, lacks, fails}
 use Rattle.h2_log.specs.Histories.{IsLog, begins, took_some, took_one, met_fault, ran_out_of_memory}

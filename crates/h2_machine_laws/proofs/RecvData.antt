@@ -5,8 +5,7 @@ use Rattle.std.proofs.Common.{sym, ◌∙◌, arith, zero-add}
 use Rattle.std.specs.List.{list_any}
 use Rattle.std.specs.FinMap as map
 use Rattle.std.proofs.lemmas.Int.{ints}
-use Rattle.std.proofs.lemmas.Bool.{both_ways, ne_eqb, eq-eqb, or_right}
-use Rattle.std.proofs.lemmas.Bool.{false_from_ne_true}
+use Rattle.std.proofs.lemmas.Bool.{both_ways, ne_eqb, eq-eqb, or_right, false_from_ne_true}
 use Rattle.h2_frame.specs.Frames.{Data}
 use Rattle.h2_frame.specs.Encoding.{stream_of, payload_of}
 use Rattle.h2_block.specs.Grouping.{Item, alone}
@@ -23,21 +22,24 @@ use Rattle.h2_log.specs.ItemRules.{Decoded, replies_to}
 use Rattle.h2_log.specs.LogSteps.{read, with_sent, with_reported, with_unreturned, owed_at_close}
 use Rattle.h2_log.specs.LogSteps.{with_verdict}
 use Rattle.h2_log.specs.ItemEffects.{events_of, discarded_flow}
-use Rattle.h2_machine.specs.End.{End, StreamMap, active_entry, owed_entry}
+use Rattle.h2_machine.specs.End.{End, StreamMap, active_entry, owed_entry, Streams}
 use Rattle.h2_log.specs.View.{StreamView}
 use Rattle.h2_machine.specs.Machine.{set_stream, close_stream, with_flow, after_reported}
 use Rattle.h2_log.specs.declared.role.Role.{Role}
 use Rattle.h2_log.specs.declared.role.Role.TheVariants.{Client, Server}
-use Rattle.h2_machine.specs.End.{Streams}
-use Rattle.h2_machine_laws.proofs.LogCore.{StreamsOf, said, Core, core, CoreFacts, core_facts, Advances, Going, confirmed, active_by_items}
+use Rattle.h2_machine_laws.proofs.LogCore.{StreamsOf, said, Core, core, CoreFacts, core_facts}
+use Rattle.h2_machine_laws.proofs.LogCore.{Advances, Going, confirmed, active_by_items}
 use Rattle.h2_machine_laws.proofs.OwedAtClose.{none_owing, owes_all}
 use Rattle.h2_machine_laws.proofs.OwedSums.{get_set_same}
-use Rattle.h2_machine_laws.proofs.RecvEvents.{reported_by, report, ChangesNoStream, active_reported, same_reported, taken_kept}
+use Rattle.h2_machine_laws.proofs.RecvEvents.{reported_by, report, ChangesNoStream, active_reported}
+use Rattle.h2_machine_laws.proofs.RecvEvents.{same_reported, taken_kept}
 use Rattle.h2_machine_laws.proofs.RecvRead.{reads, read_step, same_read}
-use Rattle.h2_machine_laws.proofs.RecvReset.{data_common, data_apart, data_used, data_gives, data_takes}
+use Rattle.h2_machine_laws.proofs.RecvReset.{data_common, data_apart, data_used, data_gives}
+use Rattle.h2_machine_laws.proofs.RecvReset.{data_takes}
 use Rattle.h2_machine_laws.proofs.RecvReturnedCredit.{After, returned, unsettled}
 use Rattle.h2_machine_laws.proofs.RecvVerdict.{stream_said}
-use Rattle.h2_machine_laws.proofs.StreamsSame.{streams_set, streams_closed, said_over, same_both, SameAt, same_stream}
+use Rattle.h2_machine_laws.proofs.StreamsSame.{streams_set, streams_closed, said_over, same_both}
+use Rattle.h2_machine_laws.proofs.StreamsSame.{SameAt, same_stream}
 use Rattle.h2_machine_laws.proofs.WaitingOutput.{Waits}
 use Rattle.h2_log_laws.proofs.ReaderStates.{active_parts, active_from, lasts_parts, lasts_from}
 

@@ -1,6 +1,6 @@
 -- What reading an item makes of each subject of an end, by what it makes of the streams.
-use Rattle.std.proofs.Common.{◌≡◌, ℕ, ◌+◌, true, false, List, []}
-use Rattle.std.proofs.Common.{◌∷◌, refl, sym, ◌∙◌, arith, zero-add}
+use Rattle.std.proofs.Common.{◌≡◌, ℕ, ◌+◌, true, false, List, [], ◌∷◌, refl, sym, ◌∙◌, arith}
+use Rattle.std.proofs.Common.{zero-add}
 use Rattle.std.specs.List.{list_any}
 use Rattle.std.proofs.lemmas.Bool.{both_ways, false_from_ne_true}
 use Rattle.h2_block.specs.Grouping.{Item}

@@ -21,10 +21,12 @@ use Rattle.h2_log.specs.ItemEffects.{events_of, discarded_flow}
 use Rattle.h2_machine.specs.End.{End, owed_entry}
 use Rattle.h2_machine.specs.Machine.{after_ignored, after_reported}
 use Rattle.h2_log_laws.proofs.ReaderStates.{active_parts, lasts_parts}
-use Rattle.h2_machine_laws.proofs.LogCore.{Core, core, CoreFacts, core_facts, Advances, Going, active_by_items, kept_back, greatest_used}
+use Rattle.h2_machine_laws.proofs.LogCore.{Core, core, CoreFacts, core_facts, Advances, Going}
+use Rattle.h2_machine_laws.proofs.LogCore.{active_by_items, kept_back, greatest_used}
 use Rattle.h2_machine_laws.proofs.OwedAtClose.{dead_owing, owes_all}
 use Rattle.h2_machine_laws.proofs.RecvEvents.{ChangesNoStream, quiet_reported, active_reported}
-use Rattle.h2_machine_laws.proofs.RecvRead.{used_read, reads, IsCommon, read_step, IsApart, same_read, same_dead, stays_dead}
+use Rattle.h2_machine_laws.proofs.RecvRead.{used_read, reads, IsCommon, read_step, IsApart}
+use Rattle.h2_machine_laws.proofs.RecvRead.{same_read, same_dead, stays_dead}
 use Rattle.h2_machine_laws.proofs.RecvReturnedCredit.{After, returned, unsettled}
 use Rattle.h2_machine_laws.proofs.RecvVerdict.{active_said}
 use Rattle.h2_machine_laws.proofs.StreamsSame.{streams_same, streams_closed, SameAt, said_removed}

@@ -27,13 +27,16 @@ use Rattle.h2_machine.specs.End.{End, active_entry, stream_at}
 use Rattle.h2_machine.specs.Machine.{widen_send_window, set_stream, after_ignored, after_reported}
 use Rattle.h2_log_laws.proofs.StreamNumbers.{last_none}
 use Rattle.h2_log_laws.proofs.ReleasedCredit.{gives_here}
-use Rattle.h2_machine_laws.proofs.LogCore.{said, Core, core, CoreFacts, core_facts, Advances, Going, active_by_items, greatest_used}
+use Rattle.h2_machine_laws.proofs.LogCore.{said, Core, core, CoreFacts, core_facts, Advances, Going}
+use Rattle.h2_machine_laws.proofs.LogCore.{active_by_items, greatest_used}
 use Rattle.h2_machine_laws.proofs.OwedAtClose.{none_owing, dead_owing, zero_dead}
 use Rattle.h2_machine_laws.proofs.RecvEvents.{ChangesNoStream, quiet_reported}
-use Rattle.h2_machine_laws.proofs.RecvRead.{windows_read, peer_read, active_read, used_read, reads, IsCommon, read_step, IsApart, same_read, same_dead}
+use Rattle.h2_machine_laws.proofs.RecvRead.{windows_read, peer_read, active_read, used_read, reads}
+use Rattle.h2_machine_laws.proofs.RecvRead.{IsCommon, read_step, IsApart, same_read, same_dead}
 use Rattle.h2_machine_laws.proofs.RecvReturnedCredit.{After, unsettled}
 use Rattle.h2_machine_laws.proofs.RecvVerdict.{stream_said, none_said}
-use Rattle.h2_machine_laws.proofs.StreamsSame.{streams_same, streams_set, SameAt, active_some, same_stream}
+use Rattle.h2_machine_laws.proofs.StreamsSame.{streams_same, streams_set, SameAt, active_some}
+use Rattle.h2_machine_laws.proofs.StreamsSame.{same_stream}
 use Rattle.h2_machine_laws.proofs.WaitingOutput.{Waits}
 
 -- the least last stream with one more, by whether there was one
@@ -274,7 +277,8 @@ update_by e log decoded i n false dead w g =
     (unsettled (if i == 0 then record e { windows = record e.windows { send = e.windows.send + n } }
     else e) (read log decoded item) [] _
     (omega (arith, none_owing log (read log decoded item) i (update_active (core log) i n i)))
-    (widened_waits e log decoded item n (i == 0) w) (widened_unreturned e n (i == 0) ∙ g.windows.unreturned)
+    (widened_waits e log decoded item n (i == 0) w) (widened_unreturned e n (i == 0) ∙
+    g.windows.unreturned)
     (widened_by e log i n (i == 0) refl dead g))
 
 -- What a WINDOW_UPDATE makes of an end.

@@ -2,7 +2,7 @@
 -- at its log.
 use Rattle.std.proofs.Common.{ℤ, ◌∙◌, ◌≡◌, ℕ, ◌+◌, Bool, true, false, ◌==◌, nat_lt, ◌||◌, cond, T}
 use Rattle.std.proofs.Common.{if◌then◌else◌, List, [], ◌∷◌, length, Option, Some, None, Less, Equal}
-use Rattle.std.proofs.Common.{Greater, Ordering, refl, ap, ap₂, sym, ◌∙◌, inl, inr, arith}
+use Rattle.std.proofs.Common.{Greater, Ordering, refl, ap, ap₂, sym, inl, inr, arith}
 use Rattle.std.specs.List.{list_any}
 use Rattle.std.specs.FinMap as map
 use Rattle.std.specs.FinMap.Entries.{below_all}
@@ -33,7 +33,8 @@ use Rattle.h2_machine.specs.Represents.{entry_by}
 use Rattle.h2_log_laws.proofs.LogViewLemmas.{int_above}
 use Rattle.h2_machine_laws.proofs.LogCore.{said, Core, core, Going}
 use Rattle.h2_machine_laws.proofs.OwedSums.{first, second, less}
-use Rattle.h2_machine_laws.proofs.RecvVerdict.{Sound, active_said, state_same, block_verdict_same, recv_same, send_same}
+use Rattle.h2_machine_laws.proofs.RecvVerdict.{Sound, active_said, state_same, block_verdict_same}
+use Rattle.h2_machine_laws.proofs.RecvVerdict.{recv_same, send_same}
 use Rattle.h2_machine_laws.proofs.ViewsAgree.{stream_same}
 use Rattle.h2_machine_laws.proofs.WaitingOutput.{Waits, waits_much}
 use Rattle.h2_log_laws.proofs.ReaderStates.{active_parts}
@@ -208,7 +209,8 @@ above_same e log new g =
     any_found e.peer.initial_window new from.i (map.entries e.streams.entries)
     (active_entry (said (core log) from.i))
     (sym (map.get-entries e.streams.entries from.i) ∙ active_said e (core log) from.i g both.0)
-    (ap (λ (o : ℕ). above_by_shift o new (active_entry (said (core log) from.i))) g.peer.initial_window
+    (ap (λ (o : ℕ). above_by_shift o new (active_entry (said (core log) from.i)))
+    g.peer.initial_window
     ∙ said_above (core log) from.i new ∙ both.1))
 
 -- The fault of SETTINGS is the same.

@@ -1,6 +1,6 @@
 -- What an item that is sent leaves of each subject of an end.
-use Rattle.std.proofs.Common.{◌≡◌, ◌≢◌, ℕ, ◌+◌, max, nat_lt, true, false, List, ◌∷◌, Option}
-use Rattle.std.proofs.Common.{refl, sym, ap, ◌∙◌, arith, zero-add}
+use Rattle.std.proofs.Common.{◌≡◌, ◌≢◌, ℕ, ◌+◌, max, nat_lt, true, false, List, ◌∷◌, Option, refl}
+use Rattle.std.proofs.Common.{sym, ap, ◌∙◌, arith, zero-add}
 use Rattle.std.specs.List.{list_any}
 use Rattle.h2_block.specs.Grouping.{Item}
 use Rattle.h2_log.specs.declared.role.Role.{Role}
@@ -17,7 +17,8 @@ use Rattle.h2_log.specs.Log.{newest_ping, released}
 use Rattle.h2_machine.specs.End.{ConnectionWindows, Streams, OwnSettings, GoAways}
 use Rattle.h2_machine.specs.Represents.{goaway_sent_last, RepresentsWindows, RepresentsOwn}
 use Rattle.h2_machine.specs.Represents.{RepresentsGoAways}
-use Rattle.h2_machine_laws.proofs.LogCore.{Core, CoreFacts, Advances, StreamsOf, PingOf, confirmed, active_by_items}
+use Rattle.h2_machine_laws.proofs.LogCore.{Core, CoreFacts, Advances, StreamsOf, PingOf, confirmed}
+use Rattle.h2_machine_laws.proofs.LogCore.{active_by_items}
 use Rattle.h2_machine_laws.proofs.OneItemMore.{total_quiet, any_quiet, own_quiet, settings_quiet}
 use Rattle.h2_machine_laws.proofs.StreamsSame.{SameAt, active_some, streams_same}
 

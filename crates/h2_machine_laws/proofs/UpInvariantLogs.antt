@@ -1,7 +1,7 @@
 -- Every log that hasn't failed has what is asked of it; and what each step keeps.
-use Rattle.std.proofs.Common.{◌≡◌, ◌≢◌, ℕ, ◌≤◌, ◌==◌, max, nat_lt, ◌&&◌, ◌||◌, Bool, true}
-use Rattle.std.proofs.Common.{false, if◌then◌else◌, List, [], ◌∷◌, ◌++◌, Option, Some, None}
-use Rattle.std.proofs.Common.{refl, sym, ap, ◌∙◌, arith}
+use Rattle.std.proofs.Common.{◌≡◌, ◌≢◌, ℕ, ◌≤◌, ◌==◌, max, nat_lt, ◌&&◌, ◌||◌, Bool, true, false}
+use Rattle.std.proofs.Common.{if◌then◌else◌, List, [], ◌∷◌, ◌++◌, Option, Some, None, refl, sym, ap}
+use Rattle.std.proofs.Common.{◌∙◌, arith}
 use Rattle.std.specs.List.{list_any}
 use Rattle.std.proofs.lemmas.Bool.{both_ways, or_left, eq-eqb, ne_eqb}
 use Rattle.h2_frame.specs.declared.code.Code.{Code}
@@ -21,9 +21,8 @@ use Rattle.h2_log.specs.Verdicts.{Verdict, ConnectionFault, StreamFault, NoEvent
 use Rattle.h2_log.specs.ItemRules.{Decoded, FrameStep, fails_with, begins_block, completes}
 use Rattle.h2_log.specs.ItemRules.{frame_step, over_limits, replies_to, verdict_by_rules}
 use Rattle.h2_log.specs.ItemRules.{verdict_of}
-use Rattle.h2_log.specs.LogSteps.{read, with_sent, with_reported, with_unreturned}
-use Rattle.h2_log.specs.LogSteps.{owed_at_close, with_verdict, with_step, with_frame, used}
-use Rattle.h2_log.specs.LogSteps.{took_none}
+use Rattle.h2_log.specs.LogSteps.{read, with_sent, with_reported, with_unreturned, owed_at_close}
+use Rattle.h2_log.specs.LogSteps.{with_verdict, with_step, with_frame, used, took_none}
 use Rattle.h2_log.specs.ItemEffects.{events_of}
 use Rattle.h2_log.specs.LogCalls.{opened, with_call}
 use Rattle.h2_log.specs.Histories.{IsLog, begins, took_some, took_one, met_fault, ran_out_of_memory}
@@ -35,7 +34,8 @@ use Rattle.h2_log_laws.proofs.ReaderStates.{active_parts}
 use Rattle.h2_log_laws.proofs.LogInvariant.{active_before}
 use Rattle.h2_log_laws.proofs.LogGrowth.{grows_twice, grows_wrote, grows_with_unreturned}
 use Rattle.h2_log_laws.proofs.LogGrowth.{grows_call}
-use Rattle.h2_machine_laws.proofs.UpInvariant.{IsUpLog, IsUpLogBy, up_log_grown, up_log_read, openings_server, greatest_after}
+use Rattle.h2_machine_laws.proofs.UpInvariant.{IsUpLog, IsUpLogBy, up_log_grown, up_log_read}
+use Rattle.h2_machine_laws.proofs.UpInvariant.{openings_server, greatest_after}
 use Rattle.h2_machine_laws.proofs.UpInvariantReads.{item_reads}
 
 -- A verdict after the limits that is no fault of the connection is that before them, by the test.

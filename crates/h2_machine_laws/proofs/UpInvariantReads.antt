@@ -27,10 +27,8 @@ use Rattle.h2_log.specs.ItemRules.{verdict_of_fault}
 use Rattle.h2_log.specs.ItemEffects.{events_of}
 use Rattle.h2_log.specs.declared.role.Role.{Role}
 use Rattle.h2_log.specs.declared.role.Role.TheVariants.{Client, Server}
-use Rattle.h2_log_laws.proofs.ItemLists.{any_after}
+use Rattle.h2_log_laws.proofs.ItemLists.{any_after, total_one, total_none}
 use Rattle.h2_log_laws.proofs.ReaderStates.{state_idle}
-use Rattle.h2_log_laws.proofs.ItemLists.{total_one}
-use Rattle.h2_log_laws.proofs.ItemLists.{total_none}
 use Rattle.h2_machine_laws.proofs.UpInvariant.{IsUpLog, Reads, idle_above, pairs_size}
 
 -- The events of an item report no stream as unprocessed.
