@@ -109,16 +109,8 @@ items_represent role log act answer items represents up is moves =
 pub released_refused : (j : ℕ) (act : Act) (refusal : Refusal) (calls : List (Act × Answer))
     → released j ((act, Refused refusal) ∷ calls) ≡ released j calls
 unfolding released
-released_refused j (Open fields end) refusal calls = refl
-released_refused j (SendFields id fields end) refusal calls = refl
-released_refused j (SendData id octets end) refusal calls = refl
 released_refused j (Release id count) refusal calls = refl
-released_refused j (ResetStream id code) refusal calls = refl
-released_refused j (Refuse id code) refusal calls = refl
-released_refused j (SendPing octets) refusal calls = refl
-released_refused j SendGoAway refusal calls = refl
-released_refused j (PutOut count) refusal calls = refl
-released_refused j (ChangeSettings values) refusal calls = refl
+released_refused j act refusal calls = refl
 
 -- The invariant holds after a refused call.
 pub refused_represents : (role : Role) (log : Log) (act : Act) (refusal : Refusal)
@@ -201,19 +193,7 @@ failed_represents role log (Refuse id code) may represents none =
     (recalled_represents role (history_of log) ((Refuse id code, OutOfMemory) ∷ log.calls)
     (λ j. refl) represents)
     (none_since log.failed (first_none _ _ _ none).0)
-failed_represents role log (Open fields end) may represents none = absurd (both_ways true may refl)
-failed_represents role log (SendFields id fields end) may represents none = absurd
-    (both_ways true may refl)
-failed_represents role log (SendData id octets end) may represents none = absurd
-    (both_ways true may refl)
-failed_represents role log (Release id count) may represents none = absurd (both_ways true may refl)
-failed_represents role log (ResetStream id code) may represents none = absurd
-    (both_ways true may refl)
-failed_represents role log (SendPing octets) may represents none = absurd (both_ways true may refl)
-failed_represents role log SendGoAway may represents none = absurd (both_ways true may refl)
-failed_represents role log (PutOut count) may represents none = absurd (both_ways true may refl)
-failed_represents role log (ChangeSettings values) may represents none = absurd
-    (both_ways true may refl)
+failed_represents role log act may represents none = absurd (both_ways true may refl)
 
 -- The invariant holds after sending a PING.
 pub ping_represents : (role : Role) (log : Log) (octets : List ℕ)

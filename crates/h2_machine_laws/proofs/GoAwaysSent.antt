@@ -108,19 +108,9 @@ replies_none : (v : Verdict) (item : Item) → list_any is_goaway (replies_to v 
 unfolding replies_to is_goaway
 replies_none (ConnectionFault code) item = refl
 replies_none (StreamFault code) item = refl
-replies_none NoEvent (block stream end octets) = refl
-replies_none NoEvent (alone (Data stream end octets pad)) = refl
-replies_none NoEvent (alone (Headers stream end last fragment pad priority)) = refl
-replies_none NoEvent (alone (Priority stream octets)) = refl
-replies_none NoEvent (alone (Reset stream code)) = refl
-replies_none NoEvent (alone (Settings true pairs)) = refl
 replies_none NoEvent (alone (Settings false pairs)) = refl
-replies_none NoEvent (alone (Ping true octets)) = refl
 replies_none NoEvent (alone (Ping false octets)) = refl
-replies_none NoEvent (alone (GoAway last code debug)) = refl
-replies_none NoEvent (alone (WindowUpdate stream increment)) = refl
-replies_none NoEvent (alone (Continuation stream last fragment)) = refl
-replies_none NoEvent (alone (Unknown kind flags stream payload)) = refl
+replies_none NoEvent item = refl
 replies_none Reported item = refl
 
 -- An item that is no fault of the connection keeps it.
@@ -189,21 +179,16 @@ low_items : (log : Log) (act : Act) → IsLow log
     → HasLow (greatest_processed log.reported)
     (items_of (log_view log) act (answer_of (log_view log) act) ++ log.sent)
 unfolding items_of is_goaway last_processed
-low_items log (Open fields end) low = low_none_of log (Open fields end) refl low
-low_items log (SendFields id fields end) low = low_none_of log (SendFields id fields end) refl low
 low_items log (SendData id octets end) low =
     low_none_of log (SendData id octets end) (none_counted _ (none_of_items one_goaway data_counted
     (log_view log).max_payload id octets end _)) low
 low_items log (Release id count) low =
     low_none_of log (Release id count)
     (release_none id count (ended_in ((log_view log).stream id))) low
-low_items log (ResetStream id code) low = low_none_of log (ResetStream id code) refl low
-low_items log (Refuse id code) low = low_none_of log (Refuse id code) refl low
-low_items log (SendPing octets) low = low_none_of log (SendPing octets) refl low
 low_items log SendGoAway low =
     low_goaway log log.sent (last_low (is_server log.role) (greatest_processed log.reported))
 low_items log (PutOut count) low = low
-low_items log (ChangeSettings values) low = low_none_of log (ChangeSettings values) refl low
+low_items log act low = low_none_of log act refl low
 
 -- Items are written that keep it.
 low_sent : (log : Log) (items : List Item)
@@ -249,17 +234,9 @@ low_accepted : (log : Log) (act : Act) → IsLow log
     → (with_call log act (answer_of (log_view log) act)).failed ≡ None
     → IsLow (with_call log act (answer_of (log_view log) act))
 unfolding with_call
-low_accepted log (Open fields end) low up = low_call_items log (Open fields end) low
-low_accepted log (SendFields id fields end) low up = low_call_items log (SendFields id fields end)
-    low
-low_accepted log (SendData id octets end) low up = low_call_items log (SendData id octets end) low
-low_accepted log (Release id count) low up = low_call_items log (Release id count) low
-low_accepted log (ResetStream id code) low up = low_call_items log (ResetStream id code) low
 low_accepted log (Refuse id code) low up = low_refused log id code _ low up
-low_accepted log (SendPing octets) low up = low_call_items log (SendPing octets) low
-low_accepted log SendGoAway low up = low_call_items log SendGoAway low
 low_accepted log (PutOut count) low up = low_put_out log (PutOut count) _ low
-low_accepted log (ChangeSettings values) low up = low_call_items log (ChangeSettings values) low
+low_accepted log act low up = low_call_items log act low
 
 -- A call that is refused keeps it.
 low_refusal : (log : Log) (act : Act) (refusal : Refusal) → IsLow log
