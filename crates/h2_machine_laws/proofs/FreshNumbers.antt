@@ -47,16 +47,7 @@ item_low received sent (alone (Data stream end octets pad)) i allowed above =
     (active_parts Client stream received sent [] (allowed.1).goes_on.active).opened in
     let other : stream ≢ i = λ same. omega arith in
     (rw (ne_eqb stream i other) refl, rw (ne_eqb stream i other) refl)
-item_low received sent (alone (Headers stream end last fragment pad priority)) i allowed above =
-    (refl, refl)
-item_low received sent (alone (Priority stream octets)) i allowed above = (refl, refl)
-item_low received sent (alone (Reset stream code)) i allowed above = (refl, refl)
-item_low received sent (alone (Settings ack pairs)) i allowed above = (refl, refl)
-item_low received sent (alone (Ping ack octets)) i allowed above = (refl, refl)
-item_low received sent (alone (GoAway last code debug)) i allowed above = (refl, refl)
-item_low received sent (alone (WindowUpdate stream increment)) i allowed above = (refl, refl)
-item_low received sent (alone (Continuation stream last fragment)) i allowed above = (refl, refl)
-item_low received sent (alone (Unknown kind flags stream payload)) i allowed above = (refl, refl)
+item_low received sent item i allowed above = (refl, refl)
 
 -- A client has ended nothing, and sent nothing, of a number above all that it used.
 sent_low : (received sent : List Item) (i : ℕ) → AllowedHistory Client received sent

@@ -244,19 +244,14 @@ verdict_same e log decoded (alone (Data stream end octets pad)) role sound g =
     ∙ ap (λ (s : Option StreamView). data_verdict (state log stream)
     (exceeds n (log_view log).recv_window) (ended_in s)
     (exceeds_stream n s)) (stream_same e.streams (core log) stream g.streams)
-verdict_same e log decoded (alone (Headers stream end last fragment pad priority)) role sound g =
-    refl
-verdict_same e log decoded (alone (Priority stream octets)) role sound g = refl
 verdict_same e log decoded (alone (Reset stream code)) role sound g = ap reset_verdict
     (state_same e (core log) stream role sound g)
 verdict_same e log decoded (alone (Settings false pairs)) role sound g = ap verdict_of_fault
     (faults_same e log pairs role g)
 verdict_same e log decoded (alone (Settings true pairs)) role sound g = rw g.own.awaits refl
-verdict_same e log decoded (alone (Ping false octets)) role sound g = refl
 verdict_same e log decoded (alone (Ping true octets)) role sound g =
     ap (λ (ping : Option (List ℕ)). if is_awaited_ping octets ping then Reported else NoEvent)
     g.ping
-verdict_same e log decoded (alone (GoAway last code debug)) role sound g = refl
 verdict_same e log decoded (alone (WindowUpdate stream increment)) role sound g =
     ap₂ (λ (a b : Verdict). if stream == 0 then a else b)
     (ap (λ (window : ℤ). connection_update_verdict increment (overflows_by increment window))
@@ -267,8 +262,7 @@ verdict_same e log decoded (alone (WindowUpdate stream increment)) role sound g 
     ∙ ap (λ (s : Option StreamView). update_verdict (state log stream) increment
     (overflows_stream increment s))
     (stream_same e.streams (core log) stream g.streams))
-verdict_same e log decoded (alone (Continuation stream last fragment)) role sound g = refl
-verdict_same e log decoded (alone (Unknown kind flags stream payload)) role sound g = refl
+verdict_same e log decoded item role sound g = refl
 
 -- The verdict of an item is the same after the limits.
 pub over_limits_same : (e : End) (log : Log) (decoded : Option Decoded) (item : Item) → Waits e log
