@@ -26,6 +26,7 @@ use Rattle.h2_machine.specs.End.{End, active_entry}
 use Rattle.h2_log.specs.View.{StreamView, View}
 use Rattle.h2_machine.specs.Machine.{new_stream, open_stream, with_encoder, after_call}
 use Rattle.h2_log_laws.proofs.ReaderStates.{active_from, lasts_from, active_parts}
+use Rattle.h2_machine_laws.proofs.ItemsApart.{block_apart}
 use Rattle.h2_machine_laws.proofs.LogCore.{Core, core, CoreFacts, core_facts, Advances, confirmed}
 use Rattle.h2_machine_laws.proofs.LogCore.{active_by_items, greatest_used, said, kept_back}
 use Rattle.h2_machine_laws.proofs.OneItemMore.{total_quiet, own_quiet}
@@ -127,13 +128,8 @@ others_same : (c : Core) (j i : ℕ) (end : Bool) (octets : List ℕ) → j ≢ 
 unfolding computing
 others_same c j i end octets other =
     let item = block i end octets in
-    same_sent j c item (record {
-      blocks = ne_eqb i j (λ same. other (sym same));
-      ended = rw (ne_eqb i j (λ same. other (sym same))) refl;
-      was_reset = refl;
-      below = refl;
-      flow = refl;
-    }) (λ alive. refl) (own_quiet 4 first_window (confirmed c) item c.sent refl)
+    same_sent j c item (block_apart i end octets j other) refl (λ alive. refl) (own_quiet 4
+    first_window (confirmed c) item c.sent refl)
 
 -- a window that is untouched: nothing was consumed, and nothing was added
 untouched_window : (own more consumed : ℕ) → more ≡ 0 → consumed ≡ 0

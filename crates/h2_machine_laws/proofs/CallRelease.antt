@@ -27,7 +27,6 @@ use Rattle.h2_log_laws.proofs.ReleasedCredit.{gives_here, released_here, updates
 use Rattle.h2_machine_laws.proofs.LogCore.{Core, core, CoreFacts, core_facts, Advances, confirmed}
 use Rattle.h2_machine_laws.proofs.LogCore.{active_by_items, said, kept_back}
 use Rattle.h2_machine_laws.proofs.OneItemMore.{total_quiet, own_quiet}
-use Rattle.h2_log_laws.proofs.ItemLists.{total_one}
 use Rattle.h2_machine_laws.proofs.OwedAtClose.{owes_active}
 use Rattle.h2_machine_laws.proofs.OwedSums.{get_set}
 use Rattle.h2_machine_laws.proofs.RepresentedSteps.{Up, views_of_up, wrote_up, nothing_unreturned}
@@ -37,6 +36,7 @@ use Rattle.h2_machine_laws.proofs.SentConnectionItems.{update_quiet}
 use Rattle.h2_machine_laws.proofs.SentQuietItems.{sends, same_sent, used_wrote, active_wrote}
 use Rattle.h2_machine_laws.proofs.SentQuietItems.{quiet_sent}
 use Rattle.h2_machine_laws.proofs.StreamsSame.{same_stream, streams_set, active_some}
+use Rattle.h2_log_laws.proofs.ItemLists.{total_one}
 use Rattle.h2_log_laws.proofs.LogViewLemmas.{stream_there}
 
 -- A number of a stream that is set twice, at each number.
@@ -143,7 +143,8 @@ granted_advances h c id count active_is g =
     quiet_sent h c item _ h.windows.recv q
     (omega (arith, update_other 0 id count (λ same. active_some c id active_is (sym same))))
     (streams_set h.streams id _ c (sends c item)
-    (λ j other. same_sent j c item (q.streams.apart j) (λ alive. update_other j id count other)
+    (λ j other. same_sent j c item (q.streams.apart j) (q.streams.below j) (λ alive. update_other j
+    id count other)
     (own_quiet 4 first_window (confirmed c) item c.sent refl)) active_is
     (active_wrote c.role id item c.received c.sent c.reported refl refl refl refl ∙ active_is)
     (granted_said c id count) (used_wrote c.role item c.received c.sent q.streams.greatest) refl

@@ -30,9 +30,9 @@ use Rattle.h2_machine_laws.proofs.CallOpen.{IsClear}
 use Rattle.h2_machine_laws.proofs.GoAwaysSent.{active_processed}
 use Rattle.h2_machine_laws.proofs.LogCore.{core, kept_back}
 use Rattle.h2_machine_laws.proofs.OneItemMore.{any_quiet}
-use Rattle.h2_log_laws.proofs.ItemLists.{total_one}
 use Rattle.h2_machine_laws.proofs.UpInvariant.{idle_above, greatest_after}
 use Rattle.h2_machine_laws.proofs.UpInvariantLogs.{up_log_of}
+use Rattle.h2_log_laws.proofs.ItemLists.{total_one}
 
 -- an item that a client may write neither ends nor consumes anything of a number above all before
 -- it

@@ -18,6 +18,7 @@ mod EachStream
 mod EveryUpLog
 mod FreshNumbers
 mod GoAwaysSent
+mod ItemsApart
 mod LogCore
 mod NewEnd
 mod NextUnprocessed

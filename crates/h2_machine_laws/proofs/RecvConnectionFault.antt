@@ -34,7 +34,7 @@ opened_same e log (Some decoded) (block i end octets) role sound g =
       state_same e (core log) i role sound g,
       role,
       max_streams_agree log.role e.own.in_force.max_streams (max_streams log)
-      g.own.in_force.max_streams,
+          g.own.in_force.max_streams,
       g.streams.active_count,
       g.goaway.last_sent,
       when_some (list_any is_goaway log.sent)

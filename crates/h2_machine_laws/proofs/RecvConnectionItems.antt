@@ -50,8 +50,8 @@ plain_quiet (WindowUpdate stream increment) is = absurd (both_ways false refl is
 plain_quiet frame is =
     record {
       common = record { leaves = refl; least = λ items. refl; settings = refl };
-      apart = λ i. record { blocks = refl; ended = refl; was_reset = refl; flow = refl; gives = refl
-          };
+      apart = λ i. record { blocks = refl; ended = refl; was_reset = refl; flow = refl };
+      gives = λ i. refl;
       greatest = λ items. refl;
       flow_of = refl;
     }

@@ -27,6 +27,7 @@ use Rattle.h2_log.specs.View.{StreamView}
 use Rattle.h2_machine.specs.Machine.{set_stream, close_stream, with_flow, after_reported}
 use Rattle.h2_log.specs.declared.role.Role.{Role}
 use Rattle.h2_log.specs.declared.role.Role.TheVariants.{Client, Server}
+use Rattle.h2_machine_laws.proofs.ItemsApart.{data_apart}
 use Rattle.h2_machine_laws.proofs.LogCore.{StreamsOf, said, Core, core, CoreFacts, core_facts}
 use Rattle.h2_machine_laws.proofs.LogCore.{Advances, Going, confirmed, active_by_items}
 use Rattle.h2_machine_laws.proofs.OwedAtClose.{none_owing, owes_all}
@@ -34,8 +35,7 @@ use Rattle.h2_machine_laws.proofs.OwedSums.{get_set_same}
 use Rattle.h2_machine_laws.proofs.RecvEvents.{reported_by, report, ChangesNoStream, active_reported}
 use Rattle.h2_machine_laws.proofs.RecvEvents.{same_reported, taken_kept}
 use Rattle.h2_machine_laws.proofs.RecvRead.{reads, read_step, same_read}
-use Rattle.h2_machine_laws.proofs.RecvReset.{data_common, data_apart, data_used, data_gives}
-use Rattle.h2_machine_laws.proofs.RecvReset.{data_takes}
+use Rattle.h2_machine_laws.proofs.RecvReset.{data_gives, data_common, data_used, data_takes}
 use Rattle.h2_machine_laws.proofs.RecvReturnedCredit.{After, returned, unsettled}
 use Rattle.h2_machine_laws.proofs.RecvVerdict.{stream_said}
 use Rattle.h2_machine_laws.proofs.StreamsSame.{streams_set, streams_closed, said_over, same_both}
@@ -76,11 +76,6 @@ data_ends : (i : ℕ) (end : Bool) (octets : List ℕ) (pad : Option ℕ)
 unfolding ends
 data_ends i end octets pad = rw (eq-eqb i i refl) refl
 
-data_still : (i : ℕ) (end : Bool) (octets : List ℕ) (pad : Option ℕ) (j : ℕ)
-    → increment_on j (alone (Data i end octets pad)) ≡ 0
-unfolding increment_on
-data_still i end octets pad j = refl
-
 data_unreset : (i : ℕ) (end : Bool) (octets : List ℕ) (pad : Option ℕ) (j : ℕ)
     → resets j (alone (Data i end octets pad)) ≡ false
 unfolding resets
@@ -117,7 +112,7 @@ flow_said c i end octets pad within =
     let n : ℕ = length (payload_of (Data i end octets pad)) in
     let d : Core = after_data c i end octets pad in
     same_stream (with_flow (said c i) n end) (said d i)
-    (rw (data_still i end octets pad i, zero-add) refl)
+    (rw (data_gives i end octets pad i, zero-add) refl)
     (rw (data_here i end octets pad, zero-add) (used_recv_window (granted_on i (confirmed c) c.sent)
     (total (data_on i) c.received) n))
     (rw (reported_here i octets n end) (more_kept n (reported_total (flow_on i) c.reported)
@@ -134,7 +129,7 @@ data_same c i end octets pad j other =
     (same_reported j c (DataEvent i octets n end) (reported_harmless i octets n end)
     (reported_elsewhere i octets n end j other))
     (same_read j c1 (alone (Data i end octets pad)) (data_common i end octets pad).settings
-    (data_apart i end octets pad j other))
+    (data_apart i end octets pad j other) (data_gives i end octets pad j))
 
 -- what stands among the openings stands among more
 opened_more : (role : Role) (i : ℕ) (item : Item) (received sent : List Item)
@@ -206,7 +201,7 @@ data_advances h c i end octets pad streams alive within are g =
     refl refl (taken_kept (is_server c.role) event c.reported (reported_shows i octets n end)) refl
     g.streams) g in
     read_step _ c1 (alone (Data i end octets pad)) streams h.windows.send (h.windows.recv - n)
-    (data_common i end octets pad) are (omega (arith, data_gives i end octets pad))
+    (data_common i end octets pad) are (omega (arith, data_gives i end octets pad 0))
     (omega (arith, within, data_takes i end octets pad)) one
 
 -- What DATA on an active stream makes of an end, by the test whether the stream is over.

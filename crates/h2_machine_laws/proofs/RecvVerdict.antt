@@ -147,7 +147,7 @@ block_verdict_same e log i (Some decoded) role sound g =
       stream_same e.streams (core log) i g.streams,
       role,
       max_streams_agree log.role e.own.in_force.max_streams (max_streams log)
-      g.own.in_force.max_streams,
+          g.own.in_force.max_streams,
       g.streams.active_count,
       g.goaway.last_sent,
       when_some (list_any is_goaway log.sent)
