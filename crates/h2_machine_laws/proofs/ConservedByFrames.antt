@@ -93,11 +93,6 @@ reset_no_fault Active code is = cc
 reset_no_fault ClosedByUs code is = cc
 reset_no_fault Closed code is = cc
 
--- SETTINGS are no fault of a stream.
-settings_no_fault : (x : Option Code) (code : Code) → verdict_of_fault x ≢ StreamFault code
-settings_no_fault None code is = cc
-settings_no_fault (Some other) code is = cc
-
 -- An increment of the connection's window is no fault of a stream, by the tests.
 connection_no_fault : (zero above : Bool) (code : Code)
     → (if zero then ConnectionFault ProtocolError
