@@ -26,7 +26,7 @@ use Rattle.h2_log.specs.ItemEffects.{events_of}
 use Rattle.h2_log.specs.LogSteps.{read}
 use Rattle.h2_log.specs.LogSteps.{with_verdict, with_step, with_frame}
 use Rattle.h2_log_laws.proofs.ReaderStates.{active_parts}
-use Rattle.h2_log_laws.proofs.ReplyInvariant.{state_active}
+use Rattle.h2_log_laws.proofs.ReaderStates.{state_active}
 use Rattle.h2_log_laws.proofs.LogHistory.{History, history_of}
 use Rattle.h2_end_laws.proofs.ReadVerdicts.{Says, says_of, says_data, closed_by_us_is}
 use Rattle.h2_end_laws.proofs.ReceiveWindows.{Kept, Steps, opened_in, quiet_steps}

@@ -28,6 +28,7 @@ use Rattle.h2_log.specs.Limits.{full_output}
 use Rattle.h2_log.specs.LogSteps.{read, with_sent, with_reported, with_unreturned, with_failure}
 use Rattle.h2_log.specs.LogSteps.{with_credit_returned, with_verdict, with_step, with_frame}
 use Rattle.h2_log.specs.Allowed.{AllowedHistory, starts, reads, writes}
+use Rattle.h2_log.specs.Limits.{max_frame_size_sent}
 use Rattle.h2_log_laws.specs.Sending.{IsSendable}
 use Rattle.h2_log_laws.proofs.ItemLists.{total_after}
 use Rattle.h2_log_laws.proofs.LogViewLemmas.{data_by_sums}
@@ -45,7 +46,7 @@ use Rattle.h2_end_laws.proofs.SendableItems.{step_fit}
 -- than the connection's window.
 pub record AreFit (received sent : List Item) (reported : List Event)
     (begun : Option Begun) : Type 0 where
-  pub sent_all : AllByRecursion IsSendable sent
+  pub sent_all : AllByRecursion (IsSendable max_frame_size_sent) sent
   pub received_all : AllByRecursion IsFitItem received
   pub processed : greatest_processed reported < 2 ^ 31
   pub begun_fit : IsFitBegun begun
@@ -64,11 +65,11 @@ LogIsAllowed role log = AllowedHistory role log.received log.sent
 
 -- More that can be sent.
 wrote_fit : (received items sent : List Item) (reported : List Event) (begun : Option Begun)
-    → AllByRecursion IsSendable items → AreFit received sent reported begun
+    → AllByRecursion (IsSendable max_frame_size_sent) items → AreFit received sent reported begun
     → AreFit received (items ++ sent) reported begun
 wrote_fit received items sent reported begun all are =
     record {
-      sent_all = all_of_both IsSendable items sent all are.sent_all;
+      sent_all = all_of_both (IsSendable max_frame_size_sent) items sent all are.sent_all;
       received_all = are.received_all;
       processed = are.processed;
       begun_fit = are.begun_fit;
@@ -76,7 +77,7 @@ wrote_fit received items sent reported begun all are =
     }
 
 pub wrote_keeps : (events : List Event) (log : Log) (items : List Item)
-    → AllByRecursion IsSendable items → PendingFit events log
+    → AllByRecursion (IsSendable max_frame_size_sent) items → PendingFit events log
     → PendingFit events (with_sent log items)
 unfolding with_sent
 wrote_keeps events log [] all are = are
@@ -100,7 +101,7 @@ update_allowed role received _ n sent (writes {sent = before} item with_sent all
 pub update_low : (role : Role) (n : ℕ) (received sent : List Item)
     → AllowedHistory role received (alone (WindowUpdate 0 n) ∷ sent)
     → total data_of received ≤ 65535 + total (increment_on 0) sent
-    → IsSendable (alone (WindowUpdate 0 n))
+    → IsSendable max_frame_size_sent (alone (WindowUpdate 0 n))
 update_low role n received sent with_sent credit =
     update_sendable 0 n (omega arith) (omega (
       arith,
@@ -285,7 +286,7 @@ processed_fit log decoded (alone (Unknown kind flags stream payload)) Reported f
 -- What is replied to a fit item can be sent.
 replies_sendable : (log : Log) (verdict : Verdict) (item : Item) → IsFitItem item
     → Says (IsFaulty log item) (MayBeSilent log.role log.sent item) (IsSaid log item) verdict
-    → AllByRecursion IsSendable (replies_to verdict item)
+    → AllByRecursion (IsSendable max_frame_size_sent) (replies_to verdict item)
 unfolding replies_to
 replies_sendable log (ConnectionFault code) item fit says = tt
 replies_sendable log (StreamFault code) item fit says = (

@@ -36,6 +36,7 @@ use Rattle.h2_log.specs.LogCalls.{with_call, MayAnswer, accepts, refuses, lacks,
 use Rattle.h2_log.specs.Histories.{IsLog, begins, took_some, took_one, met_fault, ran_out_of_memory}
 use Rattle.h2_log.specs.Histories.{reported_one, called_one}
 use Rattle.h2_log.specs.Allowed.{AllowedHistory}
+use Rattle.h2_log.specs.Limits.{max_frame_size_sent}
 use Rattle.h2_log_laws.specs.Sending.{IsSendable}
 use Rattle.h2_log_laws.specs.Sums.{sum_below}
 use Rattle.h2_log_laws.proofs.BlockSizes.{block_is_gathered}
@@ -55,7 +56,7 @@ use Rattle.h2_end_laws.proofs.Sendable.{credit_returned_keeps, unreturned_keeps,
 use Rattle.h2_end_laws.proofs.Sendable.{reports_allowed, failure_keeps, last_low, frame_keeps}
 
 -- The number of a block among items that can be sent has 31 bits.
-sent_low : (i : ℕ) (items : List Item) → AllByRecursion IsSendable items
+sent_low : (i : ℕ) (items : List Item) → AllByRecursion (IsSendable max_frame_size_sent) items
     → list_any (is_block_on i) items ≡ true → i < 2 ^ 31
 unfolding is_block_on
 sent_low i [] all some = absurd (both_ways false refl some)
@@ -79,7 +80,7 @@ received_low i (block stream end octets ∷ items) all some =
     ]
 
 opened_low : (role : Role) (i : ℕ) (received sent : List Item) → AllByRecursion IsFitItem received
-    → AllByRecursion IsSendable sent
+    → AllByRecursion (IsSendable max_frame_size_sent) sent
     → list_any (is_block_on i) (openings role received sent) ≡ true → i < 2 ^ 31
 opened_low Client i received sent fit sendable some = sent_low i sent sendable some
 opened_low Server i received sent fit sendable some = received_low i received fit some
@@ -101,7 +102,7 @@ active_above log i alive = some_above i (active_some log i alive)
 
 -- A call that writes what can be sent.
 items_keep : (role : Role) (log : Log) (act : Act) (answer : Answer)
-    → AllByRecursion IsSendable (items_of (log_view log) act answer) → LogIsFit log
+    → AllByRecursion (IsSendable max_frame_size_sent) (items_of (log_view log) act answer) → LogIsFit log
     → LogIsAllowed role (with_items log act answer) → LogIsFit (with_items log act answer)
 unfolding with_items
 items_keep role log act answer all are allowed =
@@ -129,7 +130,7 @@ number_low log with_sent none =
 open_sendable : (log : Log) (fields : List Field) (end : Bool)
     → AllowedHistory log.role log.received log.sent
     → refusal_of (log_view log) (Open fields end) ≡ None
-    → IsSendable (block (log_view log).next_number end (block_of log.encoder fields))
+    → IsSendable max_frame_size_sent (block (log_view log).next_number end (block_of log.encoder fields))
 unfolding conditions
 open_sendable log fields end with_sent none =
     let c1 = first_none _ _ _ none in
@@ -147,7 +148,7 @@ open_sendable log fields end with_sent none =
 -- What further fields write.
 fields_sendable : (log : Log) (id : ℕ) (fields : List Field) (end : Bool) → LogIsFit log
     → refusal_of (log_view log) (SendFields id fields end) ≡ None
-    → IsSendable (block id end (block_of log.encoder fields))
+    → IsSendable max_frame_size_sent (block id end (block_of log.encoder fields))
 unfolding conditions
 fields_sendable log id fields end are none =
     let c1 = first_none _ _ _ none in
@@ -169,7 +170,7 @@ payload_short log = omega arith
 -- What a body writes.
 data_call_sendable : (log : Log) (id : ℕ) (octets : List ℕ) (end : Bool) (count : ℕ)
     → LogIsFit log → refusal_of (log_view log) (SendData id octets end) ≡ None
-    → AllByRecursion IsSendable (data_items (max_payload_sent log) id octets end count)
+    → AllByRecursion (IsSendable max_frame_size_sent) (data_items (max_payload_sent log) id octets end count)
 unfolding conditions
 data_call_sendable log id octets end count are none =
     let c1 = first_none _ _ _ none in
@@ -208,7 +209,7 @@ owed_low log i good are alive =
 
 -- The updates of a release, by the test whether the peer has ended the stream.
 updates_by : (id count : ℕ) (ended : Bool) → id < 2 ^ 31 → count < 2 ^ 31
-    → AllByRecursion IsSendable (alone (WindowUpdate 0 count) ∷ (if ended then [] else alone
+    → AllByRecursion (IsSendable max_frame_size_sent) (alone (WindowUpdate 0 count) ∷ (if ended then [] else alone
     (WindowUpdate id count) ∷ []))
 updates_by id count true low small = (update_sendable 0 count (omega arith) small, tt)
 updates_by id count false low small =
@@ -217,7 +218,7 @@ updates_by id count false low small =
 -- What a release writes.
 release_sendable : (role : Role) (log : Log) (id count : ℕ) → Represents role (history_of log)
     → LogIsFit log → refusal_of (log_view log) (Release id count) ≡ None
-    → AllByRecursion IsSendable (alone (WindowUpdate 0 count) ∷ (if ended_in ((log_view log).stream
+    → AllByRecursion (IsSendable max_frame_size_sent) (alone (WindowUpdate 0 count) ∷ (if ended_in ((log_view log).stream
     id) then [] else alone (WindowUpdate id count) ∷ []))
 unfolding conditions
 release_sendable role log id count represents are none =
@@ -237,7 +238,7 @@ release_sendable role log id count represents are none =
 
 -- What resetting a stream writes.
 reset_call_sendable : (log : Log) (id code : ℕ) → LogIsFit log → active log id ≡ true
-    → code < 2 ^ 32 → AllByRecursion IsSendable (alone (Reset id code) ∷ [])
+    → code < 2 ^ 32 → AllByRecursion (IsSendable max_frame_size_sent) (alone (Reset id code) ∷ [])
 reset_call_sendable log id code are alive typed =
     (reset_sendable id code (active_above log id alive) (active_low log id are alive) typed, tt)
 
@@ -402,5 +403,5 @@ log_fit role values _ (called_one {log = log} is act answer typed may) =
 
 -- So each item that was written can be sent.
 pub written_sendable : (role : Role) (values : Values) (log : Log) → IsLog role values log
-    → AllByRecursion IsSendable log.sent
+    → AllByRecursion (IsSendable max_frame_size_sent) log.sent
 written_sendable role values log is = (log_fit role values log is).sent_all

@@ -1,11 +1,9 @@
 -- The invariant of a log holds after a call, other than those that send fields and bodies.
-use Rattle.std.proofs.Common.{◌≡◌, ◌≢◌, ℕ, zero, suc, zero-add, ◌==◌}
-use Rattle.std.proofs.Common.{◌%◌, nat_lt, Bool, true, false, if◌then◌else◌}
-use Rattle.std.proofs.Common.{List, [], ◌∷◌, ◌++◌, Option, None, Some, refl, sym, ◌∙◌}
-use Rattle.std.proofs.Common.{arith}
+use Rattle.std.proofs.Common.{◌≡◌, ◌≢◌, ℕ, zero, suc, zero-add, ◌==◌, ◌%◌, nat_lt, Bool, true}
+use Rattle.std.proofs.Common.{false, if◌then◌else◌, List, [], ◌∷◌, ◌++◌, Option, None, Some, refl}
+use Rattle.std.proofs.Common.{sym, ◌∙◌, arith}
 use Rattle.std.specs.Option.{is_some}
-use Rattle.std.proofs.lemmas.Bool.{both_ways, and_parts, ltb-true, ltb-false}
-use Rattle.std.proofs.lemmas.Bool.{not-true}
+use Rattle.std.proofs.lemmas.Bool.{both_ways, and_parts, ltb-true, ltb-false, not-true}
 use Rattle.h2_frame.specs.declared.code.Code.{Code}
 use Rattle.h2_frame.specs.declared.code.Code.TheVariants.{InternalError, EnhanceYourCalm}
 use Rattle.h2_frame.specs.Frames.{Reset, Settings, Ping, GoAway}
@@ -18,17 +16,16 @@ use Rattle.h2_log.specs.Events.{reported_total, one_pong}
 use Rattle.h2_log.specs.Acts.{Values, AreInRange, Act, Answer, Open, SendFields, SendData, Release}
 use Rattle.h2_log.specs.Acts.{ResetStream, Refuse, SendPing, SendGoAway, PutOut, ChangeSettings}
 use Rattle.h2_log.specs.Acts.{Count, Done, OutOfMemory, Refused}
-use Rattle.h2_log.specs.Log.{Log, active, released, acked}
-use Rattle.h2_log.specs.Log.{last_processed}
-use Rattle.h2_log.specs.Log.{newest_ping, ping_waits}
+use Rattle.h2_log.specs.Log.{Log, active, released, acked, last_processed, newest_ping, ping_waits}
 use Rattle.h2_log.specs.LogView.{log_view}
-use Rattle.h2_log.specs.CallRules.{may_lack_memory, returns_before_put_out, conditions}
-use Rattle.h2_log.specs.CallRules.{refusal_of, items_of, stream_of_act, refuse_fault, changed_pairs}
+use Rattle.h2_log.specs.CallRules.{may_lack_memory, returns_before_put_out, conditions, refusal_of}
+use Rattle.h2_log.specs.CallRules.{items_of, stream_of_act, refuse_fault, changed_pairs}
 use Rattle.h2_log.specs.LogSteps.{with_sent, with_reported, with_credit_returned, owed_at_close}
 use Rattle.h2_log.specs.LogCalls.{called, with_items, refused_with, before_put_out, with_call}
 use Rattle.h2_log.specs.Allowed.{AllowedHistory, writes, active_by_items}
 use Rattle.h2_log_laws.proofs.CallConditions.{first_none, none_since, and_other}
-use Rattle.h2_log_laws.proofs.InvariantSteps.{give_represents, fails_represents, recalled_represents, step_log}
+use Rattle.h2_log_laws.proofs.InvariantSteps.{give_represents, fails_represents}
+use Rattle.h2_log_laws.proofs.InvariantSteps.{recalled_represents, step_log}
 use Rattle.h2_log_laws.proofs.LogHistory.{History, history_of, active_in_view, given_by}
 use Rattle.h2_log_laws.proofs.LogInvariant.{Good, Represents, Moves}
 use Rattle.h2_log_laws.proofs.LogViewLemmas.{when_some, stream_is_active}
@@ -112,16 +109,8 @@ items_represent role log act answer items represents up is moves =
 pub released_refused : (j : ℕ) (act : Act) (refusal : Refusal) (calls : List (Act × Answer))
     → released j ((act, Refused refusal) ∷ calls) ≡ released j calls
 unfolding released
-released_refused j (Open fields end) refusal calls = refl
-released_refused j (SendFields id fields end) refusal calls = refl
-released_refused j (SendData id octets end) refusal calls = refl
 released_refused j (Release id count) refusal calls = refl
-released_refused j (ResetStream id code) refusal calls = refl
-released_refused j (Refuse id code) refusal calls = refl
-released_refused j (SendPing octets) refusal calls = refl
-released_refused j SendGoAway refusal calls = refl
-released_refused j (PutOut count) refusal calls = refl
-released_refused j (ChangeSettings values) refusal calls = refl
+released_refused j act refusal calls = refl
 
 -- The invariant holds after a refused call.
 pub refused_represents : (role : Role) (log : Log) (act : Act) (refusal : Refusal)
@@ -204,19 +193,7 @@ failed_represents role log (Refuse id code) may represents none =
     (recalled_represents role (history_of log) ((Refuse id code, OutOfMemory) ∷ log.calls)
     (λ j. refl) represents)
     (none_since log.failed (first_none _ _ _ none).0)
-failed_represents role log (Open fields end) may represents none = absurd (both_ways true may refl)
-failed_represents role log (SendFields id fields end) may represents none = absurd
-    (both_ways true may refl)
-failed_represents role log (SendData id octets end) may represents none = absurd
-    (both_ways true may refl)
-failed_represents role log (Release id count) may represents none = absurd (both_ways true may refl)
-failed_represents role log (ResetStream id code) may represents none = absurd
-    (both_ways true may refl)
-failed_represents role log (SendPing octets) may represents none = absurd (both_ways true may refl)
-failed_represents role log SendGoAway may represents none = absurd (both_ways true may refl)
-failed_represents role log (PutOut count) may represents none = absurd (both_ways true may refl)
-failed_represents role log (ChangeSettings values) may represents none = absurd
-    (both_ways true may refl)
+failed_represents role log act may represents none = absurd (both_ways true may refl)
 
 -- The invariant holds after sending a PING.
 pub ping_represents : (role : Role) (log : Log) (octets : List ℕ)

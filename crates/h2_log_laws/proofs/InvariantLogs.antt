@@ -21,7 +21,10 @@ use Rattle.h2_log.specs.Histories.{IsLog, begins, took_some, took_one, met_fault
 use Rattle.h2_log.specs.Histories.{reported_one, called_one}
 use Rattle.h2_log.specs.Allowed.{AllowedHistory, starts}
 use Rattle.h2_log_laws.specs.Sums.{sum_below}
-use Rattle.h2_log_laws.proofs.InvariantCalls.{refused_represents, reset_represents, refuse_represents, failed_represents, ping_represents, leave_represents, change_represents, put_out_represents}
+use Rattle.h2_log_laws.proofs.InvariantCalls.{refused_represents, reset_represents}
+use Rattle.h2_log_laws.proofs.InvariantCalls.{refuse_represents, failed_represents, ping_represents}
+use Rattle.h2_log_laws.proofs.InvariantCalls.{leave_represents, change_represents}
+use Rattle.h2_log_laws.proofs.InvariantCalls.{put_out_represents}
 use Rattle.h2_log_laws.proofs.InvariantReads.{frame_represents}
 use Rattle.h2_log_laws.proofs.InvariantSends.{open_represents, fields_represent, data_represents}
 use Rattle.h2_log_laws.proofs.InvariantSteps.{fails_represents, step_log}

@@ -1,6 +1,6 @@
 -- The invariant of a log holds after what an end takes.
-use Rattle.std.proofs.Common.{◌≡◌, ℕ, ◌≤◌, ◌==◌, Bool, true, false, if◌then◌else◌, List}
-use Rattle.std.proofs.Common.{[], ◌∷◌, ◌++◌, Option, None, Some, refl, arith}
+use Rattle.std.proofs.Common.{◌≡◌, ℕ, ◌≤◌, ◌==◌, Bool, true, false, if◌then◌else◌, List, [], ◌∷◌}
+use Rattle.std.proofs.Common.{◌++◌, Option, None, Some, refl, arith}
 use Rattle.std.proofs.lemmas.Bool.{both_ways}
 use Rattle.h2_frame.specs.declared.code.Code.{Code}
 use Rattle.h2_frame.specs.declared.code.Code.TheVariants.{ProtocolError, FlowControlError}
@@ -31,9 +31,9 @@ use Rattle.h2_log_laws.proofs.ReaderStates.{state_is_active}
 use Rattle.h2_log_laws.proofs.LogHistory.{history_of}
 use Rattle.h2_log_laws.proofs.LogInvariant.{Good, Represents, Moves}
 use Rattle.h2_log_laws.proofs.InvariantSteps.{fails_represents, step_log}
-use Rattle.h2_log_laws.proofs.ReplyInvariant.{active_resets, idle_resets}
-use Rattle.h2_log_laws.proofs.ReplyInvariant.{one_reported, none_reported, reset_reported}
-use Rattle.h2_log_laws.proofs.ReplyInvariant.{settings_answered, ping_answered, data_reported}
+use Rattle.h2_log_laws.proofs.ReplyInvariant.{active_resets, idle_resets, one_reported}
+use Rattle.h2_log_laws.proofs.ReplyInvariant.{none_reported, reset_reported, settings_answered}
+use Rattle.h2_log_laws.proofs.ReplyInvariant.{ping_answered, data_reported}
 
 -- what a verdict asks for: that the stream may be reset, or that the item may be reported
 abbrev pub Fits : (reset report : Type 0) → Verdict → Type 0
@@ -180,7 +180,8 @@ rules_fit log (Some decoded) (block stream end octets) with_sent =
 rules_fit log decoded (alone (Data stream end octets pad)) with_sent =
     data_fits (Resets log (alone (Data stream end octets pad))) (active log stream
     ≡ true) (state log stream) _ _ _
-    (active_faults log (alone (Data stream end octets pad)) refl refl) (λ is. state_is_active _ _ _ is)
+    (active_faults log (alone (Data stream end octets pad)) refl refl) (λ is. state_is_active _ _ _
+    is)
 rules_fit log decoded (alone (Headers stream end last fragment pad priority)) with_sent = tt
 rules_fit log decoded (alone (Priority stream octets)) with_sent = tt
 rules_fit log decoded (alone (Reset stream code)) with_sent = reset_fits (Resets log (alone

@@ -1,12 +1,9 @@
 -- The invariant of a log holds after a call that sends fields or a body.
-use Rattle.std.proofs.Common.{◌≡◌, ℕ, ◌+◌, ◌≤◌, ◌<◌}
-use Rattle.std.proofs.Common.{nat_lt, Bool, true, false, if◌then◌else◌}
-use Rattle.std.proofs.Common.{List, [], ◌∷◌, length, None, refl, sym, ◌∙◌, inl}
-use Rattle.std.proofs.Common.{inr, arith}
+use Rattle.std.proofs.Common.{◌≡◌, ℕ, ◌+◌, ◌≤◌, ◌<◌, nat_lt, Bool, true, false, if◌then◌else◌, List}
+use Rattle.std.proofs.Common.{[], ◌∷◌, length, None, refl, sym, ◌∙◌, inl, inr, arith}
 use Rattle.std.specs.List.{list_any}
 use Rattle.std.specs.Option.{is_some}
-use Rattle.std.proofs.lemmas.Bool.{both_ways, or_parts, ltb-false, leb-false}
-use Rattle.std.proofs.lemmas.Bool.{false_from_ne_true}
+use Rattle.std.proofs.lemmas.Bool.{both_ways, or_parts, ltb-false, leb-false, false_from_ne_true}
 use Rattle.hpack.specs.Lists.{list_size}
 use Rattle.hpack.specs.Choice.{block_of}
 use Rattle.hpack.specs.declared.types.field.Field.{Field}
@@ -14,19 +11,15 @@ use Rattle.h2_frame.specs.Frames.{Data}
 use Rattle.h2_block.specs.Grouping.{Item, alone, block}
 use Rattle.h2_log.specs.declared.role.Role.{Role}
 use Rattle.h2_log.specs.declared.role.Role.TheVariants.{Client, Server}
-use Rattle.h2_log.specs.Items.{increment_on, one_answer, ends, is_goaway}
-use Rattle.h2_log.specs.Items.{greatest_block}
+use Rattle.h2_log.specs.Items.{increment_on, one_answer, ends, is_goaway, greatest_block}
 use Rattle.h2_log.specs.Settings.{one_ack, is_server}
-use Rattle.h2_log.specs.Acts.{Act, Answer, Open, SendFields, SendData}
-use Rattle.h2_log.specs.Acts.{Number, Count, Done}
+use Rattle.h2_log.specs.Acts.{Act, Answer, Open, SendFields, SendData, Number, Count, Done}
 use Rattle.h2_log.specs.States.{openings, count_below, greatest_number}
 use Rattle.h2_log.specs.Log.{Log, active, active_count, released, next_number, allowed_by}
-use Rattle.h2_log.specs.Log.{streams_allowed, goaway_written, goaway_read}
-use Rattle.h2_log.specs.Log.{least_goaway, max_payload_sent}
+use Rattle.h2_log.specs.Log.{streams_allowed, goaway_written, goaway_read, least_goaway}
+use Rattle.h2_log.specs.Log.{max_payload_sent}
 use Rattle.h2_log.specs.LogView.{log_view}
-use Rattle.h2_log.specs.CallRules.{conditions}
-use Rattle.h2_log.specs.CallRules.{refusal_of, items_of, stream_of_act}
-use Rattle.h2_log.specs.CallRules.{data_items}
+use Rattle.h2_log.specs.CallRules.{conditions, refusal_of, items_of, stream_of_act, data_items}
 use Rattle.h2_log.specs.LogSteps.{with_sent}
 use Rattle.h2_log.specs.Limits.{max_list}
 use Rattle.h2_log.specs.LogCalls.{with_call}
@@ -34,7 +27,8 @@ use Rattle.h2_log.specs.Allowed.{AllowedHistory, writes, MayContinue, active_by_
 use Rattle.h2_log_laws.proofs.BlockSizes.{block_is_gathered}
 use Rattle.h2_log_laws.proofs.CallConditions.{first_none, none_since, and_other}
 use Rattle.h2_log_laws.proofs.DataOfCalls.{count_of, data_ack, none_of_items, data_items_written}
-use Rattle.h2_log_laws.proofs.InvariantCalls.{writes_only, writes_one, items_represent, active_is_active}
+use Rattle.h2_log_laws.proofs.InvariantCalls.{writes_only, writes_one, items_represent}
+use Rattle.h2_log_laws.proofs.InvariantCalls.{active_is_active}
 use Rattle.h2_log_laws.proofs.ItemLists.{count_below_more}
 use Rattle.h2_log_laws.proofs.LogHistory.{History, history_of}
 use Rattle.h2_log_laws.proofs.LogInvariant.{Good, Represents, Moves}

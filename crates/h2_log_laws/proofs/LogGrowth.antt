@@ -135,16 +135,10 @@ grows_ready log = grows_if _ log _ _ (grows_gives_back log)
 grows_given : (log : Log) (act : Act) (answer : Answer) (count : ℕ)
     → Grows log (record (before_put_out (called log act answer)) { given = count })
 grows_given log act answer count =
-    let k = grows_twice log (called log act answer) (before_put_out (called log act answer))
-    (grows_called log act answer) (grows_ready _) in
-    record {
-      role = k.role;
-      received = k.received;
-      reported = k.reported;
-      items = k.items;
-      sent = k.sent;
-      up = k.up;
-    }
+    grows_twice log (before_put_out (called log act answer)) _
+    (grows_twice log (called log act answer) (before_put_out (called log act answer))
+    (grows_called log act answer) (grows_ready _))
+    (grows_none _ _ refl refl refl refl refl)
 
 -- After a call a log has grown.
 pub grows_call : (log : Log) (act : Act) (answer : Answer) → Grows log (with_call log act answer)

@@ -1,8 +1,8 @@
 -- The rules over the view of a log, by what was read and written in all. Where a stream isn't
 -- active the rules ask nothing of it.
 use Rattle.std.proofs.Common.{◌≡◌, ℕ, ◌+◌, ◌-◌, min, not, Bool, true, false, if◌then◌else◌, ◌&&◌}
-use Rattle.std.proofs.Common.{◌==◌, nat_lt, ℤ, pos, negsuc, ◌+ℤ◌, ◌-ℤ◌, List, Option, Some}
-use Rattle.std.proofs.Common.{length, subst, refl, ap, ap₂, ◌∙◌, arith}
+use Rattle.std.proofs.Common.{◌==◌, nat_lt, ℤ, pos, negsuc, ◌+ℤ◌, ◌-ℤ◌, List, Option, Some, length}
+use Rattle.std.proofs.Common.{subst, refl, ap, ap₂, ◌∙◌, arith}
 use Rattle.std.specs.Prelude.{int_lt}
 use Rattle.std.specs.Option.{is_some}
 use Rattle.std.specs.List.{list_any}

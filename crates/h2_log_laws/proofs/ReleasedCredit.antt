@@ -31,7 +31,8 @@ unfolding increment_on
 gives_here i count = rw (eq-eqb i i refl) refl
 
 -- an update gives to no other stream
-pub gives_elsewhere : (i j count : ℕ) → (i ≡ j → ⊥) → increment_on j (alone (WindowUpdate i count)) ≡ 0
+pub gives_elsewhere : (i j count : ℕ) → (i ≡ j → ⊥) → increment_on j (alone (WindowUpdate i count))
+    ≡ 0
 unfolding increment_on
 gives_elsewhere i j count other = rw (ne_eqb i j other) refl
 

@@ -1,7 +1,6 @@
 -- One end as values: what it keeps in place of its log, by subject, and its view for the rules.
-use Rattle.std.specs.Prelude.{ℕ, ◌+◌, ◌%◌, ◌==◌, nat_lt, ◌||◌, ◌&&◌, Bool, false}
-use Rattle.std.specs.Prelude.{if◌then◌else◌, pos, ◌+ℤ◌, int_lt, List, [], ◌∷◌, length, Option}
-use Rattle.std.specs.Prelude.{Some, None, is_some}
+use Rattle.std.specs.Prelude.{ℕ, ◌+◌, ◌%◌, ◌==◌, nat_lt, ◌||◌, ◌&&◌, Bool, false, if◌then◌else◌}
+use Rattle.std.specs.Prelude.{pos, ◌+ℤ◌, int_lt, List, [], ◌∷◌, length, Option, Some, None, is_some}
 use Rattle.std.specs.Ordering.{nat_cmp}
 use Rattle.std.specs.FinMap as map
 use Rattle.hpack.specs.Tables.{Entries}

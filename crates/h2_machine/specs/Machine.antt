@@ -1,8 +1,8 @@
 -- What each frame and each call makes of an end as values. Decisions are the rules', over the end's
 -- view.
-use Rattle.std.specs.Prelude.{ℕ, ◌+◌, ◌-◌, ◌%◌, ◌==◌, nat_lt, not, ◌||◌, ◌&&◌, min, max, Bool}
-use Rattle.std.specs.Prelude.{true, false, if◌then◌else◌, pos, ◌+ℤ◌, ◌-ℤ◌, List, [], ◌∷◌, ◌++◌}
-use Rattle.std.specs.Prelude.{length, drop, Option, Some, None, is_some, map as each}
+use Rattle.std.specs.Prelude.{ℕ, ◌+◌, ◌-◌, ◌%◌, ◌==◌, nat_lt, not, ◌||◌, ◌&&◌, min, max, Bool, true}
+use Rattle.std.specs.Prelude.{false, if◌then◌else◌, pos, ◌+ℤ◌, ◌-ℤ◌, List, [], ◌∷◌, ◌++◌, length}
+use Rattle.std.specs.Prelude.{drop, Option, Some, None, is_some, map as each}
 use Rattle.std.specs.FinMap as map
 use Rattle.hpack.specs.Lists.{EncoderState, empty_table}
 use Rattle.h2_frame.specs.declared.code.Code.{Code}
@@ -27,9 +27,8 @@ use Rattle.h2_log.specs.ItemEffects.{least_last, table_after, encoder_after_item
 use Rattle.h2_log.specs.CallRules.{returns_credit, returns_before_put_out, data_count, data_items}
 use Rattle.h2_log.specs.CallRules.{refuse_fault, items_of, answer_of, encoder_after_call}
 use Rattle.h2_log.specs.CallRules.{opening_pairs}
-use Rattle.h2_machine.specs.End.{Entry, active_entry, reset_entry, StreamMap}
-use Rattle.h2_machine.specs.End.{End, stream_at, owed_entry}
-use Rattle.h2_machine.specs.End.{end_view}
+use Rattle.h2_machine.specs.End.{Entry, active_entry, reset_entry, StreamMap, End, stream_at}
+use Rattle.h2_machine.specs.End.{owed_entry, end_view}
 
 -- Small steps.
 

@@ -1,6 +1,7 @@
 -- When an end as values represents a log: what it keeps is what the log says.
-use Rattle.std.specs.Prelude.{is_some, ◌≡◌, ℕ, ◌+◌, ◌-◌, ◌<◌, ◌≤◌, ◌==◌, nat_lt, not, max, Bool, true}
-use Rattle.std.specs.Prelude.{false, if◌then◌else◌, List, [], ◌∷◌, drop, length, Option, Some, None}
+use Rattle.std.specs.Prelude.{is_some, ◌≡◌, ℕ, ◌+◌, ◌-◌, ◌<◌, ◌≤◌, ◌==◌, nat_lt, not, max, Bool}
+use Rattle.std.specs.Prelude.{true, false, if◌then◌else◌, List, [], ◌∷◌, drop, length, Option, Some}
+use Rattle.std.specs.Prelude.{None}
 use Rattle.std.specs.List.{list_any}
 use Rattle.std.specs.FinMap as map
 use Rattle.hpack.specs.Tables.{Entries}
@@ -35,8 +36,7 @@ goaway_sent_last (alone (GoAway last code debug) ∷ items) = last
 goaway_sent_last (_ ∷ items) = goaway_sent_last items
 
 -- The connection's receive window is conserved: what the peer may send, what is owed on all
--- streams, and what is unreturned, are
--- what it was at first (RFC 9113, section 6.9).
+-- streams, and what is unreturned, are what it was at first (RFC 9113, section 6.9).
 abbrev pub ConservesConnectionWindow : End → Type 0
 ConservesConnectionWindow e = e.windows.recv + (owed_total e.streams.entries + e.windows.unreturned)
     ≡ first_window
@@ -64,8 +64,8 @@ stream_by_items received sent reported calls i =
       ended_out = list_any (ends i) sent;
     }
 
--- Each subject of an end keeps what its log says: which parts of the log these are is said with
--- each.
+-- Each subject of an end keeps what its log says. Each has just the parts of the log that it needs,
+-- so that a step leaves it as it is where it leaves those.
 
 -- the block that has begun, and the peer's table
 pub record RepresentsReading (reading : Reading) (log_begun : Option Begun) (log_table : Entries)
@@ -73,6 +73,8 @@ pub record RepresentsReading (reading : Reading) (log_begun : Option Begun) (log
   pub begun : reading.begun ≡ log_begun
   pub table : reading.table ≡ log_table
 
+-- the streams, and what is counted of them: `stream_of_log`, `active_count` and `last_processed` of
+-- the log, and so on
 pub record RepresentsStreams (streams : Streams) (role : Role) (received sent : List Item)
     (reported : List Event) (calls : List (Act × Answer)) : Type 0 where
   pub entries : StreamsRepresent streams.entries (λ i. is_active role i received sent reported)
@@ -84,13 +86,14 @@ pub record RepresentsStreams (streams : Streams) (role : Role) (received sent : 
       else 0)
   pub resets : streams.resets ≡ total one_reset sent
 
--- additive: nothing is subtracted
+-- the connection's windows: additive, since nothing is subtracted
 pub record RepresentsWindows (windows : ConnectionWindows) (received sent : List Item)
     (log_unreturned : ℕ) : Type 0 where
   pub send : windows.send + total data_of sent ≡ given_on_connection received
   pub recv : windows.recv + total data_of received ≡ granted_on_connection sent
   pub unreturned : windows.unreturned ≡ log_unreturned
 
+-- the peer's settings
 pub record RepresentsPeer (peer : PeerSettings) (received : List Item) : Type 0 where
   pub initial_window : peer.initial_window ≡ value_read 4 first_window received
   pub max_streams : peer.max_streams ≡ allowed_by received
@@ -117,6 +120,7 @@ pub record RepresentsOwn (own : OwnSettings) (role : Role) (count : ℕ) (sent :
     pub awaits : is_some own.awaited ≡ nat_lt count (settings_count sent)
     pub awaited : (values : Values) → own.awaited ≡ Some values → AwaitsValues role sent values
 
+-- the last stream of the own GOAWAY, and the least one of the peer's
 pub record RepresentsGoAways (goaway : GoAways) (received sent : List Item) : Type 0 where
   pub last_sent : goaway.sent ≡ when (list_any is_goaway sent) (goaway_sent_last sent)
   pub least_received : goaway.received ≡ when (list_any is_goaway received) (least_goaway received)

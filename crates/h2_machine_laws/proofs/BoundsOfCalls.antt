@@ -36,13 +36,11 @@ use Rattle.h2_log_laws.proofs.BlockSizes.{block_is_gathered}
 use Rattle.h2_log_laws.proofs.ItemSizes.{size_of, size-reset, size-update, size-updates}
 use Rattle.h2_log_laws.proofs.ItemSizes.{size-goaway, size-ping, size-opening, size-change}
 use Rattle.h2_log_laws.proofs.ItemSizes.{size-block, size-data}
-use Rattle.h2_log_laws.proofs.CallConditions.{AreFalse, none_holds, neither_one, neither_other}
-use Rattle.h2_machine_laws.proofs.BoundsOfSteps.{Up, is_up, is_bounded, failed_bounded, with_active, other_encoder, joined, credit_returned, reset_up, changed_up}
-
--- A connection hasn't failed where it isn't that it has.
-is_running : (x : Option Code) → is_some x ≡ false → x ≡ None
-is_running None is = refl
-is_running (Some code) is = cc
+use Rattle.h2_log_laws.proofs.CallConditions.{none_since, AreFalse, none_holds, neither_one}
+use Rattle.h2_log_laws.proofs.CallConditions.{neither_other}
+use Rattle.h2_machine_laws.proofs.BoundsOfSteps.{Up, is_up, is_bounded, failed_bounded, with_active}
+use Rattle.h2_machine_laws.proofs.BoundsOfSteps.{other_encoder, joined, credit_returned, reset_up}
+use Rattle.h2_machine_laws.proofs.BoundsOfSteps.{changed_up}
 
 -- Where the output isn't full, less than the full output waits.
 not_full : (e : End) → is_full (end_view e) ≡ false → length e.output.waiting < full_output
@@ -313,25 +311,8 @@ made e (ChangeSettings values) none fair h =
 up_by : (e : End) (act : Act) → refusal_of (end_view e) act ≡ None
     → ((count : ℕ) → act ≡ PutOut count → ⊥) → e.failed ≡ None
 unfolding conditions
-up_by e (Open fields end) is other =
-    is_running e.failed (none_holds (conditions (end_view e) (Open fields end)) is).0
-up_by e (SendFields id fields end) is other =
-    is_running e.failed (none_holds (conditions (end_view e) (SendFields id fields end)) is).0
-up_by e (SendData id octets end) is other =
-    is_running e.failed (none_holds (conditions (end_view e) (SendData id octets end)) is).0
-up_by e (Release id count) is other =
-    is_running e.failed (none_holds (conditions (end_view e) (Release id count)) is).0
-up_by e (ResetStream id code) is other =
-    is_running e.failed (none_holds (conditions (end_view e) (ResetStream id code)) is).0
-up_by e (Refuse id code) is other =
-    is_running e.failed (none_holds (conditions (end_view e) (Refuse id code)) is).0
-up_by e (SendPing octets) is other =
-    is_running e.failed (none_holds (conditions (end_view e) (SendPing octets)) is).0
-up_by e SendGoAway is other =
-    is_running e.failed (none_holds (conditions (end_view e) SendGoAway) is).0
 up_by e (PutOut count) is other = absurd (other count refl)
-up_by e (ChangeSettings values) is other =
-    is_running e.failed (none_holds (conditions (end_view e) (ChangeSettings values)) is).0
+up_by e act is other = none_since e.failed (none_holds (conditions (end_view e) act) is).0
 
 -- A call that isn't refused was made.
 pub call_bounded : (e : End) (act : Act) → refusal_of (end_view e) act ≡ None → IsTypedAct act

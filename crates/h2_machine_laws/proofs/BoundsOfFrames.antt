@@ -28,8 +28,12 @@ use Rattle.h2_machine.specs.Machine.{with_table_after}
 use Rattle.h2_machine_laws.specs.Bounds.{IsBounded}
 use Rattle.h2_log_laws.proofs.ItemSizes.{size_of, size-reset}
 use Rattle.h2_log_laws.proofs.CallConditions.{neither_one, neither_other}
-use Rattle.h2_machine_laws.proofs.BoundsOfSteps.{Up, is_up, is_bounded, failed_bounded, other_encoder, joined, returned_up, ended_up, reset_up, data_up, block_up, limited, values_up, enforced_up, widened_up}
-use Rattle.h2_machine_laws.proofs.ConservedByFrames.{NoConnectionFault, within_limits, flow_of, verdict_within_limits}
+use Rattle.h2_machine_laws.proofs.BoundsOfSteps.{Up, is_up, is_bounded, failed_bounded}
+use Rattle.h2_machine_laws.proofs.BoundsOfSteps.{other_encoder, joined, returned_up, ended_up}
+use Rattle.h2_machine_laws.proofs.BoundsOfSteps.{reset_up, data_up, block_up, limited, values_up}
+use Rattle.h2_machine_laws.proofs.BoundsOfSteps.{enforced_up, widened_up}
+use Rattle.h2_machine_laws.proofs.ConservedByFrames.{NoConnectionFault, within_limits, flow_of}
+use Rattle.h2_machine_laws.proofs.ConservedByFrames.{verdict_within_limits}
 
 -- Where the limits leave a verdict as it is, neither is reached, by their test.
 limits_not_reached : (b : Bool) (v u : Verdict)

@@ -9,9 +9,8 @@ use Rattle.h2_block.specs.Grouping.{alone}
 use Rattle.h2_machine.specs.End.{end_view, End}
 use Rattle.h2_log.specs.LogView.{log_view}
 use Rattle.h2_log.specs.View.{View}
-use Rattle.h2_log.specs.Acts.{Values, Act, Answer, IsTypedAct, Open, Release}
-use Rattle.h2_log.specs.Acts.{Refuse}
-use Rattle.h2_log.specs.Acts.{Done, OutOfMemory, Refused}
+use Rattle.h2_log.specs.Acts.{Values, Act, Answer, IsTypedAct, Open, Release, Refuse, Done}
+use Rattle.h2_log.specs.Acts.{OutOfMemory, Refused}
 use Rattle.h2_log.specs.Log.{Log, active, last_processed, released}
 use Rattle.h2_frame.specs.Codes.{code_number}
 use Rattle.h2_log.specs.LogSteps.{with_failure}
@@ -28,7 +27,8 @@ use Rattle.h2_log_laws.proofs.LogViewLemmas.{stream_is_active}
 use Rattle.h2_machine_laws.proofs.CallReset.{reset_up}
 use Rattle.h2_machine_laws.proofs.GoAwaysSent.{active_processed}
 use Rattle.h2_machine_laws.proofs.LogCore.{core, StreamsOf, going, runs}
-use Rattle.h2_machine_laws.proofs.RepresentedSteps.{Up, up_of, views_of_up, represents_after, called_up, called_going}
+use Rattle.h2_machine_laws.proofs.RepresentedSteps.{Up, up_of, views_of_up, represents_after}
+use Rattle.h2_machine_laws.proofs.RepresentedSteps.{called_up, called_going}
 use Rattle.h2_machine_laws.proofs.SentConnectionItems.{failing_streams}
 use Rattle.h2_machine_laws.proofs.SentQuietItems.{called_streams}
 use Rattle.h2_machine_laws.proofs.WaitingOutput.{fails_connection, waits_of}

@@ -27,13 +27,15 @@ use Rattle.h2_log_laws.proofs.AllowedHistories.{wrote_settings}
 use Rattle.h2_log_laws.proofs.InvariantSends.{client_since}
 use Rattle.h2_log_laws.proofs.CallConditions.{first_none, none_since}
 use Rattle.h2_log_laws.proofs.LogViewLemmas.{stream_is_active, open_out}
-use Rattle.h2_machine_laws.proofs.CallFailing.{refused_represents, out_of_memory_represents, refuse_represents}
+use Rattle.h2_machine_laws.proofs.CallFailing.{refused_represents, out_of_memory_represents}
+use Rattle.h2_machine_laws.proofs.CallFailing.{refuse_represents}
 use Rattle.h2_machine_laws.proofs.CallOpen.{IsClear, open_up}
 use Rattle.h2_machine_laws.proofs.CallRefusals.{refusal_same}
 use Rattle.h2_machine_laws.proofs.CallRelease.{release_up}
 use Rattle.h2_machine_laws.proofs.CallReset.{reset_call_up}
 use Rattle.h2_machine_laws.proofs.CallSend.{fields_up, data_up}
-use Rattle.h2_machine_laws.proofs.CallWithoutStream.{ping_up, goaway_up, settings_up, put_out_represents}
+use Rattle.h2_machine_laws.proofs.CallWithoutStream.{ping_up, goaway_up, settings_up}
+use Rattle.h2_machine_laws.proofs.CallWithoutStream.{put_out_represents}
 use Rattle.h2_machine_laws.proofs.LogCore.{core}
 use Rattle.h2_machine_laws.proofs.RepresentedSteps.{Up, up_of, represents_after}
 
@@ -50,16 +52,8 @@ pub record IsSound (log : Log) : Type 0 where
 up_since : (log : Log) (act : Act) → ((count : ℕ) → act ≡ PutOut count → ⊥)
     → refusal_of (log_view log) act ≡ None → log.failed ≡ None
 unfolding conditions
-up_since log (Open fields end) other none = none_since log.failed (first_none _ _ _ none).0
-up_since log (SendFields id fields end) other none = none_since log.failed (first_none _ _ _ none).0
-up_since log (SendData id octets end) other none = none_since log.failed (first_none _ _ _ none).0
-up_since log (Release id count) other none = none_since log.failed (first_none _ _ _ none).0
-up_since log (ResetStream id code) other none = none_since log.failed (first_none _ _ _ none).0
-up_since log (Refuse id code) other none = none_since log.failed (first_none _ _ _ none).0
-up_since log (SendPing octets) other none = none_since log.failed (first_none _ _ _ none).0
-up_since log SendGoAway other none = none_since log.failed (first_none _ _ _ none).0
 up_since log (PutOut count) other none = absurd (other count refl)
-up_since log (ChangeSettings values) other none = none_since log.failed (first_none _ _ _ none).0
+up_since log act other none = none_since log.failed (first_none _ _ _ none).0
 
 -- the next number of a client
 next_of_client : (role : Role) (n : ℕ) → role ≡ Client → (if is_server role then 0 else n) ≡ n
@@ -154,37 +148,16 @@ accepted_law : (values : Values) (e : End) (log : Log) (act : Act) → Represent
     → Represents values (end_after e act (answer_by log act))
     (with_call log act (answer_by log act))
 unfolding end_after
-accepted_law values e log (Open fields end) represents typed may none sound =
-    plain_law values e log (Open fields end) represents typed may none sound (λ count same. cc)
-    (λ id code same. cc)
-accepted_law values e log (SendFields id fields end) represents typed may none sound =
-    plain_law values e log (SendFields id fields end) represents typed may none sound
-    (λ count same. cc) (λ other code same. cc)
-accepted_law values e log (SendData id octets end) represents typed may none sound =
-    plain_law values e log (SendData id octets end) represents typed may none sound
-    (λ count same. cc) (λ other code same. cc)
-accepted_law values e log (Release id count) represents typed may none sound =
-    plain_law values e log (Release id count) represents typed may none sound (λ other same. cc)
-    (λ other code same. cc)
-accepted_law values e log (ResetStream id code) represents typed may none sound =
-    plain_law values e log (ResetStream id code) represents typed may none sound (λ count same. cc)
-    (λ other refuse same. cc)
 accepted_law values e log (Refuse id code) represents typed may none sound =
     let log_up = up_since log (Refuse id code) (λ count same. cc) none in
     refuse_represents values e log id code represents typed may
     (refusal_same values e log (Refuse id code) represents ∙ none)
     none (represents.failed ∙ log_up)
-accepted_law values e log (SendPing octets) represents typed may none sound =
-    plain_law values e log (SendPing octets) represents typed may none sound (λ count same. cc)
-    (λ id code same. cc)
-accepted_law values e log SendGoAway represents typed may none sound =
-    plain_law values e log SendGoAway represents typed may none sound (λ count same. cc)
-    (λ id code same. cc)
 accepted_law values e log (PutOut count) represents typed may none sound = put_out_represents values
     e log count represents typed may
-accepted_law values e log (ChangeSettings others) represents typed may none sound =
-    plain_law values e log (ChangeSettings others) represents typed may none sound
-    (λ count same. cc) (λ id code same. cc)
+accepted_law values e log act represents typed may none sound =
+    plain_law values e log act represents typed may none sound (λ count same. cc)
+    (λ id code same. cc)
 
 -- After a call that is refused it does.
 refused_law : (values : Values) (e : End) (log : Log) (act : Act) (refusal : Refusal)

@@ -1,8 +1,7 @@
 -- The call that opens a stream preserves that an end represents its log.
-use Rattle.std.proofs.Common.{◌≡◌, ◌≢◌, ℕ, zero, suc, ◌+◌, ◌-◌, ◌≤◌, ◌<◌, ◌%◌, ◌||◌, Bool}
-use Rattle.std.proofs.Common.{true, false, List, [], ◌∷◌, pos, refl, sym, ap, subst, ◌∙◌}
-use Rattle.std.proofs.Common.{arith}
-use Rattle.std.proofs.Common.{zero-add, suc-add}
+use Rattle.std.proofs.Common.{◌≡◌, ◌≢◌, ℕ, zero, suc, ◌+◌, ◌-◌, ◌≤◌, ◌<◌, ◌%◌, ◌||◌, Bool, true}
+use Rattle.std.proofs.Common.{false, List, [], ◌∷◌, pos, refl, sym, ap, subst, ◌∙◌, arith, zero-add}
+use Rattle.std.proofs.Common.{suc-add}
 use Rattle.std.proofs.lemmas.Bool.{false_from_ne_true, eq-eqb, ne_eqb, and_left}
 use Rattle.std.proofs.lemmas.Int.{ints}
 use Rattle.std.specs.List.{list_any}
@@ -12,14 +11,13 @@ use Rattle.hpack.specs.Choice.{block_of, after_block}
 use Rattle.h2_block.specs.Grouping.{Item, block}
 use Rattle.h2_log.specs.declared.role.Role.{Role}
 use Rattle.h2_log.specs.declared.role.Role.TheVariants.{Client, Server}
-use Rattle.h2_log.specs.Items.{data_on, increment_on, is_block_on, ends, resets}
-use Rattle.h2_log.specs.Items.{one_reset, total, greatest_block}
-use Rattle.h2_log.specs.Events.{reports_unprocessed}
+use Rattle.h2_log.specs.Items.{data_on, increment_on, is_block_on, ends, resets, one_reset, total}
+use Rattle.h2_log.specs.Items.{greatest_block}
+use Rattle.h2_log.specs.Events.{reports_unprocessed, Event}
 use Rattle.h2_log.specs.Settings.{own_value, value_read}
 use Rattle.h2_log.specs.States.{openings, is_above, count_below}
 use Rattle.h2_log.specs.Windows.{first_window, given_on, granted_on, window}
-use Rattle.h2_log.specs.Log.{Log}
-use Rattle.h2_log.specs.Log.{unreleased, released}
+use Rattle.h2_log.specs.Log.{Log, unreleased, released}
 use Rattle.h2_log.specs.LogView.{log_view}
 use Rattle.h2_log.specs.Acts.{Open, Number}
 use Rattle.h2_log.specs.LogCalls.{called, with_items, with_call}
@@ -27,17 +25,19 @@ use Rattle.h2_log.specs.CallRules.{items_of, stream_of_act, encoder_after_call}
 use Rattle.h2_machine.specs.End.{End, active_entry}
 use Rattle.h2_log.specs.View.{StreamView, View}
 use Rattle.h2_machine.specs.Machine.{new_stream, open_stream, with_encoder, after_call}
-use Rattle.h2_log_laws.proofs.ReaderStates.{active_from, lasts_from}
-use Rattle.h2_log.specs.Events.{Event}
-use Rattle.h2_machine_laws.proofs.LogCore.{Core, core, CoreFacts, core_facts, Advances, confirmed, active_by_items, greatest_used, said, kept_back}
+use Rattle.h2_log_laws.proofs.ReaderStates.{active_from, lasts_from, active_parts}
+use Rattle.h2_machine_laws.proofs.ItemsApart.{block_apart}
+use Rattle.h2_machine_laws.proofs.LogCore.{Core, core, CoreFacts, core_facts, Advances, confirmed}
+use Rattle.h2_machine_laws.proofs.LogCore.{active_by_items, greatest_used, said, kept_back}
 use Rattle.h2_machine_laws.proofs.OneItemMore.{total_quiet, own_quiet}
 use Rattle.h2_machine_laws.proofs.OwedAtClose.{owes_none}
-use Rattle.h2_machine_laws.proofs.RepresentedSteps.{called_going, Up, views_of_up, queue_by, wrote_up, nothing_unreturned}
+use Rattle.h2_machine_laws.proofs.RepresentedSteps.{called_going, Up, views_of_up, queue_by}
+use Rattle.h2_machine_laws.proofs.RepresentedSteps.{wrote_up, nothing_unreturned}
 use Rattle.h2_machine_laws.proofs.SentConnectionItems.{computing}
-use Rattle.h2_machine_laws.proofs.SentQuietItems.{sends, same_sent, windows_sent, own_sent, goaways_sent, ping_sent}
+use Rattle.h2_machine_laws.proofs.SentQuietItems.{sends, same_sent, windows_sent, own_sent}
+use Rattle.h2_machine_laws.proofs.SentQuietItems.{goaways_sent, ping_sent}
 use Rattle.h2_machine_laws.proofs.StreamsSame.{count_apart, SameAt, same_stream, said_set}
 use Rattle.h2_machine_laws.proofs.ViewsAgree.{view_beside}
-use Rattle.h2_log_laws.proofs.ReaderStates.{active_parts}
 use Rattle.h2_log_laws.proofs.StreamNumbers.{block_below}
 
 -- Nothing was read, written or reported of a number, and nothing is kept back of it.
@@ -128,13 +128,8 @@ others_same : (c : Core) (j i : ℕ) (end : Bool) (octets : List ℕ) → j ≢ 
 unfolding computing
 others_same c j i end octets other =
     let item = block i end octets in
-    same_sent j c item (record {
-      blocks = ne_eqb i j (λ same. other (sym same));
-      ended = rw (ne_eqb i j (λ same. other (sym same))) refl;
-      was_reset = refl;
-      below = refl;
-      flow = refl;
-    }) (λ alive. refl) (own_quiet 4 first_window (confirmed c) item c.sent refl)
+    same_sent j c item (block_apart i end octets j other) refl (λ alive. refl) (own_quiet 4
+    first_window (confirmed c) item c.sent refl)
 
 -- a window that is untouched: nothing was consumed, and nothing was added
 untouched_window : (own more consumed : ℕ) → more ≡ 0 → consumed ≡ 0

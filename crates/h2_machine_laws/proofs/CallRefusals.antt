@@ -16,32 +16,16 @@ use Rattle.h2_machine_laws.proofs.WaitingOutput.{waits_much}
 beside_refuses : (e : End) (log : Log) (act : Act)
     → refusal_of (view_beside e log) act ≡ refusal_of (log_view log) act
 unfolding conditions first_of
-beside_refuses e log (Open fields end) = refl
-beside_refuses e log (SendFields id fields end) = refl
-beside_refuses e log (SendData id octets end) = refl
-beside_refuses e log (Release id count) = refl
-beside_refuses e log (ResetStream id code) = refl
-beside_refuses e log (Refuse id code) = refl
-beside_refuses e log (SendPing octets) = refl
-beside_refuses e log SendGoAway = refl
 beside_refuses e log (PutOut count) = refl
-beside_refuses e log (ChangeSettings values) = refl
+beside_refuses e log act = refl
 
 -- Any two views that have failed refuse the same.
 failed_refuses : (view other : View) (act : Act) (code : Code) → view.failed ≡ Some code
     → other.failed ≡ Some code
     → refusal_of view act ≡ refusal_of other act
 unfolding conditions first_of
-failed_refuses view other (Open fields end) code is too = rw (is, too) refl
-failed_refuses view other (SendFields id fields end) code is too = rw (is, too) refl
-failed_refuses view other (SendData id octets end) code is too = rw (is, too) refl
-failed_refuses view other (Release id count) code is too = rw (is, too) refl
-failed_refuses view other (ResetStream id reset) code is too = rw (is, too) refl
-failed_refuses view other (Refuse id refuse) code is too = rw (is, too) refl
-failed_refuses view other (SendPing octets) code is too = rw (is, too) refl
-failed_refuses view other SendGoAway code is too = rw (is, too) refl
 failed_refuses view other (PutOut count) code is too = refl
-failed_refuses view other (ChangeSettings values) code is too = rw (is, too) refl
+failed_refuses view other act code is too = rw (is, too) refl
 
 -- the same, by whether the end has failed
 refusal_by : (values : Values) (e : End) (log : Log) (act : Act) (failed : Option Code)

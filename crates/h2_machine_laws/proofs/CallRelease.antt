@@ -1,7 +1,6 @@
 -- The call that releases octets preserves that an end represents its log.
-use Rattle.std.proofs.Common.{◌≡◌, ◌≢◌, ℕ, ◌+◌, ◌-◌, ◌==◌, Bool, true, false, if◌then◌else◌}
-use Rattle.std.proofs.Common.{List, ◌∷◌, ◌++◌, pos, ◌+ℤ◌, Option, Some, refl, sym, ap, subst}
-use Rattle.std.proofs.Common.{◌∙◌, arith}
+use Rattle.std.proofs.Common.{◌≡◌, ◌≢◌, ℕ, ◌+◌, ◌-◌, ◌==◌, Bool, true, false, if◌then◌else◌, List}
+use Rattle.std.proofs.Common.{◌∷◌, ◌++◌, pos, ◌+ℤ◌, Option, Some, refl, sym, ap, subst, ◌∙◌, arith}
 use Rattle.std.proofs.lemmas.Bool.{ne_eqb}
 use Rattle.std.proofs.lemmas.Int.{ints}
 use Rattle.std.specs.List.{list_any}
@@ -10,13 +9,11 @@ use Rattle.std.specs.Cmp.{nat_cmp_total}
 use Rattle.h2_frame.specs.Frames.{WindowUpdate}
 use Rattle.h2_block.specs.Grouping.{Item, alone}
 use Rattle.h2_log.specs.declared.role.Role.{Role}
-use Rattle.h2_log.specs.Items.{data_on, increment_on, ends, one_reset}
-use Rattle.h2_log.specs.Items.{total}
+use Rattle.h2_log.specs.Items.{data_on, increment_on, ends, one_reset, total}
 use Rattle.h2_log.specs.Settings.{own_value}
 use Rattle.h2_log.specs.States.{is_active}
-use Rattle.h2_log.specs.Windows.{first_window, granted_on, window}
-use Rattle.h2_log.specs.Log.{Log, active}
-use Rattle.h2_log.specs.Log.{unreleased, released}
+use Rattle.h2_log.specs.Windows.{first_window, granted_on, window, given_on}
+use Rattle.h2_log.specs.Log.{Log, active, unreleased, released}
 use Rattle.h2_log.specs.LogView.{log_view, stream_of_log}
 use Rattle.h2_log.specs.Acts.{Act, Answer, Release, Done}
 use Rattle.h2_log.specs.LogSteps.{with_sent, with_unreturned, owed_at_close}
@@ -26,17 +23,20 @@ use Rattle.h2_machine.specs.End.{End, Entry, StreamMap, active_entry}
 use Rattle.h2_log.specs.View.{StreamView, View, ended_in}
 use Rattle.h2_machine.specs.Machine.{queue_output, after_release, after_call}
 use Rattle.h2_log.specs.Events.{Event}
-use Rattle.h2_log.specs.Windows.{given_on}
 use Rattle.h2_log_laws.proofs.ReleasedCredit.{gives_here, released_here, updates}
-use Rattle.h2_machine_laws.proofs.LogCore.{Core, core, CoreFacts, core_facts, Advances, confirmed, active_by_items, said, kept_back}
+use Rattle.h2_machine_laws.proofs.LogCore.{Core, core, CoreFacts, core_facts, Advances, confirmed}
+use Rattle.h2_machine_laws.proofs.LogCore.{active_by_items, said, kept_back}
 use Rattle.h2_machine_laws.proofs.OneItemMore.{total_quiet, own_quiet}
-use Rattle.h2_log_laws.proofs.ItemLists.{total_one}
 use Rattle.h2_machine_laws.proofs.OwedAtClose.{owes_active}
 use Rattle.h2_machine_laws.proofs.OwedSums.{get_set}
-use Rattle.h2_machine_laws.proofs.RepresentedSteps.{Up, views_of_up, wrote_up, nothing_unreturned, wrote_active}
-use Rattle.h2_machine_laws.proofs.SentConnectionItems.{update_other, widened_advances, computing, update_quiet}
-use Rattle.h2_machine_laws.proofs.SentQuietItems.{sends, same_sent, used_wrote, active_wrote, quiet_sent}
+use Rattle.h2_machine_laws.proofs.RepresentedSteps.{Up, views_of_up, wrote_up, nothing_unreturned}
+use Rattle.h2_machine_laws.proofs.RepresentedSteps.{wrote_active}
+use Rattle.h2_machine_laws.proofs.SentConnectionItems.{update_other, widened_advances, computing}
+use Rattle.h2_machine_laws.proofs.SentConnectionItems.{update_quiet}
+use Rattle.h2_machine_laws.proofs.SentQuietItems.{sends, same_sent, used_wrote, active_wrote}
+use Rattle.h2_machine_laws.proofs.SentQuietItems.{quiet_sent}
 use Rattle.h2_machine_laws.proofs.StreamsSame.{same_stream, streams_set, active_some}
+use Rattle.h2_log_laws.proofs.ItemLists.{total_one}
 use Rattle.h2_log_laws.proofs.LogViewLemmas.{stream_there}
 
 -- A number of a stream that is set twice, at each number.
@@ -92,7 +92,8 @@ owed_less_advances h c id count active_is g =
             was_reset = refl;
             stream = λ alive. rw (released_more j id count c.calls other) refl;
           }) active_is active_is
-          (same_stream next (said base id) refl refl (kept_less c id count) refl refl) refl refl refl
+          (same_stream next (said base id) refl refl (kept_less c id count) refl refl) refl refl
+          refl
           g.streams;
       windows = g.windows;
       peer = g.peer;
@@ -142,7 +143,8 @@ granted_advances h c id count active_is g =
     quiet_sent h c item _ h.windows.recv q
     (omega (arith, update_other 0 id count (λ same. active_some c id active_is (sym same))))
     (streams_set h.streams id _ c (sends c item)
-    (λ j other. same_sent j c item (q.streams.apart j) (λ alive. update_other j id count other)
+    (λ j other. same_sent j c item (q.streams.apart j) (q.streams.below j) (λ alive. update_other j
+    id count other)
     (own_quiet 4 first_window (confirmed c) item c.sent refl)) active_is
     (active_wrote c.role id item c.received c.sent c.reported refl refl refl refl ∙ active_is)
     (granted_said c id count) (used_wrote c.role item c.received c.sent q.streams.greatest) refl
@@ -159,7 +161,8 @@ updates_active role received sent reported id count true =
 updates_active role received sent reported id count false =
     active_wrote role id (alone (WindowUpdate 0 count)) received
     (alone (WindowUpdate id count) ∷ sent) reported refl refl refl refl
-    ∙ active_wrote role id (alone (WindowUpdate id count)) received sent reported refl refl refl refl
+    ∙ active_wrote role id (alone (WindowUpdate id count)) received sent reported refl refl refl
+    refl
 
 -- the stream after a release
 abbrev stream_released : Core → ℕ → ℕ → Bool → StreamView

@@ -1,13 +1,12 @@
 -- The calls that reset a stream preserve that an end represents its log.
-use Rattle.std.proofs.Common.{◌≡◌, ◌≢◌, ℕ, ◌+◌, ◌-◌, Bool, true, false, List, [], ◌∷◌}
-use Rattle.std.proofs.Common.{is_some, refl, sym, ap, ◌∙◌, arith}
+use Rattle.std.proofs.Common.{◌≡◌, ◌≢◌, ℕ, ◌+◌, ◌-◌, Bool, true, false, List, [], ◌∷◌, is_some}
+use Rattle.std.proofs.Common.{refl, sym, ap, ◌∙◌, arith}
 use Rattle.std.proofs.lemmas.Bool.{false_from_ne_true, both_ways, eq-eqb, ne_eqb}
 use Rattle.std.specs.List.{list_any}
 use Rattle.std.specs.FinMap as map
 use Rattle.h2_frame.specs.Frames.{Reset}
 use Rattle.h2_block.specs.Grouping.{Item, alone}
-use Rattle.h2_log.specs.Items.{resets}
-use Rattle.h2_log.specs.Items.{one_reset}
+use Rattle.h2_log.specs.Items.{resets, one_reset}
 use Rattle.h2_log.specs.Windows.{first_window}
 use Rattle.h2_log.specs.Log.{Log, active, unreleased, released}
 use Rattle.h2_log.specs.Acts.{ResetStream, Done}
@@ -19,33 +18,25 @@ use Rattle.h2_log.specs.View.{StreamView}
 use Rattle.h2_machine.specs.Machine.{is_one, reset_stream, queue_output, after_call}
 use Rattle.h2_machine.specs.Represents.{entry_by}
 use Rattle.h2_log_laws.proofs.ReaderStates.{active_parts, lasts_parts}
-use Rattle.h2_machine_laws.proofs.LogCore.{Core, core, CoreFacts, core_facts, Advances, confirmed, active_by_items, said, kept_back}
+use Rattle.h2_machine_laws.proofs.ItemsApart.{reset_apart}
+use Rattle.h2_machine_laws.proofs.LogCore.{Core, core, CoreFacts, core_facts, Advances, confirmed}
+use Rattle.h2_machine_laws.proofs.LogCore.{active_by_items, said, kept_back}
 use Rattle.h2_machine_laws.proofs.OneItemMore.{own_quiet}
-use Rattle.h2_log_laws.proofs.ItemLists.{total_one}
 use Rattle.h2_machine_laws.proofs.OwedAtClose.{owes_all}
-use Rattle.h2_machine_laws.proofs.RepresentedSteps.{Up, wrote_up, called_up, with_unreturned_up, wrote_active, wrote_owes}
+use Rattle.h2_machine_laws.proofs.RepresentedSteps.{Up, wrote_up, called_up, with_unreturned_up}
+use Rattle.h2_machine_laws.proofs.RepresentedSteps.{wrote_active, wrote_owes}
 use Rattle.h2_machine_laws.proofs.SentConnectionItems.{computing}
-use Rattle.h2_machine_laws.proofs.SentQuietItems.{sends, IsApartSent, same_sent, used_wrote, windows_sent, own_sent, goaways_sent, ping_sent}
+use Rattle.h2_machine_laws.proofs.SentQuietItems.{sends, same_sent, used_wrote, windows_sent}
+use Rattle.h2_machine_laws.proofs.SentQuietItems.{own_sent, goaways_sent, ping_sent}
 use Rattle.h2_machine_laws.proofs.StreamsSame.{SameAt, said_reset, streams_closed}
 use Rattle.h2_machine_laws.proofs.ViewsAgree.{active_agrees}
-
--- A reset touches nothing of other streams.
-reset_apart : (i id code : ℕ) → i ≢ id → IsApartSent i (alone (Reset id code))
-unfolding computing
-reset_apart i id code other =
-    record {
-      blocks = refl;
-      ended = refl;
-      was_reset = ne_eqb id i (λ same. other (sym same));
-      below = refl;
-      flow = refl;
-    }
+use Rattle.h2_log_laws.proofs.ItemLists.{total_one}
 
 -- The log says the same of them.
 others_same : (c : Core) (id code i : ℕ) → i ≢ id → SameAt i c (sends c (alone (Reset id code)))
 unfolding computing
 others_same c id code i other =
-    same_sent i c (alone (Reset id code)) (reset_apart i id code other) (λ alive. refl)
+    same_sent i c (alone (Reset id code)) (reset_apart id code i other) refl (λ alive. refl)
     (own_quiet 4 first_window (confirmed c) (alone (Reset id code)) c.sent refl)
 
 -- The stream was reset.

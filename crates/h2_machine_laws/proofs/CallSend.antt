@@ -1,8 +1,8 @@
 -- The calls that send on an active stream preserve that an end represents its log: fields and a
 -- body.
 use Rattle.std.proofs.Common.{◌≡◌, ℕ, suc, ◌+◌, ◌-◌, ◌≤◌, ◌==◌, not, ◌&&◌, Bool, true, false}
-use Rattle.std.proofs.Common.{if◌then◌else◌, List, [], ◌∷◌, ◌++◌, length, take, ℤ, pos}
-use Rattle.std.proofs.Common.{◌-ℤ◌, Option, Some, None, refl, sym, ap, subst, ◌∙◌, arith}
+use Rattle.std.proofs.Common.{if◌then◌else◌, List, [], ◌∷◌, ◌++◌, length, take, ℤ, pos, ◌-ℤ◌}
+use Rattle.std.proofs.Common.{Option, Some, None, refl, sym, ap, subst, ◌∙◌, arith}
 use Rattle.std.specs.List.{list_any}
 use Rattle.std.specs.FinMap as map
 use Rattle.std.proofs.lemmas.Int.{ints}
@@ -24,16 +24,18 @@ use Rattle.h2_log.specs.View.{StreamView, View}
 use Rattle.h2_machine.specs.Machine.{queue_output, set_stream, close_stream, update_stream}
 use Rattle.h2_machine.specs.Machine.{after_fields_sent, after_data, after_call}
 use Rattle.h2_log_laws.proofs.ReaderStates.{active_parts}
-use Rattle.h2_log_laws.proofs.LogViewLemmas.{natural_by}
+use Rattle.h2_log_laws.proofs.LogViewLemmas.{natural_by, stream_there}
 use Rattle.h2_machine_laws.proofs.CallSendItems.{adds_block, adds_all}
 use Rattle.h2_machine_laws.proofs.LogCore.{core, core_facts, Going}
 use Rattle.h2_machine_laws.proofs.OwedAtClose.{owes_active, owes_all}
 use Rattle.h2_machine_laws.proofs.OwedSums.{get_set_same}
-use Rattle.h2_machine_laws.proofs.RepresentedSteps.{called_going, Up, views_of_up, queue_by, wrote_up, called_up, with_unreturned_up, nothing_unreturned, wrote_active, wrote_owes}
-use Rattle.h2_machine_laws.proofs.SentStreamItems.{set_advances, over_advances, Adds, stream_with, active_here, closed_here}
+use Rattle.h2_machine_laws.proofs.RepresentedSteps.{called_going, Up, views_of_up, queue_by}
+use Rattle.h2_machine_laws.proofs.RepresentedSteps.{wrote_up, called_up, with_unreturned_up}
+use Rattle.h2_machine_laws.proofs.RepresentedSteps.{nothing_unreturned, wrote_active, wrote_owes}
+use Rattle.h2_machine_laws.proofs.SentStreamItems.{set_advances, over_advances, Adds, stream_with}
+use Rattle.h2_machine_laws.proofs.SentStreamItems.{active_here, closed_here}
 use Rattle.h2_machine_laws.proofs.ViewsAgree.{view_beside}
 use Rattle.h2_machine_laws.proofs.WaitingOutput.{OutputOf}
-use Rattle.h2_log_laws.proofs.LogViewLemmas.{stream_there}
 
 -- an end with items that join its output, and another send window
 abbrev with_send_window : End → End → List Item → ℕ → End
@@ -53,14 +55,17 @@ sent_by : (e f : End) (log base : Log) (id : ℕ) (items : List Item) (n : ℕ) 
     → f.failed ≡ None → base.failed ≡ None
     → OutputOf e base → f.reading.started ≡ not (length base.frames == 0) → Going f (core base)
     → Up (if b then close_stream
-    (set_stream (with_send_window e f items here) id (stream_with (core base) id send_window end)) id 0
-    else set_stream (with_send_window e f items here) id (stream_with (core base) id send_window end))
+    (set_stream (with_send_window e f items here) id (stream_with (core base) id send_window end))
+    id 0
+    else set_stream (with_send_window e f items here) id (stream_with (core base) id send_window
+    end))
     (with_unreturned (owed_at_close log (with_sent base items) id) (with_sent base items))
 unfolding unreleased
 sent_by e f log base id items n end send_window here true over was active_is is a conserved role up
     same waits started run =
     let s = stream_with (core base) id send_window end in
-    let ran = over_advances (core_facts f) (core base) id (items ++ base.sent) n end s here active_is over a conserved
+    let ran = over_advances (core_facts f) (core base) id (items ++ base.sent) n end s here
+    active_is over a conserved
     run in
     let wrote_them = wrote_up e
     (record f {
@@ -83,7 +88,8 @@ sent_by e f log base id items n end send_window here true over was active_is is 
 sent_by e f log base id items n end send_window here false goes was active_is is a conserved role up
     same waits started run =
     let s = stream_with (core base) id send_window end in
-    let ran = set_advances (core_facts f) (core base) id (items ++ base.sent) n end send_window here active_is goes is a
+    let ran = set_advances (core_facts f) (core base) id (items ++ base.sent) n end send_window here
+    active_is goes is a
     conserved run in
     let wrote_them = wrote_up e
     (record f {
@@ -106,7 +112,8 @@ sent_up : (e f : End) (log base : Log) (id : ℕ) (items : List Item) (n : ℕ) 
     → here + (n + total data_of base.sent) ≡ given_on_connection base.received → f.role ≡ base.role
     → f.failed ≡ None → base.failed ≡ None
     → OutputOf e base → f.reading.started ≡ not (length base.frames == 0) → Going f (core base)
-    → Up (update_stream (with_send_window e f items here) id (stream_with (core base) id send_window end))
+    → Up (update_stream (with_send_window e f items here) id (stream_with (core base) id send_window
+    end))
     (with_unreturned (owed_at_close log (with_sent base items) id) (with_sent base items))
 sent_up e f log base id items n end send_window here was active_is is a conserved role up same waits
     started run =

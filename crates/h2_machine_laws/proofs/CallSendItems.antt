@@ -16,10 +16,10 @@ use Rattle.h2_log.specs.States.{openings}
 use Rattle.h2_log.specs.CallRules.{data_frames}
 use Rattle.h2_log_laws.proofs.StreamNumbers.{block_below}
 use Rattle.h2_machine_laws.proofs.OneItemMore.{total_quiet, any_quiet, own_quiet, settings_quiet}
-use Rattle.h2_log_laws.proofs.ItemLists.{total_one}
 use Rattle.h2_machine_laws.proofs.SentConnectionItems.{computing}
 use Rattle.h2_machine_laws.proofs.SentQuietItems.{above_quiet}
 use Rattle.h2_machine_laws.proofs.SentStreamItems.{Adds}
+use Rattle.h2_log_laws.proofs.ItemLists.{total_one}
 
 -- A test that passes only where another does adds nothing to it.
 or_within : (a b : Bool) → (a ≡ true → b ≡ true) → (a || b) ≡ b

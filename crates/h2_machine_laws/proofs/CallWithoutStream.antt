@@ -26,8 +26,11 @@ use Rattle.h2_machine.specs.Machine.{queue_output, before_put_out_at, after_call
 use Rattle.h2_machine.specs.Represents.{Represents}
 use Rattle.h2_machine_laws.proofs.LogCore.{core, core_facts, runs}
 use Rattle.h2_machine_laws.proofs.OwedAtClose.{owes_none}
-use Rattle.h2_machine_laws.proofs.RepresentedSteps.{called_going, Up, up_of, represents_made, wrote_up, called_up, ready_up, nothing_unreturned}
-use Rattle.h2_machine_laws.proofs.SentConnectionItems.{ping_advances, goaway_advances, settings_advance}
+use Rattle.h2_machine_laws.proofs.RepresentedSteps.{called_going, Up, up_of, represents_made}
+use Rattle.h2_machine_laws.proofs.RepresentedSteps.{wrote_up, called_up, ready_up}
+use Rattle.h2_machine_laws.proofs.RepresentedSteps.{nothing_unreturned}
+use Rattle.h2_machine_laws.proofs.SentConnectionItems.{ping_advances, goaway_advances}
+use Rattle.h2_machine_laws.proofs.SentConnectionItems.{settings_advance}
 use Rattle.h2_machine_laws.proofs.SentQuietItems.{called_streams}
 use Rattle.h2_machine_laws.proofs.WaitingOutput.{OutputOf}
 use Rattle.h2_log_laws.proofs.ItemSizes.{size-update}
@@ -205,7 +208,8 @@ put_out_by : (values : Values) (e : End) (log : Log) (count n : ℕ) (x : Option
 unfolding after_call with_call released
 put_out_by values e log count n None up is represents typed may =
     let made = put_out_up e log count n is (up_of values e log represents up) in
-    represents_made values e log (PutOut count) (Count n) represents typed may (never_refused e count)
+    represents_made values e log (PutOut count) (Count n) represents typed may (never_refused e
+    count)
     made.role (made.up ∙ sym made.same) made.waits made.going.streams
     (λ up. runs _ _ made.started made.going)
 put_out_by values e log count n (Some code) failed is represents typed may =
@@ -220,7 +224,8 @@ put_out_by values e log count n (Some code) failed is represents typed may =
     }) (record base { given = log.given + n }) =
     put_out_waits e base count n (is ∙ ap (min count) (sym same))
     represents.output in
-    represents_made values e log (PutOut count) (Count n) represents typed may (never_refused e count)
+    represents_made values e log (PutOut count) (Count n) represents typed may (never_refused e
+    count)
     (ap (λ (x : End). x.role) here ∙ represents.role ∙ sym (ap (λ (x : Log). x.role) there))
     (ap (λ (x : End). x.failed) here ∙ represents.failed ∙ sym (ap (λ (x : Log). x.failed) there))
     (rw (here, there) waits)

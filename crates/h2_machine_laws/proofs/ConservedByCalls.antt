@@ -24,10 +24,12 @@ use Rattle.h2_machine.specs.Machine.{after_call, new_end}
 use Rattle.h2_log.specs.View.{StreamView, owed_on}
 use Rattle.h2_log.specs.declared.role.Role.{Role}
 use Rattle.h2_log_laws.proofs.InvariantCalls.{no_fault}
-use Rattle.h2_log_laws.proofs.CallConditions.{and_other}
-use Rattle.h2_machine_laws.proofs.ConservedBySteps.{Holds, lacks_none, was_reset, stream_set, changed, active_is_kept, active_set, active_used}
+use Rattle.h2_log_laws.proofs.CallConditions.{and_other, AreFalse, none_holds, neither_one}
+use Rattle.h2_log_laws.proofs.CallConditions.{neither_other}
+use Rattle.h2_machine_laws.proofs.ConservedBySteps.{Holds, lacks_none, was_reset, stream_set}
+use Rattle.h2_machine_laws.proofs.ConservedBySteps.{changed, active_is_kept, active_set}
+use Rattle.h2_machine_laws.proofs.ConservedBySteps.{active_used}
 use Rattle.h2_machine_laws.proofs.OwedSums.{total-empty}
-use Rattle.h2_log_laws.proofs.CallConditions.{AreFalse, none_holds, neither_one, neither_other}
 
 -- A stream is active where it isn't that none is.
 is_active_by : (x : Option StreamView) → not (is_some x) ≡ false

@@ -32,7 +32,10 @@ use Rattle.h2_machine.specs.Machine.{after_ignored, after_stream_fault, after_ve
 use Rattle.h2_machine.specs.Machine.{narrow_recv_window, with_encoder, with_table_after}
 use Rattle.hpack.specs.Lists.{list_size}
 use Rattle.h2_log_laws.proofs.ItemSizes.{size_of}
-use Rattle.h2_machine_laws.proofs.ConservedBySteps.{Sums, Holds, lacks_none, returned, ended, was_reset, was_used, data_reported, block_reported, more_used, values_set, enforced, widened}
+use Rattle.h2_machine_laws.proofs.ConservedBySteps.{Sums, Holds, lacks_none, returned, ended}
+use Rattle.h2_machine_laws.proofs.ConservedBySteps.{was_reset, was_used, data_reported}
+use Rattle.h2_machine_laws.proofs.ConservedBySteps.{block_reported, more_used, values_set, enforced}
+use Rattle.h2_machine_laws.proofs.ConservedBySteps.{widened}
 
 -- The verdict is no fault of the connection.
 abbrev pub NoConnectionFault : Verdict → Type 0
@@ -89,11 +92,6 @@ reset_no_fault Idle code is = cc
 reset_no_fault Active code is = cc
 reset_no_fault ClosedByUs code is = cc
 reset_no_fault Closed code is = cc
-
--- SETTINGS are no fault of a stream.
-settings_no_fault : (x : Option Code) (code : Code) → verdict_of_fault x ≢ StreamFault code
-settings_no_fault None code is = cc
-settings_no_fault (Some other) code is = cc
 
 -- An increment of the connection's window is no fault of a stream, by the tests.
 connection_no_fault : (zero above : Bool) (code : Code)

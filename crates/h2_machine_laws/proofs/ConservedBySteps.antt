@@ -17,7 +17,8 @@ use Rattle.h2_machine.specs.Machine.{receive_block, shifted_entry, recv_shifted_
 use Rattle.h2_machine.specs.Machine.{apply_settings, apply_own_settings, widen_send_window}
 use Rattle.h2_machine.specs.Machine.{new_stream, more_unreturned, narrow_recv_window}
 use Rattle.h2_machine_laws.specs.Bounds.{KeepsConnectionWindow}
-use Rattle.h2_machine_laws.proofs.OwedSums.{total-insert, total-remove, total-each, get_set_other, get_removed_none, get_each_none}
+use Rattle.h2_machine_laws.proofs.OwedSums.{total-insert, total-remove, total-each, get_set_other}
+use Rattle.h2_machine_laws.proofs.OwedSums.{get_removed_none, get_each_none}
 
 -- The sum of a receive window, of what is owed on streams, and of what is unreturned, is the first
 -- window; and nothing is kept of numbers above one.

@@ -1,6 +1,6 @@
 -- What a log says of numbers that no stream had yet; and the law of calls.
-use Rattle.std.proofs.Common.{◌≡◌, ◌≢◌, ℕ, ◌≤◌, ◌<◌, false, List, [], ◌∷◌, None, refl, subst}
-use Rattle.std.proofs.Common.{◌∙◌, arith}
+use Rattle.std.proofs.Common.{◌≡◌, ◌≢◌, ℕ, ◌≤◌, ◌<◌, false, List, [], ◌∷◌, None, refl, subst, ◌∙◌}
+use Rattle.std.proofs.Common.{arith}
 use Rattle.std.specs.List.{list_any}
 use Rattle.std.proofs.lemmas.Bool.{both_ways, ne_eqb, false_from_ne_true}
 use Rattle.h2_frame.specs.Frames.{Data, Headers, Priority, Reset, Settings, Ping, GoAway}
@@ -30,9 +30,9 @@ use Rattle.h2_machine_laws.proofs.CallOpen.{IsClear}
 use Rattle.h2_machine_laws.proofs.GoAwaysSent.{active_processed}
 use Rattle.h2_machine_laws.proofs.LogCore.{core, kept_back}
 use Rattle.h2_machine_laws.proofs.OneItemMore.{any_quiet}
-use Rattle.h2_log_laws.proofs.ItemLists.{total_one}
 use Rattle.h2_machine_laws.proofs.UpInvariant.{idle_above, greatest_after}
 use Rattle.h2_machine_laws.proofs.UpInvariantLogs.{up_log_of}
+use Rattle.h2_log_laws.proofs.ItemLists.{total_one}
 
 -- an item that a client may write neither ends nor consumes anything of a number above all before
 -- it
@@ -47,16 +47,7 @@ item_low received sent (alone (Data stream end octets pad)) i allowed above =
     (active_parts Client stream received sent [] (allowed.1).goes_on.active).opened in
     let other : stream ≢ i = λ same. omega arith in
     (rw (ne_eqb stream i other) refl, rw (ne_eqb stream i other) refl)
-item_low received sent (alone (Headers stream end last fragment pad priority)) i allowed above =
-    (refl, refl)
-item_low received sent (alone (Priority stream octets)) i allowed above = (refl, refl)
-item_low received sent (alone (Reset stream code)) i allowed above = (refl, refl)
-item_low received sent (alone (Settings ack pairs)) i allowed above = (refl, refl)
-item_low received sent (alone (Ping ack octets)) i allowed above = (refl, refl)
-item_low received sent (alone (GoAway last code debug)) i allowed above = (refl, refl)
-item_low received sent (alone (WindowUpdate stream increment)) i allowed above = (refl, refl)
-item_low received sent (alone (Continuation stream last fragment)) i allowed above = (refl, refl)
-item_low received sent (alone (Unknown kind flags stream payload)) i allowed above = (refl, refl)
+item_low received sent item i allowed above = (refl, refl)
 
 -- A client has ended nothing, and sent nothing, of a number above all that it used.
 sent_low : (received sent : List Item) (i : ℕ) → AllowedHistory Client received sent

@@ -1,8 +1,8 @@
 -- At a server that hasn't failed no active stream is above the last one that was processed, whether
 -- a GOAWAY was sent or not. So the GOAWAY of a failure closes none.
-use Rattle.std.proofs.Common.{◌≡◌, ℕ, ◌+◌, ◌≤◌, ◌<◌, ◌&&◌, ◌||◌, nat_lt, Bool}
-use Rattle.std.proofs.Common.{true, false, if◌then◌else◌, List, [], ◌∷◌, ◌++◌}
-use Rattle.std.proofs.Common.{Option, Some, None, refl, sym, ap, subst, ◌∙◌, arith}
+use Rattle.std.proofs.Common.{◌≡◌, ℕ, ◌+◌, ◌≤◌, ◌<◌, ◌&&◌, ◌||◌, nat_lt, Bool, true, false}
+use Rattle.std.proofs.Common.{if◌then◌else◌, List, [], ◌∷◌, ◌++◌, Option, Some, None, refl, sym, ap}
+use Rattle.std.proofs.Common.{subst, ◌∙◌, arith}
 use Rattle.std.specs.List.{list_any}
 use Rattle.std.proofs.lemmas.Bool.{both_ways, or_left, or_right, lt-ltb, ltb-false, ltb-true}
 use Rattle.h2_frame.specs.declared.code.Code.{Code}
@@ -27,11 +27,10 @@ use Rattle.h2_log.specs.Verdicts.{Verdict, ConnectionFault, StreamFault, NoEvent
 use Rattle.h2_log.specs.ItemRules.{Decoded, FrameStep, fails_with, begins_block, completes}
 use Rattle.h2_log.specs.ItemRules.{frame_step, replies_to}
 use Rattle.h2_log.specs.View.{ended_in}
-use Rattle.h2_log.specs.CallRules.{items_of, answer_of}
-use Rattle.h2_log.specs.CallRules.{returns_before_put_out}
+use Rattle.h2_log.specs.CallRules.{items_of, answer_of, returns_before_put_out}
+use Rattle.h2_log.specs.ItemEffects.{events_of}
 use Rattle.h2_log.specs.LogSteps.{read, used, with_sent, with_reported, with_credit_returned}
-use Rattle.h2_log.specs.LogSteps.{with_unreturned, with_verdict, with_step}
-use Rattle.h2_log.specs.LogSteps.{with_frame, took_none}
+use Rattle.h2_log.specs.LogSteps.{with_unreturned, with_verdict, with_step, with_frame, took_none}
 use Rattle.h2_log.specs.LogCalls.{opened, called, with_items, refused_with, before_put_out}
 use Rattle.h2_log.specs.LogCalls.{with_call, MayAnswer, accepts, refuses, lacks, fails}
 use Rattle.h2_log.specs.Histories.{IsLog, begins, took_some, took_one, met_fault, ran_out_of_memory}
@@ -41,6 +40,7 @@ use Rattle.h2_log.specs.declared.refusal.Refusal.TheVariants.{Memory}
 use Rattle.h2_log_laws.proofs.ReaderStates.{active_parts}
 use Rattle.h2_log_laws.proofs.DataOfCalls.{none_of_items}
 use Rattle.h2_log_laws.proofs.LogGrowth.{grows_call}
+use Rattle.h2_machine_laws.proofs.EveryUpLog.{every_up_log}
 use Rattle.h2_machine_laws.proofs.UpInvariant.{IsUpLog, processed_after}
 use Rattle.h2_machine_laws.proofs.UpInvariantLogs.{up_log_of}
 
@@ -108,19 +108,9 @@ replies_none : (v : Verdict) (item : Item) → list_any is_goaway (replies_to v 
 unfolding replies_to is_goaway
 replies_none (ConnectionFault code) item = refl
 replies_none (StreamFault code) item = refl
-replies_none NoEvent (block stream end octets) = refl
-replies_none NoEvent (alone (Data stream end octets pad)) = refl
-replies_none NoEvent (alone (Headers stream end last fragment pad priority)) = refl
-replies_none NoEvent (alone (Priority stream octets)) = refl
-replies_none NoEvent (alone (Reset stream code)) = refl
-replies_none NoEvent (alone (Settings true pairs)) = refl
 replies_none NoEvent (alone (Settings false pairs)) = refl
-replies_none NoEvent (alone (Ping true octets)) = refl
 replies_none NoEvent (alone (Ping false octets)) = refl
-replies_none NoEvent (alone (GoAway last code debug)) = refl
-replies_none NoEvent (alone (WindowUpdate stream increment)) = refl
-replies_none NoEvent (alone (Continuation stream last fragment)) = refl
-replies_none NoEvent (alone (Unknown kind flags stream payload)) = refl
+replies_none NoEvent item = refl
 replies_none Reported item = refl
 
 -- An item that is no fault of the connection keeps it.
@@ -131,32 +121,6 @@ low_read : (log : Log) (decoded : Option Decoded) (item : Item) (v : Verdict) (m
 low_read log decoded item v more events low =
     low_reported _ events (low_unreturned more _
     (low_wrote (read log decoded item) (replies_to v item) (replies_none v item) low))
-
--- An item keeps it, by its verdict.
-low_verdict : (log : Log) (decoded : Option Decoded) (item : Item) (v : Verdict) → IsLow log
-    → (with_verdict log decoded item v).failed ≡ None → IsLow (with_verdict log decoded item v)
-unfolding with_verdict
-low_verdict log decoded item (ConnectionFault code) low up = let wrong : Some code ≡ None = up in cc
-low_verdict log decoded item (StreamFault code) low up = low_read log decoded item _ _ _ low
-low_verdict log decoded item NoEvent low up = low_read log decoded item _ _ _ low
-low_verdict log decoded item Reported low up = low_read log decoded item _ _ _ low
-
--- What a frame makes of the block that has begun keeps it.
-low_step : (log : Log) (decoded : Option Decoded) (step : FrameStep) → IsLow log
-    → (with_step log decoded step).failed ≡ None → IsLow (with_step log decoded step)
-unfolding with_step
-low_step log decoded (fails_with code) low up = let wrong : Some code ≡ None = up in cc
-low_step log decoded (begins_block begun) low up = low
-low_step log decoded (completes item) low up =
-    low_verdict (record log { begun = None }) decoded item _ low up
-
--- A frame keeps it.
-low_frame : (log : Log) (decoded : Option Decoded) (frame : Frame) → IsLow log
-    → (with_frame log decoded frame).failed ≡ None → IsLow (with_frame log decoded frame)
-unfolding with_frame
-low_frame log decoded frame low up =
-    low_step (record log { frames = log.frames ++ frame ∷ [] }) decoded
-    (frame_step (log_view log) frame) low up
 
 -- how many are GOAWAY, of one item
 one_goaway : Item → ℕ
@@ -215,21 +179,16 @@ low_items : (log : Log) (act : Act) → IsLow log
     → HasLow (greatest_processed log.reported)
     (items_of (log_view log) act (answer_of (log_view log) act) ++ log.sent)
 unfolding items_of is_goaway last_processed
-low_items log (Open fields end) low = low_none_of log (Open fields end) refl low
-low_items log (SendFields id fields end) low = low_none_of log (SendFields id fields end) refl low
 low_items log (SendData id octets end) low =
     low_none_of log (SendData id octets end) (none_counted _ (none_of_items one_goaway data_counted
     (log_view log).max_payload id octets end _)) low
 low_items log (Release id count) low =
     low_none_of log (Release id count)
     (release_none id count (ended_in ((log_view log).stream id))) low
-low_items log (ResetStream id code) low = low_none_of log (ResetStream id code) refl low
-low_items log (Refuse id code) low = low_none_of log (Refuse id code) refl low
-low_items log (SendPing octets) low = low_none_of log (SendPing octets) refl low
 low_items log SendGoAway low =
     low_goaway log log.sent (last_low (is_server log.role) (greatest_processed log.reported))
 low_items log (PutOut count) low = low
-low_items log (ChangeSettings values) low = low_none_of log (ChangeSettings values) refl low
+low_items log act low = low_none_of log act refl low
 
 -- Items are written that keep it.
 low_sent : (log : Log) (items : List Item)
@@ -275,17 +234,9 @@ low_accepted : (log : Log) (act : Act) → IsLow log
     → (with_call log act (answer_of (log_view log) act)).failed ≡ None
     → IsLow (with_call log act (answer_of (log_view log) act))
 unfolding with_call
-low_accepted log (Open fields end) low up = low_call_items log (Open fields end) low
-low_accepted log (SendFields id fields end) low up = low_call_items log (SendFields id fields end)
-    low
-low_accepted log (SendData id octets end) low up = low_call_items log (SendData id octets end) low
-low_accepted log (Release id count) low up = low_call_items log (Release id count) low
-low_accepted log (ResetStream id code) low up = low_call_items log (ResetStream id code) low
 low_accepted log (Refuse id code) low up = low_refused log id code _ low up
-low_accepted log (SendPing octets) low up = low_call_items log (SendPing octets) low
-low_accepted log SendGoAway low up = low_call_items log SendGoAway low
 low_accepted log (PutOut count) low up = low_put_out log (PutOut count) _ low
-low_accepted log (ChangeSettings values) low up = low_call_items log (ChangeSettings values) low
+low_accepted log act low up = low_call_items log act low
 
 -- A call that is refused keeps it.
 low_refusal : (log : Log) (act : Act) (refusal : Refusal) → IsLow log
@@ -312,11 +263,6 @@ low_call log act answer (lacks none may is) low up =
 low_call log act answer (fails none may is) low up =
     absurd (memory_fails log act (ap (λ (a : Answer). (with_call log act a).failed) (sym is) ∙ up))
 
--- Octets that were used change nothing of this.
-low_used : (log : Log) (octets unparsed : List ℕ) → IsLow log → IsLow (used log octets unparsed)
-unfolding used
-low_used log octets unparsed low = low
-
 -- A stream that the peer does not process is reported.
 low_none : (log : Log) → IsLow log → IsLow (took_none log)
 low_none log low = low_reported _ _ (low_unreturned _ log low)
@@ -329,20 +275,19 @@ low_opened role values i above some = absurd (both_ways false refl some)
 -- Where a log that hasn't failed has a GOAWAY, one has a last stream that was processed, or 0.
 low_of : (role : Role) (values : Values) (log : Log) → IsLog role values log → log.failed ≡ None
     → IsLow log
-low_of role values _ (begins in_range) up = low_opened role values
-low_of role values _ (took_some {log = log} is takes octets unparsed read) up =
-    low_used log octets unparsed (low_of role values log is takes.up)
-low_of role values _ (took_one {log = log} is takes octets frame decoded read sees) up =
-    low_frame (used log octets []) decoded frame
-    (low_used log octets [] (low_of role values log is takes.up)) up
-low_of role values _ (met_fault {log = log} is takes octets fault at) up =
-    let wrong : Some (wire_fault_code fault) ≡ None = up in cc
-low_of role values _ (ran_out_of_memory {log = log} is was octets may) up =
-    let wrong : Some InternalError ≡ None = up in cc
-low_of role values _ (reported_one {log = log} is was some) up =
-    low_none log (low_of role values log is was)
-low_of role values _ (called_one {log = log} is act answer typed may) up =
-    low_call log act answer may (low_of role values log is ((grows_call log act answer).up up)) up
+unfolding used
+low_of =
+    every_up_log IsLow
+    (record {
+      used = λ log octets unparsed low. low;
+      frames = λ log frames low. low;
+      begun = λ log begun low. low;
+      item = λ log decoded item verdict more is none low. low_read log decoded item verdict more
+          (events_of (log_view log) decoded verdict item) low;
+      unprocessed = low_none;
+      call = low_call;
+    })
+    low_opened
 
 -- what is above an own GOAWAY, at a server
 above_server : (role : Role) (i : ℕ) (sent : List Item) → is_server role ≡ true

@@ -15,8 +15,10 @@ mod ConservedByCalls
 mod ConservedByFrames
 mod ConservedBySteps
 mod EachStream
+mod EveryUpLog
 mod FreshNumbers
 mod GoAwaysSent
+mod ItemsApart
 mod LogCore
 mod NewEnd
 mod NextUnprocessed

@@ -207,5 +207,6 @@ next_same values e log s up =
     let r = s.running (s.failed ∙ up) in
     let with_sent : AllowedHistory log.role log.received log.sent = rw (s.role) at
     (written_is_allowed e.role values log s.came) in
-    rw (r.goaway.least_received, s.role) (next_by e log log.role (list_any is_goaway log.received) s.role
+    rw (r.goaway.least_received, s.role) (next_by e log log.role (list_any is_goaway log.received)
+    s.role
     refl refl with_sent (going e log s.streams r))

@@ -1,6 +1,5 @@
 -- What items make of an end and of its log that change nothing of its streams, but perhaps windows.
-use Rattle.std.proofs.Common.{◌≡◌, ℕ, Bool, true, false, List, [], ◌∷◌}
-use Rattle.std.proofs.Common.{Option, refl, arith}
+use Rattle.std.proofs.Common.{◌≡◌, ℕ, Bool, true, false, List, [], ◌∷◌, Option, refl, arith}
 use Rattle.std.proofs.lemmas.Bool.{both_ways}
 use Rattle.h2_frame.specs.Frames.{Frame, Data, Headers, Priority, Reset, Settings, Ping, GoAway}
 use Rattle.h2_frame.specs.Frames.{WindowUpdate, Continuation, Unknown}
@@ -51,7 +50,8 @@ plain_quiet (WindowUpdate stream increment) is = absurd (both_ways false refl is
 plain_quiet frame is =
     record {
       common = record { leaves = refl; least = λ items. refl; settings = refl };
-      apart = λ i. record { blocks = refl; ended = refl; was_reset = refl; flow = refl; gives = refl };
+      apart = λ i. record { blocks = refl; ended = refl; was_reset = refl; flow = refl };
+      gives = λ i. refl;
       greatest = λ items. refl;
       flow_of = refl;
     }

@@ -5,8 +5,7 @@ use Rattle.std.proofs.Common.{sym, ◌∙◌, arith, zero-add}
 use Rattle.std.specs.List.{list_any}
 use Rattle.std.specs.FinMap as map
 use Rattle.std.proofs.lemmas.Int.{ints}
-use Rattle.std.proofs.lemmas.Bool.{both_ways, ne_eqb, eq-eqb, or_right}
-use Rattle.std.proofs.lemmas.Bool.{false_from_ne_true}
+use Rattle.std.proofs.lemmas.Bool.{both_ways, ne_eqb, eq-eqb, or_right, false_from_ne_true}
 use Rattle.h2_frame.specs.Frames.{Data}
 use Rattle.h2_frame.specs.Encoding.{stream_of, payload_of}
 use Rattle.h2_block.specs.Grouping.{Item, alone}
@@ -23,21 +22,24 @@ use Rattle.h2_log.specs.ItemRules.{Decoded, replies_to}
 use Rattle.h2_log.specs.LogSteps.{read, with_sent, with_reported, with_unreturned, owed_at_close}
 use Rattle.h2_log.specs.LogSteps.{with_verdict}
 use Rattle.h2_log.specs.ItemEffects.{events_of, discarded_flow}
-use Rattle.h2_machine.specs.End.{End, StreamMap, active_entry, owed_entry}
+use Rattle.h2_machine.specs.End.{End, StreamMap, active_entry, owed_entry, Streams}
 use Rattle.h2_log.specs.View.{StreamView}
 use Rattle.h2_machine.specs.Machine.{set_stream, close_stream, with_flow, after_reported}
 use Rattle.h2_log.specs.declared.role.Role.{Role}
 use Rattle.h2_log.specs.declared.role.Role.TheVariants.{Client, Server}
-use Rattle.h2_machine.specs.End.{Streams}
-use Rattle.h2_machine_laws.proofs.LogCore.{StreamsOf, said, Core, core, CoreFacts, core_facts, Advances, Going, confirmed, active_by_items}
+use Rattle.h2_machine_laws.proofs.ItemsApart.{data_apart}
+use Rattle.h2_machine_laws.proofs.LogCore.{StreamsOf, said, Core, core, CoreFacts, core_facts}
+use Rattle.h2_machine_laws.proofs.LogCore.{Advances, Going, confirmed, active_by_items}
 use Rattle.h2_machine_laws.proofs.OwedAtClose.{none_owing, owes_all}
 use Rattle.h2_machine_laws.proofs.OwedSums.{get_set_same}
-use Rattle.h2_machine_laws.proofs.RecvEvents.{reported_by, report, ChangesNoStream, active_reported, same_reported, taken_kept}
+use Rattle.h2_machine_laws.proofs.RecvEvents.{reported_by, report, ChangesNoStream, active_reported}
+use Rattle.h2_machine_laws.proofs.RecvEvents.{same_reported, taken_kept}
 use Rattle.h2_machine_laws.proofs.RecvRead.{reads, read_step, same_read}
-use Rattle.h2_machine_laws.proofs.RecvReset.{data_common, data_apart, data_used, data_gives, data_takes}
+use Rattle.h2_machine_laws.proofs.RecvReset.{data_gives, data_common, data_used, data_takes}
 use Rattle.h2_machine_laws.proofs.RecvReturnedCredit.{After, returned, unsettled}
 use Rattle.h2_machine_laws.proofs.RecvVerdict.{stream_said}
-use Rattle.h2_machine_laws.proofs.StreamsSame.{streams_set, streams_closed, said_over, same_both, SameAt, same_stream}
+use Rattle.h2_machine_laws.proofs.StreamsSame.{streams_set, streams_closed, said_over, same_both}
+use Rattle.h2_machine_laws.proofs.StreamsSame.{SameAt, same_stream}
 use Rattle.h2_machine_laws.proofs.WaitingOutput.{Waits}
 use Rattle.h2_log_laws.proofs.ReaderStates.{active_parts, active_from, lasts_parts, lasts_from}
 
@@ -73,11 +75,6 @@ data_ends : (i : ℕ) (end : Bool) (octets : List ℕ) (pad : Option ℕ)
     → ends i (alone (Data i end octets pad)) ≡ end
 unfolding ends
 data_ends i end octets pad = rw (eq-eqb i i refl) refl
-
-data_still : (i : ℕ) (end : Bool) (octets : List ℕ) (pad : Option ℕ) (j : ℕ)
-    → increment_on j (alone (Data i end octets pad)) ≡ 0
-unfolding increment_on
-data_still i end octets pad j = refl
 
 data_unreset : (i : ℕ) (end : Bool) (octets : List ℕ) (pad : Option ℕ) (j : ℕ)
     → resets j (alone (Data i end octets pad)) ≡ false
@@ -115,7 +112,7 @@ flow_said c i end octets pad within =
     let n : ℕ = length (payload_of (Data i end octets pad)) in
     let d : Core = after_data c i end octets pad in
     same_stream (with_flow (said c i) n end) (said d i)
-    (rw (data_still i end octets pad i, zero-add) refl)
+    (rw (data_gives i end octets pad i, zero-add) refl)
     (rw (data_here i end octets pad, zero-add) (used_recv_window (granted_on i (confirmed c) c.sent)
     (total (data_on i) c.received) n))
     (rw (reported_here i octets n end) (more_kept n (reported_total (flow_on i) c.reported)
@@ -132,7 +129,7 @@ data_same c i end octets pad j other =
     (same_reported j c (DataEvent i octets n end) (reported_harmless i octets n end)
     (reported_elsewhere i octets n end j other))
     (same_read j c1 (alone (Data i end octets pad)) (data_common i end octets pad).settings
-    (data_apart i end octets pad j other))
+    (data_apart i end octets pad j other) (data_gives i end octets pad j))
 
 -- what stands among the openings stands among more
 opened_more : (role : Role) (i : ℕ) (item : Item) (received sent : List Item)
@@ -204,7 +201,7 @@ data_advances h c i end octets pad streams alive within are g =
     refl refl (taken_kept (is_server c.role) event c.reported (reported_shows i octets n end)) refl
     g.streams) g in
     read_step _ c1 (alone (Data i end octets pad)) streams h.windows.send (h.windows.recv - n)
-    (data_common i end octets pad) are (omega (arith, data_gives i end octets pad))
+    (data_common i end octets pad) are (omega (arith, data_gives i end octets pad 0))
     (omega (arith, within, data_takes i end octets pad)) one
 
 -- What DATA on an active stream makes of an end, by the test whether the stream is over.

@@ -1,6 +1,6 @@
 -- What reading an item makes of each subject of an end, by what it makes of the streams.
-use Rattle.std.proofs.Common.{◌≡◌, ℕ, ◌+◌, true, false, List, []}
-use Rattle.std.proofs.Common.{◌∷◌, refl, sym, ◌∙◌, arith, zero-add}
+use Rattle.std.proofs.Common.{◌≡◌, ℕ, ◌+◌, true, false, List, [], ◌∷◌, refl, sym, ◌∙◌, arith}
+use Rattle.std.proofs.Common.{zero-add}
 use Rattle.std.specs.List.{list_any}
 use Rattle.std.proofs.lemmas.Bool.{both_ways, false_from_ne_true}
 use Rattle.h2_block.specs.Grouping.{Item}
@@ -18,6 +18,7 @@ use Rattle.h2_log.specs.declared.role.Role.TheVariants.{Client, Server}
 use Rattle.h2_log_laws.proofs.ReaderStates.{active_parts}
 use Rattle.h2_log_laws.proofs.LogInvariant.{active_before}
 use Rattle.h2_log_laws.proofs.SettingsLists.{value_kept}
+use Rattle.h2_machine_laws.proofs.ItemsApart.{IsApart}
 use Rattle.h2_machine_laws.proofs.LogCore.{Core, CoreFacts, Advances, StreamsOf, active_by_items}
 use Rattle.h2_machine_laws.proofs.StreamsSame.{SameAt, streams_same}
 
@@ -107,23 +108,15 @@ read_step h c item streams send recv q are wider less g =
       ping = g.ping;
     }
 
--- An item that touches nothing of a number.
-pub record IsApart (j : ℕ) (item : Item) : Type 0 where
-  pub blocks : is_block_on j item ≡ false
-  pub ended : ends j item ≡ false
-  pub was_reset : resets j item ≡ false
-  pub flow : data_on j item ≡ 0
-  pub gives : increment_on j item ≡ 0
-
 -- The log says the same of a number after an item that is read and touches nothing of it.
 pub same_read : (j : ℕ) (c : Core) (item : Item) → one_settings item ≡ 0 → IsApart j item
-    → SameAt j c (reads c item)
+    → increment_on j item ≡ 0 → SameAt j c (reads c item)
 unfolding total given_on
-same_read j c item none a =
+same_read j c item none a gives =
     let value4 : value_read 4 first_window (item ∷ c.received) ≡ value_read 4 first_window
     c.received = value_kept 4 first_window item c.received none in
     let gave : increment_on j item + total (increment_on j) c.received ≡ total (increment_on j)
-    c.received = omega (arith, a.gives) in
+    c.received = omega (arith, gives) in
     let came : data_on j item + total (data_on j) c.received ≡ total (data_on j) c.received =
     omega (arith, a.flow) in
     record {
@@ -136,6 +129,7 @@ same_read j c item none a =
 pub record IsQuietIn (item : Item) : Type 0 where
   pub common : IsCommon item
   pub apart : (j : ℕ) → IsApart j item
+  pub gives : (j : ℕ) → increment_on j item ≡ 0
   pub greatest : (items : List Item) → greatest_block (item ∷ items) ≡ greatest_block items
   pub flow_of : data_of item ≡ 0
 
@@ -145,9 +139,9 @@ pub quiet_read : (h : CoreFacts) (c : Core) (item : Item) → IsQuietIn item →
 quiet_read h c item q g =
     read_step h c item h.streams h.windows.send h.windows.recv q.common
     (streams_same h.streams c (reads c item)
-    (λ j. same_read j c item q.common.settings (q.apart j))
+    (λ j. same_read j c item q.common.settings (q.apart j) (q.gives j))
     (used_read c.role item c.received c.sent q.greatest) refl refl g.streams)
-    (omega (arith, (q.apart 0).gives)) (omega (arith, q.flow_of)) g
+    (omega (arith, q.gives 0)) (omega (arith, q.flow_of)) g
 
 -- The log says the same of a number that isn't active, before and after.
 pub same_dead : (j : ℕ) (c : Core) (item : Item) → active_by_items c j ≡ false

@@ -21,10 +21,13 @@ use Rattle.h2_log.specs.ItemEffects.{events_of, discarded_flow}
 use Rattle.h2_machine.specs.End.{End, owed_entry}
 use Rattle.h2_machine.specs.Machine.{after_ignored, after_reported}
 use Rattle.h2_log_laws.proofs.ReaderStates.{active_parts, lasts_parts}
-use Rattle.h2_machine_laws.proofs.LogCore.{Core, core, CoreFacts, core_facts, Advances, Going, active_by_items, kept_back, greatest_used}
+use Rattle.h2_machine_laws.proofs.ItemsApart.{reset_apart, data_apart, IsApart}
+use Rattle.h2_machine_laws.proofs.LogCore.{Core, core, CoreFacts, core_facts, Advances, Going}
+use Rattle.h2_machine_laws.proofs.LogCore.{active_by_items, kept_back, greatest_used}
 use Rattle.h2_machine_laws.proofs.OwedAtClose.{dead_owing, owes_all}
 use Rattle.h2_machine_laws.proofs.RecvEvents.{ChangesNoStream, quiet_reported, active_reported}
-use Rattle.h2_machine_laws.proofs.RecvRead.{used_read, reads, IsCommon, read_step, IsApart, same_read, same_dead, stays_dead}
+use Rattle.h2_machine_laws.proofs.RecvRead.{used_read, reads, IsCommon, read_step, same_read}
+use Rattle.h2_machine_laws.proofs.RecvRead.{same_dead, stays_dead}
 use Rattle.h2_machine_laws.proofs.RecvReturnedCredit.{After, returned, unsettled}
 use Rattle.h2_machine_laws.proofs.RecvVerdict.{active_said}
 use Rattle.h2_machine_laws.proofs.StreamsSame.{streams_same, streams_closed, SameAt, said_removed}
@@ -34,34 +37,22 @@ use Rattle.h2_machine_laws.proofs.WaitingOutput.{Waits}
 -- may take of the connection's window.
 pub dead_read : (h : CoreFacts) (c : Core) (item : Item) (i recv_window : ℕ) → IsCommon item
     → ((j : ℕ) → j ≢ i → IsApart j item) → is_block_on i item ≡ false
-    → greatest_used (reads c item) ≡ greatest_used c → increment_on 0 item ≡ 0
+    → greatest_used (reads c item) ≡ greatest_used c → ((j : ℕ) → increment_on j item ≡ 0)
     → recv_window + data_of item ≡ h.windows.recv → active_by_items c i ≡ false → Advances h c
     → Advances (record h { windows = record h.windows { recv = recv_window } }) (reads c item)
 dead_read h c item i recv_window common apart opens greatest gives takes dead g =
     let same : (j : ℕ) → SameAt j c (reads c item) = λ j. elim (cases_eq j i) [
       | inl here ↦ rw here (same_dead i c item dead (stays_dead c i item opens dead))
-      | inr other ↦ same_read j c item common.settings (apart j other)
+      | inr other ↦ same_read j c item common.settings (apart j other) (gives j)
     ] in
     read_step h c item h.streams h.windows.send recv_window common
     (streams_same h.streams c (reads c item) same greatest refl refl g.streams)
-    (omega (arith, gives)) takes g
+    (omega (arith, gives 0)) takes g
 
 -- RST_STREAM is neither SETTINGS nor GOAWAY.
 reset_common : (i code : ℕ) → IsCommon (alone (Reset i code))
 unfolding is_goaway least_goaway one_settings
 reset_common i code = record { leaves = refl; least = λ items. refl; settings = refl }
-
--- It touches nothing of other streams.
-reset_apart : (i code j : ℕ) → j ≢ i → IsApart j (alone (Reset i code))
-unfolding is_block_on ends resets data_on increment_on
-reset_apart i code j other =
-    record {
-      blocks = refl;
-      ended = refl;
-      was_reset = ne_eqb i j (λ is. other (sym is));
-      flow = refl;
-      gives = refl;
-    }
 
 -- It opens nothing, gives nothing, and takes nothing.
 reset_opens : (i code j : ℕ) → is_block_on j (alone (Reset i code)) ≡ false
@@ -73,9 +64,9 @@ reset_used : (c : Core) (i code : ℕ) → greatest_used (reads c (alone (Reset 
 unfolding greatest_block
 reset_used c i code = used_read c.role (alone (Reset i code)) c.received c.sent (λ items. refl)
 
-reset_gives : (i code : ℕ) → increment_on 0 (alone (Reset i code)) ≡ 0
+reset_gives : (i code j : ℕ) → increment_on j (alone (Reset i code)) ≡ 0
 unfolding increment_on
-reset_gives i code = refl
+reset_gives i code j = refl
 
 reset_takes : (i code : ℕ) → data_of (alone (Reset i code)) ≡ 0
 unfolding data_of
@@ -135,14 +126,14 @@ reset_active_read : (h : CoreFacts) (c : Core) (i code : ℕ) → active_by_item
 reset_active_read h c i code alive g =
     let item : Item = alone (Reset i code) in
     let same : (j : ℕ) → j ≢ i → SameAt j c (reads c item) = λ j other. same_read j c item
-    (reset_common i code).settings (reset_apart i code j other) in
+    (reset_common i code).settings (reset_apart i code j other) (reset_gives i code j) in
     read_step h c item _ h.windows.send h.windows.recv (reset_common i code)
     (streams_closed h.streams i (map.remove h.streams.entries i) h.streams.resets c (reads c item)
     same alive (reset_dead c i code)
     (said_removed h.streams.entries i c (reads c item) g.streams.entries same (reset_dead c i code)
     (lasts_parts i c.received c.sent (active_parts c.role i c.received c.sent c.reported
     alive).lasts).kept) (reset_used c i code) refl g.streams.resets g.streams)
-    (omega (arith, reset_gives i code)) (omega (arith, reset_takes i code)) g
+    (omega (arith, reset_gives i code 0)) (omega (arith, reset_takes i code)) g
 
 -- The stream isn't active then, once that was reported.
 reset_reported_dead : (log : Log) (decoded : Option Decoded) (i code : ℕ)
@@ -197,20 +188,6 @@ pub data_common : (i : ℕ) (end : Bool) (octets : List ℕ) (pad : Option ℕ)
 unfolding is_goaway least_goaway one_settings
 data_common i end octets pad = record { leaves = refl; least = λ items. refl; settings = refl }
 
--- It touches nothing of other streams.
-pub data_apart : (i : ℕ) (end : Bool) (octets : List ℕ) (pad : Option ℕ) (j : ℕ) → j ≢ i
-    → IsApart j (alone (Data i end octets pad))
-unfolding is_block_on ends resets data_on increment_on
-data_apart i end octets pad j other =
-    let apart : i == j ≡ false = ne_eqb i j (λ is. other (sym is)) in
-    record {
-      blocks = refl;
-      ended = and_left (i == j) end apart;
-      was_reset = refl;
-      flow = rw apart refl;
-      gives = refl;
-    }
-
 -- It opens nothing, gives nothing, and takes its payload.
 pub data_opens : (i : ℕ) (end : Bool) (octets : List ℕ) (pad : Option ℕ) (j : ℕ)
     → is_block_on j (alone (Data i end octets pad)) ≡ false
@@ -223,10 +200,10 @@ unfolding greatest_block
 data_used c i end octets pad = used_read c.role (alone (Data i end octets pad)) c.received c.sent
     (λ items. refl)
 
-pub data_gives : (i : ℕ) (end : Bool) (octets : List ℕ) (pad : Option ℕ)
-    → increment_on 0 (alone (Data i end octets pad)) ≡ 0
+pub data_gives : (i : ℕ) (end : Bool) (octets : List ℕ) (pad : Option ℕ) (j : ℕ)
+    → increment_on j (alone (Data i end octets pad)) ≡ 0
 unfolding increment_on
-data_gives i end octets pad = refl
+data_gives i end octets pad j = refl
 
 pub data_takes : (i : ℕ) (end : Bool) (octets : List ℕ) (pad : Option ℕ)
     → data_of (alone (Data i end octets pad)) ≡ length (payload_of (Data i end octets pad))

@@ -10,10 +10,12 @@ use Rattle.h2_log.specs.LogSteps.{with_sent, with_reported, with_unreturned, wit
 use Rattle.h2_log.specs.Limits.{full_output}
 use Rattle.h2_machine.specs.End.{End}
 use Rattle.h2_machine.specs.Machine.{return_credit, add_unreturned}
-use Rattle.h2_machine_laws.proofs.LogCore.{StreamsOf, Core, CoreFacts, Advances, Going, core, core_facts}
+use Rattle.h2_machine_laws.proofs.LogCore.{StreamsOf, Core, CoreFacts, Advances, Going, core}
+use Rattle.h2_machine_laws.proofs.LogCore.{core_facts}
 use Rattle.h2_machine_laws.proofs.SentConnectionItems.{widened_advances}
 use Rattle.h2_machine_laws.proofs.SentQuietItems.{unreturned_advances}
-use Rattle.h2_machine_laws.proofs.WaitingOutput.{Waits, reports_connection, with_unreturned_connection_by, waits_much}
+use Rattle.h2_machine_laws.proofs.WaitingOutput.{Waits, reports_connection}
+use Rattle.h2_machine_laws.proofs.WaitingOutput.{with_unreturned_connection_by, waits_much}
 
 -- An end and the log for which it stands, but for what it takes for it to come about.
 pub record After (e : End) (log : Log) : Type 0 where
@@ -85,7 +87,8 @@ returned_by e log events more false waits same g =
 -- reported.
 pub returned : (e : End) (log : Log) (events : List Event) (n more : ℕ) → n ≡ more → Waits e log
     → e.windows.unreturned ≡ log.unreturned
-    → Advances (core_facts e) (record (core log) { reported = events ++ log.reported }) → After (add_unreturned n e) (with_reported (with_unreturned more log)
+    → Advances (core_facts e) (record (core log) { reported = events ++ log.reported }) → After
+    (add_unreturned n e) (with_reported (with_unreturned more log)
     events)
 unfolding add_unreturned with_unreturned
 returned e log events n more same waits unreturned g =
@@ -96,7 +99,8 @@ returned e log events n more same waits unreturned g =
 -- nothing more is unreturned, and events are reported
 unsettled_none : (e : End) (log : Log) (events : List Event) → Waits e log → e.windows.unreturned
     ≡ log.unreturned
-    → Advances (core_facts e) (record (core log) { reported = events ++ log.reported }) → After e (with_reported (with_unreturned 0 log) events)
+    → Advances (core_facts e) (record (core log) { reported = events ++ log.reported }) → After e
+    (with_reported (with_unreturned 0 log) events)
 unfolding with_unreturned
 unsettled_none e log events waits unreturned g =
     after_going e _ (reports_connection e.role e.failed e.output.waiting
@@ -109,6 +113,7 @@ unsettled_none e log events waits unreturned g =
 -- Where nothing more is unreturned, events are reported.
 pub unsettled : (e : End) (log : Log) (events : List Event) (more : ℕ) → more ≡ 0 → Waits e log
     → e.windows.unreturned ≡ log.unreturned
-    → Advances (core_facts e) (record (core log) { reported = events ++ log.reported }) → After e (with_reported (with_unreturned more log) events)
+    → Advances (core_facts e) (record (core log) { reported = events ++ log.reported }) → After e
+    (with_reported (with_unreturned more log) events)
 unsettled e log events more none waits unreturned g = rw none (unsettled_none e log events waits
     unreturned g)

@@ -24,7 +24,8 @@ use Rattle.h2_machine.specs.Machine.{each_entry, recv_shifted_entry, apply_own_s
 use Rattle.h2_machine.specs.Machine.{after_reported}
 use Rattle.h2_machine.specs.Represents.{AwaitsValues, entry_by}
 use Rattle.h2_machine_laws.proofs.EachStream.{changed_entry, get_each, each_by, shifted}
-use Rattle.h2_machine_laws.proofs.LogCore.{said, Core, core, CoreFacts, core_facts, Advances, Going, confirmed, active_by_items}
+use Rattle.h2_machine_laws.proofs.LogCore.{said, Core, core, CoreFacts, core_facts, Advances, Going}
+use Rattle.h2_machine_laws.proofs.LogCore.{confirmed, active_by_items}
 use Rattle.h2_machine_laws.proofs.OwedAtClose.{dead_owing, zero_dead}
 use Rattle.h2_machine_laws.proofs.RecvConnectionItems.{plain_quiet}
 use Rattle.h2_machine_laws.proofs.RecvEvents.{report, active_reported, reported_kept, taken_kept}

@@ -26,14 +26,18 @@ use Rattle.h2_log.specs.ItemEffects.{events_of, discarded_flow, least_last}
 use Rattle.h2_machine.specs.End.{End, active_entry, stream_at}
 use Rattle.h2_machine.specs.Machine.{widen_send_window, set_stream, after_ignored, after_reported}
 use Rattle.h2_log_laws.proofs.StreamNumbers.{last_none}
-use Rattle.h2_log_laws.proofs.ReleasedCredit.{gives_here}
-use Rattle.h2_machine_laws.proofs.LogCore.{said, Core, core, CoreFacts, core_facts, Advances, Going, active_by_items, greatest_used}
+use Rattle.h2_log_laws.proofs.ReleasedCredit.{gives_elsewhere, gives_here}
+use Rattle.h2_machine_laws.proofs.ItemsApart.{update_apart, IsApart}
+use Rattle.h2_machine_laws.proofs.LogCore.{said, Core, core, CoreFacts, core_facts, Advances, Going}
+use Rattle.h2_machine_laws.proofs.LogCore.{active_by_items, greatest_used}
 use Rattle.h2_machine_laws.proofs.OwedAtClose.{none_owing, dead_owing, zero_dead}
 use Rattle.h2_machine_laws.proofs.RecvEvents.{ChangesNoStream, quiet_reported}
-use Rattle.h2_machine_laws.proofs.RecvRead.{windows_read, peer_read, active_read, used_read, reads, IsCommon, read_step, IsApart, same_read, same_dead}
+use Rattle.h2_machine_laws.proofs.RecvRead.{windows_read, peer_read, active_read, used_read, reads}
+use Rattle.h2_machine_laws.proofs.RecvRead.{IsCommon, read_step, same_read, same_dead}
 use Rattle.h2_machine_laws.proofs.RecvReturnedCredit.{After, unsettled}
 use Rattle.h2_machine_laws.proofs.RecvVerdict.{stream_said, none_said}
-use Rattle.h2_machine_laws.proofs.StreamsSame.{streams_same, streams_set, SameAt, active_some, same_stream}
+use Rattle.h2_machine_laws.proofs.StreamsSame.{streams_same, streams_set, SameAt, active_some}
+use Rattle.h2_machine_laws.proofs.StreamsSame.{same_stream}
 use Rattle.h2_machine_laws.proofs.WaitingOutput.{Waits}
 
 -- the least last stream with one more, by whether there was one
@@ -52,8 +56,8 @@ goaway_same i c last code debug =
       ended = refl;
       was_reset = refl;
       flow = refl;
-      gives = refl;
     })
+    refl
 
 -- It opens nothing.
 goaway_used : (c : Core) (last code : ℕ) (debug : List ℕ)
@@ -137,18 +141,6 @@ update_common : (i n : ℕ) → IsCommon (alone (WindowUpdate i n))
 unfolding is_goaway least_goaway one_settings
 update_common i n = record { leaves = refl; least = λ items. refl; settings = refl }
 
--- It touches nothing of other streams.
-update_apart : (i n j : ℕ) → j ≢ i → IsApart j (alone (WindowUpdate i n))
-unfolding is_block_on ends resets data_on increment_on
-update_apart i n j other =
-    record {
-      blocks = refl;
-      ended = refl;
-      was_reset = refl;
-      flow = refl;
-      gives = rw (ne_eqb i j (λ is. other (sym is))) refl;
-    }
-
 -- its increment of the connection's, by the test
 update_all : (i n : ℕ) → increment_on 0 (alone (WindowUpdate i n)) ≡ (if i == 0 then n else 0)
 unfolding increment_on
@@ -207,7 +199,8 @@ update_active_read h c i n alive g =
     (ne_eqb i 0 (active_some c i alive)) in
     read_step h c item _ h.windows.send h.windows.recv (update_common i n)
     (streams_set h.streams i (record (said c i) { send_window = (said c i).send_window +ℤ pos n })
-    c (reads c item) (λ j other. same_read j c item refl (update_apart i n j other)) alive
+    c (reads c item) (λ j other. same_read j c item refl (update_apart i n j) (gives_elsewhere i j n
+    (λ is. other (sym is)))) alive
     (update_active c i n i ∙ alive) (update_said c i n) (update_used c i n) refl refl g.streams)
     (omega (arith, zero_i)) (omega (arith, update_none i n)) g
 
@@ -222,7 +215,8 @@ update_dead_read h c i n send_window dead wide g =
     read_step h c item h.streams send_window h.windows.recv (update_common i n)
     (streams_same h.streams c (reads c item) (λ j. elim (cases_eq j i) [
       | inl here ↦ same_dead j c item (rw here dead) (update_active c i n j ∙ rw here dead)
-      | inr other ↦ same_read j c item refl (update_apart i n j other)
+      | inr other ↦ same_read j c item refl (update_apart i n j) (gives_elsewhere i j n (λ is. other
+          (sym is)))
     ]) (update_used c i n) refl refl g.streams)
     (omega (arith, wide, update_all i n)) (omega (arith, update_none i n)) g
 
@@ -274,7 +268,8 @@ update_by e log decoded i n false dead w g =
     (unsettled (if i == 0 then record e { windows = record e.windows { send = e.windows.send + n } }
     else e) (read log decoded item) [] _
     (omega (arith, none_owing log (read log decoded item) i (update_active (core log) i n i)))
-    (widened_waits e log decoded item n (i == 0) w) (widened_unreturned e n (i == 0) ∙ g.windows.unreturned)
+    (widened_waits e log decoded item n (i == 0) w) (widened_unreturned e n (i == 0) ∙
+    g.windows.unreturned)
     (widened_by e log i n (i == 0) refl dead g))
 
 -- What a WINDOW_UPDATE makes of an end.

@@ -24,9 +24,11 @@ use Rattle.h2_machine.specs.Represents.{Represents, RepresentsWhileUp}
 use Rattle.h2_log_laws.proofs.ReaderStates.{active_parts, lasts_parts}
 use Rattle.h2_log_laws.proofs.NextStreams.{least_passes}
 use Rattle.h2_machine_laws.proofs.ConservedBySteps.{holds, is_whole, ended, lacks_none}
-use Rattle.h2_machine_laws.proofs.LogCore.{Core, core, CoreFacts, core_facts, Advances, Going, active_by_items, kept_back, going, runs}
+use Rattle.h2_machine_laws.proofs.LogCore.{Core, core, CoreFacts, core_facts, Advances, Going}
+use Rattle.h2_machine_laws.proofs.LogCore.{active_by_items, kept_back, going, runs}
 use Rattle.h2_machine_laws.proofs.OwedAtClose.{owes_all}
-use Rattle.h2_machine_laws.proofs.RecvEvents.{report, reported_by, reported_kept, active_reported, taken_kept}
+use Rattle.h2_machine_laws.proofs.RecvEvents.{report, reported_by, reported_kept, active_reported}
+use Rattle.h2_machine_laws.proofs.RecvEvents.{taken_kept}
 use Rattle.h2_machine_laws.proofs.RecvReturnedCredit.{After, returned}
 use Rattle.h2_machine_laws.proofs.RecvVerdict.{active_said}
 use Rattle.h2_machine_laws.proofs.RecvWithoutFrame.{represents_by}

@@ -1,7 +1,7 @@
 -- The verdict of an item is the same at an end as at its log.
-use Rattle.std.proofs.Common.{◌≡◌, ◌≢◌, ℕ, ◌≤◌, ◌+◌, ◌%◌, Bool, true, false, not}
-use Rattle.std.proofs.Common.{◌==◌, nat_lt, nat_le, ◌&&◌, ◌||◌, pos, Option, Some, None}
-use Rattle.std.proofs.Common.{refl, ap, sym, ◌∙◌, arith}
+use Rattle.std.proofs.Common.{◌≡◌, ◌≢◌, ℕ, ◌≤◌, ◌+◌, ◌%◌, Bool, true, false, not, ◌==◌, nat_lt}
+use Rattle.std.proofs.Common.{nat_le, ◌&&◌, ◌||◌, pos, Option, Some, None, refl, ap, sym, ◌∙◌}
+use Rattle.std.proofs.Common.{arith}
 use Rattle.std.specs.List.{list_any}
 use Rattle.std.specs.FinMap as map
 use Rattle.std.proofs.lemmas.Bool.Decides.{nat_tests}
@@ -25,7 +25,8 @@ use Rattle.h2_machine.specs.Represents.{entry_by, goaway_sent_last}
 use Rattle.h2_log_laws.proofs.ReplyInvariant.{resets_used}
 use Rattle.h2_log_laws.proofs.ReaderStates.{active_used}
 use Rattle.h2_log_laws.proofs.LogViewLemmas.{when_some}
-use Rattle.h2_machine_laws.proofs.LogCore.{said, Core, core, Going, confirmed, active_by_items, greatest_used}
+use Rattle.h2_machine_laws.proofs.LogCore.{said, Core, core, Going, confirmed, active_by_items}
+use Rattle.h2_machine_laws.proofs.LogCore.{greatest_used}
 use Rattle.h2_machine_laws.proofs.ViewsAgree.{stream_same, max_streams_agree, window_agrees}
 
 -- Nothing was read of a number, nor written but perhaps increments.
@@ -68,7 +69,8 @@ pub record Sound (c : Core) : Type 0 where
 -- What is kept of an active stream is what the log says of it.
 pub active_said : (e : End) (c : Core) (i : ℕ) → Going e c → active_by_items c i ≡ true
     → map.get e.streams.entries i ≡ Some (active_entry (said c i))
-active_said e c i g active = g.streams.entries i ∙ ap (λ (b : Bool). entry_by b (list_any (resets i) c.sent)
+active_said e c i g active = g.streams.entries i ∙ ap (λ (b : Bool). entry_by b (list_any (resets i)
+    c.sent)
     (said c i)) active
 
 -- The same of the stream.
@@ -128,7 +130,8 @@ recv_same e c g = window_agrees e.windows.recv (total data_of c.received) (grant
 
 pub send_same : (e : End) (c : Core) → Going e c → pos e.windows.send ≡ connection_send_window
     c.received c.sent
-send_same e c g = window_agrees e.windows.send (total data_of c.sent) (given_on_connection c.received)
+send_same e c g = window_agrees e.windows.send (total data_of c.sent) (given_on_connection
+    c.received)
     g.windows.send
 
 -- The verdict on a field block is the same at an end as at its log.
@@ -143,7 +146,8 @@ block_verdict_same e log i (Some decoded) role sound g =
       state_same e (core log) i role sound g,
       stream_same e.streams (core log) i g.streams,
       role,
-      max_streams_agree log.role e.own.in_force.max_streams (max_streams log) g.own.in_force.max_streams,
+      max_streams_agree log.role e.own.in_force.max_streams (max_streams log)
+          g.own.in_force.max_streams,
       g.streams.active_count,
       g.goaway.last_sent,
       when_some (list_any is_goaway log.sent)

@@ -2,7 +2,7 @@
 -- at its log.
 use Rattle.std.proofs.Common.{ℤ, ◌∙◌, ◌≡◌, ℕ, ◌+◌, Bool, true, false, ◌==◌, nat_lt, ◌||◌, cond, T}
 use Rattle.std.proofs.Common.{if◌then◌else◌, List, [], ◌∷◌, length, Option, Some, None, Less, Equal}
-use Rattle.std.proofs.Common.{Greater, Ordering, refl, ap, ap₂, sym, ◌∙◌, inl, inr, arith}
+use Rattle.std.proofs.Common.{Greater, Ordering, refl, ap, ap₂, sym, inl, inr, arith}
 use Rattle.std.specs.List.{list_any}
 use Rattle.std.specs.FinMap as map
 use Rattle.std.specs.FinMap.Entries.{below_all}
@@ -33,7 +33,8 @@ use Rattle.h2_machine.specs.Represents.{entry_by}
 use Rattle.h2_log_laws.proofs.LogViewLemmas.{int_above}
 use Rattle.h2_machine_laws.proofs.LogCore.{said, Core, core, Going}
 use Rattle.h2_machine_laws.proofs.OwedSums.{first, second, less}
-use Rattle.h2_machine_laws.proofs.RecvVerdict.{Sound, active_said, state_same, block_verdict_same, recv_same, send_same}
+use Rattle.h2_machine_laws.proofs.RecvVerdict.{Sound, active_said, state_same, block_verdict_same}
+use Rattle.h2_machine_laws.proofs.RecvVerdict.{recv_same, send_same}
 use Rattle.h2_machine_laws.proofs.ViewsAgree.{stream_same}
 use Rattle.h2_machine_laws.proofs.WaitingOutput.{Waits, waits_much}
 use Rattle.h2_log_laws.proofs.ReaderStates.{active_parts}
@@ -208,7 +209,8 @@ above_same e log new g =
     any_found e.peer.initial_window new from.i (map.entries e.streams.entries)
     (active_entry (said (core log) from.i))
     (sym (map.get-entries e.streams.entries from.i) ∙ active_said e (core log) from.i g both.0)
-    (ap (λ (o : ℕ). above_by_shift o new (active_entry (said (core log) from.i))) g.peer.initial_window
+    (ap (λ (o : ℕ). above_by_shift o new (active_entry (said (core log) from.i)))
+    g.peer.initial_window
     ∙ said_above (core log) from.i new ∙ both.1))
 
 -- The fault of SETTINGS is the same.
@@ -242,19 +244,14 @@ verdict_same e log decoded (alone (Data stream end octets pad)) role sound g =
     ∙ ap (λ (s : Option StreamView). data_verdict (state log stream)
     (exceeds n (log_view log).recv_window) (ended_in s)
     (exceeds_stream n s)) (stream_same e.streams (core log) stream g.streams)
-verdict_same e log decoded (alone (Headers stream end last fragment pad priority)) role sound g =
-    refl
-verdict_same e log decoded (alone (Priority stream octets)) role sound g = refl
 verdict_same e log decoded (alone (Reset stream code)) role sound g = ap reset_verdict
     (state_same e (core log) stream role sound g)
 verdict_same e log decoded (alone (Settings false pairs)) role sound g = ap verdict_of_fault
     (faults_same e log pairs role g)
 verdict_same e log decoded (alone (Settings true pairs)) role sound g = rw g.own.awaits refl
-verdict_same e log decoded (alone (Ping false octets)) role sound g = refl
 verdict_same e log decoded (alone (Ping true octets)) role sound g =
     ap (λ (ping : Option (List ℕ)). if is_awaited_ping octets ping then Reported else NoEvent)
     g.ping
-verdict_same e log decoded (alone (GoAway last code debug)) role sound g = refl
 verdict_same e log decoded (alone (WindowUpdate stream increment)) role sound g =
     ap₂ (λ (a b : Verdict). if stream == 0 then a else b)
     (ap (λ (window : ℤ). connection_update_verdict increment (overflows_by increment window))
@@ -265,8 +262,7 @@ verdict_same e log decoded (alone (WindowUpdate stream increment)) role sound g 
     ∙ ap (λ (s : Option StreamView). update_verdict (state log stream) increment
     (overflows_stream increment s))
     (stream_same e.streams (core log) stream g.streams))
-verdict_same e log decoded (alone (Continuation stream last fragment)) role sound g = refl
-verdict_same e log decoded (alone (Unknown kind flags stream payload)) role sound g = refl
+verdict_same e log decoded item role sound g = refl
 
 -- The verdict of an item is the same after the limits.
 pub over_limits_same : (e : End) (log : Log) (decoded : Option Decoded) (item : Item) → Waits e log

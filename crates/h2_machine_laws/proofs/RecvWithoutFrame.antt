@@ -1,7 +1,6 @@
 -- After octets that end no frame, or that make the connection fail, a machine represents the log
 -- with them.
-use Rattle.std.proofs.Common.{◌≡◌, ℕ, ◌≤◌, true}
-use Rattle.std.proofs.Common.{List, [], None}
+use Rattle.std.proofs.Common.{◌≡◌, ℕ, ◌≤◌, true, List, [], None}
 use Rattle.h2_frame.specs.declared.code.Code.{Code}
 use Rattle.h2_frame.specs.declared.code.Code.TheVariants.{InternalError}
 use Rattle.h2_wire.specs.declared.fault.WireFault.{WireFault}
@@ -9,12 +8,10 @@ use Rattle.h2_wire.specs.Faults.{wire_fault_code}
 use Rattle.h2_log.specs.Acts.{Values}
 use Rattle.h2_log.specs.Settings.{is_server}
 use Rattle.h2_log.specs.Log.{Log, active, last_processed}
-use Rattle.h2_log.specs.LogSteps.{used, with_failure}
-use Rattle.h2_log.specs.LogSteps.{took_part, took_fault, took_out_of_memory}
+use Rattle.h2_log.specs.LogSteps.{used, with_failure, took_part, took_fault, took_out_of_memory}
 use Rattle.h2_log.specs.Histories.{IsLog, TakesOctets, TakesPart, TakesFault, MayRunOutOfMemory}
 use Rattle.h2_log.specs.Histories.{took_some, met_fault, ran_out_of_memory}
-use Rattle.h2_machine.specs.End.{Streams}
-use Rattle.h2_machine.specs.End.{End}
+use Rattle.h2_machine.specs.End.{Streams, End}
 use Rattle.h2_machine.specs.Machine.{fail}
 use Rattle.h2_machine.specs.Represents.{Represents, RepresentsWhileUp}
 use Rattle.h2_machine_laws.specs.Bounds.{KeepsConnectionWindow}
@@ -64,7 +61,8 @@ pub failing_represents : (values : Values) (e : End) (log : Log) (code : Code) (
     → IsLog e.role values (with_failure code other log)
     → last ≡ other → Waits e log
     → (is_server log.role ≡ true → (i : ℕ) → active log i ≡ true → i ≤ other)
-    → StreamsOf e.streams (core log) → KeepsConnectionWindow e → Represents values (fail code last e)
+    → StreamsOf e.streams (core log) → KeepsConnectionWindow e → Represents values (fail code last
+    e)
     (with_failure code other log)
 failing_represents values e log code last other came same connection_facts low streams whole =
     represents_by values (fail code last e) (with_failure code other log) came

@@ -1,9 +1,8 @@
 -- An end that is up represents its log: what is written joins what waits, and what is unreturned is
 -- returned.
-use Rattle.std.proofs.Common.{◌==◌, not}
-use Rattle.std.proofs.Common.{◌≡◌, ℕ, ◌+◌, nat_lt, ◌&&◌, Bool, true, false, if◌then◌else◌}
-use Rattle.std.proofs.Common.{List, [], ◌∷◌, ◌++◌, length, None, refl, sym, ap, subst, ◌∙◌}
-use Rattle.std.proofs.Common.{arith}
+use Rattle.std.proofs.Common.{◌==◌, not, ◌≡◌, ℕ, ◌+◌, nat_lt, ◌&&◌, Bool, true, false}
+use Rattle.std.proofs.Common.{if◌then◌else◌, List, [], ◌∷◌, ◌++◌, length, None, refl, sym, ap}
+use Rattle.std.proofs.Common.{subst, ◌∙◌, arith}
 use Rattle.h2_frame.specs.Frames.{WindowUpdate}
 use Rattle.h2_block.specs.Grouping.{Item, alone}
 use Rattle.h2_machine.specs.End.{end_view, End}
@@ -64,7 +63,8 @@ pub represents_made : (values : Values) (e : End) (log : Log) (act : Act) (answe
     → ((after_call e act).failed ≡ None
     → RepresentsWhileUp (after_call e act) (with_call log act answer))
     → Represents values (after_call e act) (with_call log act answer)
-represents_made values e log act answer represents typed may accepted role failed waits streams run =
+represents_made values e log act answer represents typed may accepted role failed waits streams run
+    =
     let came = called_one represents.came act answer typed may in
     let same : (after_call e act).role ≡ e.role = role
     ∙ (log_represents e.role values _ came).own in

@@ -26,11 +26,15 @@ use Rattle.h2_log_laws.proofs.SettingsLists.{up_to_next, up_to_here, settings_on
 use Rattle.h2_log_laws.proofs.ReaderStates.{active_parts}
 use Rattle.h2_log_laws.proofs.LogInvariant.{active_before}
 use Rattle.h2_log_laws.proofs.InvariantSteps.{update_here}
-use Rattle.h2_machine_laws.proofs.LogCore.{Core, core, CoreFacts, Advances, StreamsOf, confirmed, active_by_items}
+use Rattle.h2_machine_laws.proofs.ItemsApart.{ping_apart, settings_apart, update_apart}
+use Rattle.h2_machine_laws.proofs.LogCore.{Core, core, CoreFacts, Advances, StreamsOf, confirmed}
+use Rattle.h2_machine_laws.proofs.LogCore.{active_by_items}
 use Rattle.h2_machine_laws.proofs.OneItemMore.{total_quiet, own_quiet}
-use Rattle.h2_log_laws.proofs.ItemLists.{total_one}
-use Rattle.h2_machine_laws.proofs.SentQuietItems.{sends, active_like, used_wrote, LeavesStreams, streams_sent, windows_sent, own_sent, goaways_sent, ping_sent, IsQuietOut, quiet_wrote}
+use Rattle.h2_machine_laws.proofs.SentQuietItems.{sends, active_like, used_wrote, LeavesStreams}
+use Rattle.h2_machine_laws.proofs.SentQuietItems.{streams_sent, windows_sent, own_sent}
+use Rattle.h2_machine_laws.proofs.SentQuietItems.{goaways_sent, ping_sent, IsQuietOut, quiet_wrote}
 use Rattle.h2_machine_laws.proofs.StreamsSame.{streams_same}
+use Rattle.h2_log_laws.proofs.ItemLists.{total_one}
 
 -- opens what computes
 unfoldable pub computing : Unit {0}
@@ -43,7 +47,8 @@ pub ping_leaves : (ack : Bool) (octets : List ℕ) → LeavesStreams (alone (Pin
 unfolding computing
 ping_leaves ack octets =
     record {
-      apart = λ j. record { blocks = refl; ended = refl; was_reset = refl; below = refl; flow = refl };
+      apart = ping_apart ack octets;
+      below = λ j. refl;
       greatest = λ items. refl;
       reset = refl;
     }
@@ -53,7 +58,8 @@ settings_leave : (ack : Bool) (pairs : List (ℕ × ℕ)) → LeavesStreams (alo
 unfolding computing
 settings_leave ack pairs =
     record {
-      apart = λ j. record { blocks = refl; ended = refl; was_reset = refl; below = refl; flow = refl };
+      apart = settings_apart ack pairs;
+      below = λ j. refl;
       greatest = λ items. refl;
       reset = refl;
     }
@@ -64,13 +70,8 @@ unfolding computing
 update_quiet i increment =
     record {
       streams = record {
-        apart = λ j. record {
-          blocks = refl;
-          ended = refl;
-          was_reset = refl;
-          below = refl;
-          flow = refl;
-        };
+        apart = update_apart i increment;
+        below = λ j. refl;
         greatest = λ items. refl;
         reset = refl;
       };

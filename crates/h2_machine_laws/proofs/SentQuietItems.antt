@@ -1,6 +1,6 @@
 -- What an item that is sent leaves of each subject of an end.
-use Rattle.std.proofs.Common.{◌≡◌, ◌≢◌, ℕ, ◌+◌, max, nat_lt, true, false, List, ◌∷◌, Option}
-use Rattle.std.proofs.Common.{refl, sym, ap, ◌∙◌, arith, zero-add}
+use Rattle.std.proofs.Common.{◌≡◌, ◌≢◌, ℕ, ◌+◌, max, nat_lt, true, false, List, ◌∷◌, Option, refl}
+use Rattle.std.proofs.Common.{sym, ap, ◌∙◌, arith, zero-add}
 use Rattle.std.specs.List.{list_any}
 use Rattle.h2_block.specs.Grouping.{Item}
 use Rattle.h2_log.specs.declared.role.Role.{Role}
@@ -17,7 +17,9 @@ use Rattle.h2_log.specs.Log.{newest_ping, released}
 use Rattle.h2_machine.specs.End.{ConnectionWindows, Streams, OwnSettings, GoAways}
 use Rattle.h2_machine.specs.Represents.{goaway_sent_last, RepresentsWindows, RepresentsOwn}
 use Rattle.h2_machine.specs.Represents.{RepresentsGoAways}
-use Rattle.h2_machine_laws.proofs.LogCore.{Core, CoreFacts, Advances, StreamsOf, PingOf, confirmed, active_by_items}
+use Rattle.h2_machine_laws.proofs.ItemsApart.{IsApart}
+use Rattle.h2_machine_laws.proofs.LogCore.{Core, CoreFacts, Advances, StreamsOf, PingOf, confirmed}
+use Rattle.h2_machine_laws.proofs.LogCore.{active_by_items}
 use Rattle.h2_machine_laws.proofs.OneItemMore.{total_quiet, any_quiet, own_quiet, settings_quiet}
 use Rattle.h2_machine_laws.proofs.StreamsSame.{SameAt, active_some, streams_same}
 
@@ -64,31 +66,25 @@ pub used_wrote : (role : Role) (item : Item) (received sent : List Item) → ((i
 used_wrote Client item received sent none = none sent
 used_wrote Server item received sent none = refl
 
--- An item that touches nothing of a number but perhaps its receive window.
-pub record IsApartSent (j : ℕ) (item : Item) : Type 0 where
-  pub blocks : is_block_on j item ≡ false
-  pub ended : ends j item ≡ false
-  pub was_reset : resets j item ≡ false
-  pub below : is_goaway_below j item ≡ false
-  pub flow : data_on j item ≡ 0
-
--- The log says the same of a number after such an item, which leaves its receive window.
-pub same_sent : (j : ℕ) (c : Core) (item : Item) → IsApartSent j item
+-- The log says the same of a number after an item that touches nothing of it, its receive window
+-- included.
+pub same_sent : (j : ℕ) (c : Core) (item : Item) → IsApart j item → is_goaway_below j item ≡ false
     → (active_by_items c j ≡ true → increment_on j item ≡ 0)
     → own_value 4 first_window (confirmed c) (item ∷ c.sent)
     ≡ own_value 4 first_window (confirmed c) c.sent → SameAt j c (sends c item)
 unfolding total granted_on
-same_sent j c item a gives own =
+same_sent j c item a below gives own =
     record {
       active = active_wrote c.role j item c.received c.sent c.reported a.blocks a.ended a.was_reset
-          a.below;
+          below;
       was_reset = any_quiet (resets j) item c.sent a.was_reset;
       stream = λ alive. rw (own, gives alive, a.flow, a.ended, zero-add, zero-add) refl;
     }
 
 -- An item that touches nothing of any stream but perhaps receive windows.
 pub record LeavesStreams (item : Item) : Type 0 where
-  pub apart : (j : ℕ) → IsApartSent j item
+  pub apart : (j : ℕ) → IsApart j item
+  pub below : (j : ℕ) → is_goaway_below j item ≡ false
   pub greatest : (items : List Item) → greatest_block (item ∷ items) ≡ greatest_block items
   pub reset : one_reset item ≡ 0
 
@@ -99,7 +95,7 @@ pub streams_sent : (s : Streams) (c : Core) (item : Item) → LeavesStreams item
     ≡ own_value 4 first_window (confirmed c) c.sent → StreamsOf s c → StreamsOf s (sends c item)
 streams_sent s c item q gives own g =
     streams_same s c (sends c item)
-    (λ j. same_sent j c item (q.apart j) (λ alive. gives j (active_some c j alive)) own)
+    (λ j. same_sent j c item (q.apart j) (q.below j) (λ alive. gives j (active_some c j alive)) own)
     (used_wrote c.role item c.received c.sent q.greatest) refl
     (total_quiet one_reset item c.sent q.reset) g
 

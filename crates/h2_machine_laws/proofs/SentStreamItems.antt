@@ -17,9 +17,11 @@ use Rattle.h2_log.specs.View.{StreamView}
 use Rattle.h2_machine.specs.End.{Streams, OwnSettings, active_entry}
 use Rattle.h2_machine.specs.Represents.{RepresentsOwn, goaway_sent_last}
 use Rattle.h2_log_laws.proofs.ReaderStates.{active_parts, active_from, lasts_parts, lasts_from}
-use Rattle.h2_machine_laws.proofs.LogCore.{Core, CoreFacts, Advances, StreamsOf, active_by_items, confirmed, said}
+use Rattle.h2_machine_laws.proofs.LogCore.{Core, CoreFacts, Advances, StreamsOf, active_by_items}
+use Rattle.h2_machine_laws.proofs.LogCore.{confirmed, said}
 use Rattle.h2_machine_laws.proofs.SentQuietItems.{active_like}
-use Rattle.h2_machine_laws.proofs.StreamsSame.{SameAt, same_stream, streams_set, streams_closed, said_over}
+use Rattle.h2_machine_laws.proofs.StreamsSame.{SameAt, same_stream, streams_set, streams_closed}
+use Rattle.h2_machine_laws.proofs.StreamsSame.{said_over}
 
 -- Newer items on a stream: blocks and DATA of so many octets, and whether this end has ended it
 -- after them.

@@ -12,8 +12,10 @@ use Rattle.h2_machine.specs.End.{StreamMap, Streams, Entry, active_entry, reset_
 use Rattle.h2_machine.specs.Represents.{entry_by}
 use Rattle.h2_log_laws.proofs.ReaderStates.{active_parts}
 use Rattle.h2_log_laws.proofs.StreamNumbers.{block_below}
-use Rattle.h2_machine_laws.proofs.LogCore.{Core, said, AreSaid, StreamsOf, active_by_items, greatest_used, processed}
-use Rattle.h2_machine_laws.proofs.OwedSums.{get_set_same, get_set_other, get_removed_same, get_removed_other}
+use Rattle.h2_machine_laws.proofs.LogCore.{Core, said, AreSaid, StreamsOf, active_by_items}
+use Rattle.h2_machine_laws.proofs.LogCore.{greatest_used, processed}
+use Rattle.h2_machine_laws.proofs.OwedSums.{get_set_same, get_set_other, get_removed_same}
+use Rattle.h2_machine_laws.proofs.OwedSums.{get_removed_other}
 
 -- Entries are the same by their parts.
 entry_same : (l k w v : Bool) (s t : StreamView) → l ≡ k → w ≡ v → (k ≡ true → s ≡ t)
@@ -72,7 +74,8 @@ count_same zero f g same = refl
 count_same (suc n) f g same = rw (same n, count_same n f g same) refl
 
 -- Counts below a number of tests that differ only from it on are the same.
-pub count_apart : (m i : ℕ) (f g : ℕ → Bool) → m ≤ i → ((j : ℕ) → j ≢ i → f j ≡ g j) → count_below m f
+pub count_apart : (m i : ℕ) (f g : ℕ → Bool) → m ≤ i → ((j : ℕ) → j ≢ i → f j ≡ g j) → count_below m
+    f
     ≡ count_below m g
 unfolding count_below
 count_apart zero i f g below same = refl

@@ -1,7 +1,7 @@
 -- Every log that hasn't failed has what is asked of it; and what each step keeps.
-use Rattle.std.proofs.Common.{◌≡◌, ◌≢◌, ℕ, ◌≤◌, ◌==◌, max, nat_lt, ◌&&◌, ◌||◌, Bool, true}
-use Rattle.std.proofs.Common.{false, if◌then◌else◌, List, [], ◌∷◌, ◌++◌, Option, Some, None}
-use Rattle.std.proofs.Common.{refl, sym, ap, ◌∙◌, arith}
+use Rattle.std.proofs.Common.{◌≡◌, ◌≢◌, ℕ, ◌≤◌, ◌==◌, max, nat_lt, ◌&&◌, ◌||◌, Bool, true, false}
+use Rattle.std.proofs.Common.{if◌then◌else◌, List, [], ◌∷◌, ◌++◌, Option, Some, None, refl, sym, ap}
+use Rattle.std.proofs.Common.{◌∙◌, arith}
 use Rattle.std.specs.List.{list_any}
 use Rattle.std.proofs.lemmas.Bool.{both_ways, or_left, eq-eqb, ne_eqb}
 use Rattle.h2_frame.specs.declared.code.Code.{Code}
@@ -21,9 +21,8 @@ use Rattle.h2_log.specs.Verdicts.{Verdict, ConnectionFault, StreamFault, NoEvent
 use Rattle.h2_log.specs.ItemRules.{Decoded, FrameStep, fails_with, begins_block, completes}
 use Rattle.h2_log.specs.ItemRules.{frame_step, over_limits, replies_to, verdict_by_rules}
 use Rattle.h2_log.specs.ItemRules.{verdict_of}
-use Rattle.h2_log.specs.LogSteps.{read, with_sent, with_reported, with_unreturned}
-use Rattle.h2_log.specs.LogSteps.{owed_at_close, with_verdict, with_step, with_frame, used}
-use Rattle.h2_log.specs.LogSteps.{took_none}
+use Rattle.h2_log.specs.LogSteps.{read, with_sent, with_reported, with_unreturned, owed_at_close}
+use Rattle.h2_log.specs.LogSteps.{with_verdict, with_step, with_frame, used, took_none}
 use Rattle.h2_log.specs.ItemEffects.{events_of}
 use Rattle.h2_log.specs.LogCalls.{opened, with_call}
 use Rattle.h2_log.specs.Histories.{IsLog, begins, took_some, took_one, met_fault, ran_out_of_memory}
@@ -35,7 +34,9 @@ use Rattle.h2_log_laws.proofs.ReaderStates.{active_parts}
 use Rattle.h2_log_laws.proofs.LogInvariant.{active_before}
 use Rattle.h2_log_laws.proofs.LogGrowth.{grows_twice, grows_wrote, grows_with_unreturned}
 use Rattle.h2_log_laws.proofs.LogGrowth.{grows_call}
-use Rattle.h2_machine_laws.proofs.UpInvariant.{IsUpLog, IsUpLogBy, up_log_grown, up_log_read, openings_server, greatest_after}
+use Rattle.h2_machine_laws.proofs.EveryUpLog.{every_up_log}
+use Rattle.h2_machine_laws.proofs.UpInvariant.{IsUpLog, IsUpLogBy, up_log_grown, up_log_read}
+use Rattle.h2_machine_laws.proofs.UpInvariant.{openings_server, greatest_after}
 use Rattle.h2_machine_laws.proofs.UpInvariantReads.{item_reads}
 
 -- A verdict after the limits that is no fault of the connection is that before them, by the test.
@@ -94,37 +95,6 @@ reported_up_log log decoded item v more is none f =
     item g.sent f reads in
     reports_up_log (with_unreturned more first) (events_of (log_view log) decoded v item)
     (rw (g.role, g.received, g.reported) up_log)
-
--- An item keeps this, by its verdict.
-verdict_up_log : (log : Log) (decoded : Option Decoded) (item : Item) (v : Verdict)
-    → verdict_of (log_view log) decoded item ≡ v → IsUpLog log
-    → (with_verdict log decoded item v).failed ≡ None → IsUpLog (with_verdict log decoded item v)
-unfolding with_verdict
-verdict_up_log log decoded item (ConnectionFault code) is f up = let wrong : Some code ≡ None =
-    up in cc
-verdict_up_log log decoded item (StreamFault code) is f up = reported_up_log log decoded item
-    (StreamFault code) _ is (λ other same. cc) f
-verdict_up_log log decoded item NoEvent is f up = reported_up_log log decoded item NoEvent _ is
-    (λ other same. cc) f
-verdict_up_log log decoded item Reported is f up = reported_up_log log decoded item Reported _ is
-    (λ other same. cc) f
-
--- What a frame makes of the block that has begun keeps this.
-step_up_log : (log : Log) (decoded : Option Decoded) (step : FrameStep) → IsUpLog log
-    → (with_step log decoded step).failed ≡ None → IsUpLog (with_step log decoded step)
-unfolding with_step
-step_up_log log decoded (fails_with code) f up = let wrong : Some code ≡ None = up in cc
-step_up_log log decoded (begins_block begun) f up = f
-step_up_log log decoded (completes item) f up = verdict_up_log (record log { begun = None }) decoded
-    item _ refl f up
-
--- A frame keeps this.
-frame_up_log : (log : Log) (decoded : Option Decoded) (frame : Frame) → IsUpLog log
-    → (with_frame log decoded frame).failed ≡ None → IsUpLog (with_frame log decoded frame)
-unfolding with_frame
-frame_up_log log decoded frame f up =
-    step_up_log (record log { frames = log.frames ++ frame ∷ [] }) decoded
-    (frame_step (log_view log) frame) f up
 
 -- The least number that passes is no greater than the greatest.
 least_low : (test : ℕ → Bool) (items : List Item) → least_block test items ≤ greatest_block items
@@ -216,28 +186,19 @@ begins_up_log role values =
       };
     }
 
--- Octets that were used change nothing of this.
-used_up_log : (log : Log) (octets unparsed : List ℕ) → IsUpLog log
-    → IsUpLog (used log octets unparsed)
-unfolding used
-used_up_log log octets unparsed f = f
-
--- A log that hasn't failed is such a log: what hasn't failed after a call hadn't before it.
+-- A log that hasn't failed is such a log.
 pub up_log_of : (role : Role) (values : Values) (log : Log) → IsLog role values log
     → log.failed ≡ None → IsUpLog log
 unfolding used
-up_log_of role values _ (begins in_range) up = begins_up_log role values
-up_log_of role values _ (took_some {log = log} is takes octets unparsed read) up =
-    used_up_log log octets unparsed (up_log_of role values log is takes.up)
-up_log_of role values _ (took_one {log = log} is takes octets frame decoded read sees) up =
-    frame_up_log (used log octets []) decoded frame
-    (used_up_log log octets [] (up_log_of role values log is takes.up)) up
-up_log_of role values _ (met_fault {log = log} is takes octets fault at) up =
-    let wrong : Some (wire_fault_code fault) ≡ None = up in cc
-up_log_of role values _ (ran_out_of_memory {log = log} is was octets may) up =
-    let wrong : Some InternalError ≡ None = up in cc
-up_log_of role values _ (reported_one {log = log} is was some) up =
-    none_up_log log (up_log_of role values log is was)
-up_log_of role values _ (called_one {log = log} is act answer typed may) up =
-    let g = grows_call log act answer in up_log_grown log (with_call log act answer) g
-    (up_log_of role values log is (g.up up))
+up_log_of =
+    every_up_log IsUpLog
+    (record {
+      used = λ log octets unparsed f. f;
+      frames = λ log frames f. f;
+      begun = λ log begun f. f;
+      item = reported_up_log;
+      unprocessed = none_up_log;
+      call = λ log act answer may f up. up_log_grown log (with_call log act answer)
+          (grows_call log act answer) f;
+    })
+    begins_up_log

@@ -27,30 +27,16 @@ use Rattle.h2_log.specs.ItemRules.{verdict_of_fault}
 use Rattle.h2_log.specs.ItemEffects.{events_of}
 use Rattle.h2_log.specs.declared.role.Role.{Role}
 use Rattle.h2_log.specs.declared.role.Role.TheVariants.{Client, Server}
-use Rattle.h2_log_laws.proofs.ItemLists.{any_after}
+use Rattle.h2_log_laws.proofs.ItemLists.{any_after, total_one, total_none}
 use Rattle.h2_log_laws.proofs.ReaderStates.{state_idle}
-use Rattle.h2_log_laws.proofs.ItemLists.{total_one}
-use Rattle.h2_log_laws.proofs.ItemLists.{total_none}
 use Rattle.h2_machine_laws.proofs.UpInvariant.{IsUpLog, Reads, idle_above, pairs_size}
 
 -- The events of an item report no stream as unprocessed.
 events_unnamed : (log : Log) (decoded : Option Decoded) (v : Verdict) (item : Item) (i : ℕ)
     → list_any (reports_unprocessed i) (events_of (log_view log) decoded v item) ≡ false
 unfolding events_of reports_unprocessed
-events_unnamed log decoded (ConnectionFault code) item i = refl
-events_unnamed log decoded (StreamFault code) item i = refl
-events_unnamed log decoded NoEvent item i = refl
-events_unnamed log decoded Reported (block stream end octets) i = refl
-events_unnamed log decoded Reported (alone (Data stream end octets pad)) i = refl
-events_unnamed log decoded Reported (alone (Headers stream end last fragment pad priority)) i = refl
-events_unnamed log decoded Reported (alone (Priority stream octets)) i = refl
 events_unnamed log decoded Reported (alone (Reset stream code)) i = refl
-events_unnamed log decoded Reported (alone (Settings ack pairs)) i = refl
-events_unnamed log decoded Reported (alone (Ping ack octets)) i = refl
-events_unnamed log decoded Reported (alone (GoAway last code debug)) i = refl
-events_unnamed log decoded Reported (alone (WindowUpdate stream increment)) i = refl
-events_unnamed log decoded Reported (alone (Continuation stream last fragment)) i = refl
-events_unnamed log decoded Reported (alone (Unknown kind flags stream payload)) i = refl
+events_unnamed log decoded v item i = refl
 
 -- Where a number is idle, at a client, a block on it is a fault of the connection.
 block_fault : (log : Log) (decoded : Option Decoded) (i : ℕ) → log.role ≡ Client
@@ -85,10 +71,6 @@ unseen_item log decoded (alone (Data stream end octets pad)) i client above none
           absurd (none ProtocolError (rw idle refl))
       | inr other ↦ (rw (ne_eqb stream i other) refl, refl, refl, rw (ne_eqb stream i other) refl)
     ]
-unseen_item log decoded (alone (Headers stream end last fragment pad priority)) i client above
-    none = (refl, refl, refl, refl)
-unseen_item log decoded (alone (Priority stream octets)) i client above none =
-    (refl, refl, refl, refl)
 unseen_item log decoded (alone (Reset stream code)) i client above none = elim (cases_eq stream i) [
   | inl same ↦
       let idle : state log stream ≡ Idle =
@@ -97,10 +79,6 @@ unseen_item log decoded (alone (Reset stream code)) i client above none = elim (
       absurd (none ProtocolError (rw idle refl))
   | inr other ↦ (refl, ne_eqb stream i other, refl, refl)
 ]
-unseen_item log decoded (alone (Settings ack pairs)) i client above none = (refl, refl, refl, refl)
-unseen_item log decoded (alone (Ping ack octets)) i client above none = (refl, refl, refl, refl)
-unseen_item log decoded (alone (GoAway last code debug)) i client above none =
-    (refl, refl, refl, refl)
 unseen_item log decoded (alone (WindowUpdate stream increment)) i client above none =
     elim (cases_eq stream i) [
       | inl same ↦
@@ -110,10 +88,7 @@ unseen_item log decoded (alone (WindowUpdate stream increment)) i client above n
           absurd (none ProtocolError (rw (ne_eqb stream 0 (λ zero_stream. omega arith), idle) refl))
       | inr other ↦ (refl, refl, rw (ne_eqb stream i other) refl, refl)
     ]
-unseen_item log decoded (alone (Continuation stream last fragment)) i client above none =
-    (refl, refl, refl, refl)
-unseen_item log decoded (alone (Unknown kind flags stream payload)) i client above none =
-    (refl, refl, refl, refl)
+unseen_item log decoded item i client above none = (refl, refl, refl, refl)
 
 -- A verdict of pairs reports nothing.
 fault_reported : (x : Option Code) → verdict_of_fault x ≡ Reported → ⊥
@@ -141,25 +116,10 @@ acks_of : (log : Log) (decoded : Option Decoded) (v : Verdict) (item : Item)
     → reported_total one_acked (events_of (log_view log) decoded v item) + reported_total one_acked
     log.reported ≤ settings_count log.sent
 unfolding events_of reported_total one_acked verdict_by_rules
-acks_of log decoded (ConnectionFault code) item is f = omega (arith, f.acks)
-acks_of log decoded (StreamFault code) item is f = omega (arith, f.acks)
-acks_of log decoded NoEvent item is f = omega (arith, f.acks)
-acks_of log decoded Reported (block stream end octets) is f = omega (arith, f.acks)
-acks_of log decoded Reported (alone (Data stream end octets pad)) is f = omega (arith, f.acks)
-acks_of log decoded Reported (alone (Headers stream end last fragment pad priority)) is f =
-    omega (arith, f.acks)
-acks_of log decoded Reported (alone (Priority stream octets)) is f = omega (arith, f.acks)
-acks_of log decoded Reported (alone (Reset stream code)) is f = omega (arith, f.acks)
 acks_of log decoded Reported (alone (Settings false pairs)) is f = absurd (fault_reported _ is)
 acks_of log decoded Reported (alone (Settings true pairs)) is f =
     omega (arith, ltb-true (acked log) (settings_count log.sent) (reported_by _ is))
-acks_of log decoded Reported (alone (Ping ack octets)) is f = omega (arith, f.acks)
-acks_of log decoded Reported (alone (GoAway last code debug)) is f = omega (arith, f.acks)
-acks_of log decoded Reported (alone (WindowUpdate stream increment)) is f = omega (arith, f.acks)
-acks_of log decoded Reported (alone (Continuation stream last fragment)) is f =
-    omega (arith, f.acks)
-acks_of log decoded Reported (alone (Unknown kind flags stream payload)) is f =
-    omega (arith, f.acks)
+acks_of log decoded v item is f = omega (arith, f.acks)
 
 -- A PING's answer that is awaited is one where there is a PING that waits.
 awaited_waits : (octets newest : List ℕ) (waits : Bool)
@@ -173,16 +133,6 @@ pongs_of : (log : Log) (decoded : Option Decoded) (v : Verdict) (item : Item)
     → reported_total one_pong (events_of (log_view log) decoded v item) + reported_total one_pong
     log.reported ≤ total one_ping log.sent
 unfolding events_of reported_total one_pong verdict_by_rules
-pongs_of log decoded (ConnectionFault code) item is f = omega (arith, f.pongs)
-pongs_of log decoded (StreamFault code) item is f = omega (arith, f.pongs)
-pongs_of log decoded NoEvent item is f = omega (arith, f.pongs)
-pongs_of log decoded Reported (block stream end octets) is f = omega (arith, f.pongs)
-pongs_of log decoded Reported (alone (Data stream end octets pad)) is f = omega (arith, f.pongs)
-pongs_of log decoded Reported (alone (Headers stream end last fragment pad priority)) is f =
-    omega (arith, f.pongs)
-pongs_of log decoded Reported (alone (Priority stream octets)) is f = omega (arith, f.pongs)
-pongs_of log decoded Reported (alone (Reset stream code)) is f = omega (arith, f.pongs)
-pongs_of log decoded Reported (alone (Settings ack pairs)) is f = omega (arith, f.pongs)
 pongs_of log decoded Reported (alone (Ping false octets)) is f = cc
 pongs_of log decoded Reported (alone (Ping true octets)) is f =
     omega (
@@ -190,12 +140,7 @@ pongs_of log decoded Reported (alone (Ping true octets)) is f =
       ltb-true (reported_total one_pong log.reported) (total one_ping log.sent)
           (awaited_waits octets (newest_ping log.sent) (ping_waits log) (reported_by _ is)),
     )
-pongs_of log decoded Reported (alone (GoAway last code debug)) is f = omega (arith, f.pongs)
-pongs_of log decoded Reported (alone (WindowUpdate stream increment)) is f = omega (arith, f.pongs)
-pongs_of log decoded Reported (alone (Continuation stream last fragment)) is f =
-    omega (arith, f.pongs)
-pongs_of log decoded Reported (alone (Unknown kind flags stream payload)) is f =
-    omega (arith, f.pongs)
+pongs_of log decoded v item is f = omega (arith, f.pongs)
 
 -- Frame sizes that are read aren't below 16,384.
 size_of : (log : Log) (decoded : Option Decoded) (v : Verdict) (item : Item)
@@ -203,11 +148,6 @@ size_of : (log : Log) (decoded : Option Decoded) (v : Verdict) (item : Item)
     → ((code : Code) → v ≡ ConnectionFault code → ⊥)
     → IsUpLog log → 16384 ≤ value_read 5 16384 (item ∷ log.received)
 unfolding value_read verdict_by_rules
-size_of log decoded v (block stream end octets) is none f = f.size
-size_of log decoded v (alone (Data stream end octets pad)) is none f = f.size
-size_of log decoded v (alone (Headers stream end last fragment pad priority)) is none f = f.size
-size_of log decoded v (alone (Priority stream octets)) is none f = f.size
-size_of log decoded v (alone (Reset stream code)) is none f = f.size
 size_of log decoded (ConnectionFault code) (alone (Settings false pairs)) is none f =
     absurd (none code refl)
 size_of log decoded (StreamFault code) (alone (Settings false pairs)) is none f =
@@ -215,30 +155,15 @@ size_of log decoded (StreamFault code) (alone (Settings false pairs)) is none f 
 size_of log decoded Reported (alone (Settings false pairs)) is none f = absurd (fault_reported _ is)
 size_of log decoded NoEvent (alone (Settings false pairs)) is none f =
     pairs_size log _ pairs (fault_no_event _ is) f.size
-size_of log decoded v (alone (Settings true pairs)) is none f = f.size
-size_of log decoded v (alone (Ping ack octets)) is none f = f.size
-size_of log decoded v (alone (GoAway last code debug)) is none f = f.size
-size_of log decoded v (alone (WindowUpdate stream increment)) is none f = f.size
-size_of log decoded v (alone (Continuation stream last fragment)) is none f = f.size
-size_of log decoded v (alone (Unknown kind flags stream payload)) is none f = f.size
+size_of log decoded v item is none f = f.size
 
 -- GOAWAY below a number is GOAWAY.
 below_goaway : (i : ℕ) (sent : List Item) → list_any (is_goaway_below i) sent ≡ true
     → list_any is_goaway sent ≡ true
 unfolding is_goaway_below is_goaway
 below_goaway i [] some = absurd (both_ways false refl some)
-below_goaway i (block stream end octets ∷ sent) some = below_goaway i sent some
-below_goaway i (alone (Data stream end octets pad) ∷ sent) some = below_goaway i sent some
-below_goaway i (alone (Headers stream end last fragment pad priority) ∷ sent) some =
-    below_goaway i sent some
-below_goaway i (alone (Priority stream octets) ∷ sent) some = below_goaway i sent some
-below_goaway i (alone (Reset stream code) ∷ sent) some = below_goaway i sent some
-below_goaway i (alone (Settings ack pairs) ∷ sent) some = below_goaway i sent some
-below_goaway i (alone (Ping ack octets) ∷ sent) some = below_goaway i sent some
 below_goaway i (alone (GoAway last code debug) ∷ sent) some = refl
-below_goaway i (alone (WindowUpdate stream increment) ∷ sent) some = below_goaway i sent some
-below_goaway i (alone (Continuation stream last fragment) ∷ sent) some = below_goaway i sent some
-below_goaway i (alone (Unknown kind flags stream payload) ∷ sent) some = below_goaway i sent some
+below_goaway i (item ∷ sent) some = below_goaway i sent some
 
 -- Nothing is above where no GOAWAY was written.
 above_none : (role : Role) (i : ℕ) (sent : List Item) → list_any is_goaway sent ≡ false

@@ -1,6 +1,6 @@
 -- An end that represents a log and hasn't failed is viewed as the log is: every observation agrees.
-use Rattle.std.proofs.Common.{◌≡◌, ℕ, ◌+◌, Bool, true, false, if◌then◌else◌, List, length}
-use Rattle.std.proofs.Common.{pos, is_some, refl, ap, ◌∙◌, arith}
+use Rattle.std.proofs.Common.{◌≡◌, ℕ, ◌+◌, Bool, true, false, if◌then◌else◌, List, length, pos}
+use Rattle.std.proofs.Common.{is_some, refl, ap, ◌∙◌, arith}
 use Rattle.std.proofs.lemmas.Int.{ints}
 use Rattle.std.specs.List.{list_any}
 use Rattle.h2_block.specs.Grouping.{Item}
@@ -14,10 +14,9 @@ use Rattle.h2_log.specs.Log.{Log, active, waiting, next_number, max_streams, goa
 use Rattle.h2_log.specs.Log.{active_count, last_processed, unreleased}
 use Rattle.h2_log.specs.LogView.{log_view, stream_of_log}
 use Rattle.h2_log.specs.View.{StreamView, View}
-use Rattle.h2_machine.specs.End.{End, end_view, stream_in, stream_at, number_after}
+use Rattle.h2_machine.specs.End.{End, end_view, stream_in, stream_at, number_after, Streams}
 use Rattle.h2_machine.specs.Represents.{RepresentsWhileUp, entry_by}
 use Rattle.std.specs.FinMap as map
-use Rattle.h2_machine.specs.End.{Streams}
 use Rattle.h2_log_laws.proofs.LogViewLemmas.{when_some}
 use Rattle.h2_machine_laws.proofs.LogCore.{Core, active_by_items, said, core, StreamsOf}
 

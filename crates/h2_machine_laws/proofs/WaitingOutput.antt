@@ -1,8 +1,9 @@
--- An end's role, whether it has failed, and what waits of its output, are the log's: what steps make
+-- An end's role, whether it has failed, and what waits of its output, are the log's: what steps
+-- make
 -- of them.
-use Rattle.std.proofs.Common.{◌≡◌, ℕ, ◌+◌, Bool, true, false, if◌then◌else◌, List, [], ◌∷◌}
-use Rattle.std.proofs.Common.{◌++◌, length, Option, Some, refl, ap, sym, ◌∙◌, arith}
-use Rattle.std.proofs.Common.{append-nil, length-append, length-drop}
+use Rattle.std.proofs.Common.{◌≡◌, ℕ, ◌+◌, Bool, true, false, if◌then◌else◌, List, [], ◌∷◌, ◌++◌}
+use Rattle.std.proofs.Common.{length, Option, Some, refl, ap, sym, ◌∙◌, arith, append-nil}
+use Rattle.std.proofs.Common.{length-append, length-drop}
 use Rattle.std.proofs.lemmas.List.{drop-append-le}
 use Rattle.h2_frame.specs.declared.code.Code.{Code}
 use Rattle.h2_frame.specs.Codes.{code_number}
@@ -48,7 +49,8 @@ waits_of values e log s =
 
 -- Octets that are written wait.
 output_more : (octets : List ℕ) (given : ℕ) (written more : List ℕ)
-    → RepresentsOutput octets given written → RepresentsOutput (octets ++ more) given (written ++ more)
+    → RepresentsOutput octets given written → RepresentsOutput (octets ++ more) given (written ++
+    more)
 output_more octets given written more s =
     record {
       waiting = ap (λ (xs : List ℕ). xs ++ more) s.waiting

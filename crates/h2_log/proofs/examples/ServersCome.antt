@@ -10,28 +10,20 @@ use Rattle.h2_log.specs.WrittenFrames.{takes}
 use Rattle.h2_log.specs.declared.role.Role.TheVariants.{Server}
 use Rattle.h2_log.proofs.Computing.{computing}
 use Rattle.h2_log.proofs.EncodingLemmas.{taken_frame, takes_block_comes}
-use Rattle.h2_log.proofs.examples.Blocks.{
-  begun_server,
-  longer_server,
-  resetting_server,
-  server_with_block_after_the_end,
-  server_with_third,
-  server_with_three_frames,
-}
+use Rattle.h2_log.proofs.examples.Blocks.{begun_server, longer_server, resetting_server}
+use Rattle.h2_log.proofs.examples.Blocks.{server_with_block_after_the_end, server_with_third}
+use Rattle.h2_log.proofs.examples.Blocks.{server_with_three_frames}
 use Rattle.h2_log.proofs.examples.Bodies.{server_with_body_after_the_end, server_with_padding}
-use Rattle.h2_log.proofs.examples.Coming.{are_octets, are_pairs, below, comes, fields_are_octets, later_block, long_block, pairs_are, short_block, values_are, within}
-use Rattle.h2_log.proofs.examples.Ends.{
-  active_server,
-  new_server,
-  server_with_body,
-  server_with_release,
-  server_with_request,
-  settled_server,
-}
+use Rattle.h2_log.proofs.examples.Coming.{are_octets, are_pairs, below, comes, fields_are_octets}
+use Rattle.h2_log.proofs.examples.Coming.{later_block, long_block, pairs_are, short_block}
+use Rattle.h2_log.proofs.examples.Coming.{values_are, within}
+use Rattle.h2_log.proofs.examples.Ends.{active_server, new_server, server_with_body}
+use Rattle.h2_log.proofs.examples.Ends.{server_with_release, server_with_request, settled_server}
 use Rattle.h2_log.proofs.examples.Octets.{octets}
 use Rattle.h2_log.proofs.examples.Pings.{server_with_ping}
 use Rattle.h2_log.proofs.examples.Updates.{server_above_the_greatest, server_with_send_window}
-use Rattle.h2_log.proofs.examples.Words.{abcd, default_values, get_block, one_to_eight, request, request_block, short_request, table_with_authority}
+use Rattle.h2_log.proofs.examples.Words.{abcd, default_values, get_block, one_to_eight, request}
+use Rattle.h2_log.proofs.examples.Words.{request_block, short_request, table_with_authority}
 
 pub new_server_comes : IsLog Server default_values new_server
 unfolding computing are_pairs are_octets fields_are_octets

@@ -1,10 +1,12 @@
--- The logs of the examples' servers that reset streams, refuse calls, leave or fail come about: each
+-- The logs of the examples' servers that reset streams, refuse calls, leave or fail come about:
+-- each
 -- step is a frame in its encoding, or a call with its answer.
 use Rattle.std.specs.Prelude.{None, [], false, refl, replicate, true, ℕ, ◌∷◌}
 use Rattle.hpack.specs.Lists.{empty_table}
 use Rattle.h2_frame.specs.Frames.{Data, GoAway, Ping, Reset, Settings}
 use Rattle.h2_wire.specs.declared.fault.WireFault.TheVariants.{BadPreface}
-use Rattle.h2_log.specs.Acts.{Done, OutOfMemory, Refuse, Refused, Release, ResetStream, SendGoAway, SendPing}
+use Rattle.h2_log.specs.Acts.{Done, OutOfMemory, Refuse, Refused, Release, ResetStream, SendGoAway}
+use Rattle.h2_log.specs.Acts.{SendPing}
 use Rattle.h2_log.specs.Histories.{IsLog, called_one, met_fault, ran_out_of_memory, with_none}
 use Rattle.h2_log.specs.LogCalls.{accepts, fails, lacks, refuses, with_call}
 use Rattle.h2_log.specs.LogSteps.{limits_from, took_out_of_memory}
@@ -14,27 +16,20 @@ use Rattle.h2_log.specs.declared.role.Role.TheVariants.{Server}
 use Rattle.h2_log.proofs.Computing.{computing}
 use Rattle.h2_log.proofs.EncodingLemmas.{takes_block_comes}
 use Rattle.h2_log.proofs.examples.Blocks.{resetting_server}
-use Rattle.h2_log.proofs.examples.Coming.{are_octets, are_pairs, below, comes, fields_are_octets, octets_are, short_block, within}
+use Rattle.h2_log.proofs.examples.Coming.{are_octets, are_pairs, below, comes, fields_are_octets}
+use Rattle.h2_log.proofs.examples.Coming.{octets_are, short_block, within}
 use Rattle.h2_log.proofs.examples.Ends.{active_server, new_server, server_with_body}
-use Rattle.h2_log.proofs.examples.GoAways.{
-  leaving_server,
-  leaving_server_with_block,
-  leaving_server_with_body,
-}
-use Rattle.h2_log.proofs.examples.Opening.{
-  fault_of_the_preface,
-  server_at_a_wrong_preface,
-  wrong_octets,
-}
-use Rattle.h2_log.proofs.examples.Resets.{
-  server_refusing_for_memory,
-  server_resetting_a_body,
-  server_with_late_body,
-  server_with_refusal,
-  server_with_reset,
-}
-use Rattle.h2_log.proofs.examples.Words.{abcd, default_values, get_block, one_to_eight, short_request}
-use Rattle.h2_log.proofs.examples.ServersCome.{new_server_comes, active_server_comes, server_with_body_false_comes, resetting_server_comes}
+use Rattle.h2_log.proofs.examples.GoAways.{leaving_server, leaving_server_with_block}
+use Rattle.h2_log.proofs.examples.GoAways.{leaving_server_with_body}
+use Rattle.h2_log.proofs.examples.Opening.{fault_of_the_preface, server_at_a_wrong_preface}
+use Rattle.h2_log.proofs.examples.Opening.{wrong_octets}
+use Rattle.h2_log.proofs.examples.Resets.{server_refusing_for_memory, server_resetting_a_body}
+use Rattle.h2_log.proofs.examples.Resets.{server_with_late_body, server_with_refusal}
+use Rattle.h2_log.proofs.examples.Resets.{server_with_reset}
+use Rattle.h2_log.proofs.examples.Words.{abcd, default_values, get_block, one_to_eight}
+use Rattle.h2_log.proofs.examples.Words.{short_request}
+use Rattle.h2_log.proofs.examples.ServersCome.{new_server_comes, active_server_comes}
+use Rattle.h2_log.proofs.examples.ServersCome.{server_with_body_false_comes, resetting_server_comes}
 
 pub goaway_at_a_server_comes : IsLog Server default_values (takes active_server (GoAway 0 0 []))
 unfolding computing are_pairs are_octets fields_are_octets

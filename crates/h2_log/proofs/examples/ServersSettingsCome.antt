@@ -10,24 +10,20 @@ use Rattle.h2_log.specs.WrittenFrames.{takes}
 use Rattle.h2_log.specs.declared.role.Role.TheVariants.{Server}
 use Rattle.h2_log.proofs.Computing.{computing}
 use Rattle.h2_log.proofs.EncodingLemmas.{takes_block_comes}
-use Rattle.h2_log.proofs.examples.Bodies.{after_the_acknowledgment, before_the_acknowledgment, no_octets_after_it, one_octet_after_it, server_with_small_window}
-use Rattle.h2_log.proofs.examples.Coming.{are_octets, are_pairs, below, comes, fields_are, fields_are_octets, pairs_are, short_block, values_are, within}
+use Rattle.h2_log.proofs.examples.Bodies.{after_the_acknowledgment, before_the_acknowledgment}
+use Rattle.h2_log.proofs.examples.Bodies.{no_octets_after_it, one_octet_after_it}
+use Rattle.h2_log.proofs.examples.Bodies.{server_with_small_window}
+use Rattle.h2_log.proofs.examples.Coming.{are_octets, are_pairs, below, comes, fields_are}
+use Rattle.h2_log.proofs.examples.Coming.{fields_are_octets, pairs_are, short_block, values_are}
+use Rattle.h2_log.proofs.examples.Coming.{within}
 use Rattle.h2_log.proofs.examples.Ends.{active_server, new_server}
-use Rattle.h2_log.proofs.examples.Settings.{
-  acknowledged_server,
-  changed_server,
-  many_values,
-  remembered_answer,
-  server_of_fewer,
-  server_of_many,
-  server_with_limits,
-  server_with_one_answer,
-  server_with_table_again,
-  server_with_two,
-  server_with_two_answers,
-  server_without_table,
-}
-use Rattle.h2_log.proofs.examples.Words.{default_values, eleven, get_block, short_answer, short_request, small_values}
+use Rattle.h2_log.proofs.examples.Settings.{acknowledged_server, changed_server, many_values}
+use Rattle.h2_log.proofs.examples.Settings.{remembered_answer, server_of_fewer, server_of_many}
+use Rattle.h2_log.proofs.examples.Settings.{server_with_limits, server_with_one_answer}
+use Rattle.h2_log.proofs.examples.Settings.{server_with_table_again, server_with_two}
+use Rattle.h2_log.proofs.examples.Settings.{server_with_two_answers, server_without_table}
+use Rattle.h2_log.proofs.examples.Words.{default_values, eleven, get_block, short_answer}
+use Rattle.h2_log.proofs.examples.Words.{short_request, small_values}
 use Rattle.h2_log.proofs.examples.ServersCome.{new_server_comes, active_server_comes}
 
 pub unknown_identifier_comes : IsLog Server default_values (takes new_server (Settings false
