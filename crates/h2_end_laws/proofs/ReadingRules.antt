@@ -30,7 +30,8 @@ use Rattle.h2_log.specs.ItemRules.{settings_fault, completes}
 use Rattle.h2_log.specs.ItemEffects.{events_of, least_last}
 use Rattle.h2_log.specs.Histories.{IsDecodedIn}
 use Rattle.h2_log_laws.proofs.ReaderStates.{active_used, opens_here}
-use Rattle.h2_log_laws.proofs.ReplyInvariant.{state_active, used_more}
+use Rattle.h2_log_laws.proofs.ReaderStates.{state_is_active}
+use Rattle.h2_log_laws.proofs.ReplyInvariant.{used_more}
 use Rattle.h2_end_laws.specs.Readings.{Reading, its_fields, its_octets, its_reset}
 use Rattle.h2_end_laws.specs.Readings.{its_fault, its_goaway, its_acknowledgment, its_pong}
 use Rattle.h2_end_laws.specs.Readings.{MayBeSilent, AreEventsOf}
@@ -199,7 +200,7 @@ rules_say log (Some decoded) (block stream end octets) low =
     (MayBeSilent log.role log.sent (block stream end octets))
     (IsSaid log (block stream end octets)) (state log stream) (peer_opens (log_view log) stream)
     _ _ _ _
-    (λ is. active_faults log (block stream end octets) stream (state_active _ _ _ is))
+    (λ is. active_faults log (block stream end octets) stream (state_is_active _ _ _ is))
     (λ idle opens. idle_faults log.role stream end octets log.received log.sent opens)
     (λ is. closed_by_us_is _ _ _ is)
     (λ idle opens left. idle_left log.role stream log.received log.sent log.reported low
@@ -208,7 +209,7 @@ rules_say log (Some decoded) (block stream end octets) low =
 rules_say log decoded (alone (Data stream end octets pad)) low =
     says_data (IsFaulty log (alone (Data stream end octets pad)))
     (is_closed_by_us log.role stream log.sent ≡ true) (Unit {0}) (state log stream) _ _ _
-    (λ is. active_faults log (alone (Data stream end octets pad)) stream (state_active _ _ _ is))
+    (λ is. active_faults log (alone (Data stream end octets pad)) stream (state_is_active _ _ _ is))
     (λ is. closed_by_us_is _ _ _ is) (λ is. tt)
 rules_say log decoded (alone (Headers stream end last fragment pad priority)) low = tt
 rules_say log decoded (alone (Priority stream octets)) low = tt
@@ -227,7 +228,7 @@ rules_say log decoded (alone (WindowUpdate stream increment)) low =
     says_updates (IsFaulty log (alone (WindowUpdate stream increment))) (stream == 0)
     (state log stream) increment _ _
     (λ is. active_faults log (alone (WindowUpdate stream increment)) stream
-    (state_active _ _ _ is))
+    (state_is_active _ _ _ is))
 rules_say log decoded (alone (Continuation stream last fragment)) low = tt
 rules_say log decoded (alone (Unknown kind flags stream payload)) low = tt
 

@@ -38,7 +38,8 @@ use Rattle.h2_log_laws.proofs.ReaderStates.{active_parts}
 use Rattle.h2_log_laws.proofs.LogHistory.{History, history_of, given_by}
 use Rattle.h2_log_laws.proofs.LogHistory.{used_view}
 use Rattle.h2_log_laws.proofs.InvariantSteps.{update_elsewhere}
-use Rattle.h2_log_laws.proofs.InvariantCalls.{first_none, active_some, released_refused}
+use Rattle.h2_log_laws.proofs.CallConditions.{first_none}
+use Rattle.h2_log_laws.proofs.InvariantCalls.{active_some, released_refused}
 use Rattle.h2_log_laws.proofs.LogViewLemmas.{stream_is_active, stream_there, owed_there}
 use Rattle.h2_log_laws.proofs.DataOfCalls.{none_of_items}
 use Rattle.h2_log_laws.proofs.ReleasedCredit.{updates}

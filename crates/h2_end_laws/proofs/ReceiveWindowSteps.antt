@@ -26,7 +26,7 @@ use Rattle.h2_log.specs.ItemEffects.{events_of}
 use Rattle.h2_log.specs.LogSteps.{read}
 use Rattle.h2_log.specs.LogSteps.{with_verdict, with_step, with_frame}
 use Rattle.h2_log_laws.proofs.ReaderStates.{active_parts}
-use Rattle.h2_log_laws.proofs.ReaderStates.{state_active}
+use Rattle.h2_log_laws.proofs.ReaderStates.{state_is_active}
 use Rattle.h2_log_laws.proofs.LogHistory.{History, history_of}
 use Rattle.h2_end_laws.proofs.ReadVerdicts.{Says, says_of, says_data, closed_by_us_is}
 use Rattle.h2_end_laws.proofs.ReceiveWindows.{Kept, Steps, opened_in, quiet_steps}
@@ -229,7 +229,7 @@ rules_say log decoded (block stream end octets) = says_nothing _
 rules_say log decoded (alone (Data stream end octets pad)) =
     says_data (Unit {0}) (is_closed_by_us log.role stream log.sent ≡ true) (active log stream
     ≡ true) (state log stream) _ _ _ (λ is. tt) (λ is. closed_by_us_is _ _ _ is)
-    (λ is. state_active _ _ _ is)
+    (λ is. state_is_active _ _ _ is)
 rules_say log decoded (alone (Headers stream end last fragment pad priority)) = tt
 rules_say log decoded (alone (Priority stream octets)) = tt
 rules_say log decoded (alone (Reset stream code)) = says_nothing _

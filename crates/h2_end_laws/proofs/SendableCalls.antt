@@ -45,7 +45,8 @@ use Rattle.h2_log_laws.proofs.ReaderStates.{active_parts}
 use Rattle.h2_log_laws.proofs.LogHistory.{History, history_of, active_in_view, left, owes}
 use Rattle.h2_log_laws.proofs.LogInvariant.{Good, Represents}
 use Rattle.h2_log_laws.proofs.LogViewLemmas.{stream_is_active, owed_there}
-use Rattle.h2_log_laws.proofs.InvariantCalls.{first_none, none_since, active_some}
+use Rattle.h2_log_laws.proofs.CallConditions.{first_none, none_since}
+use Rattle.h2_log_laws.proofs.InvariantCalls.{active_some}
 use Rattle.h2_log_laws.proofs.InvariantLogs.{log_represents, written_is_allowed}
 use Rattle.h2_end_laws.proofs.ReadingCalls.{log_read}
 use Rattle.h2_end_laws.proofs.SendableItems.{reset_sendable, update_sendable, goaway_sendable}
