@@ -43,26 +43,26 @@ use Rattle.h2_log_laws.proofs.InvariantCalls.{active_some, released_refused}
 use Rattle.h2_log_laws.proofs.LogViewLemmas.{stream_is_active, stream_there, owed_there}
 use Rattle.h2_log_laws.proofs.DataOfCalls.{none_of_items}
 use Rattle.h2_log_laws.proofs.ReleasedCredit.{updates}
-use Rattle.h2_end_laws.proofs.ReceiveWindows.{Kept, Steps, step_keeps, quiet_steps}
-use Rattle.h2_end_laws.proofs.ReceiveWindows.{give_kept, log_step_keeps}
+use Rattle.h2_end_laws.proofs.ReceiveWindows.{IsAccounted, Steps, step_keeps, quiet_steps}
+use Rattle.h2_end_laws.proofs.ReceiveWindows.{give_accounted, log_step_keeps}
 use Rattle.h2_end_laws.proofs.ReceiveWindows.{failure_keeps, total_none, flow_none}
 use Rattle.h2_log_laws.proofs.ReleasedCredit.{updates}
-use Rattle.h2_end_laws.proofs.ReceiveWindows.{Kept, Steps, step_keeps, quiet_steps}
-use Rattle.h2_end_laws.proofs.ReceiveWindows.{give_kept, log_step_keeps, failure_keeps}
+use Rattle.h2_end_laws.proofs.ReceiveWindows.{IsAccounted, Steps, step_keeps, quiet_steps}
+use Rattle.h2_end_laws.proofs.ReceiveWindows.{give_accounted, log_step_keeps, failure_keeps}
 use Rattle.h2_end_laws.proofs.ReceiveWindows.{total_none, flow_none}
 use Rattle.h2_end_laws.proofs.ReceiveWindowSteps.{frame_keeps}
 
 -- A call that releases and returns nothing.
 call_steps : (log : Log) (i : ℕ) (items : List Item) (calls : List (Act × Answer))
-    → Kept (history_of log) i → total (increment_on i) items ≡ 0
+    → IsAccounted (history_of log) i → total (increment_on i) items ≡ 0
     → released i calls ≡ released i log.calls → Steps (history_of log) i [] items [] calls
 call_steps log i items calls before gives same =
     quiet_steps (history_of log) i [] items [] calls before (total_none _) gives (flow_none i) same
 
 -- It still stands after such a call, of which nothing is written.
-recalled_keeps : (log : Log) (i : ℕ) (act : Act) (answer : Answer) → Kept (history_of log) i
+recalled_keeps : (log : Log) (i : ℕ) (act : Act) (answer : Answer) → IsAccounted (history_of log) i
     → released i ((act, answer) ∷ log.calls) ≡ released i log.calls
-    → Kept (history_of (called log act answer)) i
+    → IsAccounted (history_of (called log act answer)) i
 recalled_keeps log i act answer before same =
     let after = step_keeps (history_of log) i [] [] [] ((act, answer) ∷ log.calls) log.unreturned
     before (call_steps log i [] ((act, answer) ∷ log.calls) before (total_none _) same) in
@@ -70,14 +70,14 @@ recalled_keeps log i act answer before same =
       within = after.within;
       unopened = after.unopened;
       unread = after.unread;
-      kept = after.kept;
+      whole = after.whole;
     }
 
 -- It still stands after a call that writes.
 items_keep : (log : Log) (act : Act) (answer : Answer) (i : ℕ) (items : List Item) → i ≢ 0
-    → Kept (history_of log) i → items_of (log_view log) act answer ≡ items
+    → IsAccounted (history_of log) i → items_of (log_view log) act answer ≡ items
     → Steps (history_of log) i [] items [] ((act, answer) ∷ log.calls)
-    → Kept (history_of (with_items log act answer)) i
+    → IsAccounted (history_of (with_items log act answer)) i
 unfolding with_items with_reported
 items_keep log act answer i items some before is steps =
     rw is (log_step_keeps log (called log act answer) i [] items [] ((act, answer) ∷ log.calls) _
@@ -133,7 +133,7 @@ unfolding unreleased
 unreleased_is log i = refl
 
 -- A release returns to its stream what it releases, unless the peer has ended it.
-release_here : (log : Log) (i count : ℕ) → i ≢ 0 → Kept (history_of log) i → active log i ≡ true
+release_here : (log : Log) (i count : ℕ) → i ≢ 0 → IsAccounted (history_of log) i → active log i ≡ true
     → count ≤ unreleased log i
     → Steps (history_of log) i [] (updates i count (ended_in ((log_view log).stream i))) []
     ((Release i count, Done) ∷ log.calls)
@@ -143,8 +143,8 @@ release_here log i count some before alive much =
     record {
       within = omega (arith, before.within, more, much, unreleased_is log i, flow_none i);
       unopened = λ was none. absurd (both_ways _ was opened_here);
-      unread = λ none kept_open. total_none _;
-      kept = λ active goes.
+      unread = λ none unclosed. total_none _;
+      whole = λ active goes.
           let same : ended_in ((log_view log).stream i) ≡ false =
           ap ended_in (stream_there log i alive) ∙ goes in (
             omega (
@@ -158,7 +158,7 @@ release_here log i count some before alive much =
     }
 
 -- A release has nothing to do with other streams.
-release_steps : (log : Log) (id count i : ℕ) → i ≢ 0 → Kept (history_of log) i
+release_steps : (log : Log) (id count i : ℕ) → i ≢ 0 → IsAccounted (history_of log) i
     → active log id ≡ true → count ≤ unreleased log id
     → Steps (history_of log) i [] (updates id count (ended_in ((log_view log).stream id))) []
     ((Release id count, Done) ∷ log.calls)
@@ -170,9 +170,9 @@ release_steps log id count i some before alive much = elim (cases_eq id i) [
 ]
 
 -- It still stands after a release.
-release_keeps : (log : Log) (id count i : ℕ) → i ≢ 0 → Kept (history_of log) i
+release_keeps : (log : Log) (id count i : ℕ) → i ≢ 0 → IsAccounted (history_of log) i
     → refusal_of (log_view log) (Release id count) ≡ None
-    → Kept (history_of (with_call log (Release id count) Done)) i
+    → IsAccounted (history_of (with_call log (Release id count) Done)) i
 unfolding conditions with_call items_of
 release_keeps log id count i some before none =
     let c1 = first_none _ _ _ none in
@@ -196,8 +196,8 @@ reset_gives i id code = refl
 
 -- It still stands after a stream that was refused, by the fault that this makes.
 refused_keeps : (log : Log) (id code : ℕ) (fault : Option Code) (i : ℕ) → i ≢ 0
-    → Kept (history_of log) i
-    → Kept (history_of (refused_with log (Refuse id code) Done fault)) i
+    → IsAccounted (history_of log) i
+    → IsAccounted (history_of (refused_with log (Refuse id code) Done fault)) i
 unfolding refused_with items_of released
 refused_keeps log id code (Some fault) i some before =
     failure_keeps fault (last_processed log) (called log (Refuse id code) Done) i
@@ -213,13 +213,13 @@ unfolding with_sent
 ready_view log true = refl
 ready_view log false = refl
 
-ready_by : (v : History) (b : Bool) (i : ℕ) → i ≢ 0 → Kept v i → Kept (given_by b v) i
-ready_by v true i some before = give_kept v i some before
+ready_by : (v : History) (b : Bool) (i : ℕ) → i ≢ 0 → IsAccounted v i → IsAccounted (given_by b v) i
+ready_by v true i some before = give_accounted v i some before
 ready_by v false i some before = before
 
 -- It still stands after output was put out.
-put_out_keeps : (log : Log) (count given i : ℕ) → i ≢ 0 → Kept (history_of log) i
-    → Kept (history_of (with_call log (PutOut count) (Count given))) i
+put_out_keeps : (log : Log) (count given i : ℕ) → i ≢ 0 → IsAccounted (history_of log) i
+    → IsAccounted (history_of (with_call log (PutOut count) (Count given))) i
 unfolding with_call before_put_out released
 put_out_keeps log count given i some before =
     let next = called log (PutOut count) (Count given) in
@@ -234,9 +234,9 @@ unfolding increment_on
 data_gives i id end octets = refl
 
 -- It still stands after a call that is accepted.
-accepted_keeps : (log : Log) (act : Act) (i : ℕ) → i ≢ 0 → Kept (history_of log) i
+accepted_keeps : (log : Log) (act : Act) (i : ℕ) → i ≢ 0 → IsAccounted (history_of log) i
     → refusal_of (log_view log) act ≡ None
-    → Kept (history_of (with_call log act (answer_of (log_view log) act))) i
+    → IsAccounted (history_of (with_call log act (answer_of (log_view log) act))) i
 unfolding with_call items_of released total increment_on
 accepted_keeps log (Open fields end) i some before none =
     items_keep log (Open fields end) (answer_of (log_view log) (Open fields end)) i _ some before
@@ -285,8 +285,8 @@ released_failed i (ChangeSettings values) calls = refl
 
 -- It still stands after a call.
 call_keeps : (log : Log) (act : Act) (answer : Answer) (i : ℕ) → i ≢ 0
-    → Kept (history_of log) i → MayAnswer log act answer
-    → Kept (history_of (with_call log act answer)) i
+    → IsAccounted (history_of log) i → MayAnswer log act answer
+    → IsAccounted (history_of (with_call log act answer)) i
 unfolding with_call
 call_keeps log act answer i some before (accepts none is) =
     rw is (accepted_keeps log act i some before none)
@@ -300,19 +300,19 @@ call_keeps log act answer i some before (fails none may is) =
     (recalled_keeps log i act OutOfMemory before (released_failed i act log.calls)))
 
 -- It stands of a new log.
-begins_kept : (role : Role) (values : Values) (i : ℕ) → Kept (history_of (opened role values)) i
+begins_accounted : (role : Role) (values : Values) (i : ℕ) → IsAccounted (history_of (opened role values)) i
 unfolding opened with_sent total reported_total released increment_on is_active is_block_on
-begins_kept role values i =
+begins_accounted role values i =
     record {
       within = omega arith;
       unopened = λ none. (refl, refl);
-      unread = λ none kept_open. refl;
-      kept = λ active goes. (refl, refl);
+      unread = λ none unclosed. refl;
+      whole = λ active goes. (refl, refl);
     }
 
 -- It still stands after a stream that was reported as unprocessed.
-unprocessed_keeps : (log : Log) (i : ℕ) → i ≢ 0 → Kept (history_of log) i
-    → Kept (history_of (took_none log)) i
+unprocessed_keeps : (log : Log) (i : ℕ) → i ≢ 0 → IsAccounted (history_of log) i
+    → IsAccounted (history_of (took_none log)) i
 unfolding with_sent reported_total flow_on
 unprocessed_keeps log i some before =
     log_step_keeps log log i [] [] (UnprocessedEvent (next_unprocessed log) ∷ []) log.calls
@@ -322,24 +322,24 @@ unprocessed_keeps log i some before =
     refl)
 
 -- It stands of every log.
-pub log_kept : (role : Role) (values : Values) (log : Log) (i : ℕ) → i ≢ 0
-    → IsLog role values log → Kept (history_of log) i
-log_kept role values _ i some (begins in_range) = begins_kept role values i
-log_kept role values _ i some (took_some {log = log} is takes octets unparsed read) =
-    rw (used_view log octets unparsed) (log_kept role values log i some is)
-log_kept role values _ i some (took_one {log = log} is takes octets frame decoded read sees) =
+pub log_accounted : (role : Role) (values : Values) (log : Log) (i : ℕ) → i ≢ 0
+    → IsLog role values log → IsAccounted (history_of log) i
+log_accounted role values _ i some (begins in_range) = begins_accounted role values i
+log_accounted role values _ i some (took_some {log = log} is takes octets unparsed read) =
+    rw (used_view log octets unparsed) (log_accounted role values log i some is)
+log_accounted role values _ i some (took_one {log = log} is takes octets frame decoded read sees) =
     frame_keeps (used log octets []) decoded frame i some (rw (used_view log octets [])
-    (log_kept role values log i some is))
-log_kept role values _ i some (met_fault {log = log} is takes octets fault at) =
+    (log_accounted role values log i some is))
+log_accounted role values _ i some (met_fault {log = log} is takes octets fault at) =
     failure_keeps (wire_fault_code fault) _ (used log octets []) i (rw (used_view log octets [])
-    (log_kept role values log i some is))
-log_kept role values _ i some (ran_out_of_memory {log = log} is up octets may) =
+    (log_accounted role values log i some is))
+log_accounted role values _ i some (ran_out_of_memory {log = log} is up octets may) =
     failure_keeps InternalError _ (used log octets []) i (rw (used_view log octets [])
-    (log_kept role values log i some is))
-log_kept role values _ i some (reported_one {log = log} is up next) =
-    unprocessed_keeps log i some (log_kept role values log i some is)
-log_kept role values _ i some (called_one {log = log} is act answer typed may) =
-    call_keeps log act answer i some (log_kept role values log i some is) may
+    (log_accounted role values log i some is))
+log_accounted role values _ i some (reported_one {log = log} is up next) =
+    unprocessed_keeps log i some (log_accounted role values log i some is)
+log_accounted role values _ i some (called_one {log = log} is act answer typed may) =
+    call_keeps log act answer i some (log_accounted role values log i some is) may
 
 -- So on an active stream that the peer hasn't ended what the peer may send and what is owed are the
 -- initial window.
@@ -348,13 +348,13 @@ window_by : (initial gave read reported calls : ℕ) → gave ≡ calls → repo
     → (pos (initial + gave) -ℤ pos read) +ℤ pos (reported - calls) ≡ pos initial
 window_by initial gave read reported calls one other le = omega (arith, ints)
 
-pub window_kept : (role : Role) (values : Values) (log : Log) (i : ℕ) → IsLog role values log
+pub window_is_initial : (role : Role) (values : Values) (log : Log) (i : ℕ) → IsLog role values log
     → active log i ≡ true → list_any (ends i) log.received ≡ false
     → recv_window log i +ℤ pos (owed log i)
     ≡ pos (own_value 4 first_window (acked log) log.sent)
 unfolding owed unreleased granted_on
-window_kept role values log i is alive goes =
-    let before = log_kept role values log i (active_some log i alive) is in
-    let both = before.kept alive goes in
+window_is_initial role values log i is alive goes =
+    let before = log_accounted role values log i (active_some log i alive) is in
+    let both = before.whole alive goes in
     rw alive (window_by (own_value 4 first_window (acked log) log.sent) _ _ _ _ both.0 both.1
     before.within)

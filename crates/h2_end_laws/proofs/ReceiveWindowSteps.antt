@@ -29,7 +29,7 @@ use Rattle.h2_log_laws.proofs.ReaderStates.{active_parts}
 use Rattle.h2_log_laws.proofs.ReaderStates.{state_is_active}
 use Rattle.h2_log_laws.proofs.LogHistory.{History, history_of}
 use Rattle.h2_end_laws.proofs.ReadVerdicts.{Says, says_of, says_data, closed_by_us_is}
-use Rattle.h2_end_laws.proofs.ReceiveWindows.{Kept, Steps, opened_in, quiet_steps}
+use Rattle.h2_end_laws.proofs.ReceiveWindows.{IsAccounted, Steps, opened_in, quiet_steps}
 use Rattle.h2_end_laws.proofs.ReceiveWindows.{active_unclosed, log_step_keeps}
 use Rattle.h2_end_laws.proofs.ReceiveWindows.{failure_keeps, total_one, total_none, flow_none}
 
@@ -97,7 +97,7 @@ replies_give NoEvent (alone (Unknown kind flags stream payload)) i = refl
 
 -- Items but DATA have nothing to do with a stream's octets.
 other_steps : (log : Log) (decoded : Option Decoded) (item : Item) (verdict : Verdict) (i : ℕ)
-    → IsOther item → Kept (history_of log) i
+    → IsOther item → IsAccounted (history_of log) i
     → Steps (history_of log) i (item ∷ []) (replies_to verdict item) (events_of
     (log_view log) decoded verdict item) log.calls
 other_steps log decoded item verdict i other before =
@@ -120,7 +120,7 @@ unfolding reported_total flow_on total data_on
 flow_same stream end octets pad i = refl
 
 -- On a stream that this end has closed by then nothing needs to be kept.
-closed_steps : (v : History) (i : ℕ) (reads items : List Item) (events : List Event) → Kept v i
+closed_steps : (v : History) (i : ℕ) (reads items : List Item) (events : List Event) → IsAccounted v i
     → is_closed_by_us v.role i (items ++ v.sent) ≡ true
     → total (increment_on i) items ≡ 0 → reported_total (flow_on i) events ≡ 0
     → Steps v i reads items events v.calls
@@ -128,8 +128,8 @@ closed_steps v i reads items events before closed gives flows =
     record {
       within = omega (arith, before.within);
       unopened = λ was none. (flows, gives);
-      unread = λ none kept_open. absurd (both_ways _ kept_open closed);
-      kept = λ active goes. absurd (both_ways _ (active_unclosed v.role i (reads ++ v.received)
+      unread = λ none unclosed. absurd (both_ways _ unclosed closed);
+      whole = λ active goes. absurd (both_ways _ (active_unclosed v.role i (reads ++ v.received)
           (items ++ v.sent) (events ++ v.reported) active) closed);
     }
 
@@ -152,7 +152,7 @@ reset_gives i stream code = refl
 
 -- DATA that is a fault of its stream.
 data_fault_steps : (log : Log) (stream : ℕ) (end : Bool) (octets : List ℕ) (pad : Option ℕ)
-    (code i : ℕ) → Kept (history_of log) i
+    (code i : ℕ) → IsAccounted (history_of log) i
     → Steps (history_of log) i (alone (Data stream end octets pad) ∷ []) (alone
     (Reset stream code) ∷ []) (ResetEvent stream code true ∷ []) log.calls
 data_fault_steps log stream end octets pad code i before = elim (cases_eq stream i) [
@@ -168,7 +168,7 @@ data_fault_steps log stream end octets pad code i before = elim (cases_eq stream
 
 -- DATA that is ignored.
 data_ignored_steps : (log : Log) (stream : ℕ) (end : Bool) (octets : List ℕ) (pad : Option ℕ)
-    (i : ℕ) → Kept (history_of log) i → is_closed_by_us log.role stream log.sent ≡ true
+    (i : ℕ) → IsAccounted (history_of log) i → is_closed_by_us log.role stream log.sent ≡ true
     → Steps (history_of log) i (alone (Data stream end octets pad) ∷ []) [] [] log.calls
 data_ignored_steps log stream end octets pad i before closed = elim (cases_eq stream i) [
   | inl same ↦
@@ -181,7 +181,7 @@ data_ignored_steps log stream end octets pad i before closed = elim (cases_eq st
 
 -- DATA that is reported.
 data_reported_steps : (log : Log) (stream : ℕ) (end : Bool) (octets : List ℕ) (pad : Option ℕ)
-    (i : ℕ) → Kept (history_of log) i → active log stream ≡ true
+    (i : ℕ) → IsAccounted (history_of log) i → active log stream ≡ true
     → Steps (history_of log) i (alone (Data stream end octets pad) ∷ []) [] (DataEvent stream octets
     (length (payload_of (Data stream end octets pad))) end ∷ []) log.calls
 data_reported_steps log stream end octets pad i before alive = elim (cases_eq stream i) [
@@ -191,8 +191,8 @@ data_reported_steps log stream end octets pad i before alive = elim (cases_eq st
       record {
         within = omega (arith, before.within);
         unopened = λ was none. absurd (both_ways _ was opened_here);
-        unread = λ none kept_open. absurd (both_ways _ none opened_here);
-        kept = λ active goes. (
+        unread = λ none unclosed. absurd (both_ways _ none opened_here);
+        whole = λ active goes. (
           omega (arith, total_none (increment_on i)),
           flow_same stream end octets pad i,
         );
@@ -242,7 +242,7 @@ rules_say log decoded (alone (Unknown kind flags stream payload)) = tt
 
 -- An item keeps to this, by its verdict.
 item_steps : (log : Log) (decoded : Option Decoded) (item : Item) (verdict : Verdict) (i : ℕ)
-    → Kept (history_of log) i → ((code : Code) → verdict ≡ ConnectionFault code → ⊥)
+    → IsAccounted (history_of log) i → ((code : Code) → verdict ≡ ConnectionFault code → ⊥)
     → Says (Unit {0}) (IsSilent log item) (IsReported log item) verdict
     → Steps (history_of log) i (item ∷ []) (replies_to verdict item) (events_of
     (log_view log) decoded verdict item) log.calls
@@ -278,9 +278,9 @@ item_steps log decoded (alone (Unknown kind flags stream payload)) verdict i bef
 
 -- What stands still stands after an item, by its verdict.
 verdict_keeps : (log : Log) (decoded : Option Decoded) (item : Item) (verdict : Verdict) (i : ℕ)
-    → i ≢ 0 → Kept (history_of log) i
+    → i ≢ 0 → IsAccounted (history_of log) i
     → Says (Unit {0}) (IsSilent log item) (IsReported log item) verdict
-    → Kept (history_of (with_verdict log decoded item verdict)) i
+    → IsAccounted (history_of (with_verdict log decoded item verdict)) i
 unfolding with_verdict
 verdict_keeps log decoded item (ConnectionFault code) i some before says =
     failure_keeps code _ log i before
@@ -296,7 +296,7 @@ verdict_keeps log decoded item Reported i some before says =
 
 -- It still stands after what a frame makes of the block that has begun.
 frame_step_keeps : (log : Log) (decoded : Option Decoded) (step : FrameStep) (i : ℕ) → i ≢ 0
-    → Kept (history_of log) i → Kept (history_of (with_step log decoded step)) i
+    → IsAccounted (history_of log) i → IsAccounted (history_of (with_step log decoded step)) i
 unfolding with_step
 frame_step_keeps log decoded (fails_with code) i some before =
     failure_keeps code (last_processed log) log i before
@@ -308,7 +308,7 @@ frame_step_keeps log decoded (completes item) i some before =
 
 -- It still stands after a frame.
 pub frame_keeps : (log : Log) (decoded : Option Decoded) (frame : Frame) (i : ℕ) → i ≢ 0
-    → Kept (history_of log) i → Kept (history_of (with_frame log decoded frame)) i
+    → IsAccounted (history_of log) i → IsAccounted (history_of (with_frame log decoded frame)) i
 unfolding with_frame
 frame_keeps log decoded frame i some before =
     frame_step_keeps (record log { frames = log.frames ++ frame ∷ [] }) decoded

@@ -39,13 +39,13 @@ opened_in v i = list_any (is_block_on i) (openings v.role v.received v.sent)
 -- What stands of a stream: no more was released than reported; nothing was read, reported, released
 -- or returned of a stream that wasn't opened; and on an active one that the peer hasn't ended all
 -- DATA was reported, and what was released was returned.
-pub record Kept (v : History) (i : ℕ) : Type 0 where
+pub record IsAccounted (v : History) (i : ℕ) : Type 0 where
   pub within : released i v.calls ≤ reported_total (flow_on i) v.reported
   pub unopened : opened_in v i ≡ false
       → (reported_total (flow_on i) v.reported ≡ 0) × (total (increment_on i) v.sent ≡ 0)
   pub unread : opened_in v i ≡ false → is_closed_by_us v.role i v.sent ≡ false
       → total (data_on i) v.received ≡ 0
-  pub kept : active_in_view v i ≡ true → list_any (ends i) v.received ≡ false
+  pub whole : active_in_view v i ≡ true → list_any (ends i) v.received ≡ false
       → (total (increment_on i) v.sent ≡ released i v.calls)
       × (reported_total (flow_on i) v.reported ≡ total (data_on i) v.received)
 
@@ -59,7 +59,7 @@ pub record Steps (v : History) (i : ℕ) (reads items : List Item) (events : Lis
       → (reported_total (flow_on i) events ≡ 0) × (total (increment_on i) items ≡ 0)
   pub unread : opened_in v i ≡ false → is_closed_by_us v.role i (items ++ v.sent) ≡ false
       → total (data_on i) reads ≡ 0
-  pub kept : is_active v.role i (reads ++ v.received) (items ++ v.sent) (events ++ v.reported)
+  pub whole : is_active v.role i (reads ++ v.received) (items ++ v.sent) (events ++ v.reported)
       ≡ true → list_any (ends i) (reads ++ v.received) ≡ false
       → (total (increment_on i) items + released i v.calls ≡ released i calls)
       × (reported_total (flow_on i) events ≡ total (data_on i) reads)
@@ -102,8 +102,8 @@ none_released a b le none = omega arith
 
 -- A step keeps what stands.
 pub step_keeps : (v : History) (i : ℕ) (reads items : List Item) (events : List Event)
-    (calls : List (Act × Answer)) (unreturned : ℕ) → Kept v i → Steps v i reads items events calls
-    → Kept (moved v reads items events calls unreturned) i
+    (calls : List (Act × Answer)) (unreturned : ℕ) → IsAccounted v i → Steps v i reads items events calls
+    → IsAccounted (moved v reads items events calls unreturned) i
 step_keeps v i reads items events calls unreturned before step =
     record {
       within = omega (arith, step.within, reported_append (flow_on i) events v.reported);
@@ -114,22 +114,22 @@ step_keeps v i reads items events calls unreturned before step =
             omega (arith, old.0, new.0, reported_append (flow_on i) events v.reported),
             omega (arith, old.1, new.1, total-append (increment_on i) items v.sent),
           );
-      unread = λ none kept_open.
+      unread = λ none unclosed.
           let was = unopened_before i v.role reads items v.received v.sent none in
           omega (
             arith,
-            before.unread was (closed_before v.role i items v.sent kept_open),
-            step.unread was kept_open,
+            before.unread was (closed_before v.role i items v.sent unclosed),
+            step.unread was unclosed,
             total-append (data_on i) reads v.received,
           );
-      kept = λ active goes.
-          let new = step.kept active goes in
+      whole = λ active goes.
+          let new = step.whole active goes in
           let flows = reported_append (flow_on i) events v.reported in
           let gives = total-append (increment_on i) items v.sent in
           let comes = total-append (data_on i) reads v.received in
           elim (cases_Bool (opened_in v i)) [
             | inl was ↦
-                let old = before.kept (active_before v.role i reads items v.received v.sent events
+                let old = before.whole (active_before v.role i reads items v.received v.sent events
                 v.reported active was) (none_after (ends i) reads v.received goes) in (
                   omega (arith, old.0, new.0, gives),
                   omega (arith, old.1, new.1, flows, comes),
@@ -148,15 +148,15 @@ step_keeps v i reads items events calls unreturned before step =
 
 -- A step that has nothing to do with the stream's octets.
 pub quiet_steps : (v : History) (i : ℕ) (reads items : List Item) (events : List Event)
-    (calls : List (Act × Answer)) → Kept v i → total (data_on i) reads ≡ 0
+    (calls : List (Act × Answer)) → IsAccounted v i → total (data_on i) reads ≡ 0
     → total (increment_on i) items ≡ 0 → reported_total (flow_on i) events ≡ 0
     → released i calls ≡ released i v.calls → Steps v i reads items events calls
 quiet_steps v i reads items events calls before comes gives flows same =
     record {
       within = omega (arith, before.within, same);
       unopened = λ was none. (flows, gives);
-      unread = λ none kept_open. comes;
-      kept = λ active goes. (omega (arith, gives, same), omega (arith, comes, flows));
+      unread = λ none unclosed. comes;
+      whole = λ active goes. (omega (arith, gives, same), omega (arith, comes, flows));
     }
 
 -- A total of one item.
@@ -175,29 +175,29 @@ unfolding reported_total
 flow_none i = refl
 
 -- What is unreturned may be returned.
-pub give_kept : (v : History) (i : ℕ) → i ≢ 0 → Kept v i → Kept (give v) i
-give_kept v i some before =
+pub give_accounted : (v : History) (i : ℕ) → i ≢ 0 → IsAccounted v i → IsAccounted (give v) i
+give_accounted v i some before =
     step_keeps v i [] (alone (WindowUpdate 0 v.unreturned) ∷ []) [] v.calls 0 before
     (quiet_steps v i [] (alone (WindowUpdate 0 v.unreturned) ∷ []) [] v.calls before (total_none _)
     (total_one _ _ (update_elsewhere i v.unreturned some)) (flow_none i) refl)
 
 -- the same after a step, before its events, by the test whether it is returned
-given_kept : (v : History) (i : ℕ) (reads items : List Item) (events : List Event)
+given_accounted : (v : History) (i : ℕ) (reads items : List Item) (events : List Event)
     (calls : List (Act × Answer)) (unreturned : ℕ) (b : Bool) → i ≢ 0
-    → Kept (moved v reads items events calls unreturned) i
-    → Kept (moved (given_by b (moved v reads items [] calls unreturned)) [] [] events
+    → IsAccounted (moved v reads items events calls unreturned) i
+    → IsAccounted (moved (given_by b (moved v reads items [] calls unreturned)) [] [] events
     (given_by b (moved v reads items [] calls unreturned)).calls
     (given_by b (moved v reads items [] calls unreturned)).unreturned) i
-given_kept v i reads items events calls unreturned true some kept =
-    give_kept (moved v reads items events calls unreturned) i some kept
-given_kept v i reads items events calls unreturned false some kept = kept
+given_accounted v i reads items events calls unreturned true some are =
+    give_accounted (moved v reads items events calls unreturned) i some are
+given_accounted v i reads items events calls unreturned false some are = are
 
 -- A step of a log keeps what stands.
 pub log_step_keeps : (log base : Log) (i : ℕ) (reads items : List Item) (events : List Event)
-    (calls : List (Act × Answer)) (more : ℕ) → i ≢ 0 → Kept (history_of log) i
+    (calls : List (Act × Answer)) (more : ℕ) → i ≢ 0 → IsAccounted (history_of log) i
     → history_of base ≡ moved (history_of log) reads [] [] calls log.unreturned
     → Steps (history_of log) i reads items events calls
-    → Kept (history_of (with_reported (with_unreturned more (with_sent base items)) events)) i
+    → IsAccounted (history_of (with_reported (with_unreturned more (with_sent base items)) events)) i
 log_step_keeps log base i reads items events calls more some before is step =
     let b = nat_lt 0 more && nat_lt (waiting (with_sent base items)) full_output in
     let written : history_of (with_sent base items)
@@ -212,7 +212,7 @@ log_step_keeps log base i reads items events calls more some before is step =
     (history_of log) reads items [] calls (log.unreturned + more))) =
     reports_view (with_unreturned more (with_sent base items)) events
     ∙ ap (λ (v : History). moved v [] [] events v.calls v.unreturned) returned in
-    rw all (given_kept (history_of log) i reads items events calls (log.unreturned + more) b some
+    rw all (given_accounted (history_of log) i reads items events calls (log.unreturned + more) b some
     (step_keeps (history_of log) i reads items events calls (log.unreturned + more) before step))
 
 -- GOAWAY returns nothing
@@ -221,8 +221,8 @@ unfolding increment_on
 goaway_gives i last code = refl
 
 -- What stands still stands after a failure.
-pub failure_keeps : (code : Code) (last : ℕ) (log : Log) (i : ℕ) → Kept (history_of log) i
-    → Kept (history_of (with_failure code last log)) i
+pub failure_keeps : (code : Code) (last : ℕ) (log : Log) (i : ℕ) → IsAccounted (history_of log) i
+    → IsAccounted (history_of (with_failure code last log)) i
 failure_keeps code last log i before =
     let after = step_keeps (history_of log) i [] (alone (GoAway last (code_number code) []) ∷ []) []
     log.calls log.unreturned before (quiet_steps (history_of log) i [] (alone (GoAway last
@@ -232,5 +232,5 @@ failure_keeps code last log i before =
       within = after.within;
       unopened = after.unopened;
       unread = after.unread;
-      kept = after.kept;
+      whole = after.whole;
     })
