@@ -19,6 +19,7 @@ pub use laws::blocks::{longest_prefix, no_update_after_a_field, one_block};
 pub use laws::encoder::{least_and_last, written_block};
 pub use table::dynamic_table::Table;
 pub use types::fault::Fault;
-pub use types::field::{Field, List};
+pub use types::field::{Decoded, Field, FieldRef, List};
+pub use types::field_list::FieldList;
 pub use types::list_size::list_size;
 pub use types::octets::Octets;

@@ -27,11 +27,43 @@ impl fmt::Debug for Field {
     }
 }
 
+/// A field of a list, lent. `{:?}` shows `[sensitive]` in place of a sensitive field's value.
+#[derive(Clone, Copy)]
+pub struct FieldRef<'a> {
+    /// The name.
+    pub name: &'a [u8],
+    /// The value.
+    pub value: &'a [u8],
+    /// Whether it is to be written, or was read, as a literal that is never indexed.
+    pub sensitive: bool,
+}
+
+impl fmt::Debug for FieldRef<'_> {
+    fn fmt<W: fmt::Write>(&self, f: &mut fmt::Formatter<W>) -> fmt::Result {
+        if self.sensitive {
+            return write!(f, "FieldRef {{ name: {:?}, value: [sensitive] }}", self.name);
+        }
+        f.debug_struct("FieldRef")
+            .field("name", &self.name)
+            .field("value", &self.value)
+            .finish()
+    }
+}
+
 /// The fields of a block.
 #[derive(Debug, Drop)]
 pub enum List {
     /// All of them, in order.
     Whole(Vec<Field>),
     /// Their size is above the limit; the table is as after the complete block.
+    TooLarge,
+}
+
+/// What a list holds after a block.
+#[derive(Clone, Copy, Debug, PartialEq, Eq)]
+pub enum Decoded {
+    /// All fields of the block, in order.
+    Whole,
+    /// Nothing, as their size is above the limit; the table is as after the complete block.
     TooLarge,
 }
