@@ -1,11 +1,11 @@
 -- Lists of fields by their places.
-use Rattle.std.proofs.Common.{◌≡◌, ℕ, zero, suc, ◌+◌, ◌-◌, ◌<◌, ◌≤◌, List, [], ◌∷◌, ◌++◌, length, map}
-use Rattle.std.proofs.Common.{take, drop, get_or, Option, Some, None, refl, sym, ap, ap₂, ◌∙◌, subst}
+use Rattle.std.proofs.Common.{◌≡◌, ℕ, zero, suc, ◌+◌, ◌-◌, ◌<◌, ◌≤◌, List, [], ◌∷◌, ◌++◌, length}
+use Rattle.std.proofs.Common.{take, drop, get_or, Some, refl, sym, ap, ap₂, ◌∙◌}
 use Rattle.std.proofs.Common.{arith, append_assoc, length-append, length-drop}
-use Rattle.std.proofs.lemmas.List.{map-append, take-append-le, drop-append-le}
+use Rattle.std.proofs.lemmas.List.{take-append-le, drop-append-le}
 use Rattle.std.proofs.lemmas.Option.{slice_get-map, slice_get-get_or}
 use Rattle.std.proofs.Math.Seq.{drop-append_seam, take-append_seam, take-length}
-use Rattle.std.specs.List.{AllByRecursion, slice_get}
+use Rattle.std.specs.List.{slice_get}
 use Rattle.std.specs.Option.{option_map}
 use Rattle.hpack.specs.declared.types.field.Field.{Field}
 use Rattle.hpack.specs.declared.types.field_place.FieldPlace.{FieldPlace}
@@ -57,7 +57,7 @@ field_of-more octets more place within =
     (between-more octets more place.name_end place.value_end within.value within.end)
 
 -- Fields stay where octets are appended.
-fields_of-more : (octets more : List ℕ) (places : List FieldPlace) → AreWithin octets places
+pub fields_of-more : (octets more : List ℕ) (places : List FieldPlace) → AreWithin octets places
     → fields_of (octets ++ more) places ≡ fields_of octets places
 fields_of-more octets more [] all = refl
 fields_of-more octets more (place ∷ places) all =
@@ -65,7 +65,7 @@ fields_of-more octets more (place ∷ places) all =
     (fields_of-more octets more places all.1)
 
 -- A place is among octets, and among more of them.
-within-more : (octets more : List ℕ) (places : List FieldPlace) → AreWithin octets places
+pub within-more : (octets more : List ℕ) (places : List FieldPlace) → AreWithin octets places
     → AreWithin (octets ++ more) places
 within-more octets more [] all = tt
 within-more octets more (place ∷ places) all = (
@@ -78,14 +78,14 @@ within-more octets more (place ∷ places) all = (
 )
 
 -- All of two lists of places are within.
-within-append : (octets : List ℕ) (places more : List FieldPlace) → AreWithin octets places
+pub within-append : (octets : List ℕ) (places more : List FieldPlace) → AreWithin octets places
     → AreWithin octets more → AreWithin octets (places ++ more)
 within-append octets [] more all others = others
 within-append octets (place ∷ places) more all others =
     (all.0, within-append octets places more all.1 others)
 
 -- the octets of a name and a value that were appended
-pub name_between : (before name value : List ℕ)
+name_between : (before name value : List ℕ)
     → octets_between (before ++ (name ++ value)) (length before) (length before + length name)
     ≡ name
 name_between before name value =
@@ -94,17 +94,33 @@ name_between before name value =
     ∙ take-append_seam name value
 
 -- the octets of a value that was appended after its name
-pub value_between : (before name value : List ℕ) (end : ℕ)
-    → end ≡ length (before ++ (name ++ value))
-    → octets_between (before ++ (name ++ value)) (length before + length name) end ≡ value
-value_between before name value end e =
-    let joined = sym (append_assoc before name value) in
+value_between : (before name value : List ℕ)
+    → octets_between (before ++ (name ++ value)) (length before + length name)
+    (length (before ++ (name ++ value))) ≡ value
+value_between before name value =
     let front : length (before ++ name) ≡ length before + length name = length-append before name in
     let whole : length (before ++ (name ++ value)) ≡ length before + (length name + length value) =
     length-append before (name ++ value) ∙ ap (λ (n : ℕ). length before + n) (length-append name value)
     in
-    let count : end - (length before + length name) ≡ length value = omega arith in
+    let count : length (before ++ (name ++ value)) - (length before + length name) ≡ length value =
+    omega (arith, whole) in
     let after : drop (length before + length name) (before ++ (name ++ value)) ≡ value =
-    ap₂ (λ (n : ℕ) (xs : List ℕ). drop n xs) (sym front) joined
+    ap₂ (λ (n : ℕ) (xs : List ℕ). drop n xs) (sym front) (sym (append_assoc before name value))
     ∙ drop-append_seam (before ++ name) value in
     ap₂ (λ (n : ℕ) (xs : List ℕ). take n xs) count after ∙ take-length value
+
+-- the octets of a name and a value that were appended, by where they start and end
+pub record AreBetween (octets name value : List ℕ) (start name_end end : ℕ) : Type 0 where
+  pub name_there : octets_between octets start name_end ≡ name
+  pub value_there : octets_between octets name_end end ≡ value
+
+pub are_between : (before octets name value : List ℕ) (start name_len end : ℕ)
+    → octets ≡ before ++ (name ++ value) → start ≡ length before → name_len ≡ length name
+    → end ≡ length octets → AreBetween octets name value start (start + name_len) end
+are_between before octets name value start name_len end joined starts named ends =
+    let at_end : end ≡ length (before ++ (name ++ value)) =
+    ends ∙ ap (λ (xs : List ℕ). length xs) joined in
+    record {
+      name_there = rw (joined, starts, named) (name_between before name value);
+      value_there = rw (at_end, joined, starts, named) (value_between before name value);
+    }

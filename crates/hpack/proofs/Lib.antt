@@ -2,6 +2,7 @@ pub mod BlockLemmas
 pub mod ChoiceLemmas
 pub mod PendingTableLemmas
 pub mod FieldLemmas
+pub mod FieldListBuilderLemmas
 pub mod FieldListLemmas
 pub mod PrefixLemmas
 pub mod LimitLemmas

@@ -1,7 +1,6 @@
 -- A list of fields as octets and the places of its fields among them, and what a builder of such a
 -- list represents.
-use Rattle.std.specs.Prelude.{◌≡◌, ℕ, ◌+◌, ◌-◌, ◌<◌, ◌≤◌, List, [], ◌++◌, length, map, take, drop}
-use Rattle.std.specs.Prelude.{Option, Some, None}
+use Rattle.std.specs.Prelude.{ℕ, ◌-◌, ◌≤◌, List, length, map, take, drop}
 use Rattle.std.specs.List.{AllByRecursion}
 use Rattle.hpack.specs.declared.types.field.Field.{Field}
 use Rattle.hpack.specs.declared.types.field_place.FieldPlace.{FieldPlace}

@@ -3,6 +3,7 @@ pub mod Static
 pub mod Tables
 pub mod Blocks
 pub mod Lists
+pub mod FieldListBuilder
 pub mod FieldLists
 pub mod TableInvariant
 pub mod Choice

@@ -8,3 +8,4 @@ pub(crate) mod field_place;
 pub(crate) mod list_size;
 pub(crate) mod literal;
 pub(crate) mod octets;
+pub(crate) mod read_field;
