@@ -1,5 +1,5 @@
 -- Lists of fields by their places.
-use Rattle.std.proofs.Common.{◌≡◌, ℕ, zero, suc, ◌+◌, ◌-◌, ◌<◌, ◌≤◌, List, [], ◌∷◌, ◌++◌, length}
+use Rattle.std.proofs.Common.{Bool, ◌≡◌, ℕ, zero, suc, ◌+◌, ◌-◌, ◌<◌, ◌≤◌, List, [], ◌∷◌, ◌++◌, length}
 use Rattle.std.proofs.Common.{take, drop, get_or, Some, refl, sym, ap, ap₂, ◌∙◌}
 use Rattle.std.proofs.Common.{arith, append_assoc, length-append, length-drop}
 use Rattle.std.proofs.lemmas.List.{take-append-le, drop-append-le}
@@ -9,6 +9,8 @@ use Rattle.std.specs.List.{slice_get}
 use Rattle.std.specs.Option.{option_map}
 use Rattle.hpack.specs.declared.types.field.Field.{Field}
 use Rattle.hpack.specs.declared.types.field_place.FieldPlace.{FieldPlace}
+use Rattle.hpack.specs.declared.types.read_field.ReadField.{ReadField}
+use Rattle.hpack.specs.FieldListBuilder.{AppendsField}
 use Rattle.hpack.specs.FieldLists.{AreWithin, IsWithin, field_of, fields_of, octets_between}
 
 -- as many fields as places
@@ -124,3 +126,25 @@ are_between before octets name value start name_len end joined starts named ends
       name_there = rw (joined, starts, named) (name_between before name value);
       value_there = rw (at_end, joined, starts, named) (value_between before name value);
     }
+
+-- A field whose octets are alone in a vector is its first octets and the others.
+pub read_alone : (old new : List ℕ) (field : Field) (read : ReadField)
+    → AppendsField old new field read → old ≡ []
+    → ◌≡◌ {A = Field} (record {
+      name = take read.name_len new;
+      value = drop read.name_len new;
+      sensitive = read.sensitive;
+    }) field
+read_alone old new field read appended empty =
+    let alone : new ≡ field.name ++ field.value =
+    appended.joined ∙ ap (λ (xs : List ℕ). xs ++ (field.name ++ field.value)) empty in
+    let name = ap₂ (λ (n : ℕ) (xs : List ℕ). take n xs) appended.named alone
+    ∙ take-append_seam field.name field.value in
+    let value = ap₂ (λ (n : ℕ) (xs : List ℕ). drop n xs) appended.named alone
+    ∙ drop-append_seam field.name field.value in
+    ap₂ (λ (n v : List ℕ). record { name = n; value = v; sensitive = read.sensitive }) name value
+    ∙ ap (λ (marked : Bool). record {
+      name = field.name;
+      value = field.value;
+      sensitive = marked;
+    }) appended.marked

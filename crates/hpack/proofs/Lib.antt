@@ -4,6 +4,7 @@ pub mod PendingTableLemmas
 pub mod FieldLemmas
 pub mod FieldListBuilderLemmas
 pub mod FieldListLemmas
+pub mod OwnedListLemmas
 pub mod PrefixLemmas
 pub mod LimitLemmas
 pub mod LookupLemmas

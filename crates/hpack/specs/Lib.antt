@@ -5,6 +5,7 @@ pub mod Blocks
 pub mod Lists
 pub mod FieldListBuilder
 pub mod FieldLists
+pub mod OwnedLists
 pub mod TableInvariant
 pub mod Choice
 pub mod Prefixes

@@ -1,20 +1,21 @@
 //! A complete block (RFC 7541, section 3.2; RFC 9113, section 4.3).
 
-ghost use Rattle.std.specs.Prelude.{◌≡◌, [], OnOk, OnErr, IfOk, IfErr, List as Items};
+ghost use Rattle.std.specs.Prelude.{◌≡◌, ◌≤◌, [], OnOk, OnErr, IfOk, IfErr, List as Items};
 ghost use Rattle.hpack.specs.declared.types.field.Field.{Field as OneField};
 ghost use Rattle.hpack.specs.Lists.{IsList, HoldsList, DecodeFault};
 ghost use Rattle.hpack.specs.Blocks.{Block};
 ghost use Rattle.hpack.specs.FieldListBuilder.{Builds};
+ghost use Rattle.hpack.specs.Prefixes.{BeginsUpdate, UpdatesSoFar};
 
 use crate::decode::field_list_builder::FieldListBuilder;
 use crate::decode::fields::read_fields;
+use crate::decode::owned_fields::read_owned_fields;
 use crate::decode::updates::apply_updates;
 use crate::table::dynamic_table::Table;
 use crate::types::fault::Fault;
-use crate::types::field::{Decoded, Field, List};
+use crate::types::field::{Decoded, List};
 use crate::types::field_list::FieldList;
-use crate::types::octets::Octets;
-use std::alloc::{AllocError, Global};
+use std::alloc::Global;
 use std::mem::replace;
 
 /// Decodes a complete block to a list of its own.
@@ -29,11 +30,8 @@ pub(crate) fn decode_owned(
         × Block table.old limit octets.now fields table.new × IsList list_limit fields list) }
     ensures fault { IfErr result (DecodeFault table.old limit octets.now) }
 {
-    let mut list = FieldList::new(alloc);
-    match decode_block(alloc, table, limit, octets, list_limit, &mut list)? {
-        Decoded::Whole => Ok(List::Whole(owned(alloc, &list)?)),
-        Decoded::TooLarge => Ok(List::TooLarge),
-    }
+    let unparsed = read_updates(table, limit, octets)?;
+    read_owned_fields(alloc, table, unparsed, list_limit)
 }
 
 /// Decodes a complete block into a list.
@@ -75,28 +73,22 @@ fn build_block(
         × Builds builder.old fields builder.new) }
     ensures fault { IfErr result (DecodeFault table.old limit octets.now) }
 {
+    let unparsed = read_updates(table, limit, octets)?;
+    read_fields(alloc, table, unparsed, builder)
+}
+
+/// Applies the size updates, after which the maximum is within the limit, and answers the octets
+/// of the fields.
+fn read_updates<'a>(table: &mut Table, limit: u32, octets: &'a [u8]) -> Result<&'a [u8], Fault>
+    ensures so_far { IfOk result (λ unparsed. UpdatesSoFar table.old limit octets.now table.new
+        unparsed.now) }
+    ensures no_more { IfOk result (λ unparsed. BeginsUpdate unparsed.now → ⊥) }
+    ensures within { OnOk result (table.new.maximum ≤ limit) }
+    ensures fault { IfErr result (DecodeFault table.old limit octets.now) }
+{
     let unparsed = apply_updates(table, limit, octets)?;
     if table.maximum() > limit {
         return Err(Fault::Compression);
     }
-    read_fields(alloc, table, unparsed, builder)
-}
-
-/// Copies of the fields of a list.
-fn owned(alloc: Global, list: &FieldList) -> Result<Vec<Field>, AllocError>
-    ensures { IfOk result (λ fields. fields.items ≡ list.now) }
-{
-    let count = list.len();
-    let mut fields = Vec::with_capacity(alloc, count)?;
-    for place in 0..count {
-        let Some(field) = list.get(place) else {
-            unreachable!();
-        };
-        fields.push(Field {
-            name: Octets::copy_of(alloc, field.name)?,
-            value: Octets::copy_of(alloc, field.value)?,
-            sensitive: field.sensitive,
-        })?;
-    }
-    Ok(fields)
+    Ok(unparsed)
 }

@@ -20,6 +20,24 @@ use std::alloc::{AllocError, Global};
 /// How many bits of an indexed field's index are in its first octet.
 const INDEX_PREFIX: u8 = 7;
 
+/// The name and the value of the field that the index at the start of `octets` names, lent, and how
+/// many octets encode the index.
+#[inline(always)]
+pub(crate) fn indexed<'a>(
+    table: &'a Table,
+    octets: &[u8],
+) -> Result<(&'a [u8], &'a [u8], usize), Fault>
+    ensures ok { IfOk result (λ read. (read.2 ≤ length octets.now)
+        × EncodesIndex table.now.entries (take read.2 octets.now) read.0.now read.1.now) }
+    ensures fault { IfErr result (PrefixFault (IsIndex table.now.entries) octets.now) }
+{
+    let (index, count) = int_at(INDEX_PREFIX, octets)?;
+    match entry_at(table, index) {
+        Some((name, value)) => Ok((name, value, count)),
+        None => Err(Fault::Compression),
+    }
+}
+
 /// Appends the name and the value of the field that the index at the start of `octets` names, and
 /// answers how long the name is and how many octets encode the index.
 #[inline(always)]
@@ -34,27 +52,10 @@ pub(crate) fn indexed_at(
         × EncodesIndex table.now.entries (take read.1 octets.now) name value) }
     ensures fault { IfErr result (PrefixFault (IsIndex table.now.entries) octets.now) }
 {
-    let (index, count) = int_at(INDEX_PREFIX, octets)?;
-    let Some((name, value)) = entry_at(table, index) else {
-        return Err(Fault::Compression);
-    };
+    let (name, value, count) = indexed(table, octets)?;
     out.extend_from_slice(name)?;
     out.extend_from_slice(value)?;
     Ok((name.len(), count))
-}
-
-/// Reads the index at the start of `octets`, which names a field, and answers how many octets
-/// encode it.
-pub(crate) fn index_len(table: &Table, octets: &[u8]) -> Result<usize, Fault>
-    ensures ok { IfOk result (λ count. (name value : Items ℕ) × (count ≤ length octets.now)
-        × EncodesIndex table.now.entries (take count octets.now) name value) }
-    ensures fault { IfErr result (PrefixFault (IsIndex table.now.entries) octets.now) }
-{
-    let (index, count) = int_at(INDEX_PREFIX, octets)?;
-    match entry_at(table, index) {
-        Some(_) => Ok(count),
-        None => Err(Fault::Compression),
-    }
 }
 
 /// Appends the name and the value of the literal at the start of `octets`, and answers what was

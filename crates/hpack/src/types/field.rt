@@ -1,6 +1,9 @@
 //! Fields, as they are decoded and encoded.
 
+ghost use Rattle.std.specs.Prelude.{◌≡◌, IfOk};
+
 use crate::types::octets::Octets;
+use std::alloc::{AllocError, Global};
 use std::fmt;
 
 /// A field: a name, a value, and whether it may never be put into a table (RFC 7541, section
@@ -13,6 +16,33 @@ pub struct Field {
     pub value: Octets,
     /// Whether it is to be written, or was read, as a literal that is never indexed.
     pub sensitive: bool,
+}
+
+impl Field {
+    /// A field of copies of a name and a value.
+    ///
+    /// # Errors
+    ///
+    /// [`AllocError`] where an allocation was refused.
+    #[inline(always)]
+    pub(crate) fn copy_of(
+        alloc: Global,
+        name: &[u8],
+        value: &[u8],
+        sensitive: bool,
+    ) -> Result<Field, AllocError>
+        ensures { IfOk result (λ field. field ≡ record {
+          name = name.now;
+          value = value.now;
+          sensitive = sensitive;
+        }) }
+    {
+        Ok(Field {
+            name: Octets::copy_of(alloc, name)?,
+            value: Octets::copy_of(alloc, value)?,
+            sensitive,
+        })
+    }
 }
 
 impl fmt::Debug for Field {

@@ -11,6 +11,7 @@ ghost use Rattle.hpack_text.specs.Strings.{most_text};
 
 use crate::fault::TextFault;
 use crate::huffman::huff_step;
+use std::mem::replace;
 
 /// The most ones that may pad the last octet. The state of so many ones has their number.
 const MAX_PADDING: u8 = 7;
@@ -31,7 +32,10 @@ pub fn append_text(octets: &[u8], out: &mut Vec<u8>) -> Result<(), TextFault>
         return Err(TextFault::Memory);
     }
     let start = out.len();
-    let read = read_text(octets, out);
+    // A vector of this function's own stays in registers while it is appended to.
+    let mut text = replace(out, Vec::new(*out.allocator()));
+    let read = read_text(octets, &mut text);
+    *out = text;
     if read.is_err() {
         out.truncate(start);
     }
@@ -39,6 +43,7 @@ pub fn append_text(octets: &[u8], out: &mut Vec<u8>) -> Result<(), TextFault>
 }
 
 /// Reads all of `octets` as a text. On `Err` a prefix of it was appended.
+#[inline(always)]
 fn read_text(octets: &[u8], out: &mut Vec<u8>) -> Result<(), TextFault>
     requires room { 5 * vec_len out.old + 8 * length octets.now ≤ 5 * vec_capacity out.old + 4 }
     ensures answer { MatchResult result

@@ -1,23 +1,15 @@
-use Rattle.std.proofs.Common.{arith}
 use Rattle.std.proofs.lemmas.Result.{on_ok_weaker, IfErr-weaker}
-use Rattle.hpack.proofs.BlockLemmas.{above_limit, block_read, block_fault}
+use Rattle.hpack.proofs.BlockLemmas.{block_read, block_fault}
 use Rattle.hpack.proofs.decode.block.build_block.Goals as goal
-
-pub returns-then-maximum-limit-clause-fault : goal.returns-then-maximum-limit-clause-fault
-returns-then-maximum-limit-clause-fault c =
-    above_limit c.args.table.now c.apply_updates.new.table c.args.limit c.args.octets.now
-    c.in_ok-unparsed.unparsed.now (omega (arith, c.maximum.ensures, c.if-maximum-limit.true))
-    c.in_ok-unparsed.ensures.no_more c.in_ok-unparsed.ensures.ok
 
 pub returns-clause-ok : goal.returns-clause-ok
 returns-clause-ok c =
     on_ok_weaker c.read_fields.result
     (λ h. (
       h.0,
-      block_read c.args.table.now c.apply_updates.new.table c.read_fields.new.table
+      block_read c.args.table.now c.read_updates.new.table c.read_fields.new.table
           c.args.limit c.args.octets.now c.in_ok-unparsed.unparsed.now h.0
-          (omega (arith, c.maximum.ensures, c.if-maximum-limit.false)) c.in_ok-unparsed.ensures.ok
-          h.1,
+          c.in_ok-unparsed.ensures.within c.in_ok-unparsed.ensures.so_far h.1,
       h.2,
     ))
     c.read_fields.ensures.ok
@@ -25,7 +17,7 @@ returns-clause-ok c =
 pub returns-clause-fault : goal.returns-clause-fault
 returns-clause-fault c =
     IfErr-weaker c.read_fields.result _ _
-    (λ fault. block_fault c.args.table.now c.apply_updates.new.table c.args.limit c.args.octets.now
+    (λ fault. block_fault c.args.table.now c.read_updates.new.table c.args.limit c.args.octets.now
     c.in_ok-unparsed.unparsed.now fault c.in_ok-unparsed.ensures.no_more
-    c.in_ok-unparsed.ensures.ok)
+    c.in_ok-unparsed.ensures.so_far)
     c.read_fields.ensures.fault
