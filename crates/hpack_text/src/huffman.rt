@@ -87,12 +87,12 @@ pub fn huff_step(state: u8, half: u8) -> Option<(u8, Option<u8>)>
         × (BeginsWithEnd (stepped state half) → ⊥)) }
 {
     let step = step_at(state, half);
-    if step >= END {
-        return None;
-    }
     let next = next_state(step);
     if step < HAS_SYMBOL {
         return Some((next, None));
+    }
+    if step >= END {
+        return None;
     }
     Some((next, Some(symbol_of(step))))
 }

@@ -1,6 +1,6 @@
 //! The decoder of field blocks (RFC 7541, sections 3.2 and 6).
 
-ghost use Rattle.std.specs.Prelude.{◌≡◌, true, false, [], IfOk, IfErr, OnErr, List as Items};
+ghost use Rattle.std.specs.Prelude.{◌≡◌, true, false, [], IfOk, OnOk, IfErr, OnErr, List as Items};
 ghost use Rattle.hpack.specs.declared.types.field.Field.{Field as OneField};
 ghost use Rattle.hpack.specs.Tables.{Entries};
 ghost use Rattle.hpack.specs.Blocks.{Block};
@@ -98,12 +98,10 @@ impl Decoder {
             (DecodeFault self.old.table self.old.limit octets.now) }
         ensures broken { OnErr result (self.new.failed ≡ true) }
     {
-        if self.failed {
-            return Err(Fault::Failed);
-        }
-        let decoded = decode_owned(self.alloc, &mut self.table, self.limit, octets, list_limit);
-        self.failed = decoded.is_err();
-        decoded
+        self.check()?;
+        let list = decode_owned(self.alloc, &mut self.table, self.limit, octets, list_limit);
+        self.failed = list.is_err();
+        list
     }
 
     /// Decodes a complete block as [`Decoder::decode`] does, into a list that the caller keeps. The
@@ -136,9 +134,7 @@ impl Decoder {
         ensures emptied { OnErr result (list.new ≡ []) }
     {
         list.clear();
-        if self.failed {
-            return Err(Fault::Failed);
-        }
+        self.check()?;
         let decoded = decode_block(
             self.alloc,
             &mut self.table,
@@ -149,5 +145,16 @@ impl Decoder {
         );
         self.failed = decoded.is_err();
         decoded
+    }
+
+    /// Answers [`Fault::Failed`] where an earlier block failed.
+    fn check(&self) -> Result<(), Fault>
+        ensures ok { OnOk result (self.now.failed ≡ false) }
+        ensures err { IfErr result (λ fault. (fault ≡ Fault.Failed) × (self.now.failed ≡ true)) }
+    {
+        if self.failed {
+            return Err(Fault::Failed);
+        }
+        Ok(())
     }
 }

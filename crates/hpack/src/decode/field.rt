@@ -14,6 +14,9 @@ use crate::types::literal::Literal;
 use crate::types::read_field::ReadField;
 use std::alloc::Global;
 
+/// The room for a literal whose field is copied: as many octets as most have.
+const LITERAL_ROOM: usize = 500;
+
 /// Appends the name and the value of the field at the start of `octets`, and answers what was read.
 #[inline(always)]
 pub(crate) fn field_at(
@@ -63,6 +66,7 @@ pub(crate) fn owned_at(
         return Ok((Field::copy_of(alloc, name, value, false)?, count));
     }
     literal.clear();
+    literal.reserve(LITERAL_ROOM)?;
     let read = field_at(alloc, table, octets, literal)?;
     let (name, value) = literal.split_at(read.name_len);
     let field = Field::copy_of(alloc, name, value, read.sensitive)?;

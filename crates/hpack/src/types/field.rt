@@ -71,7 +71,11 @@ pub struct FieldRef<'a> {
 impl fmt::Debug for FieldRef<'_> {
     fn fmt<W: fmt::Write>(&self, f: &mut fmt::Formatter<W>) -> fmt::Result {
         if self.sensitive {
-            return write!(f, "FieldRef {{ name: {:?}, value: [sensitive] }}", self.name);
+            return write!(
+                f,
+                "FieldRef {{ name: {:?}, value: [sensitive] }}",
+                self.name
+            );
         }
         f.debug_struct("FieldRef")
             .field("name", &self.name)

@@ -43,8 +43,8 @@ returns-clause-ok c =
     let same =
     (rw (c.split_at.ensures.front, c.split_at.ensures.back, c.deref.ensures.value) at
     c.in_ok-field.ensures)
-    ∙ read_alone c.clear.new.self.items c.field_at.new.out.items read.0 c.in_ok-read.read read.1
-    c.clear.ensures.items in (
+    ∙ read_alone c.reserve.new.self.items c.field_at.new.out.items read.0 c.in_ok-read.read read.1
+    (c.reserve.ensures.items ∙ c.clear.ensures.items) in (
       read.2,
       subst (λ (f : Field). Step c.args.table.now (take count octets) f c.field_at.new.table)
           (sym same) read.3,
