@@ -1,8 +1,9 @@
 //! HPACK (RFC 7541): the dynamic table, the decoder and the encoder of field blocks.
 //!
 //! [`Decoder::decode`] answers the list and the table of a block exactly where the octets are one,
-//! unless memory runs out. [`Encoder::encode`] appends a block of the list, in the one encoding
-//! that `docs/PROTOCOL.md` states.
+//! unless memory runs out; [`Decoder::decode_into`] does so into a list that the caller keeps, and
+//! uses its room again. [`Encoder::encode`] appends a block of the list, in the one encoding that
+//! `docs/PROTOCOL.md` states.
 #![tactic(auto)]
 
 mod decode;
