@@ -71,7 +71,8 @@ pub record IsSize (field : Field) (size : ℕ) : Type 0 where
 above_limit_by : (has_remaining : Option ℕ) (old new : FieldListBuilder) (field : Field) (size : ℕ)
     → IsSize field size → unwrap_or has_remaining 0 < size → old.remaining ≡ has_remaining
     → new.places.items ≡ [] → new.remaining ≡ None → Adds old field new
-above_limit_by None old new field size is_size above remains places remaining list_limit fields has =
+above_limit_by None old new field size is_size above remains places remaining list_limit fields
+    has =
     let (empty, over) = has.too_large remains in
     represents_too_large new list_limit (fields ++ field ∷ []) places remaining
     (omega (arith, over, list_size-more fields field))
@@ -104,7 +105,8 @@ pub read_above_limit : (builder new : FieldListBuilder) (read : ReadField) (star
     (length builder.octets.items)) + 32) (2 ^ 64 - 1)
     → unwrap_or builder.remaining 0 < size → new.places.items ≡ [] → new.remaining ≡ None
     → AddsRead builder start read new
-read_above_limit builder new read start size computed above places remaining old field reads starts =
+read_above_limit builder new read start size computed above places remaining old field reads
+    starts =
     above_limit_by builder.remaining old new field size
     (size_read old builder field read start size reads starts computed) above (sym reads.2) places
     remaining

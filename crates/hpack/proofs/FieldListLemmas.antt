@@ -1,5 +1,6 @@
 -- Lists of fields by their places.
-use Rattle.std.proofs.Common.{Bool, ◌≡◌, ℕ, zero, suc, ◌+◌, ◌-◌, ◌<◌, ◌≤◌, List, [], ◌∷◌, ◌++◌, length}
+use Rattle.std.proofs.Common.{Bool, ◌≡◌, ℕ, zero, suc, ◌+◌, ◌-◌, ◌<◌, ◌≤◌, List, [], ◌∷◌}
+use Rattle.std.proofs.Common.{◌++◌, length}
 use Rattle.std.proofs.Common.{take, drop, get_or, Some, refl, sym, ap, ap₂, ◌∙◌}
 use Rattle.std.proofs.Common.{arith, append_assoc, length-append, length-drop}
 use Rattle.std.proofs.lemmas.List.{take-append-le, drop-append-le}
@@ -102,7 +103,8 @@ value_between : (before name value : List ℕ)
 value_between before name value =
     let front : length (before ++ name) ≡ length before + length name = length-append before name in
     let whole : length (before ++ (name ++ value)) ≡ length before + (length name + length value) =
-    length-append before (name ++ value) ∙ ap (λ (n : ℕ). length before + n) (length-append name value)
+    length-append before (name ++ value)
+    ∙ ap (λ (n : ℕ). length before + n) (length-append name value)
     in
     let count : length (before ++ (name ++ value)) - (length before + length name) ≡ length value =
     omega (arith, whole) in

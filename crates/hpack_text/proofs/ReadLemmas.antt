@@ -132,8 +132,8 @@ pub read_second_half : (result : Option ℕ) (old mid new : List ℕ) (state bet
     (Reads old new state (bits_of 8 octet))
 read_second_half None old mid new state between octet first second =
     subst (ReadsEnd old new state) (sym (octet_halves octet))
-    (reads_then_end old mid new state between (bits_of 4 (octet / 16)) (bits_of 4 (octet % 16)) first
-    second)
+    (reads_then_end old mid new state between (bits_of 4 (octet / 16)) (bits_of 4 (octet % 16))
+    first second)
 read_second_half (Some next) old mid new state between octet first second =
     subst (λ xs. Reads old new state xs next) (sym (octet_halves octet))
     (reads_both old mid new state between next (bits_of 4 (octet / 16)) (bits_of 4 (octet % 16))
@@ -209,7 +209,8 @@ octet_fault old mid new octets state i lt a b =
     (reads_then_end old mid new 0 state (bits (take i octets)) next a b) in
     end_symbol_fault octets ends.added ends.more ends.octets
     (bits-split octets i lt
-    ∙ (ap (λ (xs : List Bool). xs ++ ((bits (take i octets) ++ next) ++ following)) (sym first_state)
+    ∙ (ap (λ (xs : List Bool). xs ++ ((bits (take i octets) ++ next) ++ following))
+    (sym first_state)
     ∙ ends.encoded))
 
 -- Each number of a slice of octets is an octet.

@@ -122,8 +122,8 @@ abbrev pub LeadingStr : List ℕ → List ℕ → ℕ → Type 0
 LeadingStr octets text count = (count ≤ length octets) × Str text (take count octets)
 
 -- Where a string is at the start, no fault but running out of memory is one of the octets.
-pub only_memory : (octets text : List ℕ) (count : ℕ) (fault : TextFault) → Str text (take count octets)
-    → StrFault octets fault → fault ≡ faults.Memory
+pub only_memory : (octets text : List ℕ) (count : ℕ) (fault : TextFault)
+    → Str text (take count octets) → StrFault octets fault → fault ≡ faults.Memory
 only_memory octets text count faults.Truncated encoded (inl cut) =
     let begins =
     begins_with_str text (take count octets) (drop count octets) octets encoded

@@ -33,6 +33,6 @@ returns-clause-ok c =
       reads_all c.args.table.now c.loop-unparsed.table c.args.octets.now
           c.loop-unparsed.unparsed.now done (none_left _ c.loop-unparsed-test.ensures)
           c.loop-unparsed.invariant.1,
-      has_owned_list c.args.list_limit done c.loop-unparsed.builder.list c.loop-unparsed.builder.remaining
-          c.loop-unparsed.invariant.2,
+      has_owned_list c.args.list_limit done c.loop-unparsed.builder.list
+          c.loop-unparsed.builder.remaining c.loop-unparsed.invariant.2,
     )
