@@ -1,22 +1,19 @@
 -- Blocks: the fields, the updates before them, and that octets are one block at most.
-use Rattle.std.proofs.Common.{◌≡◌, ℕ, ◌+◌, ◌<◌, ◌≤◌, ◌==◌, true, false, List, [], ◌∷◌, ◌++◌, length}
+use Rattle.std.proofs.Common.{◌≡◌, ℕ, ◌<◌, ◌≤◌, ◌==◌, true, false, List, [], ◌∷◌, ◌++◌, length}
 use Rattle.std.proofs.Common.{take, refl, sym, ap, ◌∙◌, subst, arith, eq-eqb, append_assoc}
 use Rattle.std.proofs.Common.{append-nil, length-append}
 use Rattle.std.proofs.lemmas.Bool.{false≢true}
-use Rattle.std.proofs.lemmas.List.Sums.{sum_by-append}
 use Rattle.std.proofs.lemmas.Bool.Decides.{nat_tests}
 use Rattle.hpack_text.specs.Integers.{Int}
 use Rattle.hpack_text.proofs.IntegerLemmas.{Int-unique}
 use Rattle.hpack.specs.declared.types.field.Field.{Field}
-use Rattle.hpack.specs.declared.types.field.List.{List as FieldList}
-use Rattle.hpack.specs.declared.types.field.List.TheVariants.{Whole, TooLarge}
 use Rattle.hpack.specs.declared.types.fault.Fault.{Fault}
 use Rattle.hpack.specs.declared.types.fault.Fault.TheVariants as faults
 use Rattle.hpack.specs.Tables.{Entries, resized}
 use Rattle.hpack.specs.Blocks.{FirstOctet, Update, Step, Fields, Updates, Block}
-use Rattle.hpack.specs.Lists.{NoBlock, DecodeFault, IsList, list_size}
+use Rattle.hpack.specs.Lists.{NoBlock, DecodeFault}
 use Rattle.hpack.specs.Prefixes.{NoPrefix, PrefixFault, IsInt, IsStep, FieldsFault, BeginsUpdate}
-use Rattle.hpack.specs.Prefixes.{UpdatesSoFar, RepresentsFields, AddsField}
+use Rattle.hpack.specs.Prefixes.{UpdatesSoFar}
 use Rattle.hpack.proofs.PrefixLemmas.{octets_after, split_at_count, same_following}
 use Rattle.hpack.proofs.StepLemmas.{prefix_first_octet, int_first, int_long, no_update_step}
 use Rattle.hpack.proofs.StepLemmas.{step_long, step_unique}
@@ -410,22 +407,6 @@ none_left n e = grind (arith, nat_tests)
 -- Some octet is left.
 pub some_left : (n : ℕ) → false ≡ (n == 0) → n ≡ 0 → ⊥
 some_left n e zero_left = false≢true (e ∙ eq-eqb n 0 zero_left)
-
--- the list that a builder answers
-pub has_list : (list_limit : ℕ) (fields : List Field) (list : FieldList) (remaining : ℕ)
-    → RepresentsFields list_limit fields list remaining → IsList list_limit fields list
-has_list list_limit fields (Whole items) remaining h = (h.0, omega (arith, h.1))
-has_list list_limit fields TooLarge remaining h = h
-
--- a list above the limit is above it with one field more
-pub too_large_stays : (list : FieldList) (remaining : ℕ) (field : Field) → list ≡ TooLarge
-    → AddsField list remaining field list remaining
-too_large_stays list remaining field large list_limit fields has =
-    let more = sum_by-append (λ (one : Field). length one.name + length one.value + 32) fields
-    (field ∷ []) in
-    let above : list_limit < list_size fields = rw large at has in
-    let result : list_limit < list_size (fields ++ field ∷ []) = omega (arith, more, above) in
-    rw large result
 
 -- Only running out of memory is a fault of a block.
 pub fault_of_block : (table after : Entries) (limit : ℕ) (octets : List ℕ) (fields : List Field)

@@ -2,6 +2,9 @@ pub mod BlockLemmas
 pub mod ChoiceLemmas
 pub mod PendingTableLemmas
 pub mod FieldLemmas
+pub mod FieldListBuilderLemmas
+pub mod FieldListLemmas
+pub mod OwnedListLemmas
 pub mod PrefixLemmas
 pub mod LimitLemmas
 pub mod LookupLemmas

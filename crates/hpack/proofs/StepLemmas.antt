@@ -30,6 +30,11 @@ prefix_first_octet low high octets (x ∷ prefix) others e h =
     let same : first_of octets ≡ x = ap first_of e in
     (omega (arith, h.0), omega (arith, h.1))
 
+-- The first octet of octets that begin with an index.
+pub index_first : (octets : List ℕ) → FirstOctet 0x80 0x100 octets
+    → (0x80 ≤ first_of octets) × (first_of octets < 0x100)
+index_first octets h = prefix_first_octet 0x80 0x100 octets octets [] (sym (append-nil octets)) h
+
 -- An integer that is a prefix begins with the first octet.
 pub int_first : (low high prefix_bits value : ℕ) (octets prefix others : List ℕ)
     → octets ≡ prefix ++ others → Int prefix_bits value prefix → low ≤ first_of octets

@@ -3,6 +3,9 @@ pub mod Static
 pub mod Tables
 pub mod Blocks
 pub mod Lists
+pub mod FieldListBuilder
+pub mod FieldLists
+pub mod OwnedLists
 pub mod TableInvariant
 pub mod Choice
 pub mod Prefixes

@@ -3,6 +3,8 @@ use Rattle.std.specs.Prelude.{◌≡◌, ◌<◌, ◌≤◌, ℕ, ◌+◌, Bool,
 use Rattle.hpack.specs.declared.types.field.Field.{Field}
 use Rattle.hpack.specs.declared.types.field.List.{List as FieldList}
 use Rattle.hpack.specs.declared.types.field.List.TheVariants.{Whole, TooLarge}
+use Rattle.hpack.specs.declared.types.field.Decoded.{Decoded}
+use Rattle.hpack.specs.declared.types.field.Decoded.TheVariants as decoded
 use Rattle.hpack.specs.declared.types.fault.Fault.{Fault}
 use Rattle.hpack.specs.declared.types.fault.Fault.TheVariants as faults
 use Rattle.hpack.specs.Tables.{Entries}
@@ -16,6 +18,13 @@ list_size fields = sum_by (λ field. length field.name + length field.value + 32
 abbrev pub IsList : ℕ → List Field → FieldList → Type 0
 IsList list_limit fields (Whole items) = (items.items ≡ fields) × (list_size fields ≤ list_limit)
 IsList list_limit fields TooLarge = list_limit < list_size fields
+
+-- what a list that the caller keeps holds
+abbrev pub HoldsList : ℕ → List Field → Decoded → List Field → Type 0
+HoldsList list_limit fields decoded.Whole list =
+    (list ≡ fields) × (list_size fields ≤ list_limit)
+HoldsList list_limit fields decoded.TooLarge list =
+    (list ≡ []) × (list_limit < list_size fields)
 
 -- a decoder between blocks
 pub record DecoderState : Type 0 where
@@ -50,6 +59,15 @@ pub record Decodes (old : DecoderState) (octets : List ℕ) (list_limit : ℕ) (
   pub after : Entries
   pub block : Block old.table old.limit octets fields after
   pub handed : IsList list_limit fields list
+  pub state : new ≡ record { table = after; limit = old.limit; failed = false }
+
+-- A block was decoded into a list that the caller keeps.
+pub record DecodesInto (old : DecoderState) (octets : List ℕ) (list_limit : ℕ) (decoded : Decoded)
+    (list : List Field) (new : DecoderState) : Type 0 where
+  pub fields : List Field
+  pub after : Entries
+  pub block : Block old.table old.limit octets fields after
+  pub holds : HoldsList list_limit fields decoded list
   pub state : new ≡ record { table = after; limit = old.limit; failed = false }
 
 -- a decoder or an encoder that was made with a maximum

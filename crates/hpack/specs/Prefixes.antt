@@ -1,14 +1,12 @@
 -- Prefixes of octets that encode something, what a fault of reading one says, and what was read of
 -- a block so far.
-use Rattle.std.specs.Prelude.{◌≡◌, ℕ, ◌+◌, ◌≤◌, ◌<◌, List, ◌++◌, Some, [], ◌∷◌}
+use Rattle.std.specs.Prelude.{◌≡◌, ℕ, ◌≤◌, ◌<◌, List, ◌++◌, Some}
 use Rattle.hpack_text.specs.declared.fault.TextFault.{TextFault}
 use Rattle.hpack_text.specs.declared.fault.TextFault.TheVariants as text_faults
 use Rattle.hpack_text.specs.Integers.{Int}
 use Rattle.hpack_text.specs.Strings.{Str}
 use Rattle.hpack.specs.declared.types.entry.Entry.{Entry}
 use Rattle.hpack.specs.declared.types.field.Field.{Field}
-use Rattle.hpack.specs.declared.types.field.List.{List as FieldList}
-use Rattle.hpack.specs.declared.types.field.List.TheVariants.{Whole, TooLarge}
 use Rattle.hpack.specs.declared.types.fault.Fault.{Fault}
 use Rattle.hpack.specs.declared.types.fault.Fault.TheVariants as faults
 use Rattle.hpack.specs.declared.types.literal.Literal.{Literal}
@@ -17,7 +15,6 @@ use Rattle.hpack.specs.declared.types.literal.Literal.TheVariants.{NeverIndexed}
 use Rattle.hpack.specs.Static.{entry}
 use Rattle.hpack.specs.Tables.{Entries}
 use Rattle.hpack.specs.Blocks.{FirstOctet, LiteralName, Step, Fields, Block}
-use Rattle.hpack.specs.Lists.{list_size}
 
 -- No prefix of the octets is such an encoding.
 abbrev pub NoPrefix : (List ℕ → Type 0) → List ℕ → Type 0
@@ -102,18 +99,6 @@ abbrev pub FieldsFault : Entries → List ℕ → Fault → Type 0
 FieldsFault table octets faults.Compression = NoFields table octets
 FieldsFault table octets faults.Memory = Unit {0}
 FieldsFault table octets faults.Failed = ⊥
-
--- The list has the fields, and so much remains of the limit; or their size is above it.
-abbrev pub RepresentsFields : ℕ → List Field → FieldList → ℕ → Type 0
-RepresentsFields list_limit fields (Whole items) remaining = (items.items ≡ fields)
-    × (list_size fields + remaining ≡ list_limit)
-RepresentsFields list_limit fields TooLarge remaining = list_limit < list_size fields
-
--- Whatever fields the list represented for whatever limit, it represents those and one more.
-abbrev pub AddsField : FieldList → ℕ → Field → FieldList → ℕ → Type 0
-AddsField list remaining field new_list new_remaining =
-    (list_limit : ℕ) (fields : List Field) → RepresentsFields list_limit fields list remaining
-    → RepresentsFields list_limit (fields ++ field ∷ []) new_list new_remaining
 
 -- The first octet is that of an update.
 abbrev pub BeginsUpdate : List ℕ → Type 0

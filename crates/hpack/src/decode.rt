@@ -6,5 +6,7 @@ pub(crate) mod field;
 pub(crate) mod field_list_builder;
 pub(crate) mod fields;
 pub(crate) mod literal;
+pub(crate) mod owned_fields;
+pub(crate) mod owned_list_builder;
 pub(crate) mod texts;
 pub(crate) mod updates;

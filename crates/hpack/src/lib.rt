@@ -1,8 +1,9 @@
 //! HPACK (RFC 7541): the dynamic table, the decoder and the encoder of field blocks.
 //!
 //! [`Decoder::decode`] answers the list and the table of a block exactly where the octets are one,
-//! unless memory runs out. [`Encoder::encode`] appends a block of the list, in the one encoding
-//! that `docs/PROTOCOL.md` states.
+//! unless memory runs out; [`Decoder::decode_into`] does so into a list that the caller keeps, and
+//! uses its room again. [`Encoder::encode`] appends a block of the list, in the one encoding that
+//! `docs/PROTOCOL.md` states.
 #![tactic(auto)]
 
 mod decode;
@@ -19,6 +20,7 @@ pub use laws::blocks::{longest_prefix, no_update_after_a_field, one_block};
 pub use laws::encoder::{least_and_last, written_block};
 pub use table::dynamic_table::Table;
 pub use types::fault::Fault;
-pub use types::field::{Field, List};
+pub use types::field::{Decoded, Field, FieldRef, List};
+pub use types::field_list::FieldList;
 pub use types::list_size::list_size;
 pub use types::octets::Octets;

@@ -2,6 +2,7 @@
 
 mod decoder;
 mod encoder;
+mod field_list;
 mod fields;
 mod in_step;
 mod lists;

@@ -3,6 +3,9 @@
 pub(crate) mod entry;
 pub(crate) mod fault;
 pub(crate) mod field;
+pub(crate) mod field_list;
+pub(crate) mod field_place;
 pub(crate) mod list_size;
 pub(crate) mod literal;
 pub(crate) mod octets;
+pub(crate) mod read_field;

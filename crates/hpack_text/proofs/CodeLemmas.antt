@@ -1,7 +1,7 @@
 -- Texts and their codes: which text octets encode, what stands after the longest text, and which
 -- octets are written.
 use Rattle.std.proofs.Common.{◌≡◌, ℕ, ◌+◌, ◌-◌, ◌*◌, ◌<◌, ◌≤◌, Bool, true, List, [], ◌∷◌, ◌++◌}
-use Rattle.std.proofs.Common.{length, replicate, Option, Some, None, Result, Ok, Err, MatchResult}
+use Rattle.std.proofs.Common.{length, replicate, Option, Some, None}
 use Rattle.std.proofs.Common.{refl, sym, ap, ap₂, ◌∙◌, arith, append_assoc, append-nil}
 use Rattle.std.proofs.Common.{length-append}
 use Rattle.std.proofs.lemmas.List.{length-replicate, replicate-append-replicate, nil_from_length}
@@ -164,17 +164,14 @@ one_coding_fault_lem octets e p =
     let none : tail ≡ [] = nil_from_length tail (omega arith) in
     p.no_end e.more (after ∙ ap (λ (xs : List ℕ). codes xs ++ (code 256 ++ e.more)) none)
 
--- Where the octets encode a text, a right answer is that text, unless memory ran out.
-pub only_huff : {A : Type 0} (items : A → List ℕ) (octets text : List ℕ)
-    (result : Result A TextFault)
-    → MatchResult result (λ read. Huff (items read) octets) (HuffFault octets) → Huff text octets
-    → MatchResult result (λ read. items read ≡ text) (λ fault. fault ≡ faults.Memory)
-only_huff items octets text (Ok read) h encoded = one_text_lem (items read) text octets h encoded
-only_huff items octets text (Err faults.Memory) h encoded = refl
-only_huff items octets text (Err faults.EndSymbol) h encoded = absurd (h.none text encoded)
-only_huff items octets text (Err faults.BadPadding) h encoded = absurd (h.none text encoded)
-only_huff items octets text (Err faults.Truncated) h encoded = absurd h
-only_huff items octets text (Err faults.TooLong) h encoded = absurd h
+-- Where octets encode a text, no fault but running out of memory is one of theirs.
+pub only_huff_memory : (octets text : List ℕ) (fault : TextFault) → Huff text octets
+    → HuffFault octets fault → fault ≡ faults.Memory
+only_huff_memory octets text faults.Memory encoded h = refl
+only_huff_memory octets text faults.EndSymbol encoded h = absurd (h.none text encoded)
+only_huff_memory octets text faults.BadPadding encoded h = absurd (h.none text encoded)
+only_huff_memory octets text faults.Truncated encoded h = absurd h
+only_huff_memory octets text faults.TooLong encoded h = absurd h
 
 -- the bits of a text's codes, and the ones that pad the last octet
 abbrev pub padded : List ℕ → List Bool

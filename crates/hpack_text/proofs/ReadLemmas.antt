@@ -1,6 +1,6 @@
 -- Reading half octets as a text: what was read so far, and what EOS means for all octets.
 use Rattle.std.proofs.Common.{◌≡◌, ℕ, suc, ◌+◌, ◌*◌, ◌/◌, ◌%◌, ◌<◌, ◌≤◌, Fits, w8, Bool, List, []}
-use Rattle.std.proofs.Common.{◌∷◌, ◌++◌, length, get_or, take, drop, refl, sym, ap, ◌∙◌, subst}
+use Rattle.std.proofs.Common.{◌∷◌, ◌++◌, length, get_or, take, drop, sym, ap, ◌∙◌, subst}
 use Rattle.std.proofs.Common.{Option, Some, None, MatchOption, arith, append_assoc, append-nil}
 use Rattle.std.proofs.Common.{length-append}
 use Rattle.std.proofs.lemmas.Grind.{flat_map-append}
@@ -8,60 +8,56 @@ use Rattle.std.proofs.lemmas.List.{take_more, take-append-drop}
 use Rattle.std.specs.List.{AllByRecursion}
 use Rattle.hpack_text.specs.Bits.{IsOctet, bits_of, bits}
 use Rattle.hpack_text.specs.Huffman.{code, codes, HasEndSymbol}
-use Rattle.hpack_text.specs.States.{prefix_of, stepped, BeginsWithEnd, bits_read, HasEnd}
+use Rattle.hpack_text.specs.States.{prefix_of, stepped, BeginsWithEnd, Reads, ReadsEnd}
 use Rattle.hpack_text.proofs.BitLemmas.{length-bits_of, bits_of-split}
 use Rattle.hpack_text.proofs.CodeLemmas.{end_symbol_fault}
-use Rattle.hpack_text.proofs.StateLemmas.{five_bits}
+use Rattle.hpack_text.proofs.StateLemmas.{first_state, five_bits}
 use Rattle.hpack_text.proofs.WriteLemmas.{all_octets-append}
 
 -- what is read where no code ends
-pub read_within : (text : List ℕ) (state half next : ℕ) → stepped state half ≡ prefix_of next
-    → bits_read text next ≡ bits_read text state ++ bits_of 4 half
-read_within text state half next e =
-    ap (λ (xs : List Bool). codes text ++ xs) (sym e)
-    ∙ sym (append_assoc (codes text) (prefix_of state) (bits_of 4 half))
+pub reads_within : (old : List ℕ) (state half next : ℕ) → stepped state half ≡ prefix_of next
+    → Reads old old state (bits_of 4 half) next
+reads_within old state half next e = record {
+  added = [];
+  joined = sym (append-nil old);
+  octets = tt;
+  encoded = sym e;
+}
 
 -- what is read where the code of an octet ends
-pub read_symbol : (text : List ℕ) (state half symbol next : ℕ)
-    → stepped state half ≡ code symbol ++ prefix_of next
-    → bits_read (text ++ symbol ∷ []) next ≡ bits_read text state ++ bits_of 4 half
-read_symbol text state half symbol next e =
-    let pushed : codes (text ++ symbol ∷ []) ≡ codes text ++ code symbol =
-    flat_map-append code text (symbol ∷ [])
-    ∙ ap (λ (xs : List Bool). codes text ++ xs) (append-nil (code symbol)) in
-    ap (λ (xs : List Bool). xs ++ prefix_of next) pushed
-    ∙ (append_assoc (codes text) (code symbol) (prefix_of next)
-    ∙ (ap (λ (xs : List Bool). codes text ++ xs) (sym e)
-    ∙ sym (append_assoc (codes text) (prefix_of state) (bits_of 4 half))))
+pub reads_symbol : (old new : List ℕ) (state half symbol next : ℕ) → new ≡ old ++ symbol ∷ []
+    → symbol < 256 → stepped state half ≡ code symbol ++ prefix_of next
+    → Reads old new state (bits_of 4 half) next
+reads_symbol old new state half symbol next pushed small e = record {
+  added = symbol ∷ [];
+  joined = pushed;
+  octets = (small, tt);
+  encoded = ap (λ (xs : List Bool). xs ++ prefix_of next) (append-nil (code symbol)) ∙ sym e;
+}
 
 -- what is read where the code of EOS ends
-pub read_end : (text : List ℕ) (state half : ℕ) → BeginsWithEnd (stepped state half)
-    → HasEnd text (bits_read text state ++ bits_of 4 half)
-read_end text state half ends = (
-  ends.0,
-  append_assoc (codes text) (prefix_of state) (bits_of 4 half)
-      ∙ ap (λ (xs : List Bool). codes text ++ xs) ends.1,
-)
+pub reads_end : (old : List ℕ) (state half : ℕ) → BeginsWithEnd (stepped state half)
+    → ReadsEnd old old state (bits_of 4 half)
+reads_end old state half ends = record {
+  added = [];
+  joined = sym (append-nil old);
+  octets = tt;
+  more = ends.0;
+  encoded = ends.1;
+}
 
--- Where there is room for the codes read before, there is room for one octet more.
-pub room_for_symbol : (text : List ℕ) (state half symbol next capacity : ℕ)
-    → AllByRecursion IsOctet text → symbol < 256
+-- Where there is room for the bits read before, there is room for one octet more.
+pub room_for_symbol : (len state half symbol next capacity : ℕ) → symbol < 256
     → stepped state half ≡ code symbol ++ prefix_of next
-    → length (bits_read text state) ≤ 5 * capacity → length text < capacity
-room_for_symbol text state half symbol next capacity all small e room =
-    let longer = text ++ symbol ∷ [] in
-    let five = five_bits longer (all_octets-append text (symbol ∷ []) all (small, tt)) in
-    let counted : length longer ≡ length text + 1 = length-append text (symbol ∷ []) in
-    let bits_counted :
-    length (bits_read longer next) ≡ length (bits_read text state ++ bits_of 4 half) =
-    ap (λ (xs : List Bool). length xs) (read_symbol text state half symbol next e) in
+    → 5 * len + length (prefix_of state) ≤ 5 * capacity → len < capacity
+room_for_symbol len state half symbol next capacity small e room =
     omega (
       arith,
-      five,
-      counted,
-      bits_counted,
-      length-append (codes longer) (prefix_of next),
-      length-append (bits_read text state) (bits_of 4 half),
+      five_bits (symbol ∷ []) (small, tt),
+      ap (λ (xs : List Bool). length xs) (append-nil (code symbol)),
+      ap (λ (xs : List Bool). length xs) e,
+      length-append (code symbol) (prefix_of next),
+      length-append (prefix_of state) (bits_of 4 half),
       length-bits_of 4 half,
     )
 
@@ -69,54 +65,95 @@ room_for_symbol text state half symbol next capacity all small e room =
 pub octet_halves : (octet : ℕ) → bits_of 8 octet ≡ bits_of 4 (octet / 16) ++ bits_of 4 (octet % 16)
 octet_halves octet = bits_of-split 4 4 octet
 
--- what is read of both halves is read of the octet
-pub read_halves : (before between after : List Bool) (octet : ℕ)
-    → between ≡ before ++ bits_of 4 (octet / 16) → after ≡ between ++ bits_of 4 (octet % 16)
-    → after ≡ before ++ bits_of 8 octet
-read_halves before between after octet first second =
-    second
-    ∙ (ap (λ (xs : List Bool). xs ++ bits_of 4 (octet % 16)) first
-    ∙ (append_assoc before (bits_of 4 (octet / 16)) (bits_of 4 (octet % 16))
-    ∙ ap (λ (xs : List Bool). before ++ xs) (sym (octet_halves octet))))
+-- What is read in two steps is read.
+pub reads_both : (old mid new : List ℕ) (state between next : ℕ) (first second : List Bool)
+    → Reads old mid state first between → Reads mid new between second next
+    → Reads old new state (first ++ second) next
+reads_both old mid new state between next first second a b = record {
+  added = a.added ++ b.added;
+  joined = b.joined
+      ∙ (ap (λ (xs : List ℕ). xs ++ b.added) a.joined ∙ append_assoc old a.added b.added);
+  octets = all_octets-append a.added b.added a.octets b.octets;
+  encoded = ap (λ (xs : List Bool). xs ++ prefix_of next) (flat_map-append code a.added b.added)
+      ∙ (append_assoc (codes a.added) (codes b.added) (prefix_of next)
+      ∙ (ap (λ (xs : List Bool). codes a.added ++ xs) b.encoded
+      ∙ (sym (append_assoc (codes a.added) (prefix_of between) second)
+      ∙ (ap (λ (xs : List Bool). xs ++ second) a.encoded
+      ∙ append_assoc (prefix_of state) first second))));
+}
 
--- A text and the code of EOS that begin bits begin them however much follows.
-pub HasEnd-more : (text : List ℕ) (bit_list more : List Bool) → HasEnd text bit_list
-    → HasEnd text (bit_list ++ more)
-HasEnd-more text bit_list more h = (
-  h.0 ++ more,
-  ap (λ (xs : List Bool). xs ++ more) h.1
-      ∙ (append_assoc (codes text) (code 256 ++ h.0) more
-      ∙ ap (λ (xs : List Bool). codes text ++ xs) (append_assoc (code 256) h.0 more)),
-)
+-- EOS in the second step is EOS.
+pub reads_then_end : (old mid new : List ℕ) (state between : ℕ) (first second : List Bool)
+    → Reads old mid state first between → ReadsEnd mid new between second
+    → ReadsEnd old new state (first ++ second)
+reads_then_end old mid new state between first second a b =
+    let end = code 256 ++ b.more in
+    record {
+      added = a.added ++ b.added;
+      joined = b.joined
+          ∙ (ap (λ (xs : List ℕ). xs ++ b.added) a.joined ∙ append_assoc old a.added b.added);
+      octets = all_octets-append a.added b.added a.octets b.octets;
+      more = b.more;
+      encoded = sym (append_assoc (prefix_of state) first second)
+          ∙ (ap (λ (xs : List Bool). xs ++ second) (sym a.encoded)
+          ∙ (append_assoc (codes a.added) (prefix_of between) second
+          ∙ (ap (λ (xs : List Bool). codes a.added ++ xs) b.encoded
+          ∙ (sym (append_assoc (codes a.added) (codes b.added) end)
+          ∙ ap (λ (xs : List Bool). xs ++ end) (sym (flat_map-append code a.added b.added))))));
+    }
+
+-- EOS is EOS however many bits follow.
+pub end_then_more : (old new : List ℕ) (state : ℕ) (first second : List Bool)
+    → ReadsEnd old new state first → ReadsEnd old new state (first ++ second)
+end_then_more old new state first second a = record {
+  added = a.added;
+  joined = a.joined;
+  octets = a.octets;
+  more = a.more ++ second;
+  encoded = sym (append_assoc (prefix_of state) first second)
+      ∙ (ap (λ (xs : List Bool). xs ++ second) a.encoded
+      ∙ (append_assoc (codes a.added) (code 256 ++ a.more) second
+      ∙ ap (λ (xs : List Bool). codes a.added ++ xs) (append_assoc (code 256) a.more second)));
+}
 
 -- EOS in the first half of an octet is EOS in the octet.
-pub end_in_first_half : (text : List ℕ) (before : List Bool) (octet : ℕ)
-    → HasEnd text (before ++ bits_of 4 (octet / 16)) → HasEnd text (before ++ bits_of 8 octet)
-end_in_first_half text before octet h =
-    subst (HasEnd text)
-    (read_halves before (before ++ bits_of 4 (octet / 16))
-    ((before ++ bits_of 4 (octet / 16)) ++ bits_of 4 (octet % 16)) octet refl refl)
-    (HasEnd-more text (before ++ bits_of 4 (octet / 16)) (bits_of 4 (octet % 16)) h)
-
--- EOS in the second half of an octet is EOS in the octet.
-pub end_in_second_half : (text : List ℕ) (before between : List Bool) (octet : ℕ)
-    → between ≡ before ++ bits_of 4 (octet / 16)
-    → HasEnd text (between ++ bits_of 4 (octet % 16)) → HasEnd text (before ++ bits_of 8 octet)
-end_in_second_half text before between octet first h =
-    subst (HasEnd text)
-    (read_halves before between (between ++ bits_of 4 (octet % 16)) octet first refl) h
+pub end_in_first_half : (old new : List ℕ) (state octet : ℕ)
+    → ReadsEnd old new state (bits_of 4 (octet / 16)) → ReadsEnd old new state (bits_of 8 octet)
+end_in_first_half old new state octet a =
+    subst (ReadsEnd old new state) (sym (octet_halves octet))
+    (end_then_more old new state (bits_of 4 (octet / 16)) (bits_of 4 (octet % 16)) a)
 
 -- What the second half of an octet leads to is what the octet leads to.
-pub read_second_half : (result : Option ℕ) (text : List ℕ) (before between : List Bool) (octet : ℕ)
-    → between ≡ before ++ bits_of 4 (octet / 16)
-    → MatchOption result (HasEnd text (between ++ bits_of 4 (octet % 16)))
-    (λ next. bits_read text next ≡ between ++ bits_of 4 (octet % 16))
-    → MatchOption result (HasEnd text (before ++ bits_of 8 octet))
-    (λ next. bits_read text next ≡ before ++ bits_of 8 octet)
-read_second_half None text before between octet first h =
-    end_in_second_half text before between octet first h
-read_second_half (Some next) text before between octet first h =
-    read_halves before between (bits_read text next) octet first h
+pub read_second_half : (result : Option ℕ) (old mid new : List ℕ) (state between octet : ℕ)
+    → Reads old mid state (bits_of 4 (octet / 16)) between
+    → MatchOption result (ReadsEnd mid new between (bits_of 4 (octet % 16)))
+    (Reads mid new between (bits_of 4 (octet % 16)))
+    → MatchOption result (ReadsEnd old new state (bits_of 8 octet))
+    (Reads old new state (bits_of 8 octet))
+read_second_half None old mid new state between octet first second =
+    subst (ReadsEnd old new state) (sym (octet_halves octet))
+    (reads_then_end old mid new state between (bits_of 4 (octet / 16)) (bits_of 4 (octet % 16))
+    first second)
+read_second_half (Some next) old mid new state between octet first second =
+    subst (λ xs. Reads old new state xs next) (sym (octet_halves octet))
+    (reads_both old mid new state between next (bits_of 4 (octet / 16)) (bits_of 4 (octet % 16))
+    first second)
+
+-- how long what was appended is at most
+pub reads_length : (old new : List ℕ) (state next : ℕ) (bit_list : List Bool)
+    → Reads old new state bit_list next
+    → 5 * length new + length (prefix_of next)
+    ≤ 5 * length old + length (prefix_of state) + length bit_list
+reads_length old new state next bit_list a =
+    omega (
+      arith,
+      five_bits a.added a.octets,
+      ap (λ (xs : List ℕ). length xs) a.joined,
+      length-append old a.added,
+      ap (λ (xs : List Bool). length xs) a.encoded,
+      length-append (codes a.added) (prefix_of next),
+      length-append (prefix_of state) bit_list,
+    )
 
 -- the bits of the first octets, and of one more
 pub bits-take-more : (octets : List ℕ) (i : ℕ) → i < length octets
@@ -136,17 +173,45 @@ bits-split octets i lt =
     ∙ (flat_map-append (bits_of 8) (take (i + 1) octets) (drop (i + 1) octets)
     ∙ ap (λ (xs : List Bool). xs ++ bits (drop (i + 1) octets)) (bits-take-more octets i lt))
 
+-- Before any octet nothing was read.
+pub reads_none : (old octets : List ℕ) → Reads old old 0 (bits (take 0 octets)) 0
+reads_none old octets = record {
+  added = [];
+  joined = sym (append-nil old);
+  octets = tt;
+  encoded = sym (append-nil (prefix_of 0));
+}
+
+-- One octet more was read.
+pub reads_octet : (old mid new octets : List ℕ) (state next i : ℕ) → i < length octets
+    → Reads old mid 0 (bits (take i octets)) state
+    → Reads mid new state (bits_of 8 (get_or octets i 0)) next
+    → Reads old new 0 (bits (take (i + 1) octets)) next
+reads_octet old mid new octets state next i lt a b =
+    subst (λ xs. Reads old new 0 xs next) (sym (bits-take-more octets i lt))
+    (reads_both old mid new 0 state next (bits (take i octets)) (bits_of 8 (get_or octets i 0)) a b)
+
+-- The bits that were read from the first state are the codes and the bits of the state after them.
+pub read_bits : (old new : List ℕ) (bit_list : List Bool) (next : ℕ)
+    → (read : Reads old new 0 bit_list next) → bit_list ≡ codes read.added ++ prefix_of next
+read_bits old new bit_list next read =
+    ap (λ (xs : List Bool). xs ++ bit_list) (sym first_state) ∙ sym read.encoded
+
 -- EOS in the next octet is the fault of all octets.
-pub octet_fault : (octets text : List ℕ) (walked : List Bool) (i : ℕ) → i < length octets
-    → AllByRecursion IsOctet text → walked ≡ bits (take i octets)
-    → HasEnd text (walked ++ bits_of 8 (get_or octets i 0)) → HasEndSymbol octets
-octet_fault octets text walked i lt all read ends =
+pub octet_fault : (old mid new octets : List ℕ) (state i : ℕ) → i < length octets
+    → Reads old mid 0 (bits (take i octets)) state
+    → ReadsEnd mid new state (bits_of 8 (get_or octets i 0)) → HasEndSymbol octets
+octet_fault old mid new octets state i lt a b =
+    let next = bits_of 8 (get_or octets i 0) in
     let following = bits (drop (i + 1) octets) in
-    let all_bits : bits octets ≡ (walked ++ bits_of 8 (get_or octets i 0)) ++ following =
-    bits-split octets i lt
-    ∙ ap (λ (xs : List Bool). (xs ++ bits_of 8 (get_or octets i 0)) ++ following) (sym read) in
-    let at_end = HasEnd-more text (walked ++ bits_of 8 (get_or octets i 0)) following ends in
-    end_symbol_fault octets text at_end.0 all (all_bits ∙ at_end.1)
+    let ends =
+    end_then_more old new 0 (bits (take i octets) ++ next) following
+    (reads_then_end old mid new 0 state (bits (take i octets)) next a b) in
+    end_symbol_fault octets ends.added ends.more ends.octets
+    (bits-split octets i lt
+    ∙ (ap (λ (xs : List Bool). xs ++ ((bits (take i octets) ++ next) ++ following))
+    (sym first_state)
+    ∙ ends.encoded))
 
 -- Each number of a slice of octets is an octet.
 pub all_octets : (xs : List ℕ) → ((i : ℕ) → Fits w8 (get_or xs i 0)) → AllByRecursion IsOctet xs

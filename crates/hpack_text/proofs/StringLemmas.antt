@@ -14,8 +14,7 @@ use Rattle.hpack_text.specs.Bits.{IsOctet}
 use Rattle.hpack_text.specs.Huffman.{Huff, HasEndSymbol, HasBadPadding, huffman_bits}
 use Rattle.hpack_text.specs.Integers.{Int, integer}
 use Rattle.hpack_text.specs.Strings.{has_bit_h, Holds, Str, IsShort, HasHuffmanFault, StrFault}
-use Rattle.hpack_text.specs.Strings.{string}
-use Rattle.hpack_text.specs.Strings.{BodyFault}
+use Rattle.hpack_text.specs.Strings.{BodyFault, LacksRoom, most_text, string}
 use Rattle.hpack_text.proofs.CodeLemmas.{one_text_lem, huffman_bits_encode}
 use Rattle.hpack_text.proofs.IntegerLemmas.{LeadingInt, Int-unique, truncated_encodes_none}
 use Rattle.hpack_text.proofs.IntegerLemmas.{too_long_encodes_none}
@@ -122,53 +121,69 @@ huffman_fault_encodes_none Fault text octets following none h s =
 abbrev pub LeadingStr : List ℕ → List ℕ → ℕ → Type 0
 LeadingStr octets text count = (count ≤ length octets) × Str text (take count octets)
 
--- Where a string is at the start, a right answer is that string, unless memory ran out.
-pub only_str : {A : Type 0} (items : A → List ℕ) (octets text : List ℕ) (count : ℕ)
-    (result : Result (A × ℕ) TextFault)
-    → MatchResult result (λ read.
-    (read.1 ≤ length octets) × Str (items read.0) (take read.1 octets)) (StrFault octets)
-    → count ≤ length octets → Str text (take count octets)
-    → MatchResult result (λ read. (items read.0 ≡ text) × (read.1 ≡ count))
-    (λ fault. fault ≡ faults.Memory)
-only_str items octets text count (Ok read) h within encoded =
-    let whole = take-append-drop read.1 octets ∙ sym (take-append-drop count octets) in
-    let (same, texts) =
-    Str-unique (items read.0) text (take read.1 octets) (take count octets) (drop read.1 octets)
-    (drop count octets) h.1 encoded whole in (
-      texts,
-      sym (length-take-le read.1 octets h.0)
-          ∙ (ap (λ (xs : List ℕ). length xs) same ∙ length-take-le count octets within),
-    )
-only_str items octets text count (Err faults.Truncated) (inl cut) within encoded =
+-- Where a string is at the start, no fault but running out of memory is one of the octets.
+pub only_memory : (octets text : List ℕ) (count : ℕ) (fault : TextFault)
+    → Str text (take count octets) → StrFault octets fault → fault ≡ faults.Memory
+only_memory octets text count faults.Truncated encoded (inl cut) =
     let begins =
     begins_with_str text (take count octets) (drop count octets) octets encoded
     (sym (take-append-drop count octets)) in
     absurd (truncated_encodes_none 7 (length begins.body) octets begins.head
     (begins.body ++ drop count octets) cut begins.joined begins.head_length)
-only_str items octets text count (Err faults.Truncated) (inr short) within encoded =
+only_memory octets text count faults.Truncated encoded (inr short) =
     let begins =
     begins_with_str text (take count octets) (drop count octets) octets encoded
     (sym (take-append-drop count octets)) in
     absurd (short_encodes_none text octets (drop count octets) short begins)
-only_str items octets text count (Err faults.TooLong) h within encoded =
+only_memory octets text count faults.TooLong encoded h =
     let begins =
     begins_with_str text (take count octets) (drop count octets) octets encoded
     (sym (take-append-drop count octets)) in
     absurd (too_long_encodes_none 7 (length begins.body) octets begins.head
     (begins.body ++ drop count octets) h begins.joined begins.head_length)
-only_str items octets text count (Err faults.BadPadding) h within encoded =
+only_memory octets text count faults.BadPadding encoded h =
     let begins =
     begins_with_str text (take count octets) (drop count octets) octets encoded
     (sym (take-append-drop count octets)) in
     absurd (huffman_fault_encodes_none HasBadPadding text octets (drop count octets)
     (λ body fault. fault.none text) h begins)
-only_str items octets text count (Err faults.EndSymbol) h within encoded =
+only_memory octets text count faults.EndSymbol encoded h =
     let begins =
     begins_with_str text (take count octets) (drop count octets) octets encoded
     (sym (take-append-drop count octets)) in
     absurd (huffman_fault_encodes_none HasEndSymbol text octets (drop count octets)
     (λ body fault. fault.none text) h begins)
-only_str items octets text count (Err faults.Memory) h within encoded = refl
+only_memory octets text count faults.Memory encoded h = refl
+
+-- A string that was read is the one that is at the start.
+pub only_one_str : (octets text other : List ℕ) (count used : ℕ) → LeadingStr octets other used
+    → count ≤ length octets → Str text (take count octets) → (other ≡ text) × (used ≡ count)
+only_one_str octets text other count used h within encoded =
+    let whole = take-append-drop used octets ∙ sym (take-append-drop count octets) in
+    let (same, texts) =
+    Str-unique other text (take used octets) (take count octets) (drop used octets)
+    (drop count octets) h.1 encoded whole in (
+      texts,
+      sym (length-take-le used octets h.0)
+          ∙ (ap (λ (xs : List ℕ). length xs) same ∙ length-take-le count octets within),
+    )
+
+-- what is said of a string whose text was appended
+abbrev pub AppendsStr : List ℕ → List ℕ → List ℕ → ℕ → Type 0
+AppendsStr old new octets count =
+    (text : List ℕ) × (new ≡ old ++ text) × (count ≤ length octets) × Str text (take count octets)
+
+-- Where a string is at the start, a right answer is that string, unless memory ran out.
+pub only_str : (old new octets text : List ℕ) (count : ℕ) (result : Result ℕ TextFault)
+    → MatchResult result (λ used. AppendsStr old new octets used) (StrFault octets)
+    → count ≤ length octets → Str text (take count octets)
+    → MatchResult result (λ used. (new ≡ old ++ text) × (used ≡ count))
+    (λ fault. fault ≡ faults.Memory)
+only_str old new octets text count (Ok used) (other, joined, least, found) within encoded =
+    let (texts, counts) = only_one_str octets text other count used (least, found) within encoded in
+    (joined ∙ ap (λ (xs : List ℕ). old ++ xs) texts, counts)
+only_str old new octets text count (Err fault) h within encoded =
+    only_memory octets text count fault encoded h
 
 -- The head of a Huffman-encoded string has the bit H.
 huffman_head : (value : ℕ) (more : List ℕ) → has_bit_h (integer 7 128 value ++ more) ≡ true
@@ -355,6 +370,25 @@ body_fault octets count named faults.Memory h enough fault =
     }
 body_fault octets count named faults.Truncated h enough fault = absurd fault
 body_fault octets count named faults.TooLong h enough fault = absurd fault
+
+-- Where the room for a string's text is lacking, the string is there.
+pub lacks_room : (octets : List ℕ) (count named len capacity : ℕ) → LeadingInt 7 octets named count
+    → named ≤ length (take (length octets - count) (drop count octets))
+    → capacity < len + most_text (nat_le 128 (get_or octets 0 0))
+    (length (take named (take (length octets - count) (drop count octets))))
+    → LacksRoom octets len capacity
+lacks_room octets count named len capacity h enough lacks =
+    let body = has_body octets count named h.0 enough in
+    let text = take named (take (length octets - count) (drop count octets)) in
+    record {
+      head = take count octets;
+      body = text;
+      more = drop named (drop count octets);
+      joined = body.all_octets;
+      head_length = subst (λ n. Int 7 n (take count octets)) (sym body.as_long) h.1;
+      lacks = subst (λ b. capacity < len + most_text b (length text))
+          (sym (has_bit_h-take octets count named h.1)) lacks;
+    }
 
 -- a call that succeeds where there is room, and failed
 pub no_room : (need capacity : ℕ) → (need ≤ capacity → false ≡ true) → capacity < need

@@ -1,7 +1,8 @@
 -- The states of a reader of the code by half octets: the bits of a code that isn't complete yet.
 use Rattle.std.specs.Prelude.{◌≡◌, ℕ, ◌/◌, ◌%◌, ◌<◌, ◌≤◌, Bool, true, false, List, [], ◌∷◌, ◌++◌}
 use Rattle.std.specs.Prelude.{reverse, get_or, Option, Some, None}
-use Rattle.hpack_text.specs.Bits.{bits_of}
+use Rattle.std.specs.List.{AllByRecursion}
+use Rattle.hpack_text.specs.Bits.{IsOctet, bits_of}
 use Rattle.hpack_text.specs.Huffman.{code, codes, end_symbol}
 use Rattle.hpack_text.specs.Tree.{Tree, leaf, node, tree}
 
@@ -42,10 +43,17 @@ pub record IsStep (state half step : ℕ) : Type 0 where
       → stepped state half ≡ code (step / 256 % 256) ++ prefix_of (step % 256)
   pub within : step < 65536 → stepped state half ≡ prefix_of (step % 256)
 
--- the bits that were read as a text, and those of a state after it
-abbrev pub bits_read : List ℕ → ℕ → List Bool
-bits_read text state = codes text ++ prefix_of state
+-- From a state these bits were read: the octets that were appended, and the state after them.
+pub record Reads (old new : List ℕ) (state : ℕ) (bit_list : List Bool) (next : ℕ) : Type 0 where
+  pub added : List ℕ
+  pub joined : new ≡ old ++ added
+  pub octets : AllByRecursion IsOctet added
+  pub encoded : codes added ++ prefix_of next ≡ prefix_of state ++ bit_list
 
--- A text, and the code of EOS after it, begin the bits.
-abbrev pub HasEnd : List ℕ → List Bool → Type 0
-HasEnd text bit_list = (more : List Bool) × (bit_list ≡ codes text ++ (code end_symbol ++ more))
+-- From a state these bits were read: the octets that were appended, and after them the code of EOS.
+pub record ReadsEnd (old new : List ℕ) (state : ℕ) (bit_list : List Bool) : Type 0 where
+  pub added : List ℕ
+  pub joined : new ≡ old ++ added
+  pub octets : AllByRecursion IsOctet added
+  pub more : List Bool
+  pub encoded : prefix_of state ++ bit_list ≡ codes added ++ (code end_symbol ++ more)

@@ -1,6 +1,6 @@
 -- String literals (RFC 7541, section 5.2).
-use Rattle.std.specs.Prelude.{◌≡◌, ◌⊎◌, ℕ, ◌<◌, nat_le, if◌then◌else◌, Bool, true, false, List, []}
-use Rattle.std.specs.Prelude.{◌∷◌, ◌++◌, length}
+use Rattle.std.specs.Prelude.{◌≡◌, ◌⊎◌, ℕ, ◌+◌, ◌*◌, ◌/◌, ◌<◌, nat_le, if◌then◌else◌, Bool, true}
+use Rattle.std.specs.Prelude.{false, List, [], ◌∷◌, ◌++◌, length}
 use Rattle.std.specs.List.{AllByRecursion}
 use Rattle.hpack_text.specs.declared.fault.TextFault.{TextFault}
 use Rattle.hpack_text.specs.declared.fault.TextFault.TheVariants as faults
@@ -70,6 +70,21 @@ StrFault octets faults.TooLong = IsTooLong 7 octets
 StrFault octets faults.BadPadding = HasHuffmanFault HasBadPadding octets
 StrFault octets faults.EndSymbol = HasHuffmanFault HasEndSymbol octets
 StrFault octets faults.Memory = IsCompleteString octets
+
+-- The most octets that a text has whose string holds so many: a code has five bits at least.
+abbrev pub most_text : Bool → ℕ → ℕ
+most_text true count = 8 * count / 5
+most_text false count = count
+
+-- The octets begin with a complete string, and a vector of this length and capacity lacks room for
+-- the longest text that so many octets can hold.
+pub record LacksRoom (octets : List ℕ) (len capacity : ℕ) : Type 0 where
+  pub head : List ℕ
+  pub body : List ℕ
+  pub more : List ℕ
+  pub joined : octets ≡ head ++ (body ++ more)
+  pub head_length : Int 7 (length body) head
+  pub lacks : capacity < len + most_text (has_bit_h head) (length body)
 
 -- The encoding that is written: Huffman-encoded where that isn't longer than raw.
 unfoldable pub string : List ℕ → List ℕ

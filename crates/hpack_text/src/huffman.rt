@@ -15,7 +15,7 @@ mod steps;
 mod writer;
 
 use codes::code_of;
-use reader::read_text;
+pub use reader::append_text;
 use steps::{END, HAS_SYMBOL, next_state, step_at, symbol_of};
 use writer::append_huffman;
 
@@ -70,7 +70,9 @@ pub fn huff_read(alloc: Global, octets: &[u8]) -> Result<Vec<u8>, TextFault>
         → MatchResult result (λ read. read.items ≡ text) (λ fault. fault ≡ TextFault.Memory) }
     ensures fault { IfErr result (HuffFault octets.now) }
 {
-    read_text(alloc, octets)
+    let mut text = Vec::new(alloc);
+    append_text(octets, &mut text)?;
+    Ok(text)
 }
 
 /// Reads four bits more, the most significant one first, from a state, and answers the next state
@@ -85,12 +87,12 @@ pub fn huff_step(state: u8, half: u8) -> Option<(u8, Option<u8>)>
         × (BeginsWithEnd (stepped state half) → ⊥)) }
 {
     let step = step_at(state, half);
-    if step >= END {
-        return None;
-    }
     let next = next_state(step);
     if step < HAS_SYMBOL {
         return Some((next, None));
+    }
+    if step >= END {
+        return None;
     }
     Some((next, Some(symbol_of(step))))
 }

@@ -20,4 +20,4 @@ pub use laws::{
     no_code_begins_another, no_integer_begins_another, no_string_begins_another, one_coding,
     one_coding_fault, one_text, shortest_integer, some_code_begins, written_string,
 };
-pub use strings::{read_string, write_string};
+pub use strings::{read_string, read_string_into, write_string};

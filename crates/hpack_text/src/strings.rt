@@ -3,12 +3,12 @@
 ghost use Rattle.std.specs.Prelude.{◌≡◌, ℕ, ◌+◌, ◌^◌, ◌<◌, ◌≤◌, ◌++◌, List, length, take, IfOk};
 ghost use Rattle.std.specs.Prelude.{IfErr, OnOk, OnErr, IsOk, MatchResult, vec_len};
 ghost use Rattle.std.specs.Vec.{vec_capacity};
-ghost use Rattle.hpack_text.specs.Strings.{Str, StrFault, Holds, string};
-ghost use Rattle.hpack_text.specs.Strings.{BodyFault};
+ghost use Rattle.hpack_text.specs.Strings.{Str, StrFault, Holds, BodyFault, string, most_text};
+ghost use Rattle.hpack_text.specs.Strings.{LacksRoom};
 ghost use Rattle.hpack_text.specs.Appended.{IsExtended};
 
 use crate::fault::TextFault;
-use crate::huffman::{huff_len, huff_read, huff_write};
+use crate::huffman::{append_text, huff_len, huff_write};
 use crate::integers::{read_int, write_int};
 use std::alloc::Global;
 
@@ -38,7 +38,36 @@ pub fn read_string(alloc: Global, octets: &[u8]) -> Result<(Vec<u8>, usize), Tex
         (λ fault. fault ≡ TextFault.Memory) }
     ensures fault { IfErr result (StrFault octets.now) }
 {
-    leading_string(alloc, octets)
+    let mut text = Vec::new(alloc);
+    let count = leading_string(octets, &mut text)?;
+    Ok((text, count))
+}
+
+/// Reads the string at the start of `octets` as [`read_string`] does, appends its text to `out`,
+/// and answers how many octets encode it.
+///
+/// # Errors
+///
+/// Those of [`read_string`], and `out` is unchanged. [`TextFault::Memory`] doesn't come where `out`
+/// has room for as many octets as the string holds, or, where it is Huffman-encoded, for 8/5 of
+/// that, which no text exceeds.
+pub fn read_string_into(octets: &[u8], out: &mut Vec<u8>) -> Result<usize, TextFault>
+    ensures ok { IfOk result (λ count. (text : List ℕ) × (out.new.items ≡ out.old.items ++ text)
+        × (count ≤ length octets.now) × Str text (take count octets.now)) }
+
+    // What is encoded at the start is read, unless memory runs out.
+    ensures only { (text : List ℕ) (count : ℕ) → count ≤ length octets.now
+        → Str text (take count octets.now)
+        → MatchResult result
+        (λ read. (out.new.items ≡ out.old.items ++ text) × (read ≡ count))
+        (λ fault. fault ≡ TextFault.Memory) }
+    ensures fault { IfErr result (StrFault octets.now) }
+    ensures err { OnErr result (out.new.items ≡ out.old.items) }
+    ensures room { IfErr result (λ fault. fault ≡ TextFault.Memory
+        → LacksRoom octets.now (vec_len out.old) (vec_capacity out.old)) }
+    ensures capacity { vec_capacity out.old ≤ vec_capacity out.new }
+{
+    leading_string(octets, out)
 }
 
 /// Appends the text as a string: Huffman-encoded where that isn't longer than raw.
@@ -63,11 +92,16 @@ pub fn write_string(text: &[u8], out: &mut Vec<u8>) -> Result<(), TextFault>
     written
 }
 
-/// Reads the string at the start of `octets`.
-fn leading_string(alloc: Global, octets: &[u8]) -> Result<(Vec<u8>, usize), TextFault>
+/// Appends the text of the string at the start of `octets`, and answers how many octets encode it.
+fn leading_string(octets: &[u8], out: &mut Vec<u8>) -> Result<usize, TextFault>
     ensures answer { MatchResult result
-        (λ read. (read.1 ≤ length octets.now) × Str read.0.items (take read.1 octets.now))
+        (λ count. (text : List ℕ) × (out.new.items ≡ out.old.items ++ text)
+        × (count ≤ length octets.now) × Str text (take count octets.now))
         (StrFault octets.now) }
+    ensures err { OnErr result (out.new.items ≡ out.old.items) }
+    ensures room { IfErr result (λ fault. fault ≡ TextFault.Memory
+        → LacksRoom octets.now (vec_len out.old) (vec_capacity out.old)) }
+    ensures capacity { vec_capacity out.old ≤ vec_capacity out.new }
 {
     let (text_len, head_len) = read_int(PREFIX, octets)?;
     let after_head = &octets[head_len..];
@@ -75,19 +109,25 @@ fn leading_string(alloc: Global, octets: &[u8]) -> Result<(Vec<u8>, usize), Text
         return Err(TextFault::Truncated);
     }
     let body_len = text_len as usize;
-    let text = read_body(alloc, octets[0] >= BIT_H, &after_head[..body_len])?;
-    Ok((text, head_len + body_len))
+    append_body(octets[0] >= BIT_H, &after_head[..body_len], out)?;
+    Ok(head_len + body_len)
 }
 
-/// Reads a string's text from all of `body`.
-fn read_body(alloc: Global, is_huffman: bool, body: &[u8]) -> Result<Vec<u8>, TextFault>
-    ensures answer { MatchResult result (λ text. Holds is_huffman text.items body.now)
+/// Appends a string's text, which all of `body` holds.
+fn append_body(is_huffman: bool, body: &[u8], out: &mut Vec<u8>) -> Result<(), TextFault>
+    ensures answer { MatchResult result
+        (λ _. (text : List ℕ) × (out.new.items ≡ out.old.items ++ text)
+        × Holds is_huffman text body.now)
         (BodyFault is_huffman body.now) }
+    ensures err { OnErr result (out.new.items ≡ out.old.items) }
+    ensures full { IfErr result (λ fault. fault ≡ TextFault.Memory
+        → vec_capacity out.old < vec_len out.old + most_text is_huffman (length body.now)) }
+    ensures capacity { vec_capacity out.old ≤ vec_capacity out.new }
 {
     if is_huffman {
-        return huff_read(alloc, body);
+        return append_text(body, out);
     }
-    body.to_vec(alloc).map_err(|_| TextFault::Memory)
+    out.extend_from_slice(body).map_err(|_| TextFault::Memory)
 }
 
 /// Appends the text as a string. On `Err` a prefix of it was appended.

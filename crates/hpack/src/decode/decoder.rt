@@ -1,15 +1,16 @@
 //! The decoder of field blocks (RFC 7541, sections 3.2 and 6).
 
-ghost use Rattle.std.specs.Prelude.{◌≡◌, true, false, IfOk, IfErr, OnErr, List as Items};
+ghost use Rattle.std.specs.Prelude.{◌≡◌, true, false, [], IfOk, OnOk, IfErr, OnErr, List as Items};
 ghost use Rattle.hpack.specs.declared.types.field.Field.{Field as OneField};
 ghost use Rattle.hpack.specs.Tables.{Entries};
 ghost use Rattle.hpack.specs.Blocks.{Block};
-ghost use Rattle.hpack.specs.Lists.{Decodes, DecodeFault, empty_table};
+ghost use Rattle.hpack.specs.Lists.{Decodes, DecodesInto, DecodeFault, empty_table};
 
-use crate::decode::block::decode_block;
+use crate::decode::block::{decode_block, decode_owned};
 use crate::table::dynamic_table::Table;
 use crate::types::fault::Fault;
-use crate::types::field::List;
+use crate::types::field::{Decoded, List};
+use crate::types::field_list::FieldList;
 use std::alloc::Global;
 use std::marker::Model;
 
@@ -97,11 +98,63 @@ impl Decoder {
             (DecodeFault self.old.table self.old.limit octets.now) }
         ensures broken { OnErr result (self.new.failed ≡ true) }
     {
+        self.check()?;
+        let list = decode_owned(self.alloc, &mut self.table, self.limit, octets, list_limit);
+        self.failed = list.is_err();
+        list
+    }
+
+    /// Decodes a complete block as [`Decoder::decode`] does, into a list that the caller keeps. The
+    /// list is emptied first, and its room is used again; it is empty where the answer is
+    /// [`Decoded::TooLarge`]. Past the limit no further field is stored.
+    ///
+    /// Memory is taken where the list lacks room, and for an entry that is added to the table.
+    ///
+    /// # Errors
+    ///
+    /// Those of [`Decoder::decode`], and the list is empty.
+    pub fn decode_into(
+        &mut self,
+        octets: &[u8],
+        list_limit: u32,
+        list: &mut FieldList,
+    ) -> Result<Decoded, Fault>
+        ensures failed { self.old.failed ≡ true → (result ≡ Err Fault.Failed)
+            × (self.new ≡ self.old) }
+        ensures ok { IfOk result (λ decoded. (self.old.failed ≡ false)
+            × DecodesInto self.old octets.now list_limit decoded list.new self.new) }
+
+        // What is a block is decoded, unless memory runs out.
+        ensures only { (fields : Items OneField) (after : Entries) → self.old.failed ≡ false
+            → Block self.old.table self.old.limit octets.now fields after
+            → IfErr result (λ fault. fault ≡ Fault.Memory) }
+        ensures fault { self.old.failed ≡ false → IfErr result
+            (DecodeFault self.old.table self.old.limit octets.now) }
+        ensures broken { OnErr result (self.new.failed ≡ true) }
+        ensures emptied { OnErr result (list.new ≡ []) }
+    {
+        list.clear();
+        self.check()?;
+        let decoded = decode_block(
+            self.alloc,
+            &mut self.table,
+            self.limit,
+            octets,
+            list_limit,
+            list,
+        );
+        self.failed = decoded.is_err();
+        decoded
+    }
+
+    /// Answers [`Fault::Failed`] where an earlier block failed.
+    fn check(&self) -> Result<(), Fault>
+        ensures ok { OnOk result (self.now.failed ≡ false) }
+        ensures err { IfErr result (λ fault. (fault ≡ Fault.Failed) × (self.now.failed ≡ true)) }
+    {
         if self.failed {
             return Err(Fault::Failed);
         }
-        let decoded = decode_block(self.alloc, &mut self.table, self.limit, octets, list_limit);
-        self.failed = decoded.is_err();
-        decoded
+        Ok(())
     }
 }

@@ -1,58 +1,104 @@
 //! One field of a block (RFC 7541, section 6).
 
-ghost use Rattle.std.specs.Prelude.{◌≡◌, ◌≤◌, ◌<◌, length, take, IfOk, IfErr, MatchOption};
+ghost use Rattle.std.specs.Prelude.{◌↔◌, ◌≤◌, ◌<◌, IsTrue, length, take, IfOk, IfErr, MatchOption};
 ghost use Rattle.hpack.specs.declared.types.field.Field.{Field as OneField};
-ghost use Rattle.hpack.specs.Blocks.{Step};
+ghost use Rattle.hpack.specs.Blocks.{FirstOctet, Step};
+ghost use Rattle.hpack.specs.FieldListBuilder.{AppendsField};
 ghost use Rattle.hpack.specs.Prefixes.{PrefixFault, IsStep, IsKind};
 
-use crate::decode::literal::{index_len, indexed_at, literal_at};
+use crate::decode::literal::{indexed, indexed_at, literal_at};
 use crate::table::dynamic_table::Table;
 use crate::types::fault::Fault;
 use crate::types::field::Field;
 use crate::types::literal::Literal;
+use crate::types::read_field::ReadField;
 use std::alloc::Global;
 
-/// Reads the field at the start of `octets`, and answers it and how many octets encode it.
+/// The room for a literal whose field is copied: as many octets as most have.
+const LITERAL_ROOM: usize = 500;
+
+/// Appends the name and the value of the field at the start of `octets`, and answers what was read.
 #[inline(always)]
 pub(crate) fn field_at(
     alloc: Global,
     table: &mut Table,
     octets: &[u8],
+    out: &mut Vec<u8>,
+) -> Result<ReadField, Fault>
+    ensures ok { IfOk result (λ read. (field : OneField)
+        × AppendsField out.old.items out.new.items field read × (read.count ≤ length octets.now)
+        × Step table.old (take read.count octets.now) field table.new) }
+    ensures fault { IfErr result (PrefixFault (IsStep table.old) octets.now) }
+{
+    if octets.is_empty() {
+        return Err(Fault::Compression);
+    }
+    let first = octets[0];
+    if first >= 0x80 {
+        let (name_len, count) = indexed_at(table, octets, out)?;
+        return Ok(ReadField {
+            name_len,
+            sensitive: false,
+            count,
+        });
+    }
+    let Some(kind) = kind_of(first) else {
+        return Err(Fault::Compression);
+    };
+    literal_at(alloc, table, kind, octets, out)
+}
+
+/// Reads the field at the start of `octets` as [`field_at`] does, and answers a copy of it and how
+/// many octets encode it. The octets of a literal go through `literal`.
+#[inline(always)]
+pub(crate) fn owned_at(
+    alloc: Global,
+    table: &mut Table,
+    octets: &[u8],
+    literal: &mut Vec<u8>,
 ) -> Result<(Field, usize), Fault>
     ensures ok { IfOk result (λ read. (read.1 ≤ length octets.now)
         × Step table.old (take read.1 octets.now) read.0 table.new) }
     ensures fault { IfErr result (PrefixFault (IsStep table.old) octets.now) }
 {
-    if octets.is_empty() {
-        return Err(Fault::Compression);
+    if begins_with_index(octets) {
+        let (name, value, count) = indexed(table, octets)?;
+        return Ok((Field::copy_of(alloc, name, value, false)?, count));
     }
-    let first = octets[0];
-    // First bit 1: an index.
-    if first >= 0x80 {
-        return indexed_at(alloc, table, octets);
-    }
-    let Some(kind) = kind_of(first) else {
-        return Err(Fault::Compression);
-    };
-    literal_at(alloc, table, kind, octets)
+    literal.clear();
+    literal.reserve(LITERAL_ROOM)?;
+    let read = field_at(alloc, table, octets, literal)?;
+    let (name, value) = literal.split_at(read.name_len);
+    let field = Field::copy_of(alloc, name, value, read.sensitive)?;
+    Ok((field, read.count))
 }
 
 /// Reads the field at the start of `octets` as [`field_at`] does, and answers only how many octets
-/// encode it: of what an index names no copy is made.
-pub(crate) fn skip_at(alloc: Global, table: &mut Table, octets: &[u8]) -> Result<usize, Fault>
+/// encode it: of what an index names nothing is appended.
+pub(crate) fn skip_at(
+    alloc: Global,
+    table: &mut Table,
+    octets: &[u8],
+    out: &mut Vec<u8>,
+) -> Result<usize, Fault>
     ensures ok { IfOk result (λ count. (field : OneField) × (count ≤ length octets.now)
         × Step table.old (take count octets.now) field table.new) }
     ensures fault { IfErr result (PrefixFault (IsStep table.old) octets.now) }
 {
-    if octets.is_empty() {
-        return Err(Fault::Compression);
+    if begins_with_index(octets) {
+        let (_, _, count) = indexed(table, octets)?;
+        return Ok(count);
     }
-    let first = octets[0];
-    if first >= 0x80 {
-        return index_len(table, octets);
-    }
-    let (_, count) = field_at(alloc, table, octets)?;
-    Ok(count)
+    let read = field_at(alloc, table, octets, out)?;
+    Ok(read.count)
+}
+
+/// Whether the first octet is that of an index: its first bit is 1.
+#[inline(always)]
+fn begins_with_index(octets: &[u8]) -> bool
+    ensures { IsTrue result ↔ FirstOctet 0x80 0x100 octets.now }
+{
+    matches!(octets, [0x80..=0xff, ..])
 }
 
 /// The kind of a literal, by its first octet, or nothing where that is an update's.

@@ -1,64 +1,109 @@
 //! The list of a block's fields, while their size is within a limit (RFC 9113, section 6.5.2).
 
-ghost use Rattle.std.specs.Prelude.{◌≡◌, true, [], OnOk, IfErr};
-ghost use Rattle.hpack.specs.Lists.{IsList};
-ghost use Rattle.hpack.specs.Prefixes.{RepresentsFields, AddsField};
+ghost use Rattle.std.specs.Prelude.{◌≡◌, ◌+◌, ◌≤◌, [], OnOk, IfErr, true, vec_len};
 
 use crate::table::eviction::size_of_octets;
 use crate::types::fault::Fault;
-use crate::types::field::{Field, List};
-use std::alloc::Global;
+use crate::types::field::Decoded;
+use crate::types::field_list::FieldList;
+use crate::types::field_place::FieldPlace;
+use crate::types::read_field::ReadField;
 
-/// The capacity that the first field reserves: as many fields as most requests have.
-const FIRST_CAPACITY: usize = 16;
-
-/// The list so far.
-#[derive(Debug, Drop)]
+/// The list so far, in the room of a [`FieldList`].
+#[derive(Drop)]
 pub(crate) struct FieldListBuilder {
-    /// The fields, or that their size is above the limit.
-    pub(crate) list: List,
-    /// What the limit leaves, where the fields are within it.
-    remaining: u32,
+    /// The names and values of the fields; those of the next one are appended before it is added.
+    pub(crate) octets: Vec<u8>,
+    /// Where each field is.
+    places: Vec<FieldPlace>,
+    /// What the limit leaves, or nothing where the size of the fields is above it.
+    remaining: Option<u32>,
 }
 
 impl FieldListBuilder {
-    /// An empty list, for a limit in octets.
-    pub(crate) fn new(alloc: Global, list_limit: u32) -> FieldListBuilder
-        ensures { RepresentsFields list_limit [] result.list result.remaining }
+    ghost use Rattle.std.specs.Prelude.{List, ℕ};
+    ghost use Rattle.hpack.specs.declared.types.field.Field.{Field};
+    ghost use Rattle.hpack.specs.Lists.{HoldsList};
+    ghost use Rattle.hpack.specs.FieldLists.{AreWithin};
+    ghost use Rattle.hpack.specs.FieldListBuilder.{Builds, Represents, AddsRead};
+
+    /// An empty list in the room of another one, for a limit in octets.
+    pub(crate) fn in_room_of(list: FieldList, list_limit: u32) -> FieldListBuilder
+        ensures { Represents list_limit [] result }
     {
+        let (mut octets, mut places) = list.into_parts();
+        octets.clear();
+        places.clear();
         FieldListBuilder {
-            list: List::Whole(Vec::new(alloc)),
-            remaining: list_limit,
+            octets,
+            places,
+            remaining: Some(list_limit),
         }
     }
 
     /// Whether the size is above the limit.
     pub(crate) fn is_too_large(&self) -> bool
-        ensures { result ≡ true → self.now.list ≡ List.TooLarge }
+        ensures { result ≡ true → self.now.remaining ≡ None }
     {
-        matches!(self.list, List::TooLarge)
+        self.remaining.is_none()
     }
 
-    /// Appends a field where the size stays within the limit; otherwise the list is too large.
-    #[inline(always)]
-    pub(crate) fn push(&mut self, field: Field) -> Result<(), Fault>
-        ensures ok { OnOk result (AddsField self.old.list self.old.remaining field self.new.list
-            self.new.remaining) }
+    /// Adds the field whose octets were appended from `start` on, where the size stays within the
+    /// limit; otherwise the list is too large, and nothing of it is kept.
+    #[inline]
+    pub(crate) fn add(&mut self, start: usize, read: ReadField) -> Result<(), Fault>
+        requires { start + read.name_len ≤ vec_len self.old.octets }
+        ensures ok { OnOk result (AddsRead self.old start read self.new) }
         ensures err { IfErr result (λ fault. fault ≡ Fault.Memory) }
     {
-        let size = size_of_octets(field.name.as_slice(), field.value.as_slice());
-        let List::Whole(fields) = &mut self.list else {
-            return Ok(());
-        };
-        if size > self.remaining as usize {
-            self.list = List::TooLarge;
+        let name_end = start + read.name_len;
+        let size = size_of_octets(&self.octets[start..name_end], &self.octets[name_end..]);
+        let remaining = self.remaining.unwrap_or(0);
+        if size > remaining as usize {
+            self.octets.clear();
+            self.places.clear();
+            self.remaining = None;
             return Ok(());
         }
-        if fields.is_empty() {
-            fields.reserve_exact(FIRST_CAPACITY)?;
-        }
-        fields.push(field)?;
-        self.remaining -= size as u32;
+        self.places.push(FieldPlace {
+            start,
+            name_end,
+            value_end: self.octets.len(),
+            sensitive: read.sensitive,
+        })?;
+        self.remaining = Some(remaining - size as u32);
         Ok(())
+    }
+
+    /// The list, and what it holds.
+    pub(crate) fn into_list(self) -> (FieldList, Decoded)
+        requires { AreWithin self.octets.items self.places.items }
+        ensures { (list_limit : ℕ) (fields : List Field) → Represents list_limit fields self
+            → HoldsList list_limit fields result.1 result.0 }
+    {
+        let FieldListBuilder {
+            octets,
+            places,
+            remaining,
+        } = self;
+        let decoded = match remaining {
+            Some(_) => Decoded::Whole,
+            None => Decoded::TooLarge,
+        };
+        (FieldList::from_parts(octets, places), decoded)
+    }
+
+    /// The list without fields.
+    pub(crate) fn into_empty_list(self) -> FieldList
+        ensures { result ≡ [] }
+    {
+        let FieldListBuilder {
+            mut octets,
+            mut places,
+            remaining: _,
+        } = self;
+        octets.clear();
+        places.clear();
+        FieldList::from_parts(octets, places)
     }
 }

@@ -1,36 +1,35 @@
 //! The fields of a block, up to its end.
 
-ghost use Rattle.std.specs.Prelude.{◌≤◌, length, take, IfOk, IfErr, List as Items};
+ghost use Rattle.std.specs.Prelude.{◌≤◌, length, take, IfOk, OnOk, IfErr, List as Items};
 ghost use Rattle.hpack.specs.declared.types.field.Field.{Field as OneField};
 ghost use Rattle.hpack.specs.Blocks.{Step, Fields};
-ghost use Rattle.hpack.specs.Lists.{IsList};
-ghost use Rattle.hpack.specs.Prefixes.{FieldsFault, PrefixFault, IsStep, AddsField};
+ghost use Rattle.hpack.specs.FieldListBuilder.{Adds, Builds};
+ghost use Rattle.hpack.specs.Prefixes.{FieldsFault, PrefixFault, IsStep};
 
 use crate::decode::field::{field_at, skip_at};
 use crate::decode::field_list_builder::FieldListBuilder;
 use crate::table::dynamic_table::Table;
 use crate::types::fault::Fault;
-use crate::types::field::List;
 use std::alloc::Global;
 
-/// Reads all of `octets` as fields, and answers those, or that their size is above `list_limit`.
+/// Reads all of `octets` as fields, into an empty list.
 pub(crate) fn read_fields(
     alloc: Global,
     table: &mut Table,
     octets: &[u8],
-    list_limit: u32,
-) -> Result<List, Fault>
-    ensures ok { IfOk result (λ list. (fields : Items OneField)
-        × Fields table.old octets.now fields table.new × IsList list_limit fields list) }
+    builder: &mut FieldListBuilder,
+) -> Result<(), Fault>
+    ensures ok { OnOk result ((fields : Items OneField)
+        × Fields table.old octets.now fields table.new
+        × Builds builder.old fields builder.new) }
     ensures fault { IfErr result (FieldsFault table.old octets.now) }
 {
     let mut unparsed = octets;
-    let mut builder = FieldListBuilder::new(alloc, list_limit);
     while !unparsed.is_empty() {
-        let count = read_one(alloc, table, unparsed, &mut builder)?;
+        let count = read_one(alloc, table, unparsed, builder)?;
         unparsed = &unparsed[count..];
     }
-    Ok(builder.list)
+    Ok(())
 }
 
 /// Reads the field at the start of `octets` into the list, and answers how many octets encode it.
@@ -44,14 +43,15 @@ fn read_one(
 ) -> Result<usize, Fault>
     ensures ok { IfOk result (λ count. (field : OneField) × (count ≤ length octets.now)
         × Step table.old (take count octets.now) field table.new
-        × AddsField builder.old.list builder.old.remaining field builder.new.list
-        builder.new.remaining) }
+        × Adds builder.old field builder.new) }
     ensures fault { IfErr result (PrefixFault (IsStep table.old) octets.now) }
 {
     if builder.is_too_large() {
-        return skip_at(alloc, table, octets);
+        builder.octets.clear();
+        return skip_at(alloc, table, octets, &mut builder.octets);
     }
-    let (field, count) = field_at(alloc, table, octets)?;
-    builder.push(field)?;
-    Ok(count)
+    let start = builder.octets.len();
+    let read = field_at(alloc, table, octets, &mut builder.octets)?;
+    builder.add(start, read)?;
+    Ok(read.count)
 }

@@ -1,6 +1,6 @@
 //! Literals and indices (RFC 7541, sections 6.1 and 6.2).
 
-ghost use Rattle.std.specs.Prelude.{◌≡◌, ℕ, ◌≤◌, length, take, false, OnOk, IfOk, IfErr};
+ghost use Rattle.std.specs.Prelude.{◌≡◌, ℕ, ◌≤◌, ◌++◌, length, take, OnOk, IfOk, IfErr};
 ghost use Rattle.std.specs.Prelude.{List as Items};
 ghost use Rattle.hpack.specs.Blocks.{LiteralName, after_literal, is_sensitive};
 ghost use Rattle.hpack.specs.PendingTable.{added_to};
@@ -13,104 +13,112 @@ use crate::table::eviction::size_of_octets;
 use crate::table::lookup::entry_at;
 use crate::types::entry::Entry;
 use crate::types::fault::Fault;
-use crate::types::field::Field;
 use crate::types::literal::Literal;
-use crate::types::octets::Octets;
+use crate::types::read_field::ReadField;
 use std::alloc::{AllocError, Global};
 
 /// How many bits of an indexed field's index are in its first octet.
 const INDEX_PREFIX: u8 = 7;
 
-/// Reads the index at the start of `octets`, and answers the field that it names and how many
-/// octets encode it.
+/// The name and the value of the field that the index at the start of `octets` names, lent, and how
+/// many octets encode the index.
 #[inline(always)]
-pub(crate) fn indexed_at(
-    alloc: Global,
-    table: &Table,
+pub(crate) fn indexed<'a>(
+    table: &'a Table,
     octets: &[u8],
-) -> Result<(Field, usize), Fault>
-    ensures ok { IfOk result (λ read. (read.1 ≤ length octets.now)
-        × EncodesIndex table.now.entries (take read.1 octets.now) read.0.name read.0.value
-        × (read.0.sensitive ≡ false)) }
-    ensures fault { IfErr result (PrefixFault (IsIndex table.now.entries) octets.now) }
-{
-    let (index, count) = int_at(INDEX_PREFIX, octets)?;
-    let Some((name, value)) = entry_at(table, index) else {
-        return Err(Fault::Compression);
-    };
-    let field = Field {
-        name: Octets::copy_of(alloc, name)?,
-        value: Octets::copy_of(alloc, value)?,
-        sensitive: false,
-    };
-    Ok((field, count))
-}
-
-/// Reads the index at the start of `octets`, which names a field, and answers how many octets
-/// encode it.
-pub(crate) fn index_len(table: &Table, octets: &[u8]) -> Result<usize, Fault>
-    ensures ok { IfOk result (λ count. (name value : Items ℕ) × (count ≤ length octets.now)
-        × EncodesIndex table.now.entries (take count octets.now) name value) }
+) -> Result<(&'a [u8], &'a [u8], usize), Fault>
+    ensures ok { IfOk result (λ read. (read.2 ≤ length octets.now)
+        × EncodesIndex table.now.entries (take read.2 octets.now) read.0.now read.1.now) }
     ensures fault { IfErr result (PrefixFault (IsIndex table.now.entries) octets.now) }
 {
     let (index, count) = int_at(INDEX_PREFIX, octets)?;
     match entry_at(table, index) {
-        Some(_) => Ok(count),
+        Some((name, value)) => Ok((name, value, count)),
         None => Err(Fault::Compression),
     }
 }
 
-/// Reads the literal at the start of `octets`, and answers its field and how many octets encode it.
-/// What is to be added to the table is added.
+/// Appends the name and the value of the field that the index at the start of `octets` names, and
+/// answers how long the name is and how many octets encode the index.
+#[inline(always)]
+pub(crate) fn indexed_at(
+    table: &Table,
+    octets: &[u8],
+    out: &mut Vec<u8>,
+) -> Result<(usize, usize), Fault>
+    ensures ok { IfOk result (λ read. (name value : Items ℕ)
+        × (out.new.items ≡ out.old.items ++ (name ++ value)) × (read.0 ≡ length name)
+        × (read.1 ≤ length octets.now)
+        × EncodesIndex table.now.entries (take read.1 octets.now) name value) }
+    ensures fault { IfErr result (PrefixFault (IsIndex table.now.entries) octets.now) }
+{
+    let (name, value, count) = indexed(table, octets)?;
+    out.extend_from_slice(name)?;
+    out.extend_from_slice(value)?;
+    Ok((name.len(), count))
+}
+
+/// Appends the name and the value of the literal at the start of `octets`, and answers what was
+/// read. What is to be added to the table is added.
 pub(crate) fn literal_at(
     alloc: Global,
     table: &mut Table,
     kind: Literal,
     octets: &[u8],
-) -> Result<(Field, usize), Fault>
-    ensures ok { IfOk result (λ read. (read.1 ≤ length octets.now)
-        × EncodesLiteral table.old.entries (prefix_bits_of kind) (take read.1 octets.now)
-        read.0.name read.0.value
-        × (read.0.sensitive ≡ is_sensitive kind)
+    out: &mut Vec<u8>,
+) -> Result<ReadField, Fault>
+    ensures ok { IfOk result (λ read. (name value : Items ℕ)
+        × (out.new.items ≡ out.old.items ++ (name ++ value)) × (read.name_len ≡ length name)
+        × (read.count ≤ length octets.now)
+        × EncodesLiteral table.old.entries (prefix_bits_of kind) (take read.count octets.now)
+        name value
+        × (read.sensitive ≡ is_sensitive kind)
         × (table.new
-        ≡ after_literal kind table.old (record { name = read.0.name; value = read.0.value }))) }
+        ≡ after_literal kind table.old (record { name = name; value = value }))) }
     ensures fault { IfErr result (PrefixFault (IsLiteral table.old.entries (prefix_bits_of kind))
         octets.now) }
 {
-    let (name, value, count) = parts_at(alloc, table, index_prefix_bits(kind), octets)?;
-    if kind == Literal::WithIndexing {
-        add_copy(alloc, table, &name, &value)?;
-    }
+    let start = out.len();
+    let (name_len, count) = parts_at(table, index_prefix_bits(kind), octets, out)?;
+    let name_end = start + name_len;
+    add_literal(alloc, table, kind, &out[start..name_end], &out[name_end..])?;
     let sensitive = kind == Literal::NeverIndexed;
-    Ok((
-        Field {
-            name,
-            value,
-            sensitive,
-        },
+    Ok(ReadField {
+        name_len,
+        sensitive,
         count,
-    ))
+    })
+}
+
+/// Adds a copy of a literal's name and value to the table, where its kind says so.
+#[inline(always)]
+fn add_literal(
+    alloc: Global,
+    table: &mut Table,
+    kind: Literal,
+    name: &[u8],
+    value: &[u8],
+) -> Result<(), AllocError>
+    ensures { OnOk result (table.new ≡ after_literal kind table.old
+        (record { name = name.now; value = value.now })) }
+{
+    if kind == Literal::WithIndexing {
+        return add_copy(alloc, table, name, value);
+    }
+    Ok(())
 }
 
 /// Adds a copy of the name and the value to the table. No copy is made of what is larger than the
 /// table's maximum, which empties it.
-fn add_copy(
-    alloc: Global,
-    table: &mut Table,
-    name: &Octets,
-    value: &Octets,
-) -> Result<(), AllocError>
+fn add_copy(alloc: Global, table: &mut Table, name: &[u8], value: &[u8]) -> Result<(), AllocError>
     ensures { OnOk result (table.new ≡ added_to table.old
         (record { name = name.now; value = value.now })) }
 {
-    if size_of_octets(name.as_slice(), value.as_slice()) > table.maximum() as usize {
+    if size_of_octets(name, value) > table.maximum() as usize {
         table.clear();
         return Ok(());
     }
-    table.add(Entry {
-        name: Octets::copy_of(alloc, name.as_slice())?,
-        value: Octets::copy_of(alloc, value.as_slice())?,
-    });
+    table.add(Entry::copy_of(alloc, name, value)?);
     Ok(())
 }
 
@@ -124,44 +132,46 @@ fn index_prefix_bits(kind: Literal) -> u8
     }
 }
 
-/// Reads the name and the value of a literal, and how many octets encode it.
+/// Appends the name and the value of a literal, and answers how long the name is and how many
+/// octets encode the literal.
 fn parts_at(
-    alloc: Global,
     table: &Table,
     prefix_bits: u8,
     octets: &[u8],
-) -> Result<(Octets, Octets, usize), Fault>
+    out: &mut Vec<u8>,
+) -> Result<(usize, usize), Fault>
     requires at_least { 1 ≤ prefix_bits }
     requires at_most { prefix_bits ≤ 8 }
-    ensures ok { IfOk result (λ read. (read.2 ≤ length octets.now)
-        × EncodesLiteral table.now.entries prefix_bits (take read.2 octets.now) read.0 read.1) }
+    ensures ok { IfOk result (λ read. (name value : Items ℕ)
+        × (out.new.items ≡ out.old.items ++ (name ++ value)) × (read.0 ≡ length name)
+        × (read.1 ≤ length octets.now)
+        × EncodesLiteral table.now.entries prefix_bits (take read.1 octets.now) name value) }
     ensures fault { IfErr result
         (PrefixFault (IsLiteral table.now.entries prefix_bits) octets.now) }
 {
+    let start = out.len();
     let (index, head_len) = int_at(prefix_bits, octets)?;
     let following = &octets[head_len..];
-    let (name, name_len) = name_at(alloc, table, index, following)?;
-    let (value, value_len) = text_at(alloc, &following[name_len..])?;
-    Ok((name, value, head_len + name_len + value_len))
+    let name_octets = name_at(table, index, following, out)?;
+    let name_len = out.len() - start;
+    let value_octets = text_at(&following[name_octets..], out)?;
+    Ok((name_len, head_len + name_octets + value_octets))
 }
 
-/// Reads the name of a literal, after its index, and how many octets encode it: none where the
-/// index is that of an entry.
-fn name_at(
-    alloc: Global,
-    table: &Table,
-    index: u64,
-    octets: &[u8],
-) -> Result<(Octets, usize), Fault>
-    ensures ok { IfOk result (λ read. (read.1 ≤ length octets.now)
-        × LiteralName table.now.entries index read.0 (take read.1 octets.now)) }
+/// Appends the name of a literal, after its index, and answers how many octets encode it: none
+/// where the index is that of an entry.
+fn name_at(table: &Table, index: u64, octets: &[u8], out: &mut Vec<u8>) -> Result<usize, Fault>
+    ensures ok { IfOk result (λ count. (name : Items ℕ) × (out.new.items ≡ out.old.items ++ name)
+        × (count ≤ length octets.now)
+        × LiteralName table.now.entries index name (take count octets.now)) }
     ensures fault { IfErr result (PrefixFault (IsName table.now.entries index) octets.now) }
 {
     if index == 0 {
-        return text_at(alloc, octets);
+        return text_at(octets, out);
     }
     let Some((name, _)) = entry_at(table, index) else {
         return Err(Fault::Compression);
     };
-    Ok((Octets::copy_of(alloc, name)?, 0))
+    out.extend_from_slice(name)?;
+    Ok(0)
 }

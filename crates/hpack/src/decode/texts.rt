@@ -1,15 +1,14 @@
 //! The integers and strings of a block (RFC 7541, section 5), with the faults of blocks.
 
-ghost use Rattle.std.specs.Prelude.{◌≡◌, ◌≤◌, length, take, IfOk, IfErr};
+ghost use Rattle.std.specs.Prelude.{◌≡◌, ℕ, ◌≤◌, ◌++◌, List as Items, length, take, IfOk, IfErr};
 ghost use Rattle.hpack_text.specs.Integers.{Int};
 ghost use Rattle.hpack_text.specs.Strings.{Str};
 ghost use Rattle.hpack.specs.declared.types.fault.Fault.TheVariants as faults;
 ghost use Rattle.hpack.specs.Prefixes.{PrefixFault, IsInt, IsStr, fault_of_text};
 
 use crate::types::fault::Fault;
-use crate::types::octets::Octets;
-use hpack_text::{TextFault, read_int, read_string};
-use std::alloc::{AllocError, AllocFailed, Global};
+use hpack_text::{TextFault, read_int, read_string_into};
+use std::alloc::{AllocError, AllocFailed};
 
 impl From<TextFault> for Fault {
     ghost from_gives = { λ text fault. fault ≡ fault_of_text text };
@@ -53,12 +52,12 @@ pub(crate) fn int_at(prefix_bits: u8, octets: &[u8]) -> Result<(u64, usize), Fau
     Ok(read)
 }
 
-/// Reads the string at the start of `octets`, and answers its text and how many octets encode it.
-pub(crate) fn text_at(alloc: Global, octets: &[u8]) -> Result<(Octets, usize), Fault>
-    ensures ok { IfOk result (λ read. (read.1 ≤ length octets.now)
-        × Str read.0 (take read.1 octets.now)) }
+/// Appends the text of the string at the start of `octets`, and answers how many octets encode it.
+pub(crate) fn text_at(octets: &[u8], out: &mut Vec<u8>) -> Result<usize, Fault>
+    ensures ok { IfOk result (λ count. (text : Items ℕ) × (out.new.items ≡ out.old.items ++ text)
+        × (count ≤ length octets.now) × Str text (take count octets.now)) }
     ensures fault { IfErr result (PrefixFault IsStr octets.now) }
 {
-    let (text, count) = read_string(alloc, octets)?;
-    Ok((Octets::new(text), count))
+    let count = read_string_into(octets, out)?;
+    Ok(count)
 }

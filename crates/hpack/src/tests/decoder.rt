@@ -3,7 +3,8 @@
 use crate::decode::decoder::Decoder;
 use crate::table::dynamic_table::Table;
 use crate::types::fault::Fault;
-use crate::types::field::{Field, List};
+use crate::types::field::{Decoded, Field, List};
+use crate::types::field_list::FieldList;
 use std::alloc::Global;
 use std::process::Abort;
 use std::test::Fail;
@@ -28,9 +29,34 @@ fn check_examples(
     examples: &[Example],
 ) -> Result<(), Fail> {
     let mut decoder = Decoder::new(alloc, maximum)?;
+    let mut other = Decoder::new(alloc, maximum)?;
+    let mut kept = FieldList::new(alloc);
     for example in examples {
         check_example(rt, &mut decoder, example)?;
+        check_kept(rt, &mut other, &mut kept, example)?;
     }
+    Ok(())
+}
+
+/// Decodes a block into a list that is kept.
+fn check_kept(
+    rt: &impl Abort,
+    decoder: &mut Decoder,
+    kept: &mut FieldList,
+    example: &Example,
+) -> Result<(), Fail> {
+    let decoded = decoder.decode_into(example.octets, NO_LIMIT, kept)?;
+    assert_eq!(rt; decoded, Decoded::Whole);
+    assert_eq!(rt; kept.len(), example.fields.len());
+    for (place, field) in example.fields.iter().enumerate() {
+        let Some(found) = kept.get(place) else {
+            panic!(rt; "no field");
+        };
+        assert_eq!(rt; found.name, field.0.as_bytes());
+        assert_eq!(rt; found.value, field.1.as_bytes());
+        assert!(rt; !found.sensitive);
+    }
+    check_table(rt, decoder.table(), example.entries);
     Ok(())
 }
 

@@ -1,9 +1,9 @@
-//! An encoder and a decoder go through generated lists in step.
+//! An encoder and two decoders go through generated lists in step.
 
 ghost use Rattle.std.specs.Prelude.{◌<◌};
 
 use crate::tests::lists::encode_list;
-use crate::{Decoder, Encoder, Field, List, Octets, Table, list_size};
+use crate::{Decoded, Decoder, Encoder, Field, FieldList, List, Octets, Table, list_size};
 use std::alloc::{AllocError, Global};
 use std::process::Abort;
 use std::test::Fail;
@@ -139,11 +139,13 @@ fn every_octet(alloc: Global) -> Result<Octets, AllocError> {
     Ok(Octets::new(octets))
 }
 
-/// An encoder, and a decoder of what it writes.
+/// An encoder, and two decoders of what it writes, the second one with a list that is kept.
 #[derive(Drop)]
 struct Pair {
     encoder: Encoder,
     decoder: Decoder,
+    other: Decoder,
+    kept: FieldList,
 }
 
 impl Pair {
@@ -156,6 +158,7 @@ impl Pair {
             let limit = LIMITS[draw.below(LIMITS.len())];
             self.encoder.set_limit(limit);
             self.decoder.set_limit(limit);
+            self.other.set_limit(limit);
         }
     }
 
@@ -166,6 +169,10 @@ impl Pair {
         let list = self.decoder.decode(&out, u32::MAX)?;
         check_list(rt, &list, fields);
         check_tables(rt, self.encoder.table(), self.decoder.table());
+        let decoded = self.other.decode_into(&out, u32::MAX, &mut self.kept)?;
+        assert_eq!(rt; decoded, Decoded::Whole);
+        check_kept(rt, &self.kept, fields);
+        check_tables(rt, self.encoder.table(), self.other.table());
         Ok(())
     }
 
@@ -182,6 +189,11 @@ impl Pair {
         let list = self.decoder.decode(&out, size.saturating_sub(1))?;
         assert_eq!(rt; matches!(list, List::TooLarge), size > 0);
         check_tables(rt, self.encoder.table(), self.decoder.table());
+        let limit = size.saturating_sub(1);
+        let decoded = self.other.decode_into(&out, limit, &mut self.kept)?;
+        assert_eq!(rt; decoded == Decoded::TooLarge, size > 0);
+        assert!(rt; self.kept.is_empty());
+        check_tables(rt, self.encoder.table(), self.other.table());
         Ok(())
     }
 }
@@ -195,6 +207,19 @@ fn check_list(rt: &impl Abort, list: &List, fields: &[Field]) {
     for (one, field) in found.iter().zip(fields) {
         assert_eq!(rt; one.name.as_slice(), field.name.as_slice());
         assert_eq!(rt; one.value.as_slice(), field.value.as_slice());
+        assert_eq!(rt; one.sensitive, field.sensitive);
+    }
+}
+
+/// The list that is kept is of these fields.
+fn check_kept(rt: &impl Abort, kept: &FieldList, fields: &[Field]) {
+    assert_eq!(rt; kept.len(), fields.len());
+    for (place, field) in fields.iter().enumerate() {
+        let Some(one) = kept.get(place) else {
+            panic!(rt; "no field");
+        };
+        assert_eq!(rt; one.name, field.name.as_slice());
+        assert_eq!(rt; one.value, field.value.as_slice());
         assert_eq!(rt; one.sensitive, field.sensitive);
     }
 }
@@ -229,6 +254,8 @@ fn check_pair(
     let mut pair = Pair {
         encoder: Encoder::new(alloc, maximum)?,
         decoder: Decoder::new(alloc, maximum)?,
+        other: Decoder::new(alloc, maximum)?,
+        kept: FieldList::new(alloc),
     };
     let mut draw = Draw {
         state: u64::from(maximum),

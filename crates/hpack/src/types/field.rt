@@ -1,6 +1,9 @@
 //! Fields, as they are decoded and encoded.
 
+ghost use Rattle.std.specs.Prelude.{◌≡◌, IfOk};
+
 use crate::types::octets::Octets;
+use std::alloc::{AllocError, Global};
 use std::fmt;
 
 /// A field: a name, a value, and whether it may never be put into a table (RFC 7541, section
@@ -15,6 +18,33 @@ pub struct Field {
     pub sensitive: bool,
 }
 
+impl Field {
+    /// A field of copies of a name and a value.
+    ///
+    /// # Errors
+    ///
+    /// [`AllocError`] where an allocation was refused.
+    #[inline(always)]
+    pub(crate) fn copy_of(
+        alloc: Global,
+        name: &[u8],
+        value: &[u8],
+        sensitive: bool,
+    ) -> Result<Field, AllocError>
+        ensures { IfOk result (λ field. field ≡ record {
+          name = name.now;
+          value = value.now;
+          sensitive = sensitive;
+        }) }
+    {
+        Ok(Field {
+            name: Octets::copy_of(alloc, name)?,
+            value: Octets::copy_of(alloc, value)?,
+            sensitive,
+        })
+    }
+}
+
 impl fmt::Debug for Field {
     fn fmt<W: fmt::Write>(&self, f: &mut fmt::Formatter<W>) -> fmt::Result {
         if self.sensitive {
@@ -27,11 +57,47 @@ impl fmt::Debug for Field {
     }
 }
 
+/// A field of a list, lent. `{:?}` shows `[sensitive]` in place of a sensitive field's value.
+#[derive(Clone, Copy)]
+pub struct FieldRef<'a> {
+    /// The name.
+    pub name: &'a [u8],
+    /// The value.
+    pub value: &'a [u8],
+    /// Whether it is to be written, or was read, as a literal that is never indexed.
+    pub sensitive: bool,
+}
+
+impl fmt::Debug for FieldRef<'_> {
+    fn fmt<W: fmt::Write>(&self, f: &mut fmt::Formatter<W>) -> fmt::Result {
+        if self.sensitive {
+            return write!(
+                f,
+                "FieldRef {{ name: {:?}, value: [sensitive] }}",
+                self.name
+            );
+        }
+        f.debug_struct("FieldRef")
+            .field("name", &self.name)
+            .field("value", &self.value)
+            .finish()
+    }
+}
+
 /// The fields of a block.
 #[derive(Debug, Drop)]
 pub enum List {
     /// All of them, in order.
     Whole(Vec<Field>),
     /// Their size is above the limit; the table is as after the complete block.
+    TooLarge,
+}
+
+/// What a list holds after a block.
+#[derive(Clone, Copy, Debug, PartialEq, Eq)]
+pub enum Decoded {
+    /// All fields of the block, in order.
+    Whole,
+    /// Nothing, as their size is above the limit; the table is as after the complete block.
     TooLarge,
 }

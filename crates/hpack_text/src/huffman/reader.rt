@@ -1,33 +1,61 @@
 //! Reading a Huffman-encoded string, by half octets.
 
-ghost use Rattle.std.specs.Prelude.{◌≡◌, ◌+◌, ◌*◌, ◌<◌, ◌≤◌, ◌++◌, length};
-ghost use Rattle.std.specs.Prelude.{MatchOption, MatchResult};
-ghost use Rattle.std.specs.List.{AllByRecursion};
+ghost use Rattle.std.specs.Prelude.{◌≡◌, ◌+◌, ◌*◌, ◌<◌, ◌≤◌, ◌++◌, List, ℕ, length, true};
+ghost use Rattle.std.specs.Prelude.{IfErr, OnErr, MatchOption, MatchResult, vec_len};
 ghost use Rattle.std.specs.Vec.{vec_capacity};
-ghost use Rattle.hpack_text.specs.Bits.{IsOctet, bits_of};
+ghost use Rattle.hpack_text.specs.Appended.{IsExtended};
+ghost use Rattle.hpack_text.specs.Bits.{bits_of};
 ghost use Rattle.hpack_text.specs.Huffman.{Huff, HuffFault};
-ghost use Rattle.hpack_text.specs.States.{HasEnd, bits_read};
+ghost use Rattle.hpack_text.specs.States.{Reads, ReadsEnd, prefix_of};
+ghost use Rattle.hpack_text.specs.Strings.{most_text};
 
 use crate::fault::TextFault;
 use crate::huffman::huff_step;
-use std::alloc::Global;
+use std::mem::replace;
 
 /// The most ones that may pad the last octet. The state of so many ones has their number.
 const MAX_PADDING: u8 = 7;
 
-/// Reads all of `octets` as a text.
-pub fn read_text(alloc: Global, octets: &[u8]) -> Result<Vec<u8>, TextFault>
-    ensures answer { MatchResult result (λ text. Huff text.items octets.now)
+/// Appends the text that all of `octets` encode.
+pub fn append_text(octets: &[u8], out: &mut Vec<u8>) -> Result<(), TextFault>
+    ensures answer { MatchResult result
+        (λ _. (text : List ℕ) × (out.new.items ≡ out.old.items ++ text) × Huff text octets.now)
         (HuffFault octets.now) }
+    ensures err { OnErr result (out.new.items ≡ out.old.items) }
+    ensures full { IfErr result (λ fault. fault ≡ TextFault.Memory
+        → vec_capacity out.old < vec_len out.old + most_text true (length octets.now)) }
+    ensures capacity { vec_capacity out.old ≤ vec_capacity out.new }
 {
     // A code has five bits at least.
     let most = octets.len() / 5 * 8 + octets.len() % 5 * 8 / 5;
-    let Ok(mut text) = Vec::with_capacity(alloc, most) else {
+    if out.reserve(most).is_err() {
         return Err(TextFault::Memory);
-    };
+    }
+    let start = out.len();
+    // A vector of this function's own stays in registers while it is appended to.
+    let mut text = replace(out, Vec::new(*out.allocator()));
+    let read = read_text(octets, &mut text);
+    *out = text;
+    if read.is_err() {
+        out.truncate(start);
+    }
+    read
+}
+
+/// Reads all of `octets` as a text. On `Err` a prefix of it was appended.
+#[inline(always)]
+fn read_text(octets: &[u8], out: &mut Vec<u8>) -> Result<(), TextFault>
+    requires room { 5 * vec_len out.old + 8 * length octets.now ≤ 5 * vec_capacity out.old + 4 }
+    ensures answer { MatchResult result
+        (λ _. (text : List ℕ) × (out.new.items ≡ out.old.items ++ text) × Huff text octets.now)
+        (HuffFault octets.now) }
+    ensures extended { IsExtended out.old.items out.new.items }
+    ensures memory { IfErr result (λ fault. fault ≡ TextFault.Memory → ⊥) }
+    ensures capacity { vec_capacity out.new ≡ vec_capacity out.old }
+{
     let mut state = 0;
     for octet in octets {
-        let Some(next) = read_octet(state, *octet, &mut text) else {
+        let Some(next) = read_octet(state, *octet, out) else {
             return Err(TextFault::EndSymbol);
         };
         state = next;
@@ -35,44 +63,39 @@ pub fn read_text(alloc: Global, octets: &[u8]) -> Result<Vec<u8>, TextFault>
     if state > MAX_PADDING {
         return Err(TextFault::BadPadding);
     }
-    Ok(text)
+    Ok(())
 }
 
 /// Reads the bits of an octet from a state, and appends the octets whose codes they end. None comes
 /// where they end the code of EOS.
 #[inline]
-fn read_octet(state: u8, octet: u8, text: &mut Vec<u8>) -> Option<u8>
-    requires octets { AllByRecursion IsOctet text.old.items }
-    requires room { length (bits_read text.old.items state) + 4 ≤ 5 * vec_capacity text.old }
+fn read_octet(state: u8, octet: u8, out: &mut Vec<u8>) -> Option<u8>
+    requires room { 5 * vec_len out.old + length (prefix_of state) + 4
+        ≤ 5 * vec_capacity out.old }
     ensures answer { MatchOption result
-        (HasEnd text.new.items (bits_read text.old.items state ++ bits_of 8 octet))
-        (λ next. bits_read text.new.items next
-        ≡ bits_read text.old.items state ++ bits_of 8 octet) }
-    ensures octets { AllByRecursion IsOctet text.new.items }
-    ensures capacity { vec_capacity text.new ≡ vec_capacity text.old }
+        (ReadsEnd out.old.items out.new.items state (bits_of 8 octet))
+        (Reads out.old.items out.new.items state (bits_of 8 octet)) }
+    ensures capacity { vec_capacity out.new ≡ vec_capacity out.old }
 {
-    let between = read_half(state, octet / 16, text)?;
-    read_half(between, octet % 16, text)
+    let between = read_half(state, octet / 16, out)?;
+    read_half(between, octet % 16, out)
 }
 
 /// Reads four bits from a state, and appends the octet whose code they end. None comes where they
 /// end the code of EOS.
 #[inline]
-fn read_half(state: u8, half: u8, text: &mut Vec<u8>) -> Option<u8>
+fn read_half(state: u8, half: u8, out: &mut Vec<u8>) -> Option<u8>
     requires half { half < 16 }
-    requires octets { AllByRecursion IsOctet text.old.items }
-    requires room { length (bits_read text.old.items state) ≤ 5 * vec_capacity text.old }
+    requires room { 5 * vec_len out.old + length (prefix_of state) ≤ 5 * vec_capacity out.old }
     ensures answer { MatchOption result
-        (HasEnd text.new.items (bits_read text.old.items state ++ bits_of 4 half))
-        (λ next. bits_read text.new.items next
-        ≡ bits_read text.old.items state ++ bits_of 4 half) }
-    ensures octets { AllByRecursion IsOctet text.new.items }
-    ensures capacity { vec_capacity text.new ≡ vec_capacity text.old }
+        (ReadsEnd out.old.items out.new.items state (bits_of 4 half))
+        (Reads out.old.items out.new.items state (bits_of 4 half)) }
+    ensures capacity { vec_capacity out.new ≡ vec_capacity out.old }
 {
     let (next, symbol) = huff_step(state, half)?;
     let Some(symbol) = symbol else {
         return Some(next);
     };
-    text.push_reserved(symbol);
+    out.push_reserved(symbol);
     Some(next)
 }

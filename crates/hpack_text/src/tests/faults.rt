@@ -29,7 +29,7 @@ fn huffman_faults(rt: HostRuntime) {
 }
 
 #[test]
-fn string_faults(rt: HostRuntime) {
+fn string_faults(rt: HostRuntime) -> Result<(), Fail> {
     let rows = [
         (b"".as_slice(), TextFault::Truncated),
         (b"\x82\x64".as_slice(), TextFault::Truncated),
@@ -48,7 +48,16 @@ fn string_faults(rt: HostRuntime) {
             Some(fault),
             "{octets:?}"
         );
+        let mut out = Vec::new(rt.alloc());
+        out.push(7)?;
+        assert_eq!(rt;
+            read_string_into(octets, &mut out).err(),
+            Some(fault),
+            "{octets:?}"
+        );
+        assert_eq!(rt; out.as_slice(), b"\x07".as_slice());
     }
+    Ok(())
 }
 
 #[test]

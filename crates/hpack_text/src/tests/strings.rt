@@ -23,6 +23,21 @@ fn check_text(rt: &impl Abort, alloc: Global, text: &[u8]) -> Result<(), Fail>
     let (read, used) = read_string(alloc, &string)?;
     assert_eq!(rt; read.as_slice(), text);
     assert_eq!(rt; used, count);
+    check_appended(rt, alloc, &string, text)
+}
+
+/// Reads a string after an octet that is there, and once more after its own text.
+fn check_appended(rt: &impl Abort, alloc: Global, string: &[u8], text: &[u8]) -> Result<(), Fail> {
+    let (_, count) = read_string(alloc, string)?;
+    let mut out = Vec::new(alloc);
+    let mut expected = Vec::new(alloc);
+    out.push(b'>')?;
+    expected.push(b'>')?;
+    for _ in 0..2 {
+        expected.extend_from_slice(text)?;
+        assert_eq!(rt; read_string_into(string, &mut out)?, count);
+        assert_eq!(rt; out.as_slice(), expected.as_slice());
+    }
     Ok(())
 }
 

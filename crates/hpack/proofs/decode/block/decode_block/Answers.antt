@@ -1,31 +1,14 @@
-use Rattle.std.proofs.Common.{arith}
-use Rattle.std.proofs.lemmas.Result.{IfOk-weaker, IfErr-weaker}
-use Rattle.hpack.proofs.BlockLemmas.{above_limit, block_read, block_fault}
 use Rattle.hpack.proofs.decode.block.decode_block.Goals as goal
 
-pub returns-then-maximum-limit-clause-fault : goal.returns-then-maximum-limit-clause-fault
-returns-then-maximum-limit-clause-fault c =
-    above_limit c.args.table.now c.apply_updates.new.table c.args.limit c.args.octets.now
-    c.in_ok-unparsed.unparsed.now (omega (arith, c.maximum.ensures, c.if-maximum-limit.true))
-    c.in_ok-unparsed.ensures.no_more c.in_ok-unparsed.ensures.ok
+pub into_list-built-requires : goal.into_list-built-requires
+into_list-built-requires c =
+    (c.in_default.ensures.ok.2 c.args.list_limit c.in_room_of-builder.ensures).within
 
 pub returns-clause-ok : goal.returns-clause-ok
 returns-clause-ok c =
-    IfOk-weaker c.read_fields.result _ _
-    (λ list h. (
-      h.0,
-      block_read c.args.table.now c.apply_updates.new.table c.read_fields.new.table
-          c.args.limit c.args.octets.now c.in_ok-unparsed.unparsed.now h.0
-          (omega (arith, c.maximum.ensures, c.if-maximum-limit.false)) c.in_ok-unparsed.ensures.ok
-          h.1,
-      h.2,
-    ))
-    c.read_fields.ensures.ok
-
-pub returns-clause-fault : goal.returns-clause-fault
-returns-clause-fault c =
-    IfErr-weaker c.read_fields.result _ _
-    (λ fault. block_fault c.args.table.now c.apply_updates.new.table c.args.limit c.args.octets.now
-    c.in_ok-unparsed.unparsed.now fault c.in_ok-unparsed.ensures.no_more
-    c.in_ok-unparsed.ensures.ok)
-    c.read_fields.ensures.fault
+    let built = c.in_default.ensures.ok in (
+      built.0,
+      built.1,
+      c.into_list-built.ensures c.args.list_limit built.0
+          (built.2 c.args.list_limit c.in_room_of-builder.ensures),
+    )

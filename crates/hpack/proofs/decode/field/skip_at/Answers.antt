@@ -1,28 +1,34 @@
-use Rattle.std.proofs.Common.{take, refl, false, arith}
-use Rattle.std.proofs.lemmas.Result.{IfOk-weaker, IfErr-weaker}
+use Rattle.std.proofs.Common.{take, false, refl}
+use Rattle.std.proofs.lemmas.Result.{err_from_is_err_and}
+use Rattle.hpack.specs.declared.types.field.Field.{Field}
 use Rattle.hpack.specs.Prefixes.{IsIndex, IsStep}
 use Rattle.hpack.proofs.PrefixLemmas.{octets_after, split_at_count, fault_moves}
-use Rattle.hpack.proofs.StepLemmas.{index_step, no_index_step}
+use Rattle.hpack.proofs.StepLemmas.{index_first, index_step, no_index_step}
 use Rattle.hpack.proofs.decode.field.skip_at.Goals as goal
 
-pub returns-then-first-ge128-clause-ok : goal.returns-then-first-ge128-clause-ok
-returns-then-first-ge128-clause-ok c =
-    let octets = c.args.octets.now in
-    IfOk-weaker c.index_len.result _ _
-    (λ count h. (
-      record { name = h.0; value = h.1; sensitive = false },
-      h.2,
-      index_step c.args.table.now octets (take count octets) (octets_after octets count)
-          (record { name = h.0; value = h.1; sensitive = false })
-          (split_at_count octets count) c.if-first-ge128.true (omega (arith, c.type_inv.octets 0))
-          h.3 refl,
-    ))
-    c.index_len.ensures.ok
-
-pub returns-then-first-ge128-clause-fault : goal.returns-then-first-ge128-clause-fault
-returns-then-first-ge128-clause-fault c =
+pub returns-in_err-count-clause-fault : goal.returns-in_err-count-clause-fault
+returns-in_err-count-clause-fault c =
     let octets = c.args.octets.now in
     let table = c.args.table.now in
-    IfErr-weaker c.index_len.result _ _
-    (λ fault. fault_moves (IsIndex table.entries) (IsStep table) octets octets fault
-    (no_index_step table octets c.if-first-ge128.true)) c.index_len.ensures.fault
+    let p = err_from_is_err_and c.from_residual.result c.from_residual.ensures.1 in
+    let first = index_first octets (c.begins_with_index.ensures.0 c.if-begins_with_index.true) in
+    rw (p.1, p.2) (fault_moves (IsIndex table.entries) (IsStep table) octets octets _
+    (no_index_step table octets first.0) c.in_err-count.ensures.fault)
+
+pub returns-then-begins_with_index-clause-ok : goal.returns-then-begins_with_index-clause-ok
+returns-then-begins_with_index-clause-ok c =
+    let octets = c.args.octets.now in
+    let table = c.args.table.now in
+    let count = c.in_ok-count.count in
+    let read = c.in_ok-count.ensures.ok in
+    let first = index_first octets (c.begins_with_index.ensures.0 c.if-begins_with_index.true) in
+    let field : Field = record {
+      name = _;
+      value = _;
+      sensitive = false;
+    } in (
+      field,
+      read.0,
+      index_step table octets (take count octets) (octets_after octets count) field
+          (split_at_count octets count) first.0 first.1 read.1 refl,
+    )

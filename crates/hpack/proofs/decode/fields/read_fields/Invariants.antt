@@ -1,13 +1,13 @@
 use Rattle.std.proofs.Common.{List, length}
 use Rattle.hpack.specs.declared.types.field.Field.{Field}
-use Rattle.hpack.specs.Prefixes.{RepresentsFields}
+use Rattle.hpack.specs.FieldListBuilder.{Builds}
 use Rattle.hpack.proofs.BlockLemmas.{ReadsSoFar}
 use Rattle.hpack.proofs.decode.fields.read_fields.Given as goal
 
 abbrev pub invariant-loop-unparsed : goal.invariant-loop-unparsed
 invariant-loop-unparsed l =
     (done : List Field) × ReadsSoFar l.fn.table l.octets l.table l.unparsed done
-    × RepresentsFields l.list_limit done l.builder.list l.builder.remaining
+    × Builds l.fn.builder done l.builder
 
 abbrev pub decreases-loop-unparsed : goal.decreases-loop-unparsed
 decreases-loop-unparsed l = length l.unparsed

@@ -1,4 +1,4 @@
-use Rattle.std.proofs.Common.{List, ℕ, length, ap, arith}
+use Rattle.std.proofs.Common.{arith}
 use Rattle.hpack.specs.declared.types.entry.Entry.{Entry}
 use Rattle.hpack.proofs.SizeLemmas.{fit-none}
 use Rattle.hpack.proofs.decode.literal.add_copy.Goals as goal
@@ -6,13 +6,9 @@ use Rattle.hpack.proofs.decode.literal.add_copy.Goals as goal
 pub returns-then-size_of_octets-maximum : goal.returns-then-size_of_octets-maximum
 returns-then-size_of_octets-maximum c =
     let one : Entry = record { name = c.args.name.now; value = c.args.value.now } in
-    let name = ap (λ (octets : List ℕ). length octets) c.as_slice.ensures in
-    let value = ap (λ (octets : List ℕ). length octets) c.as_slice-2.ensures in
     rw (fit-none one c.args.table.now.entries c.args.table.now.maximum
     (omega (
       arith,
-      name,
-      value,
       c.size_of_octets.ensures,
       c.maximum.ensures,
       c.if-size_of_octets-maximum.true,

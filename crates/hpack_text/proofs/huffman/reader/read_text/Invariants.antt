@@ -1,13 +1,11 @@
-use Rattle.std.proofs.Common.{◌≡◌, ◌+◌, ◌*◌, ◌<◌, ◌≤◌, length, take, vec_capacity}
-use Rattle.std.specs.List.{AllByRecursion}
-use Rattle.hpack_text.specs.Bits.{IsOctet, bits}
-use Rattle.hpack_text.specs.States.{bits_read}
+use Rattle.std.proofs.Common.{◌≡◌, ◌<◌, take, vec_capacity}
+use Rattle.hpack_text.specs.Bits.{bits}
+use Rattle.hpack_text.specs.States.{Reads}
 use Rattle.hpack_text.proofs.huffman.reader.read_text.Given as goal
 
 abbrev pub invariant-loop-octet : goal.invariant-loop-octet
 invariant-loop-octet l = record {
-  read : bits_read l.text.items l.state ≡ bits (take l.octet-index l.octets);
+  read : Reads l.initial.out.items l.out.items 0 (bits (take l.octet-index l.octets)) l.state;
   small : l.state < 256;
-  octets : AllByRecursion IsOctet l.text.items;
-  room : 8 * length l.octets ≤ 5 * vec_capacity l.text + 4;
+  capacity : vec_capacity l.out ≡ vec_capacity l.initial.out;
 }

@@ -1,0 +1,38 @@
+use Rattle.std.proofs.Common.{◌∷◌, [], ◌++◌, take}
+use Rattle.std.proofs.lemmas.Result.{err_from_is_err_and}
+use Rattle.hpack.proofs.PrefixLemmas.{octets_after, split_at_count}
+use Rattle.hpack.proofs.BlockLemmas.{reads_more, reads_all, reads_fault, none_left, some_left}
+use Rattle.hpack.proofs.OwnedListLemmas.{has_owned_list}
+use Rattle.hpack.proofs.decode.owned_fields.read_owned_fields.Goals as goal
+
+pub returns-in_err-count-clause-fault : goal.returns-in_err-count-clause-fault
+returns-in_err-count-clause-fault c =
+    let p = err_from_is_err_and c.from_residual.result c.from_residual.ensures.1 in
+    rw (p.1, p.2) (reads_fault c.args.table.now c.loop-unparsed.table c.args.octets.now
+    c.loop-unparsed.unparsed.now c.loop-unparsed.invariant.0 _
+    (some_left _ c.loop-unparsed-test.ensures) c.loop-unparsed.invariant.1
+    c.in_err-count.ensures.fault)
+
+pub loop-unparsed-preserved : goal.loop-unparsed-preserved
+loop-unparsed-preserved c =
+    let unparsed = c.loop-unparsed.unparsed.now in
+    let count = c.in_ok-count.count in (
+      c.loop-unparsed.invariant.0 ++ c.in_ok-count.ensures.ok.0 ∷ [],
+      reads_more c.args.table.now c.loop-unparsed.table c.read_owned.new.table c.args.octets.now
+          unparsed (take count unparsed) (octets_after unparsed count) c.loop-unparsed.invariant.0
+          c.in_ok-count.ensures.ok.0 (split_at_count unparsed count) c.in_ok-count.ensures.ok.2
+          c.loop-unparsed.invariant.1,
+      c.in_ok-count.ensures.ok.3 c.args.list_limit c.loop-unparsed.invariant.0
+          c.loop-unparsed.invariant.2,
+    )
+
+pub returns-clause-ok : goal.returns-clause-ok
+returns-clause-ok c =
+    let done = c.loop-unparsed.invariant.0 in (
+      done,
+      reads_all c.args.table.now c.loop-unparsed.table c.args.octets.now
+          c.loop-unparsed.unparsed.now done (none_left _ c.loop-unparsed-test.ensures)
+          c.loop-unparsed.invariant.1,
+      has_owned_list c.args.list_limit done c.loop-unparsed.builder.list
+          c.loop-unparsed.builder.remaining c.loop-unparsed.invariant.2,
+    )

@@ -1,0 +1,32 @@
+-- A list of fields as octets and the places of its fields among them, and what a builder of such a
+-- list represents.
+use Rattle.std.specs.Prelude.{ℕ, ◌-◌, ◌≤◌, List, length, map, take, drop}
+use Rattle.std.specs.List.{AllByRecursion}
+use Rattle.hpack.specs.declared.types.field.Field.{Field}
+use Rattle.hpack.specs.declared.types.field_place.FieldPlace.{FieldPlace}
+
+-- the octets from one place to another
+abbrev pub octets_between : List ℕ → ℕ → ℕ → List ℕ
+octets_between octets start end = take (end - start) (drop start octets)
+
+-- the field at a place
+unfoldable pub field_of : List ℕ → FieldPlace → Field
+field_of octets place = record {
+  name = octets_between octets place.start place.name_end;
+  value = octets_between octets place.name_end place.value_end;
+  sensitive = place.sensitive;
+}
+
+-- the fields at places
+abbrev pub fields_of : List ℕ → List FieldPlace → List Field
+fields_of octets places = map (field_of octets) places
+
+-- The place is among so many octets.
+pub record IsWithin (count : ℕ) (place : FieldPlace) : Type 0 where
+  pub name : place.start ≤ place.name_end
+  pub value : place.name_end ≤ place.value_end
+  pub end : place.value_end ≤ count
+
+-- The places are among the octets.
+abbrev pub AreWithin : List ℕ → List FieldPlace → Type 0
+AreWithin octets places = AllByRecursion (IsWithin (length octets)) places
