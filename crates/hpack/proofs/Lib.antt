@@ -6,6 +6,8 @@ pub mod PrefixLemmas
 pub mod LimitLemmas
 pub mod LookupLemmas
 mod Examples
+pub mod RingLemmas
+pub mod RoomLemmas
 pub mod SearchLemmas
 pub mod SizeLemmas
 pub mod StateLemmas

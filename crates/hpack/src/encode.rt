@@ -5,5 +5,6 @@ pub(crate) mod encoder;
 pub(crate) mod field;
 pub(crate) mod fields;
 pub(crate) mod pending_table;
+pub(crate) mod room;
 pub(crate) mod search;
 pub(crate) mod size_updates;

@@ -5,4 +5,5 @@ mod encoder;
 mod fields;
 mod in_step;
 mod lists;
+mod ring;
 mod static_table;

@@ -9,6 +9,7 @@ ghost use Rattle.hpack.specs.Limits.{after_limit};
 
 use crate::encode::fields::append_fields;
 use crate::encode::pending_table::PendingTable;
+use crate::encode::room::reserve_block;
 use crate::encode::size_updates::SizeUpdates;
 use crate::table::dynamic_table::Table;
 use crate::types::fault::Fault;
@@ -104,6 +105,7 @@ impl Encoder {
         ensures err { IfErr result (λ fault. (fault ≡ Fault.Memory)
             × (out.new.items ≡ out.old.items) × (self.new ≡ self.old)) }
     {
+        reserve_block(fields, out)?;
         let start = out.len();
         if self.append_block(fields, out).is_err() {
             out.truncate(start);
