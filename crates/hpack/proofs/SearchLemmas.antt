@@ -10,7 +10,7 @@ use Rattle.std.proofs.lemmas.Bool.{cases_lt, ne_eqb, and_parts, cases_eq, eq-eqb
 use Rattle.std.proofs.lemmas.List.{drop_more}
 use Rattle.std.proofs.Math.ListN.{drop_of_length-le}
 use Rattle.std.specs.List.{list_all, list_any}
-use Rattle.hpack.specs.declared.types.entry.Entry.{Entry}
+use Rattle.hpack.specs.Entry.{Entry}
 use Rattle.hpack.specs.declared.types.field.Field.{Field}
 use Rattle.hpack.specs.declared.encode.search.Sought.{Sought}
 use Rattle.hpack.specs.declared.encode.search.Sought.TheVariants.{Exact, Name}

@@ -4,7 +4,7 @@ use Rattle.std.proofs.Common.{inr, Bool, true, List, [], ◌∷◌, ◌++◌, le
 use Rattle.std.proofs.Common.{arith, le-leb}
 use Rattle.std.proofs.lemmas.Bool.{cases_lt, lt-leb}
 use Rattle.std.proofs.lemmas.List.Sums.{sum_by-cons, sum_by_push}
-use Rattle.hpack.specs.declared.types.entry.Entry.{Entry}
+use Rattle.hpack.specs.Entry.{Entry}
 use Rattle.hpack.specs.Tables.{Entries}
 use Rattle.hpack.specs.Sizes.{entry_size, table_size, fit, add}
 

@@ -1,3 +1,4 @@
+pub mod Entry
 pub mod Sizes
 pub mod Static
 pub mod Tables

@@ -1,6 +1,6 @@
 -- Pending tables: what becomes of a table, while the table itself stays as it is.
 use Rattle.std.specs.Prelude.{◌≡◌, ◌^◌, ◌<◌, ◌≤◌, List, ◌++◌, length, take, reverse, fold}
-use Rattle.hpack.specs.declared.types.entry.Entry.{Entry}
+use Rattle.hpack.specs.Entry.{Entry}
 use Rattle.hpack.specs.declared.encode.pending_table.PendingTable.{PendingTable}
 use Rattle.hpack.specs.Sizes.{table_size, add}
 use Rattle.hpack.specs.Tables.{Entries}

@@ -2,7 +2,7 @@
 -- passes.
 use Rattle.std.specs.Prelude.{ℕ, suc, ◌==◌, ◌&&◌, if◌then◌else◌, Bool, false, List, [], ◌∷◌, length}
 use Rattle.std.specs.Option.{option_map_or}
-use Rattle.hpack.specs.declared.types.entry.Entry.{Entry}
+use Rattle.hpack.specs.Entry.{Entry}
 use Rattle.hpack.specs.declared.types.field.Field.{Field}
 use Rattle.hpack.specs.declared.encode.search.Sought.{Sought}
 use Rattle.hpack.specs.declared.encode.search.Sought.TheVariants.{Exact, Name}

@@ -107,10 +107,8 @@ fn add_copy(
         table.clear();
         return Ok(());
     }
-    table.add(Entry {
-        name: Octets::copy_of(alloc, name.as_slice())?,
-        value: Octets::copy_of(alloc, value.as_slice())?,
-    });
+    let entry = Entry::copy_of(alloc, name.as_slice(), value.as_slice())?;
+    table.add(entry);
     Ok(())
 }
 

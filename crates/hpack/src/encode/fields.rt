@@ -18,7 +18,6 @@ use crate::types::entry::Entry;
 use crate::types::fault::Fault;
 use crate::types::field::Field;
 use crate::types::literal::Literal;
-use crate::types::octets::Octets;
 use std::alloc::{AllocError, Global};
 
 /// Appends the fields, and applies them to the pending table. On `Err` a prefix of them has been
@@ -112,8 +111,5 @@ fn copy_of(alloc: Global, field: &Field) -> Result<Entry, AllocError>
           field.now.value;
     }) }
 {
-    Ok(Entry {
-        name: Octets::copy_of(alloc, field.name.as_slice())?,
-        value: Octets::copy_of(alloc, field.value.as_slice())?,
-    })
+    Entry::copy_of(alloc, field.name.as_slice(), field.value.as_slice())
 }

@@ -3,7 +3,7 @@
 ghost use Rattle.std.specs.Prelude.{◌≡◌, ℕ, ◌+◌, ◌-◌, ◌^◌, ◌<◌, ◌≤◌, [], ◌∷◌, ◌++◌, min, length};
 ghost use Rattle.std.specs.Prelude.{take, reverse, slice_get, slice_index_or, Some, IfOk, OnOk};
 ghost use Rattle.std.specs.Prelude.{MatchOption};
-ghost use Rattle.hpack.specs.declared.types.entry.Entry.{Entry};
+ghost use Rattle.hpack.specs.Entry.{Entry};
 ghost use Rattle.hpack.specs.Sizes.{entry_size, table_size, fit};
 ghost use Rattle.hpack.specs.Tables.{resized};
 ghost use Rattle.hpack.specs.Sought.{is_sought, first_index};
@@ -170,6 +170,6 @@ impl PendingTable {
             };
         }
         let entry = &self.added[count - 1 - place];
-        Some((entry.name.as_slice(), entry.value.as_slice()))
+        Some((entry.name(), entry.value()))
     }
 }

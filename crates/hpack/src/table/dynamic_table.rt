@@ -93,7 +93,7 @@ impl Table {
             return None;
         }
         let entry = self.ring.get(place - 1)?;
-        Some((entry.name.as_slice(), entry.value.as_slice()))
+        Some((entry.name(), entry.value()))
     }
 
     /// The ring of the entries, the newest at the front. Its capacity is the maximum divided by 32,

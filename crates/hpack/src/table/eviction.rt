@@ -13,7 +13,7 @@ const OVERHEAD: usize = 32;
 pub(crate) fn size_of(entry: &Entry) -> usize
     ensures { result ≡ min (entry_size entry.now) (2 ^ 64 - 1) }
 {
-    size_of_octets(entry.name.as_slice(), entry.value.as_slice())
+    size_of_octets(entry.name(), entry.value())
 }
 
 /// The size of an entry or a field of this name and value, or the greatest number where that is

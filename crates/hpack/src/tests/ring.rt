@@ -40,8 +40,8 @@ fn ends_of_the_ring(rt: HostRuntime) -> Result<(), Fail> {
     let (Some(newest), Some(oldest)) = (ring.front(), ring.back()) else {
         panic!(rt; "no entries");
     };
-    assert_eq!(rt; newest.name.as_slice(), b"c".as_slice());
-    assert_eq!(rt; oldest.value.as_slice(), b"b".as_slice());
+    assert_eq!(rt; newest.name(), b"c".as_slice());
+    assert_eq!(rt; oldest.value(), b"b".as_slice());
     decoder.decode(b"\x20", 4096)?;
     check_table(&rt, decoder.table(), 0, 0, 0);
     Ok(())

@@ -1,6 +1,6 @@
 use Rattle.std.proofs.Common.{◌∙◌, [], false, Option, ap, sym}
 use Rattle.std.specs.Option.{option_map_or}
-use Rattle.hpack.specs.declared.types.entry.Entry.{Entry}
+use Rattle.hpack.specs.Entry.{Entry}
 use Rattle.hpack.specs.Sought.{is_sought}
 use Rattle.hpack.proofs.LookupLemmas.{entry-static}
 use Rattle.hpack.proofs.SearchLemmas.{entry-none}

@@ -1,6 +1,6 @@
 use Rattle.std.proofs.Common.{◌≡◌, ℕ, ◌-◌, ◌<◌, length, ap, ◌∙◌, arith}
 use Rattle.circular_buffer.specs.Buffer.{Buffer}
-use Rattle.hpack.specs.declared.types.entry.Entry.{Entry}
+use Rattle.hpack.specs.Entry.{Entry}
 use Rattle.hpack.specs.Sizes.{entry_size, table_size, fit}
 use Rattle.hpack.specs.Tables.{Entries}
 use Rattle.hpack.proofs.SizeLemmas.{table_size-cons, fit-none, added}

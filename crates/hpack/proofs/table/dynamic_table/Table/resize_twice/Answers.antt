@@ -1,6 +1,6 @@
 use Rattle.std.proofs.Common.{ap, arith}
 use Rattle.circular_buffer.specs.Buffer.{Buffer}
-use Rattle.hpack.specs.declared.types.entry.Entry.{Entry}
+use Rattle.hpack.specs.Entry.{Entry}
 use Rattle.hpack.proofs.RingLemmas.{entries_fit}
 use Rattle.hpack.proofs.table.dynamic_table.Table.resize_twice.Goals as goal
 
