@@ -3,12 +3,16 @@ pub mod ChoiceLemmas
 pub mod PendingTableLemmas
 pub mod FieldLemmas
 pub mod PrefixLemmas
+pub mod HashLemmas
 pub mod LimitLemmas
 pub mod LookupLemmas
 mod Examples
 pub mod RingLemmas
 pub mod RoomLemmas
 pub mod SearchLemmas
+pub mod ChainLemmas
+pub mod IndexLemmas
+pub mod ResultLemmas
 pub mod SizeLemmas
 pub mod StateLemmas
 pub mod StepLemmas

@@ -53,7 +53,7 @@ IsStaticFrom : ℕ → List Entry → Type 0
 IsStaticFrom start entries = (place : ℕ) → entry [] (start + place) ≡ slice_get entries place
 
 -- A test that doesn't hold fails.
-fails : (b : Bool) → (b ≡ true → ⊥) → b ≡ false
+pub fails : (b : Bool) → (b ≡ true → ⊥) → b ≡ false
 fails b other = elim b as (λ t. (t ≡ true → ⊥) → t ≡ false) [
   | true ↦ λ h. absurd (h refl)
   | false ↦ λ h. refl

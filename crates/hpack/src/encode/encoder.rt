@@ -22,6 +22,8 @@ use std::marker::Model;
 pub struct Encoder {
     alloc: Global,
     table: Table,
+    /// What becomes of the table while a block is encoded.
+    pending: PendingTable,
     /// The least limit since the last block, that block's own included.
     least: u32,
     /// The limit now.
@@ -29,7 +31,6 @@ pub struct Encoder {
 }
 
 impl Model for Encoder {
-    ghost use Rattle.std.specs.Prelude.{◌≤◌};
     ghost use Rattle.hpack.specs.Lists.{EncoderState};
 
     ghost Value = { EncoderState };
@@ -41,7 +42,9 @@ impl Model for Encoder {
           encoder.limit;
     } };
 
-    ghost invariant = { λ encoder. encoder.least ≤ encoder.limit };
+    ghost use Rattle.hpack.specs.EncoderInvariant.{EncoderInvariant};
+
+    ghost invariant = { EncoderInvariant };
 }
 
 impl Encoder {
@@ -62,6 +65,7 @@ impl Encoder {
         Ok(Encoder {
             alloc,
             table: Table::new(alloc, maximum)?,
+            pending: PendingTable::new(alloc, maximum)?,
             least: maximum,
             limit: maximum,
         })
@@ -128,11 +132,16 @@ impl Encoder {
     {
         let updates = SizeUpdates::due(self.table.maximum(), self.least, self.limit);
         updates.append(out)?;
-        let mut pending = PendingTable::new(self.alloc, &self.table);
-        updates.apply_to_pending(&mut pending, &self.table);
-        append_fields(self.alloc, &mut pending, &self.table, fields, out)?;
-        updates.apply(&mut self.table)?;
-        pending.commit(&mut self.table);
+        self.pending.reserve(self.alloc, &self.table, self.limit)?;
+        self.pending.begin(&self.table);
+        updates.apply_to_pending(&mut self.pending, &self.table);
+        if append_fields(self.alloc, &mut self.pending, &self.table, fields, out).is_err()
+            || updates.apply(&mut self.table).is_err()
+        {
+            self.pending.undo(&self.table);
+            return Err(Fault::Memory);
+        }
+        self.pending.commit(&mut self.table);
         self.least = self.limit;
         Ok(())
     }

@@ -28,7 +28,7 @@ returns-then-size-maximum-clause-chosen c =
       c.size_of_octets-size.ensures,
       c.maximum.ensures,
       c.if-size-maximum.true,
-      c.requires.small,
+      c.requires.pending.small,
     ))
 
 pub returns-clause-chosen : goal.returns-clause-chosen
@@ -45,7 +45,7 @@ returns-clause-chosen c =
       c.size_of_octets-size.ensures,
       c.maximum.ensures,
       c.if-size-maximum.false,
-      c.requires.small,
+      c.requires.pending.small,
     ))
 
 pub returns-clause-fits : goal.returns-clause-fits
@@ -59,5 +59,5 @@ returns-clause-fits c =
       c.size_of_octets-size.ensures,
       c.maximum.ensures,
       c.if-size-maximum.false,
-      c.requires.small,
+      c.requires.pending.small,
     )

@@ -13,7 +13,7 @@ returns-then-found-gt0-clause-value c =
 pub returns-then-found-gt0-clause-small : goal.returns-then-found-gt0-clause-small
 returns-then-found-gt0-clause-small c =
     least_small (is_sought c.args.sought c.args.field.now) c.args.pending.now c.args.table.now
-    c.static_index-found.result c.requires (returns-then-found-gt0-clause-value c)
+    c.static_index-found.result c.requires.pending (returns-then-found-gt0-clause-value c)
 
 pub returns-clause-value : goal.returns-clause-value
 returns-clause-value c =
@@ -24,4 +24,4 @@ returns-clause-value c =
 pub returns-clause-small : goal.returns-clause-small
 returns-clause-small c =
     least_small (is_sought c.args.sought c.args.field.now) c.args.pending.now c.args.table.now
-    c.dynamic_index.result c.requires (returns-clause-value c)
+    c.dynamic_index.result c.requires.pending (returns-clause-value c)
