@@ -10,7 +10,7 @@ use Rattle.std.proofs.lemmas.List.{get_or-set_same, get_or-set_other, length-set
 use Rattle.hpack.specs.Entry.{Entry}
 use Rattle.hpack.specs.Sought.{first_index}
 use Rattle.hpack.specs.Chains.{LeadsTo, AreLinked, AreHeads}
-use Rattle.hpack.proofs.SearchLemmas.{fails, first_index-drop}
+use Rattle.hpack.proofs.SearchLemmas.{fails, first_index-drop, first_index-none}
 
 -- Where the oldest entries leave, what leads to an entry leads to it, or past the end.
 pub leads_prefix : (bucket : Entry → ℕ) (sought : ℕ) (entries others : List Entry) (place : ℕ)
@@ -175,49 +175,49 @@ linked_pushed bucket one entries skips skip capacity leads linked few =
 -- A place on the chain of a bucket: no entry before it passes, and the entry there, if any, is in
 -- the bucket.
 pub record IsReached (bucket : Entry → ℕ) (sought : ℕ) (test : Entry → Bool)
-    (entries : List Entry) (place : ℕ) : Type 0 where
-  pub none_before : first_index test (62 + place) (drop place entries)
-      ≡ first_index test 62 entries
+    (start : ℕ) (entries : List Entry) (place : ℕ) : Type 0 where
+  pub none_before : first_index test (start + place) (drop place entries)
+      ≡ first_index test start entries
   pub here : (other : Entry) → place < length entries
       → bucket (get_or entries place other) ≡ sought
 
 -- The first place of a chain.
 pub reached_first : (bucket : Entry → ℕ) (sought : ℕ) (test : Entry → Bool)
-    (entries : List Entry) (place : ℕ) → ((one : Entry) → test one ≡ true → bucket one ≡ sought)
-    → LeadsTo bucket sought entries place → IsReached bucket sought test entries place
-reached_first bucket sought test entries place only leads =
+    (start : ℕ) (entries : List Entry) (place : ℕ) → ((one : Entry) → test one ≡ true → bucket one ≡ sought)
+    → LeadsTo bucket sought entries place → IsReached bucket sought test start entries place
+reached_first bucket sought test start entries place only leads =
     record {
-      none_before = sym (leads_first bucket sought test 62 entries place only leads);
+      none_before = sym (leads_first bucket sought test start entries place only leads);
       here = λ other lt. leads_here bucket sought entries place other leads lt;
     }
 
 -- The next place of a chain.
 pub reached_next : (bucket : Entry → ℕ) (sought : ℕ) (test : Entry → Bool)
-    (entries : List Entry) (place skip next : ℕ)
+    (start : ℕ) (entries : List Entry) (place skip next : ℕ)
     → ((one : Entry) → test one ≡ true → bucket one ≡ sought)
-    → IsReached bucket sought test entries place → place < length entries
+    → IsReached bucket sought test start entries place → place < length entries
     → ((other : Entry) → test (get_or entries place other) ≡ false)
     → ((other : Entry) → LeadsTo bucket (bucket (get_or entries place other))
     (drop (place + 1) entries) skip)
-    → next ≡ place + (1 + skip) → IsReached bucket sought test entries next
-reached_next bucket sought test entries place skip next only reached lt missed leads is =
+    → next ≡ place + (1 + skip) → IsReached bucket sought test start entries next
+reached_next bucket sought test start entries place skip next only reached lt missed leads is =
     let other : Entry = record { name = []; value = [] } in
     let rest = drop (place + 1) entries in
     let into : LeadsTo bucket sought rest skip =
     subst (λ (n : ℕ). LeadsTo bucket n rest skip) (reached.here other lt) (leads other) in
-    let step : first_index test (62 + place) (drop place entries)
-    ≡ first_index test (62 + (place + 1)) rest =
-    first_index-drop test 62 place entries other false lt (sym (missed other)) in
-    let skipped : first_index test (62 + (place + 1)) rest
-    ≡ first_index test (62 + (place + 1) + skip) (drop skip rest) =
-    leads_first bucket sought test (62 + (place + 1)) rest skip only into in
-    let number : 62 + (place + 1) + skip ≡ 62 + next = omega (arith, is) in
+    let step : first_index test (start + place) (drop place entries)
+    ≡ first_index test (start + (place + 1)) rest =
+    first_index-drop test start place entries other false lt (sym (missed other)) in
+    let skipped : first_index test (start + (place + 1)) rest
+    ≡ first_index test (start + (place + 1) + skip) (drop skip rest) =
+    leads_first bucket sought test (start + (place + 1)) rest skip only into in
+    let number : start + (place + 1) + skip ≡ start + next = omega (arith, is) in
     let at : place + 1 + skip ≡ next = omega (arith, is) in
     let same : drop skip rest ≡ drop next entries =
     drop-drop skip (place + 1) entries ∙ ap (λ (n : ℕ). drop n entries) at in
     record {
       none_before = sym (ap (λ (n : ℕ). first_index test n (drop skip rest)) number
-          ∙ ap (λ (es : List Entry). first_index test (62 + next) es) same)
+          ∙ ap (λ (es : List Entry). first_index test (start + next) es) same)
           ∙ (sym skipped ∙ (sym step ∙ reached.none_before));
       here = λ one short.
           let there : get_or rest skip one ≡ get_or entries next one =
@@ -226,3 +226,20 @@ reached_next bucket sought test entries place skip next only reached lt missed l
           (leads_here bucket sought rest skip one into
           (omega (arith, at, short, length-drop (place + 1) entries)));
     }
+
+-- The entry at a place of a chain passes.
+pub reached_here : (bucket : Entry → ℕ) (sought : ℕ) (test : Entry → Bool) (start : ℕ)
+    (entries : List Entry) (place : ℕ) → IsReached bucket sought test start entries place
+    → place < length entries → ((other : Entry) → test (get_or entries place other) ≡ true)
+    → start + place ≡ first_index test start entries
+reached_here bucket sought test start entries place reached lt passes =
+    let other : Entry = record { name = []; value = [] } in
+    sym (first_index-drop test start place entries other true lt (sym (passes other)))
+    ∙ reached.none_before
+
+-- A chain ends.
+pub reached_end : (bucket : Entry → ℕ) (sought : ℕ) (test : Entry → Bool) (start : ℕ)
+    (entries : List Entry) (place : ℕ) → IsReached bucket sought test start entries place
+    → length entries ≤ place → 0 ≡ first_index test start entries
+reached_end bucket sought test start entries place reached past =
+    sym (first_index-none test (start + place) place entries past) ∙ reached.none_before

@@ -80,6 +80,14 @@ drop_all index entries place (inl first) within is =
     subst (λ (n : ℕ). IsIndexOf index (drop n entries)) first is
 drop_all index entries place (inr past) within is = absurd (omega arith)
 
+-- What is sought has the field's name.
+pub sought_name : (sought : Sought) (field : Field) (one : Entry)
+    → is_sought sought field one ≡ true → one.name ≡ field.name
+sought_name Exact field one same =
+    same_octets-true one.name field.name
+    (and_parts (same_octets one.name field.name) (same_octets one.value field.value) same).0
+sought_name Name field one same = same_octets-true one.name field.name same
+
 -- What is sought is in the bucket of its hash.
 pub sought_bucket : (sought : Sought) (field : Field) (count hash : ℕ)
     → hash ≡ sought_hash sought field.name field.value → (one : Entry)

@@ -12,6 +12,7 @@ pub mod RoomLemmas
 pub mod SearchLemmas
 pub mod ChainLemmas
 pub mod IndexLemmas
+pub mod StaticChainLemmas
 pub mod ResultLemmas
 pub mod SizeLemmas
 pub mod StateLemmas

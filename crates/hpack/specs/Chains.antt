@@ -44,6 +44,10 @@ sought_hash Name name value = hash_from 0 name
 abbrev pub bucket_by : Sought → ℕ → Entry → ℕ
 bucket_by sought count one = bucket_of count (sought_hash sought one.name one.value)
 
+-- the bucket of an entry's name, among those of the static table's names
+abbrev pub name_bucket : Entry → ℕ
+name_bucket one = bucket_of 128 (hash_from 0 one.name)
+
 -- The chains by names, and those by names and values, are those of the entries.
 pub record IsIndexOf (index : Index) (entries : List Entry) : Type 0 where
   pub names : AreChains (bucket_by Name (length index.names.newest.items)) entries index.names

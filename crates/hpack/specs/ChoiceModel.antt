@@ -6,7 +6,9 @@ use Rattle.hpack.specs.declared.types.literal.Literal.TheVariants.{WithIndexing,
 use Rattle.hpack.specs.declared.types.literal.Literal.TheVariants.{NeverIndexed}
 use Rattle.hpack.specs.declared.encode.size_updates.SizeUpdates.{SizeUpdates}
 use Rattle.hpack.specs.declared.encode.size_updates.SizeUpdates.TheVariants.{Nothing, Once, Twice}
+use Rattle.hpack.specs.declared.types.chains.Hashes.{Hashes}
 use Rattle.hpack.specs.Choice.{Choice, indexed, literal}
+use Rattle.hpack.specs.Chains.{AreHashes}
 
 -- the choice
 abbrev pub choice_of : Chosen → Choice
@@ -24,6 +26,13 @@ FitsIfAdded (Indexed index) size maximum = Unit {0}
 FitsIfAdded (Literal WithIndexing index) size maximum = size ≤ maximum
 FitsIfAdded (Literal WithoutIndexing index) size maximum = Unit {0}
 FitsIfAdded (Literal NeverIndexed index) size maximum = Unit {0}
+
+-- What is added has these hashes.
+abbrev pub HashedIfAdded : Chosen → Hashes → List ℕ → List ℕ → Type 0
+HashedIfAdded (Indexed index) hashes name value = Unit {0}
+HashedIfAdded (Literal WithIndexing index) hashes name value = AreHashes hashes name value
+HashedIfAdded (Literal WithoutIndexing index) hashes name value = Unit {0}
+HashedIfAdded (Literal NeverIndexed index) hashes name value = Unit {0}
 
 -- There is room for tables with these maxima, where the number of their entries is below this one.
 abbrev pub AreBelow : SizeUpdates → ℕ → Type 0

@@ -10,7 +10,7 @@ folded product = bit_xor product (product / 2 ^ 32)
 
 -- a hash and one word more
 unfoldable pub mixed : ℕ → ℕ → ℕ
-mixed hash word = folded ((bit_xor hash word * 0x9E3779B97F4A7C15) % 2 ^ 64)
+mixed hash word = folded ((bit_xor hash word * 0xE085CD84E9EA6675) % 2 ^ 64)
 
 -- a hash and words more, of eight octets each
 unfoldable pub hash_words : ℕ → ℕ → List ℕ → ℕ

@@ -11,3 +11,4 @@ pub(crate) mod pending_table;
 pub(crate) mod room;
 pub(crate) mod search;
 pub(crate) mod size_updates;
+pub(crate) mod static_chains;

@@ -6,6 +6,7 @@ ghost use Rattle.hpack.specs.Entry.{Entry};
 ghost use Rattle.hpack.specs.Hashes.{bucket_of};
 ghost use Rattle.hpack.specs.Chains.{LeadsTo, AreChains};
 
+use crate::encode::hash::bucket_at;
 use crate::types::chains::Chains;
 use circular_buffer::HeapCircularBuffer;
 use std::alloc::{AllocError, Global};
@@ -99,15 +100,4 @@ fn lower(newest: &mut Vec<u32>)
     for one in 0..newest.len() {
         newest[one] = newest[one].saturating_sub(REBASE);
     }
-}
-
-/// The bucket of a hash, among so many.
-#[inline(always)]
-fn bucket_at(count: usize, hash: u64) -> usize
-    requires some { 0 < count }
-    requires few { count ≤ 2 ^ 32 }
-    ensures value { result ≡ bucket_of count hash }
-    ensures within { result < count }
-{
-    (((hash >> 32) * count as u64) >> 32) as usize
 }

@@ -14,7 +14,6 @@ ghost use Rattle.hpack.specs.Chains.{AreHashes};
 
 use crate::encode::choice::{Choice, choose};
 use crate::encode::field::append_field;
-use crate::encode::index::hashes_of;
 use crate::encode::pending_table::PendingTable;
 use crate::table::dynamic_table::Table;
 use crate::types::chains::Hashes;
@@ -82,8 +81,7 @@ fn append_one(
     ensures capacity { capacity_of pending.new ≡ capacity_of pending.old }
     ensures extended { IsExtended out.old.items out.new.items }
 {
-    let hashes = hashes_of(field.name.as_slice(), field.value.as_slice());
-    let choice = choose(pending, table, hashes, field);
+    let (choice, hashes) = choose(pending, table, field);
     append_field(choice, field, out)?;
     match choice {
         Choice::Literal(Literal::WithIndexing, _) => {

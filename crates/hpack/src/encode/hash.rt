@@ -1,11 +1,13 @@
 //! Hashes of names and values.
 
-ghost use Rattle.std.specs.Prelude.{◌≡◌, ◌<◌, ◌≤◌, length};
+ghost use Rattle.std.specs.Prelude.{◌≡◌, ◌^◌, ◌<◌, ◌≤◌, length};
+ghost use Rattle.hpack.specs.Hashes.{bucket_of};
 ghost use Rattle.hpack.specs.Hashes.{mixed as mixed_word, short_word as short_word_of};
 ghost use Rattle.hpack.specs.Hashes.{hash_from as hash_of_octets};
 
-/// An odd number whose bits are about evenly spread: 2<sup>64</sup> divided by the golden ratio.
-const MULTIPLIER: u64 = 0x9E37_79B9_7F4A_7C15;
+/// An odd number whose bits are about evenly spread, and with which the names of the static table
+/// are in 52 of 128 buckets, one in each.
+const MULTIPLIER: u64 = 0xE085_CD84_E9EA_6675;
 
 /// The hash of octets that follow those of a hash, eight at a time.
 pub(crate) fn hash_from(hash: u64, octets: &[u8]) -> u64
@@ -52,4 +54,15 @@ fn mixed(hash: u64, word: u64) -> u64
 {
     let product = (hash ^ word).wrapping_mul(MULTIPLIER);
     product ^ (product >> 32)
+}
+
+/// The bucket of a hash, among so many.
+#[inline(always)]
+pub(crate) fn bucket_at(count: usize, hash: u64) -> usize
+    requires some { 0 < count }
+    requires few { count ≤ 2 ^ 32 }
+    ensures value { result ≡ bucket_of count hash }
+    ensures within { result < count }
+{
+    (((hash >> 32) * count as u64) >> 32) as usize
 }

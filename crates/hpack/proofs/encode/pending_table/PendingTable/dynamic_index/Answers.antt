@@ -15,7 +15,7 @@ loop-place-init c =
     let entries = take c.args.self.now.live (newest_first c.args.self.now c.args.table.now) in
     let count = length c.chains-chains.result.now.newest.items in
     reached_first (bucket_by c.args.sought count) (bucket_of count c.args.hash)
-    (is_sought c.args.sought c.args.field.now) entries c.first-place.result
+    (is_sought c.args.sought c.args.field.now) 62 entries c.first-place.result
     (sought_bucket c.args.sought c.args.field.now count c.args.hash c.requires.hash)
     (c.first-place.ensures (bucket_by c.args.sought count) entries
     (c.chains-chains.ensures entries c.requires.pending.index))
@@ -50,7 +50,7 @@ loop-place-preserved c =
       live_length c.args.self.now c.args.table.now c.requires.pending,
     ) in
     reached_next (bucket_by c.args.sought count) (bucket_of count c.args.hash)
-    (is_sought c.args.sought c.args.field.now) entries c.loop-place.place c.skip.result _
+    (is_sought c.args.sought c.args.field.now) 62 entries c.loop-place.place c.skip.result _
     (sought_bucket c.args.sought c.args.field.now count c.args.hash c.requires.hash)
     c.loop-place.invariant short
     (pending_missed (is_sought c.args.sought c.args.field.now) c.args.self.now c.args.table.now
