@@ -10,6 +10,7 @@ mod Examples
 pub mod RingLemmas
 pub mod RoomLemmas
 pub mod SearchLemmas
+pub mod WordLemmas
 pub mod ChainLemmas
 pub mod IndexLemmas
 pub mod StaticChainLemmas

@@ -1,6 +1,6 @@
 -- Looking for the entry of a field: what is looked for, and the index of the first entry that
 -- passes.
-use Rattle.std.specs.Prelude.{ℕ, suc, ◌&&◌, if◌then◌else◌, Bool, List, [], ◌∷◌}
+use Rattle.std.specs.Prelude.{ℕ, suc, ◌<◌, ◌&&◌, if◌then◌else◌, Bool, List, [], ◌∷◌, get_or}
 use Rattle.hpack.specs.Entry.{Entry}
 use Rattle.hpack.specs.declared.types.field.Field.{Field}
 use Rattle.hpack.specs.declared.encode.search.Sought.{Sought}
@@ -17,3 +17,7 @@ unfoldable pub first_index : (Entry → Bool) → ℕ → List Entry → ℕ
 first_index test start [] = 0
 first_index test start (one ∷ others) = if test one then start
     else first_index test (suc start) others
+
+-- The numbers of a list are octets.
+abbrev pub AreOctetsByPlace : List ℕ → Type 0
+AreOctetsByPlace octets = (place : ℕ) → get_or octets place 0 < 256

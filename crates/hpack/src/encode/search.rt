@@ -4,7 +4,7 @@ ghost use Rattle.std.specs.Prelude.{◌≡◌, ◌<◌, slice_index_or};
 ghost use Rattle.hpack.specs.Entry.{Entry};
 ghost use Rattle.hpack.specs.Hashes.{hash_from};
 ghost use Rattle.hpack.specs.Choice.{same_octets};
-ghost use Rattle.hpack.specs.Sought.{is_sought, first_index};
+ghost use Rattle.hpack.specs.Sought.{is_sought, first_index, AreOctetsByPlace};
 ghost use Rattle.hpack.specs.Static.{static_entries};
 
 use crate::encode::static_chains::{first_place, skip_after};
@@ -64,9 +64,45 @@ fn is_static_match(sought: Sought, field: &Field, place: usize) -> bool
     }
 }
 
-/// Whether the octets are the same.
+/// Whether the octets are the same. Eight are compared at a time.
+#[inline(always)]
 fn is_same(octets: &[u8], others: &[u8]) -> bool
     ensures { result ≡ same_octets octets.now others.now }
 {
-    octets == others
+    octets.len() == others.len() && have_same_words(octets, others)
+}
+
+/// Whether octets are the same that are as many.
+fn have_same_words(octets: &[u8], others: &[u8]) -> bool
+    ensures { result ≡ same_octets octets.now others.now }
+{
+    let mut left = octets;
+    let mut others_left = others;
+    while let (Some((word, more)), Some((other, others_more))) = (
+        left.split_first_chunk::<8>(),
+        others_left.split_first_chunk::<8>(),
+    ) {
+        if u64::from_le_bytes(*word) != u64::from_le_bytes(*other) {
+            return false;
+        }
+        left = more;
+        others_left = others_more;
+    }
+    have_same_ends(left, others_left)
+}
+
+/// Whether a few octets are the same.
+#[inline(always)]
+fn have_same_ends(octets: &[u8], others: &[u8]) -> bool
+    requires octets { AreOctetsByPlace octets.now }
+    requires others { AreOctetsByPlace others.now }
+    ensures { result ≡ same_octets octets.now others.now }
+{
+    let (Some((word, more)), Some((other, others_more))) = (
+        octets.split_first_chunk::<4>(),
+        others.split_first_chunk::<4>(),
+    ) else {
+        return octets == others;
+    };
+    u32::from_le_bytes(*word) == u32::from_le_bytes(*other) && more == others_more
 }
