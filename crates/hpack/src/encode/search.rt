@@ -1,6 +1,6 @@
 //! Looking for the entry of a field in the static table.
 
-ghost use Rattle.std.specs.Prelude.{◌≡◌, ◌<◌, slice_index_or};
+ghost use Rattle.std.specs.Prelude.{◌≡◌, ◌-◌, ◌<◌, ◌≤◌, length, drop, slice_index_or};
 ghost use Rattle.hpack.specs.Entry.{Entry};
 ghost use Rattle.hpack.specs.Hashes.{hash_from};
 ghost use Rattle.hpack.specs.Choice.{same_octets};
@@ -72,37 +72,59 @@ fn is_same(octets: &[u8], others: &[u8]) -> bool
     octets.len() == others.len() && have_same_words(octets, others)
 }
 
-/// Whether octets are the same that are as many.
+/// Whether octets are the same that are as many: the last eight, and then the others from the
+/// beginning on.
 fn have_same_words(octets: &[u8], others: &[u8]) -> bool
+    requires length { length octets.now ≡ length others.now }
+    requires octets { AreOctetsByPlace octets.now }
+    requires others { AreOctetsByPlace others.now }
+    ensures { result ≡ same_octets octets.now others.now }
+{
+    let others = of_length(others, octets.len());
+    let (Some(last), Some(others_last)) = (octets.last_chunk::<8>(), others.last_chunk::<8>())
+    else {
+        return octets == others;
+    };
+    if u64::from_le_bytes(*last) != u64::from_le_bytes(*others_last) {
+        return false;
+    }
+    have_same_beginnings(octets, others)
+}
+
+/// All octets of a slice whose length is known: the compiler then knows it too.
+#[inline(always)]
+fn of_length(octets: &[u8], count: usize) -> &[u8]
+    requires { length octets.now ≡ count }
+    ensures { result.now ≡ octets.now }
+{
+    &octets[..count]
+}
+
+/// Whether octets are the same whose last eight are.
+#[inline(always)]
+fn have_same_beginnings(octets: &[u8], others: &[u8]) -> bool
+    requires long { 8 ≤ length octets.now }
+    requires length { length octets.now ≡ length others.now }
+    requires last { drop (length octets.now - 8) octets.now
+        ≡ drop (length octets.now - 8) others.now }
+    requires octets { AreOctetsByPlace octets.now }
+    requires others { AreOctetsByPlace others.now }
     ensures { result ≡ same_octets octets.now others.now }
 {
     let mut left = octets;
     let mut others_left = others;
-    while let (Some((word, more)), Some((other, others_more))) = (
-        left.split_first_chunk::<8>(),
-        others_left.split_first_chunk::<8>(),
-    ) {
+    while left.len() > 8 {
+        let (Some((word, more)), Some((other, others_more))) = (
+            left.split_first_chunk::<8>(),
+            others_left.split_first_chunk::<8>(),
+        ) else {
+            unreachable!();
+        };
         if u64::from_le_bytes(*word) != u64::from_le_bytes(*other) {
             return false;
         }
         left = more;
         others_left = others_more;
     }
-    have_same_ends(left, others_left)
-}
-
-/// Whether a few octets are the same.
-#[inline(always)]
-fn have_same_ends(octets: &[u8], others: &[u8]) -> bool
-    requires octets { AreOctetsByPlace octets.now }
-    requires others { AreOctetsByPlace others.now }
-    ensures { result ≡ same_octets octets.now others.now }
-{
-    let (Some((word, more)), Some((other, others_more))) = (
-        octets.split_first_chunk::<4>(),
-        others.split_first_chunk::<4>(),
-    ) else {
-        return octets == others;
-    };
-    u32::from_le_bytes(*word) == u32::from_le_bytes(*other) && more == others_more
+    true
 }
