@@ -421,7 +421,8 @@ fault_of_block table after limit octets fields block faults.Failed none = absurd
 no_fields_then_update : (table after other : Entries) (octets update others joined : List ℕ)
     (maximum : ℕ) (fields more : List Field) → joined ≡ octets ++ (update ++ others)
     → Fields table octets fields after → Update maximum update → Fields table joined more other → ⊥
-no_fields_then_update table after other octets update others joined maximum [] more e a is_update b =
+no_fields_then_update table after other octets update others joined maximum [] more e a is_update
+    b =
     fields_no_update table other joined update others maximum more
     (e ∙ ap (λ (xs : List ℕ). xs ++ (update ++ others)) a.0) is_update b
 no_fields_then_update table after other octets update others joined maximum (field ∷ fields) more e
@@ -457,10 +458,11 @@ no_update_by [] table updated after limit maximum octets left update others join
     let range = prefix_first_octet 0x20 0x40 joined joined [] (sym (append-nil joined)) begins in
     no_update_step table joined range.0 range.1 first (rest ++ tail) at (field, between, step)
     in
-    no_fields_then_update table after other octets update others joined maximum (field ∷ fields) more
-    e here is_update (block_fields table limit joined more other none block).encoded
+    no_fields_then_update table after other octets update others joined maximum (field ∷ fields)
+    more e here is_update (block_fields table limit joined more other none block).encoded
 no_update_by (one ∷ maxima) table updated after limit maximum octets left update others joined field
-    fields e (first, more, split, one_update, allowed, updates) encoded is_update = λ ms other block.
+    fields e (first, more, split, one_update, allowed, updates) encoded is_update =
+    λ ms other block.
     let tail = update ++ others in
     let at : joined ≡ first ++ (more ++ tail) =
     e ∙ (ap (λ (xs : List ℕ). xs ++ tail) split ∙ append_assoc first more tail)

@@ -6,10 +6,18 @@ pub mod FieldListBuilderLemmas
 pub mod FieldListLemmas
 pub mod OwnedListLemmas
 pub mod PrefixLemmas
+pub mod HashLemmas
 pub mod LimitLemmas
 pub mod LookupLemmas
 mod Examples
+pub mod RingLemmas
+pub mod RoomLemmas
 pub mod SearchLemmas
+pub mod WordLemmas
+pub mod ChainLemmas
+pub mod IndexLemmas
+pub mod StaticChainLemmas
+pub mod ResultLemmas
 pub mod SizeLemmas
 pub mod StateLemmas
 pub mod StepLemmas

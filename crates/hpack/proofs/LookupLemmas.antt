@@ -3,7 +3,7 @@ use Rattle.std.proofs.Common.{◌≡◌, ℕ, zero, suc, ◌+◌, ◌-◌, ◌<�
 use Rattle.std.proofs.Common.{◌++◌, length, Option, None, Some, MatchOption, refl, ap, ◌∙◌, arith}
 use Rattle.std.specs.List.{slice_get}
 use Rattle.std.proofs.lemmas.Option.{slice_get_past}
-use Rattle.hpack.specs.declared.types.entry.Entry.{Entry}
+use Rattle.hpack.specs.Entry.{Entry}
 use Rattle.hpack.specs.Static.{static_entries, entry}
 
 -- Within the first list, the second doesn't matter.

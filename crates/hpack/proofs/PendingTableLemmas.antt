@@ -1,13 +1,13 @@
 -- Pending tables.
 use Rattle.std.proofs.Common.{if◌then◌else◌, ◌≡◌, ℕ, zero, suc, ◌+◌, ◌-◌, ◌*◌, ◌^◌, ◌<◌, ◌≤◌, min}
-use Rattle.std.proofs.Common.{Bool, List, [], ◌∷◌, ◌++◌, length, get_or, take, drop, sym, ap, ◌∙◌}
+use Rattle.std.proofs.Common.{◌/◌, true, false, Bool, List, [], ◌∷◌, ◌++◌, length, get_or, take, drop, sym, ap, ◌∙◌}
 use Rattle.std.proofs.Common.{arith}
 use Rattle.std.proofs.lemmas.List.{take_more, length-take-le, get_or-take}
-use Rattle.hpack.specs.declared.types.entry.Entry.{Entry}
+use Rattle.hpack.specs.Entry.{Entry}
 use Rattle.hpack.specs.declared.encode.pending_table.PendingTable.{PendingTable}
 use Rattle.hpack.specs.Sizes.{entry_size, table_size, fit}
 use Rattle.hpack.specs.Tables.{Entries}
-use Rattle.hpack.specs.PendingTable.{newest_first, IsPendingTable}
+use Rattle.hpack.specs.PendingTable.{newest_first, IsPendingTable, capacity_of}
 use Rattle.hpack.proofs.SizeLemmas.{entries_are_large, popped, table_size-push}
 use Rattle.hpack.specs.Sought.{first_index}
 use Rattle.hpack.proofs.SearchLemmas.{first_index-drop, first_index-none}
@@ -71,21 +71,58 @@ shorter newest live size bound removed within counted above small is =
     shorter_by newest live (live - 1) size bound removed (omega arith) within counted above small
     (is no_entry (omega arith))
 
--- One more entry of a pending table is checked.
-pub pending_step : (test : Entry → Bool) (pending : PendingTable) (table : Entries) (place : ℕ)
+-- The index has room for one entry more.
+pub live_is_few : (pending : PendingTable) (table : Entries) → IsPendingTable pending table
+    → length (take pending.live (newest_first pending table)) < capacity_of pending
+live_is_few pending table is =
+    omega (
+      arith,
+      is.counted,
+      is.within,
+      is.room,
+      entries_are_large (take pending.live (newest_first pending table)),
+    )
+
+-- as many entries as are live
+pub live_length : (pending : PendingTable) (table : Entries) → IsPendingTable pending table
+    → length (take pending.live (newest_first pending table)) ≡ pending.live
+live_length pending table is = length-take-le pending.live (newest_first pending table) is.live
+
+-- an entry that is still there, by its test
+pending_test : (test : Entry → Bool) (pending : PendingTable) (table : Entries) (place : ℕ)
     (b : Bool) → IsPendingTable pending table → place < pending.live
     → ((other : Entry) → place < length (newest_first pending table)
     → b ≡ test (get_or (newest_first pending table) place other))
-    → first_index test (62 + place) (drop place (take pending.live (newest_first pending table)))
-    ≡ (if b then 62 + place else first_index test (62 + (place + 1))
-    (drop (place + 1) (take pending.live (newest_first pending table))))
-pending_step test pending table place b is lt at =
-    let within : place < length (newest_first pending table) = omega (arith, is.live) in
-    let short : place < length (take pending.live (newest_first pending table)) =
-    omega (arith, length-take-le pending.live (newest_first pending table) is.live) in
-    first_index-drop test 62 place (take pending.live (newest_first pending table)) no_entry b short
-    (at no_entry within
-    ∙ sym (ap test (get_or-take pending.live (newest_first pending table) place no_entry lt)))
+    → (other : Entry)
+    → b ≡ test (get_or (take pending.live (newest_first pending table)) place other)
+pending_test test pending table place b is lt at other =
+    at other (omega (arith, is.live))
+    ∙ sym (ap test (get_or-take pending.live (newest_first pending table) place other lt))
+
+-- The entry at the place passes.
+pub pending_found : (test : Entry → Bool) (pending : PendingTable) (table : Entries) (place : ℕ)
+    (b : Bool) → IsPendingTable pending table → place < pending.live
+    → ((other : Entry) → place < length (newest_first pending table)
+    → b ≡ test (get_or (newest_first pending table) place other))
+    → b ≡ true → 62 + place
+    ≡ first_index test (62 + place) (drop place (take pending.live (newest_first pending table)))
+pending_found test pending table place b is lt at passes =
+    let entries = take pending.live (newest_first pending table) in
+    let rest = first_index test (62 + (place + 1)) (drop (place + 1) entries) in
+    let short : place < length entries = omega (arith, live_length pending table is) in
+    sym (first_index-drop test 62 place entries no_entry b short
+    (pending_test test pending table place b is lt at no_entry)
+    ∙ ap (λ (t : Bool). if t then 62 + place else rest) passes)
+
+-- The entry at the place doesn't pass.
+pub pending_missed : (test : Entry → Bool) (pending : PendingTable) (table : Entries) (place : ℕ)
+    (b : Bool) → IsPendingTable pending table → place < pending.live
+    → ((other : Entry) → place < length (newest_first pending table)
+    → b ≡ test (get_or (newest_first pending table) place other))
+    → b ≡ false → (other : Entry)
+    → test (get_or (take pending.live (newest_first pending table)) place other) ≡ false
+pending_missed test pending table place b is lt at fails other =
+    sym (pending_test test pending table place b is lt at other) ∙ fails
 
 -- None is left.
 pub pending_end : (test : Entry → Bool) (pending : PendingTable) (table : Entries) (start place : ℕ)

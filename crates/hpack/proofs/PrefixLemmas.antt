@@ -11,7 +11,7 @@ use Rattle.hpack_text.specs.Integers.{Int}
 use Rattle.hpack_text.specs.Strings.{Str}
 use Rattle.hpack_text.proofs.IntegerLemmas.{Int-unique}
 use Rattle.hpack_text.proofs.StringLemmas.{Str-unique}
-use Rattle.hpack.specs.declared.types.entry.Entry.{Entry}
+use Rattle.hpack.specs.Entry.{Entry}
 use Rattle.hpack.specs.declared.types.fault.Fault.{Fault}
 use Rattle.hpack.specs.declared.types.fault.Fault.TheVariants as faults
 use Rattle.hpack.specs.Static.{entry}

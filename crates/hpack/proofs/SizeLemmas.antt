@@ -4,8 +4,7 @@ use Rattle.std.proofs.Common.{inr, Bool, true, List, [], ◌∷◌, ◌++◌, le
 use Rattle.std.proofs.Common.{arith, le-leb}
 use Rattle.std.proofs.lemmas.Bool.{cases_lt, lt-leb}
 use Rattle.std.proofs.lemmas.List.Sums.{sum_by-cons, sum_by_push}
-use Rattle.hpack.specs.declared.types.entry.Entry.{Entry}
-use Rattle.std.specs.List.{insert}
+use Rattle.hpack.specs.Entry.{Entry}
 use Rattle.hpack.specs.Tables.{Entries}
 use Rattle.hpack.specs.Sizes.{entry_size, table_size, fit, add}
 
@@ -92,19 +91,6 @@ popped left bound old new last counted above small e =
       fitting = sym (ap (λ (xs : List Entry). fit xs bound) e
           ∙ fit-push new last bound (omega arith));
     }
-
--- There is room for one more entry of this size.
-pub one_more : (entries : List Entry) (maximum size capacity : ℕ)
-    → table_size entries ≤ maximum - size → 32 ≤ size → size ≤ maximum → maximum / 32 ≤ capacity
-    → length entries < capacity
-one_more entries maximum size capacity within large small room =
-    omega (arith, entries_are_large entries)
-
--- the entries after an insertion at the beginning, where it succeeded
-pub inserted_first : (b : Bool) (old new : List Entry) (entry : Entry)
-    → new ≡ (if b then insert old 0 entry else old) → b ≡ true → new ≡ entry ∷ old
-inserted_first b old new entry e done = e
-    ∙ ap (λ (t : Bool). if t then insert old 0 entry else old) done
 
 -- a table of these entries
 abbrev pub table_of : List Entry → ℕ → Entries

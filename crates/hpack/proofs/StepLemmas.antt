@@ -5,7 +5,7 @@ use Rattle.std.proofs.Common.{append_assoc, append-nil, length-append}
 use Rattle.hpack_text.specs.Integers.{Int}
 use Rattle.hpack_text.proofs.IntegerLemmas.{Int-unique}
 use Rattle.hpack_text.proofs.StringLemmas.{Str-unique}
-use Rattle.hpack.specs.declared.types.entry.Entry.{Entry}
+use Rattle.hpack.specs.Entry.{Entry}
 use Rattle.hpack.specs.declared.types.field.Field.{Field}
 use Rattle.hpack.specs.declared.types.literal.Literal.{Literal}
 use Rattle.hpack.specs.declared.types.literal.Literal.TheVariants.{WithIndexing, WithoutIndexing}

@@ -9,7 +9,7 @@ use Rattle.hpack_text.specs.Integers.{all_ones, integer}
 use Rattle.hpack_text.specs.Strings.{string}
 use Rattle.hpack_text.proofs.IntegerWriting.{integer-short, integer-long, integer_encodes}
 use Rattle.hpack_text.proofs.StringLemmas.{string_encodes}
-use Rattle.hpack.specs.declared.types.entry.Entry.{Entry}
+use Rattle.hpack.specs.Entry.{Entry}
 use Rattle.hpack.specs.declared.types.field.Field.{Field}
 use Rattle.hpack.specs.declared.types.literal.Literal.{Literal}
 use Rattle.hpack.specs.declared.types.literal.Literal.TheVariants.{WithIndexing, WithoutIndexing}

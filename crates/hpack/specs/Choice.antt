@@ -1,10 +1,10 @@
 -- What the encoder writes: its choices, as functions (RFC 7541 leaves them open).
 use Rattle.std.specs.Prelude.{ℕ, suc, ◌+◌, ◌==◌, nat_lt, if◌then◌else◌, ◌&&◌, Bool, true, false}
-use Rattle.std.specs.Prelude.{List, [], ◌∷◌, ◌++◌, length, position, fold, flat_map}
+use Rattle.std.specs.Prelude.{List, [], ◌∷◌, ◌++◌, length, position, fold, flat_map, sum_by}
 use Rattle.std.specs.Option.{option_map_or}
 use Rattle.hpack_text.specs.Integers.{integer}
 use Rattle.hpack_text.specs.Strings.{string}
-use Rattle.hpack.specs.declared.types.entry.Entry.{Entry}
+use Rattle.hpack.specs.Entry.{Entry}
 use Rattle.hpack.specs.declared.types.field.Field.{Field}
 use Rattle.hpack.specs.declared.types.literal.Literal.{Literal}
 use Rattle.hpack.specs.declared.types.literal.Literal.TheVariants.{WithIndexing, WithoutIndexing}
@@ -109,3 +109,8 @@ after_block state fields =
           state.limit;
       limit = state.limit;
     }
+
+-- The most octets of a block of the fields: for each its name, its value and three integers, and
+-- two updates. An integer has at most six octets.
+abbrev pub most_octets : List Field → ℕ
+most_octets fields = sum_by (λ field. length field.name + length field.value + 18) fields + 12

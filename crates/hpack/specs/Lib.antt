@@ -1,3 +1,5 @@
+pub mod Entry
+pub mod Hashes
 pub mod Sizes
 pub mod Static
 pub mod Tables
@@ -10,7 +12,9 @@ pub mod TableInvariant
 pub mod Choice
 pub mod Prefixes
 pub mod Sought
+pub mod Chains
 pub mod PendingTable
 pub mod ChoiceModel
+pub mod EncoderInvariant
 pub mod Written
 pub mod Limits

@@ -1,9 +1,11 @@
 -- Pending tables: what becomes of a table, while the table itself stays as it is.
-use Rattle.std.specs.Prelude.{◌≡◌, ◌^◌, ◌<◌, ◌≤◌, List, ◌++◌, length, take, reverse, fold}
-use Rattle.hpack.specs.declared.types.entry.Entry.{Entry}
+use Rattle.std.specs.Prelude.{◌≡◌, ℕ, ◌/◌, ◌^◌, ◌<◌, ◌≤◌, List, [], ◌++◌, length, take, reverse}
+use Rattle.std.specs.Prelude.{fold}
+use Rattle.hpack.specs.Entry.{Entry}
 use Rattle.hpack.specs.declared.encode.pending_table.PendingTable.{PendingTable}
 use Rattle.hpack.specs.Sizes.{table_size, add}
 use Rattle.hpack.specs.Tables.{Entries}
+use Rattle.hpack.specs.Chains.{IsIndexOf}
 
 -- all entries of a pending table, the newest first: those that were added, then the table's own
 abbrev pub newest_first : PendingTable → Entries → List Entry
@@ -16,12 +18,24 @@ represented pending table = record {
   maximum = pending.maximum;
 }
 
--- The pending table counts its live entries, and is within its maximum.
+-- how many entries the index has room for
+abbrev pub capacity_of : PendingTable → ℕ
+capacity_of pending = pending.index.names.skips.capacity
+
+-- The pending table counts its live entries, finds them, and is within its maximum.
 pub record IsPendingTable (pending : PendingTable) (table : Entries) : Type 0 where
   pub live : pending.live ≤ length (newest_first pending table)
   pub counted : pending.size ≡ table_size (take pending.live (newest_first pending table))
   pub within : pending.size ≤ pending.maximum
   pub small : pending.maximum < 2 ^ 32
+  pub index : IsIndexOf pending.index (take pending.live (newest_first pending table))
+  pub room : pending.maximum / 32 < capacity_of pending
+
+-- Between two blocks nothing is pending, and the index is that of the table's entries.
+pub record IsReady (pending : PendingTable) (table : Entries) : Type 0 where
+  pub none_added : pending.added.items ≡ []
+  pub index : IsIndexOf pending.index table.entries
+  pub room : table.maximum / 32 < capacity_of pending
 
 -- a table to which an entry is added
 abbrev pub added_to : Entries → Entry → Entries

@@ -5,7 +5,7 @@ use Rattle.hpack_text.specs.declared.fault.TextFault.{TextFault}
 use Rattle.hpack_text.specs.declared.fault.TextFault.TheVariants as text_faults
 use Rattle.hpack_text.specs.Integers.{Int}
 use Rattle.hpack_text.specs.Strings.{Str}
-use Rattle.hpack.specs.declared.types.entry.Entry.{Entry}
+use Rattle.hpack.specs.Entry.{Entry}
 use Rattle.hpack.specs.declared.types.field.Field.{Field}
 use Rattle.hpack.specs.declared.types.fault.Fault.{Fault}
 use Rattle.hpack.specs.declared.types.fault.Fault.TheVariants as faults

@@ -1,6 +1,6 @@
 -- The size of entries and tables, and what of a table fits (RFC 7541, sections 4.1, 4.3 and 4.4).
 use Rattle.std.specs.Prelude.{ℕ, ◌+◌, ◌-◌, nat_le, if◌then◌else◌, List, [], ◌∷◌, length, sum_by}
-use Rattle.hpack.specs.declared.types.entry.Entry.{Entry}
+use Rattle.hpack.specs.Entry.{Entry}
 
 -- an entry's size: the octets of its name and of its value, and 32
 abbrev pub entry_size : Entry → ℕ

@@ -1,12 +1,10 @@
 -- Looking for the entry of a field: what is looked for, and the index of the first entry that
 -- passes.
-use Rattle.std.specs.Prelude.{ℕ, suc, ◌==◌, ◌&&◌, if◌then◌else◌, Bool, false, List, [], ◌∷◌, length}
-use Rattle.std.specs.Option.{option_map_or}
-use Rattle.hpack.specs.declared.types.entry.Entry.{Entry}
+use Rattle.std.specs.Prelude.{ℕ, suc, ◌<◌, ◌&&◌, if◌then◌else◌, Bool, List, [], ◌∷◌, get_or}
+use Rattle.hpack.specs.Entry.{Entry}
 use Rattle.hpack.specs.declared.types.field.Field.{Field}
 use Rattle.hpack.specs.declared.encode.search.Sought.{Sought}
 use Rattle.hpack.specs.declared.encode.search.Sought.TheVariants.{Exact, Name}
-use Rattle.hpack.specs.Static.{entry}
 use Rattle.hpack.specs.Choice.{same_octets}
 
 -- The entry has the field's name, and its value where that is looked for too.
@@ -20,16 +18,6 @@ first_index test start [] = 0
 first_index test start (one ∷ others) = if test one then start
     else first_index test (suc start) others
 
--- the indices of the entries whose name has this length, where the first of all has the index
--- `start`
-unfoldable pub of_length : ℕ → ℕ → List Entry → List ℕ
-of_length count start [] = []
-of_length count start (one ∷ others) =
-    if length one.name == count then start ∷ of_length count (suc start) others
-    else of_length count (suc start) others
-
--- the first of these indices whose entry in the static table passes, or 0
-unfoldable pub first_static : (Entry → Bool) → List ℕ → ℕ
-first_static test [] = 0
-first_static test (index ∷ others) = if option_map_or test (entry [] index) false then index
-    else first_static test others
+-- The numbers of a list are octets.
+abbrev pub AreOctetsByPlace : List ℕ → Type 0
+AreOctetsByPlace octets = (place : ℕ) → get_or octets place 0 < 256

@@ -1,6 +1,6 @@
 -- The static table (RFC 7541, appendix A), and the entry that an index names (section 2.3.3).
 use Rattle.std.specs.Prelude.{ℕ, zero, suc, List, [], ◌∷◌, ◌++◌, Option, None, slice_get, codes}
-use Rattle.hpack.specs.declared.types.entry.Entry.{Entry}
+use Rattle.hpack.specs.Entry.{Entry}
 
 -- the static table, from its first entry on
 unfoldable pub static_entries : List Entry

@@ -1,17 +1,16 @@
 -- The invariant of a table: what is true of its parts between calls.
-use Rattle.std.specs.Prelude.{◌≡◌, ◌/◌, ◌≤◌}
-use Rattle.std.specs.Vec.{vec_capacity}
+use Rattle.std.specs.Prelude.{◌≡◌, ◌/◌, ◌≤◌, max}
 use Rattle.hpack.specs.declared.table.dynamic_table.Table.TheInside.{Inside}
 use Rattle.hpack.specs.Sizes.{table_size}
 use Rattle.hpack.specs.Tables.{Entries}
 
 -- a table's entries and its maximum
 abbrev pub entries_of : Inside → Entries
-entries_of inside = record { entries = inside.entries.items; maximum = inside.maximum }
+entries_of inside = record { entries = inside.ring.items; maximum = inside.maximum }
 
--- The size is that of the entries, it is at most the maximum, and the capacity is for all that the
--- maximum allows.
+-- The size is that of the entries, it is at most the maximum, and the ring has room for all that
+-- the maximum allows, and for one at least.
 pub record TableInvariant (inside : Inside) : Type 0 where
-  pub counted : inside.size ≡ table_size inside.entries.items
+  pub counted : inside.size ≡ table_size inside.ring.items
   pub within : inside.size ≤ inside.maximum
-  pub room : inside.maximum / 32 ≤ vec_capacity inside.entries
+  pub capacity : inside.ring.capacity ≡ max (inside.maximum / 32) 1

@@ -1,6 +1,6 @@
 -- A table as its entries, newest first, and its maximum.
 use Rattle.std.specs.Prelude.{ℕ, List}
-use Rattle.hpack.specs.declared.types.entry.Entry.{Entry}
+use Rattle.hpack.specs.Entry.{Entry}
 use Rattle.hpack.specs.Sizes.{fit}
 
 pub record Entries : Type 0 where

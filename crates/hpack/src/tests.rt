@@ -6,4 +6,5 @@ mod field_list;
 mod fields;
 mod in_step;
 mod lists;
+mod ring;
 mod static_table;

@@ -1,5 +1,6 @@
 //! Fields, entries, octets and faults.
 
+pub(crate) mod chains;
 pub(crate) mod entry;
 pub(crate) mod fault;
 pub(crate) mod field;

@@ -1,15 +1,20 @@
 //! How a field is written.
 
-ghost use Rattle.std.specs.Prelude.{◌≡◌, ◌+◌, ◌^◌, ◌<◌, length};
+ghost use Rattle.std.specs.Prelude.{◌≡◌, ◌+◌, ◌^◌, ◌<◌, ◌≤◌, length};
 ghost use Rattle.hpack.specs.Choice.{choice, least_index as least_index_of};
 ghost use Rattle.hpack.specs.Sought.{is_sought};
 ghost use Rattle.hpack.specs.PendingTable.{represented, IsPendingTable};
-ghost use Rattle.hpack.specs.ChoiceModel.{choice_of, index_of, FitsIfAdded};
+ghost use Rattle.hpack.specs.Chains.{sought_hash};
+ghost use Rattle.hpack.specs.Hashes.{hash_from as hash_of_octets};
+ghost use Rattle.hpack.specs.declared.encode.search.Sought.TheVariants.{Exact, Name};
+ghost use Rattle.hpack.specs.ChoiceModel.{choice_of, index_of, FitsIfAdded, HashedIfAdded};
 
+use crate::encode::hash::hash_from;
 use crate::encode::pending_table::PendingTable;
 use crate::encode::search::{Sought, static_index};
 use crate::table::dynamic_table::Table;
 use crate::table::eviction::size_of_octets;
+use crate::types::chains::Hashes;
 use crate::types::field::Field;
 use crate::types::literal::Literal;
 
@@ -23,42 +28,67 @@ pub(crate) enum Choice {
 }
 
 /// The choice for a field: a sensitive one is never indexed. Otherwise an exact entry gives its
-/// index; a field that is larger than the maximum isn't added, and any other is.
-pub(crate) fn choose(pending: &PendingTable, table: &Table, field: &Field) -> Choice
+/// index; a field that is larger than the maximum isn't added, and any other is. Where it is added,
+/// its hashes are answered too.
+pub(crate) fn choose(pending: &PendingTable, table: &Table, field: &Field) -> (Choice, Hashes)
     requires { IsPendingTable pending.now table.now }
-    ensures chosen { choice_of result ≡ choice (represented pending.now table.now) field.now }
-    ensures small { index_of result < 2 ^ 35 }
-    ensures fits { FitsIfAdded result (length field.now.name + length field.now.value + 32)
+    ensures chosen { choice_of result.0 ≡ choice (represented pending.now table.now) field.now }
+    ensures small { index_of result.0 < 2 ^ 35 }
+    ensures fits { FitsIfAdded result.0 (length field.now.name + length field.now.value + 32)
         pending.now.maximum }
+    ensures hashes { HashedIfAdded result.0 result.1 field.now.name field.now.value }
 {
+    let name = hash_from(0, field.name.as_slice());
     if field.sensitive {
-        return Choice::Literal(
-            Literal::NeverIndexed,
-            least_index(pending, table, Sought::Name, field),
-        );
+        let named = name_index(pending, table, name, field);
+        let choice = Choice::Literal(Literal::NeverIndexed, named);
+        return (choice, Hashes { name, exact: 0 });
     }
-    let exact = least_index(pending, table, Sought::Exact, field);
-    if exact > 0 {
-        return Choice::Indexed(exact);
+    let (found, exact) = exact_index(pending, table, name, field);
+    let hashes = Hashes { name, exact };
+    if found > 0 {
+        return (Choice::Indexed(found), hashes);
     }
-    let named = least_index(pending, table, Sought::Name, field);
+    let named = name_index(pending, table, name, field);
     let size = size_of_octets(field.name.as_slice(), field.value.as_slice());
     if size > pending.maximum() as usize {
-        return Choice::Literal(Literal::WithoutIndexing, named);
+        return (Choice::Literal(Literal::WithoutIndexing, named), hashes);
     }
-    Choice::Literal(Literal::WithIndexing, named)
+    (Choice::Literal(Literal::WithIndexing, named), hashes)
 }
 
-/// The least index of the entries that are looked for, those of the static table first, or 0.
-fn least_index(pending: &PendingTable, table: &Table, sought: Sought, field: &Field) -> u64
-    requires { IsPendingTable pending.now table.now }
-    ensures value { result ≡ least_index_of (is_sought sought field.now)
+/// The least index of the entries with the field's name, those of the static table first, or 0.
+fn name_index(pending: &PendingTable, table: &Table, name_hash: u64, field: &Field) -> u64
+    requires pending { IsPendingTable pending.now table.now }
+    requires hash { name_hash ≡ hash_of_octets 0 field.now.name }
+    ensures value { result ≡ least_index_of (is_sought Name field.now)
         (represented pending.now table.now).entries }
     ensures small { result < 2 ^ 35 }
 {
-    let found = static_index(sought, field);
+    let found = static_index(Sought::Name, name_hash, field);
     if found > 0 {
         return found;
     }
-    pending.dynamic_index(table, sought, field)
+    pending.dynamic_index(table, Sought::Name, name_hash, field)
+}
+
+/// The least index of the entries with the field's name and value, those of the static table first,
+/// or 0 and the hash of both.
+fn exact_index(pending: &PendingTable, table: &Table, name_hash: u64, field: &Field) -> (u64, u64)
+    requires pending { IsPendingTable pending.now table.now }
+    requires hash { name_hash ≡ hash_of_octets 0 field.now.name }
+    ensures value { result.0 ≡ least_index_of (is_sought Exact field.now)
+        (represented pending.now table.now).entries }
+    ensures small { result.0 < 2 ^ 35 }
+    ensures hash { result.0 ≤ 0 → result.1 ≡ sought_hash Exact field.now.name field.now.value }
+{
+    let found = static_index(Sought::Exact, name_hash, field);
+    if found > 0 {
+        return (found, 0);
+    }
+    let hash = hash_from(name_hash, field.value.as_slice());
+    (
+        pending.dynamic_index(table, Sought::Exact, hash, field),
+        hash,
+    )
 }

@@ -9,6 +9,7 @@ ghost use Rattle.hpack.specs.Limits.{after_limit};
 
 use crate::encode::fields::append_fields;
 use crate::encode::pending_table::PendingTable;
+use crate::encode::room::reserve_block;
 use crate::encode::size_updates::SizeUpdates;
 use crate::table::dynamic_table::Table;
 use crate::types::fault::Fault;
@@ -21,6 +22,8 @@ use std::marker::Model;
 pub struct Encoder {
     alloc: Global,
     table: Table,
+    /// What becomes of the table while a block is encoded.
+    pending: PendingTable,
     /// The least limit since the last block, that block's own included.
     least: u32,
     /// The limit now.
@@ -28,7 +31,6 @@ pub struct Encoder {
 }
 
 impl Model for Encoder {
-    ghost use Rattle.std.specs.Prelude.{◌≤◌};
     ghost use Rattle.hpack.specs.Lists.{EncoderState};
 
     ghost Value = { EncoderState };
@@ -40,7 +42,9 @@ impl Model for Encoder {
           encoder.limit;
     } };
 
-    ghost invariant = { λ encoder. encoder.least ≤ encoder.limit };
+    ghost use Rattle.hpack.specs.EncoderInvariant.{EncoderInvariant};
+
+    ghost invariant = { EncoderInvariant };
 }
 
 impl Encoder {
@@ -61,6 +65,7 @@ impl Encoder {
         Ok(Encoder {
             alloc,
             table: Table::new(alloc, maximum)?,
+            pending: PendingTable::new(alloc, maximum)?,
             least: maximum,
             limit: maximum,
         })
@@ -104,6 +109,7 @@ impl Encoder {
         ensures err { IfErr result (λ fault. (fault ≡ Fault.Memory)
             × (out.new.items ≡ out.old.items) × (self.new ≡ self.old)) }
     {
+        reserve_block(fields, out)?;
         let start = out.len();
         if self.append_block(fields, out).is_err() {
             out.truncate(start);
@@ -126,11 +132,16 @@ impl Encoder {
     {
         let updates = SizeUpdates::due(self.table.maximum(), self.least, self.limit);
         updates.append(out)?;
-        let mut pending = PendingTable::new(self.alloc, &self.table);
-        updates.apply_to_pending(&mut pending, &self.table);
-        append_fields(self.alloc, &mut pending, &self.table, fields, out)?;
-        updates.apply(&mut self.table)?;
-        pending.commit(&mut self.table);
+        self.pending.reserve(self.alloc, &self.table, self.limit)?;
+        self.pending.begin(&self.table);
+        updates.apply_to_pending(&mut self.pending, &self.table);
+        if append_fields(self.alloc, &mut self.pending, &self.table, fields, out).is_err()
+            || updates.apply(&mut self.table).is_err()
+        {
+            self.pending.undo(&self.table);
+            return Err(Fault::Memory);
+        }
+        self.pending.commit(&mut self.table);
         self.least = self.limit;
         Ok(())
     }

@@ -58,7 +58,8 @@ fn append_head(kind: Literal, index: u64, out: &mut Vec<u8>) -> Result<(), Fault
     }
 }
 
-/// Appends an integer. On `Err` nothing has changed.
+/// Appends an integer. On `Err` nothing has changed. Most integers have one octet.
+#[inline(always)]
 pub(crate) fn append_int(
     prefix_bits: u8,
     first_bits: u8,
@@ -73,6 +74,10 @@ pub(crate) fn append_int(
         (out.new.items ≡ out.old.items ++ integer prefix_bits first_bits value) }
     ensures extended { IsExtended out.old.items out.new.items }
 {
+    if value < (1 << prefix_bits) - 1 {
+        out.push(first_bits + value as u8)?;
+        return Ok(());
+    }
     write_int(prefix_bits, first_bits, value, out).map_err(|_| Fault::Memory)
 }
 

@@ -9,16 +9,18 @@ ghost use Rattle.hpack.specs.Written.{AreOctets};
 ghost use Rattle.hpack.specs.Choice.{choice, encoding_of_field, after_choice, encoding_of_fields};
 ghost use Rattle.hpack.specs.Choice.{after_fields};
 ghost use Rattle.hpack.specs.PendingTable.{represented, IsPendingTable, PreservesAdded, added_to};
+ghost use Rattle.hpack.specs.PendingTable.{capacity_of};
+ghost use Rattle.hpack.specs.Chains.{AreHashes};
 
 use crate::encode::choice::{Choice, choose};
 use crate::encode::field::append_field;
 use crate::encode::pending_table::PendingTable;
 use crate::table::dynamic_table::Table;
+use crate::types::chains::Hashes;
 use crate::types::entry::Entry;
 use crate::types::fault::Fault;
 use crate::types::field::Field;
 use crate::types::literal::Literal;
-use crate::types::octets::Octets;
 use std::alloc::{AllocError, Global};
 
 /// Appends the fields, and applies them to the pending table. On `Err` a prefix of them has been
@@ -38,6 +40,8 @@ pub(crate) fn append_fields(
         ≡ after_fields (represented pending.old table.now) fields.now) }
     ensures added { OnOk result (PreservesAdded table.now pending.old pending.new) }
     ensures octets { OnOk result (AreOctets fields.now) }
+    ensures pending { OnOk result (IsPendingTable pending.new table.now) }
+    ensures capacity { capacity_of pending.new ≡ capacity_of pending.old }
     ensures extended { IsExtended out.old.items out.new.items }
 {
     for field in fields {
@@ -74,12 +78,15 @@ fn append_one(
         (choice (represented pending.old table.now) field.now) field.now) }
     ensures pending { OnOk result (IsPendingTable pending.new table.now) }
     ensures added { OnOk result (PreservesAdded table.now pending.old pending.new) }
+    ensures capacity { capacity_of pending.new ≡ capacity_of pending.old }
     ensures extended { IsExtended out.old.items out.new.items }
 {
-    let choice = choose(pending, table, field);
+    let (choice, hashes) = choose(pending, table, field);
     append_field(choice, field, out)?;
     match choice {
-        Choice::Literal(Literal::WithIndexing, _) => add_copy(alloc, pending, table, field),
+        Choice::Literal(Literal::WithIndexing, _) => {
+            add_copy(alloc, pending, table, hashes, field)
+        }
         _ => Ok(()),
     }
 }
@@ -89,18 +96,21 @@ fn add_copy(
     alloc: Global,
     pending: &mut PendingTable,
     table: &Table,
+    hashes: Hashes,
     field: &Field,
 ) -> Result<(), Fault>
     requires pending { IsPendingTable pending.old table.now }
+    requires hashes { AreHashes hashes field.now.name field.now.value }
     requires fits { length field.now.name + length field.now.value + 32 ≤ pending.old.maximum }
     ensures after { OnOk result (represented pending.new table.now
         ≡ added_to (represented pending.old table.now)
         (record { name = field.now.name; value = field.now.value })) }
     ensures pending { OnOk result (IsPendingTable pending.new table.now) }
     ensures added { OnOk result (PreservesAdded table.now pending.old pending.new) }
+    ensures capacity { capacity_of pending.new ≡ capacity_of pending.old }
 {
     let entry = copy_of(alloc, field)?;
-    pending.add(table, entry)?;
+    pending.add(table, entry, hashes)?;
     Ok(())
 }
 
@@ -112,8 +122,5 @@ fn copy_of(alloc: Global, field: &Field) -> Result<Entry, AllocError>
           field.now.value;
     }) }
 {
-    Ok(Entry {
-        name: Octets::copy_of(alloc, field.name.as_slice())?,
-        value: Octets::copy_of(alloc, field.value.as_slice())?,
-    })
+    Entry::copy_of(alloc, field.name.as_slice(), field.value.as_slice())
 }

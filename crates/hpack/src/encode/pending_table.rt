@@ -1,18 +1,21 @@
 //! What becomes of a table while a block is encoded.
 
-ghost use Rattle.std.specs.Prelude.{◌≡◌, ℕ, ◌+◌, ◌-◌, ◌^◌, ◌<◌, ◌≤◌, [], ◌∷◌, ◌++◌, min, length};
+ghost use Rattle.std.specs.Prelude.{◌≡◌, ℕ, ◌+◌, ◌-◌, ◌^◌, ◌/◌, ◌<◌, ◌≤◌, [], ◌∷◌, ◌++◌, min, length};
 ghost use Rattle.std.specs.Prelude.{take, reverse, slice_get, slice_index_or, Some, IfOk, OnOk};
 ghost use Rattle.std.specs.Prelude.{MatchOption};
-ghost use Rattle.hpack.specs.declared.types.entry.Entry.{Entry};
+ghost use Rattle.hpack.specs.Entry.{Entry};
 ghost use Rattle.hpack.specs.Sizes.{entry_size, table_size, fit};
 ghost use Rattle.hpack.specs.Tables.{resized};
 ghost use Rattle.hpack.specs.Sought.{is_sought, first_index};
 ghost use Rattle.hpack.specs.PendingTable.{newest_first, represented, IsPendingTable, added_to};
-ghost use Rattle.hpack.specs.PendingTable.{all_added};
+ghost use Rattle.hpack.specs.PendingTable.{all_added, capacity_of, IsReady};
+ghost use Rattle.hpack.specs.Chains.{AreHashes, sought_hash};
+ghost use Rattle.hpack.specs.Lists.{empty_table};
 
 use crate::encode::search::{Sought, is_match};
 use crate::table::dynamic_table::Table;
 use crate::table::eviction::{size_of, size_of_octets};
+use crate::types::chains::{Hashes, Index};
 use crate::types::entry::Entry;
 use crate::types::field::Field;
 use std::alloc::{AllocError, Global};
@@ -22,7 +25,7 @@ const FIRST_INDEX: u64 = 62;
 
 /// A table after changes that it hasn't undergone yet: of the entries that were added, from the
 /// newest on, and then of the table's own, the first `live` are still there.
-#[derive(Drop)]
+#[derive(Debug, Drop)]
 pub(crate) struct PendingTable {
     /// Copies of what was added, the newest last.
     added: Vec<Entry>,
@@ -32,46 +35,93 @@ pub(crate) struct PendingTable {
     size: usize,
     /// The greatest size.
     maximum: u32,
+    /// Finds the entries that are still there.
+    pub(crate) index: Index,
 }
 
 impl PendingTable {
-    /// The table itself, before any change.
-    pub(crate) fn new(alloc: Global, table: &Table) -> PendingTable
-        ensures same { represented result table.now ≡ table.now }
-        ensures pending { IsPendingTable result table.now }
-        ensures none_added { result.added.items ≡ [] }
+    /// An empty table.
+    pub(crate) fn new(alloc: Global, maximum: u32) -> Result<PendingTable, AllocError>
+        ensures ready { IfOk result (λ pending. IsReady pending (empty_table maximum)) }
     {
-        PendingTable {
+        Ok(PendingTable {
             added: Vec::new(alloc),
-            live: table.len(),
-            size: table.size(),
-            maximum: table.maximum(),
-        }
+            live: 0,
+            size: 0,
+            maximum,
+            index: Index::new(alloc, maximum)?,
+        })
+    }
+
+    /// Room to find the entries of a table with this maximum.
+    pub(crate) fn reserve(
+        &mut self,
+        alloc: Global,
+        table: &Table,
+        maximum: u32,
+    ) -> Result<(), AllocError>
+        requires { IsReady self.old table.now }
+        ensures ready { IsReady self.new table.now }
+        ensures room { OnOk result (maximum / 32 < capacity_of self.new) }
+    {
+        self.index.reserve(alloc, maximum, table)
+    }
+
+    /// The table itself, before any change.
+    pub(crate) fn begin(&mut self, table: &Table)
+        requires { IsReady self.old table.now }
+        ensures same { represented self.new table.now ≡ table.now }
+        ensures pending { IsPendingTable self.new table.now }
+        ensures none_added { self.new.added.items ≡ [] }
+        ensures capacity { capacity_of self.new ≡ capacity_of self.old }
+    {
+        self.live = table.len();
+        self.size = table.size();
+        self.maximum = table.maximum();
+    }
+
+    /// The table itself again, and no change of it. It takes no memory.
+    pub(crate) fn undo(&mut self, table: &Table)
+        requires { table.now.maximum / 32 < capacity_of self.old }
+        ensures { IsReady self.new table.now }
+    {
+        self.added.clear();
+        self.index.rebuild(table);
     }
 
     /// Sets the maximum, and lets the oldest entries leave.
     pub(crate) fn resize(&mut self, table: &Table, maximum: u32)
-        requires { IsPendingTable self.old table.now }
+        requires pending { IsPendingTable self.old table.now }
+        requires room { maximum / 32 < capacity_of self.old }
         ensures resized { represented self.new table.now
             ≡ resized (represented self.old table.now) maximum }
         ensures pending { IsPendingTable self.new table.now }
         ensures added { self.new.added ≡ self.old.added }
+        ensures capacity { capacity_of self.new ≡ capacity_of self.old }
     {
         (self.live, self.size) = self.fitting(table, maximum as usize);
         self.maximum = maximum;
     }
 
-    /// Adds an entry, and lets the oldest entries leave.
-    pub(crate) fn add(&mut self, table: &Table, entry: Entry) -> Result<(), AllocError>
+    /// Adds an entry with these hashes, and lets the oldest entries leave.
+    pub(crate) fn add(
+        &mut self,
+        table: &Table,
+        entry: Entry,
+        hashes: Hashes,
+    ) -> Result<(), AllocError>
         requires pending { IsPendingTable self.old table.now }
+        requires hashes { AreHashes hashes entry.name entry.value }
         requires fits { entry_size entry ≤ self.old.maximum }
         ensures added { OnOk result (self.new.added.items ≡ self.old.added.items ++ entry ∷ []) }
         ensures represented { OnOk result (represented self.new table.now
             ≡ added_to (represented self.old table.now) entry) }
         ensures pending { OnOk result (IsPendingTable self.new table.now) }
+        ensures capacity { capacity_of self.new ≡ capacity_of self.old }
     {
         let size = size_of(&entry);
         self.added.push(entry)?;
+        self.index.push(hashes);
         self.live += 1;
         self.size += size;
         (self.live, self.size) = self.fitting(table, self.maximum as usize);
@@ -79,15 +129,25 @@ impl PendingTable {
     }
 
     /// The least index of the dynamic entries that are looked for, or 0.
-    pub(crate) fn dynamic_index(&self, table: &Table, sought: Sought, field: &Field) -> u64
-        requires { IsPendingTable self.now table.now }
+    pub(crate) fn dynamic_index(
+        &self,
+        table: &Table,
+        sought: Sought,
+        hash: u64,
+        field: &Field,
+    ) -> u64
+        requires pending { IsPendingTable self.now table.now }
+        requires hash { hash ≡ sought_hash sought field.now.name field.now.value }
         ensures { result ≡ first_index (is_sought sought field.now) 62
             (represented self.now table.now).entries }
     {
-        for place in 0..self.live {
+        let chains = self.index.chains(sought);
+        let mut place = chains.first(hash);
+        while place < self.live {
             if self.is_match_at(table, place, sought, field) {
                 return FIRST_INDEX + place as u64;
             }
+            place += 1 + chains.skip(place);
         }
         0
     }
@@ -100,10 +160,13 @@ impl PendingTable {
     }
 
     /// Adds to the table the entries that were added here. It takes no memory.
-    pub(crate) fn commit(self, table: &mut Table)
-        ensures { table.new ≡ all_added table.old self.added.items }
+    pub(crate) fn commit(&mut self, table: &mut Table)
+        ensures table { table.new ≡ all_added table.old self.old.added.items }
+        ensures none_added { self.new.added.items ≡ [] }
+        ensures index { self.new.index ≡ self.old.index }
     {
-        for entry in self.added {
+        self.added.reverse();
+        while let Some(entry) = self.added.pop() {
             table.add(entry);
         }
     }
@@ -170,6 +233,6 @@ impl PendingTable {
             };
         }
         let entry = &self.added[count - 1 - place];
-        Some((entry.name.as_slice(), entry.value.as_slice()))
+        Some((entry.name(), entry.value()))
     }
 }

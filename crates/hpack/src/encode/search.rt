@@ -1,13 +1,18 @@
 //! Looking for the entry of a field in the static table.
 
-ghost use Rattle.std.specs.Prelude.{◌≡◌, ◌≤◌, [], false};
-ghost use Rattle.std.specs.Option.{option_map_or};
+ghost use Rattle.std.specs.Prelude.{◌≡◌, ◌-◌, ◌<◌, ◌≤◌, length, drop, slice_index_or};
+ghost use Rattle.hpack.specs.Entry.{Entry};
+ghost use Rattle.hpack.specs.Hashes.{hash_from};
 ghost use Rattle.hpack.specs.Choice.{same_octets};
-ghost use Rattle.hpack.specs.Sought.{is_sought, first_index, of_length};
-ghost use Rattle.hpack.specs.Static.{static_entries, entry};
+ghost use Rattle.hpack.specs.Sought.{is_sought, first_index, AreOctetsByPlace};
+ghost use Rattle.hpack.specs.Static.{static_entries};
 
+use crate::encode::static_chains::{first_place, skip_after};
 use crate::table::static_table::static_entry;
 use crate::types::field::Field;
+
+/// How many entries the static table has.
+const STATIC_COUNT: usize = 61;
 
 /// What is looked for.
 #[derive(Clone, Copy)]
@@ -30,64 +35,96 @@ pub(crate) fn is_match(sought: Sought, field: &Field, name: &[u8], value: &[u8])
     is_same(name, field.name.as_slice())
 }
 
-/// The least index of the static table's entries that are looked for, or 0. Only names of the same
-/// length are compared.
-pub(crate) fn static_index(sought: Sought, field: &Field) -> u64
+/// The least index of the static table's entries that are looked for, or 0, by the hash of the
+/// field's name. Only names in the bucket of the hash are compared.
+pub(crate) fn static_index(sought: Sought, hash: u64, field: &Field) -> u64
+    requires { hash ≡ hash_from 0 field.now.name }
     ensures { result ≡ first_index (is_sought sought field.now) 1 static_entries }
 {
-    let candidates = candidates(field.name.as_slice().len());
-    for candidate in candidates {
-        let index = u64::from(*candidate);
-        if is_static_match(sought, field, index) {
-            return index;
+    let mut place = first_place(hash);
+    while place < STATIC_COUNT {
+        if is_static_match(sought, field, place) {
+            return place as u64 + 1;
         }
+        place += 1 + skip_after(place);
     }
     0
 }
 
-/// Whether the index names an entry of the static table that is looked for.
-fn is_static_match(sought: Sought, field: &Field, index: u64) -> bool
-    requires at_least { 1 ≤ index }
-    requires at_most { index ≤ 61 }
-    ensures { result ≡ option_map_or (is_sought sought field.now) (entry [] index) false }
+/// Whether the entry of the static table at a place is looked for.
+#[inline(always)]
+fn is_static_match(sought: Sought, field: &Field, place: usize) -> bool
+    requires { place < 61 }
+    ensures { (other : Entry) → result
+        ≡ is_sought sought field.now (slice_index_or static_entries place other) }
 {
-    match static_entry(index) {
+    match static_entry(place as u64 + 1) {
         Some((name, value)) => is_match(sought, field, name, value),
         None => false,
     }
 }
 
-/// Whether the octets are the same.
+/// Whether the octets are the same. Eight are compared at a time.
+#[inline(always)]
 fn is_same(octets: &[u8], others: &[u8]) -> bool
     ensures { result ≡ same_octets octets.now others.now }
 {
-    octets == others
+    octets.len() == others.len() && have_same_words(octets, others)
 }
 
-/// The indices of the static table's entries whose name has this length, in rising order.
-#[tactic(auto, unfolding(crate::specs::Sought::of_length, crate::specs::Static::static_entries))]
-fn candidates(name_len: usize) -> &'static [u8]
-    ensures { result.now ≡ of_length name_len 1 static_entries }
+/// Whether octets are the same that are as many: the last eight, and then the others from the
+/// beginning on.
+fn have_same_words(octets: &[u8], others: &[u8]) -> bool
+    requires length { length octets.now ≡ length others.now }
+    requires octets { AreOctetsByPlace octets.now }
+    requires others { AreOctetsByPlace others.now }
+    ensures { result ≡ same_octets octets.now others.now }
 {
-    match name_len {
-        3 => &[21, 60],
-        4 => &[33, 34, 37, 38, 45, 59],
-        5 => &[4, 5, 22, 50],
-        6 => &[19, 32, 35, 54],
-        7 => &[2, 3, 6, 7, 8, 9, 10, 11, 12, 13, 14, 36, 51, 52],
-        8 => &[39, 42, 46],
-        10 => &[1, 55, 58],
-        11 => &[53],
-        12 => &[31, 47],
-        13 => &[18, 23, 24, 30, 41, 44],
-        14 => &[15, 28],
-        15 => &[16, 17],
-        16 => &[26, 27, 29, 61],
-        17 => &[40, 57],
-        18 => &[48],
-        19 => &[25, 43, 49],
-        25 => &[56],
-        27 => &[20],
-        _ => &[],
+    let others = of_length(others, octets.len());
+    let (Some(last), Some(others_last)) = (octets.last_chunk::<8>(), others.last_chunk::<8>())
+    else {
+        return octets == others;
+    };
+    if u64::from_le_bytes(*last) != u64::from_le_bytes(*others_last) {
+        return false;
     }
+    have_same_beginnings(octets, others)
+}
+
+/// All octets of a slice whose length is known: the compiler then knows it too.
+#[inline(always)]
+fn of_length(octets: &[u8], count: usize) -> &[u8]
+    requires { length octets.now ≡ count }
+    ensures { result.now ≡ octets.now }
+{
+    &octets[..count]
+}
+
+/// Whether octets are the same whose last eight are.
+#[inline(always)]
+fn have_same_beginnings(octets: &[u8], others: &[u8]) -> bool
+    requires long { 8 ≤ length octets.now }
+    requires length { length octets.now ≡ length others.now }
+    requires last { drop (length octets.now - 8) octets.now
+        ≡ drop (length octets.now - 8) others.now }
+    requires octets { AreOctetsByPlace octets.now }
+    requires others { AreOctetsByPlace others.now }
+    ensures { result ≡ same_octets octets.now others.now }
+{
+    let mut left = octets;
+    let mut others_left = others;
+    while left.len() > 8 {
+        let (Some((word, more)), Some((other, others_more))) = (
+            left.split_first_chunk::<8>(),
+            others_left.split_first_chunk::<8>(),
+        ) else {
+            unreachable!();
+        };
+        if u64::from_le_bytes(*word) != u64::from_le_bytes(*other) {
+            return false;
+        }
+        left = more;
+        others_left = others_more;
+    }
+    true
 }

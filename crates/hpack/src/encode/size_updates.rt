@@ -1,12 +1,12 @@
 //! The size updates at a block's beginning (RFC 7541, section 4.2).
 
-ghost use Rattle.std.specs.Prelude.{◌≡◌, ◌++◌, OnOk, OnErr, IfErr, flat_map};
+ghost use Rattle.std.specs.Prelude.{◌≡◌, ℕ, ◌/◌, ◌<◌, ◌≤◌, ◌++◌, OnOk, OnErr, IfErr, flat_map};
 ghost use Rattle.hpack_text.specs.Integers.{integer};
 ghost use Rattle.hpack_text.specs.Appended.{IsExtended};
 ghost use Rattle.hpack.specs.Lists.{EncoderState};
 ghost use Rattle.hpack.specs.Choice.{size_updates as size_updates_of, after_updates};
-ghost use Rattle.hpack.specs.PendingTable.{represented, IsPendingTable};
-ghost use Rattle.hpack.specs.ChoiceModel.{maxima_of};
+ghost use Rattle.hpack.specs.PendingTable.{represented, IsPendingTable, capacity_of};
+ghost use Rattle.hpack.specs.ChoiceModel.{maxima_of, AreBelow};
 
 use crate::encode::field::append_int;
 use crate::encode::pending_table::PendingTable;
@@ -35,8 +35,10 @@ impl SizeUpdates {
     /// limit, and the limit now if that is another; where it didn't and is above the maximum, the
     /// limit now.
     pub(crate) fn due(maximum: u32, least: u32, limit: u32) -> SizeUpdates
-        ensures { (state : EncoderState) → state.table.maximum ≡ maximum → state.least ≡ least
+        ensures due { (state : EncoderState) → state.table.maximum ≡ maximum → state.least ≡ least
             → state.limit ≡ limit → maxima_of result ≡ size_updates_of state }
+        ensures below { (capacity : ℕ) → least ≤ limit → limit / 32 < capacity
+            → AreBelow result capacity }
     {
         if least < maximum {
             if limit == least {
@@ -68,11 +70,13 @@ impl SizeUpdates {
 
     /// Applies the updates to a pending table.
     pub(crate) fn apply_to_pending(self, pending: &mut PendingTable, table: &Table)
-        requires { IsPendingTable pending.old table.now }
+        requires pending { IsPendingTable pending.old table.now }
+        requires room { AreBelow self (capacity_of pending.old) }
         ensures resized { represented pending.new table.now
             ≡ after_updates (represented pending.old table.now) (maxima_of self) }
         ensures pending { IsPendingTable pending.new table.now }
         ensures added { pending.new.added ≡ pending.old.added }
+        ensures capacity { capacity_of pending.new ≡ capacity_of pending.old }
     {
         match self {
             SizeUpdates::Nothing => {}

@@ -2,7 +2,7 @@
 
 ghost use Rattle.std.specs.Prelude.{◌≡◌, ℕ, ◌≤◌, List, ◌∷◌, ◌++◌, length};
 ghost use Rattle.hpack.specs.declared.types.field.Field.{Field};
-ghost use Rattle.hpack.specs.declared.types.entry.Entry.{Entry};
+ghost use Rattle.hpack.specs.Entry.{Entry};
 ghost use Rattle.hpack.specs.Sizes.{table_size, fit};
 ghost use Rattle.hpack.specs.Tables.{Entries};
 ghost use Rattle.hpack.specs.Blocks.{Block, Update};

@@ -1,10 +1,10 @@
 //! What the encoder writes, as laws: each is the contract of a function that does nothing.
 
-ghost use Rattle.std.specs.Prelude.{◌≡◌, ℕ, ◌^◌, ◌<◌, ◌≤◌, List, fold};
+ghost use Rattle.std.specs.Prelude.{◌≡◌, ℕ, ◌^◌, ◌<◌, ◌≤◌, List, length, fold};
 ghost use Rattle.hpack.specs.declared.types.field.Field.{Field};
 ghost use Rattle.hpack.specs.Blocks.{Block};
 ghost use Rattle.hpack.specs.Lists.{EncoderState, list_size, empty_table};
-ghost use Rattle.hpack.specs.Choice.{block_of, after_block};
+ghost use Rattle.hpack.specs.Choice.{block_of, after_block, most_octets};
 ghost use Rattle.hpack.specs.Written.{IsValidEncoder, AreOctets};
 ghost use Rattle.hpack.specs.Limits.{after_limit, chosen, IsSettled};
 
@@ -46,4 +46,10 @@ pub fn least_and_last()
     // Setting a limit leaves an encoder as it must be for what it writes to be a block.
     ensures limited { (state : EncoderState) (limit : ℕ) → limit < 2 ^ 32 → IsValidEncoder state
         → IsValidEncoder (after_limit state limit) }
+{}
+
+/// A block has at most the octets of its fields' names and values, 18 for each field, and 12.
+pub fn most_octets_of_a_block()
+    ensures { (state : EncoderState) (fields : List Field)
+        → length (block_of state fields) ≤ most_octets fields }
 {}

@@ -1,14 +1,17 @@
 //! The dynamic table (RFC 7541, sections 2.3.2 and 4).
 
-ghost use Rattle.std.specs.Prelude.{◌≡◌, ◌⊎◌, ◌+◌, ◌-◌, ◌*◌, ◌/◌, ◌<◌, ◌≤◌, ◌==◌, [], length};
-ghost use Rattle.std.specs.Prelude.{slice_get, Some, IfOk, OnOk, OnErr, IsOk, MatchOption};
+ghost use Rattle.std.specs.Prelude.{◌≡◌, ◌⊎◌, ◌+◌, ◌-◌, ◌*◌, ◌/◌, ◌<◌, ◌≤◌, ◌==◌, [], length, max};
+ghost use Rattle.std.specs.Prelude.{slice_get, Some, IfOk, OnOk, OnErr, MatchOption};
+ghost use Rattle.circular_buffer.specs.Buffer.{buffer};
 ghost use Rattle.hpack.specs.Sizes.{table_size, add};
 ghost use Rattle.hpack.specs.Tables.{resized};
 ghost use Rattle.hpack.specs.Lists.{empty_table};
 
-use crate::table::eviction::{evict, size_of};
+use crate::table::eviction::{evict, move_entries, size_of};
 use crate::types::entry::Entry;
+use circular_buffer::HeapCircularBuffer;
 use std::alloc::{AllocError, Global};
+use std::fmt;
 use std::marker::Model;
 
 /// The least size of an entry.
@@ -17,10 +20,10 @@ const LEAST_SIZE: u32 = 32;
 /// A dynamic table: entries, the newest first, and a maximum for their size. The size of an entry
 /// is that of its name and value, and 32; the size of the table is their sum, and is at most the
 /// maximum.
-#[derive(Debug, Drop)]
+#[derive(Drop)]
 pub struct Table {
-    /// The entries, the newest first; there is room for all that the maximum allows.
-    entries: Vec<Entry>,
+    /// The entries, the newest at the front. It has room for all that the maximum allows.
+    ring: HeapCircularBuffer<Entry>,
     /// The size of the entries.
     size: usize,
     /// The greatest size.
@@ -44,7 +47,7 @@ impl Table {
         ensures { IfOk result (λ table. table ≡ empty_table maximum) }
     {
         Ok(Table {
-            entries: Vec::with_capacity(alloc, room_for(maximum))?,
+            ring: HeapCircularBuffer::with_capacity(alloc, capacity_for(maximum))?,
             size: 0,
             maximum,
         })
@@ -55,14 +58,14 @@ impl Table {
         ensures value { result ≡ length self.now.entries }
         ensures bound { result ≤ self.now.maximum / 32 }
     {
-        self.entries.len()
+        self.ring.len()
     }
 
     /// Whether there is no entry. It takes no memory.
     pub fn is_empty(&self) -> bool
         ensures { result ≡ (length self.now.entries == 0) }
     {
-        self.entries.is_empty()
+        self.ring.is_empty()
     }
 
     /// The size of the entries: at most the maximum (RFC 7541, section 4.1). It takes no memory.
@@ -86,29 +89,36 @@ impl Table {
             (λ found. (0 < place) × (slice_get self.now.entries (place - 1)
             ≡ Some (record { name = found.0.now; value = found.1.now }))) }
     {
-        if place == 0 || place > self.entries.len() {
+        if place == 0 {
             return None;
         }
-        let entry = &self.entries[place - 1];
-        Some((entry.name.as_slice(), entry.value.as_slice()))
+        let entry = self.ring.get(place - 1)?;
+        Some((entry.name(), entry.value()))
+    }
+
+    /// The ring of the entries, the newest at the front. Its capacity is the maximum divided by 32,
+    /// but at least 1. It takes no memory.
+    pub fn ring(&self) -> &HeapCircularBuffer<Entry>
+        ensures items { result.now.items ≡ self.now.entries }
+        ensures capacity { result.now.capacity ≡ max (self.now.maximum / 32) 1 }
+    {
+        &self.ring
     }
 
     /// Sets the maximum; the oldest entries leave until the size is at most that (section 4.3).
     ///
     /// # Errors
     ///
-    /// [`AllocError`] where the allocation for a greater maximum was refused, and nothing has
+    /// [`AllocError`] where the allocation of a ring for the maximum was refused, and nothing has
     /// changed.
     pub(crate) fn resize(&mut self, maximum: u32) -> Result<(), AllocError>
         ensures ok { OnOk result (self.new ≡ resized self.old maximum) }
         ensures err { OnErr result (self.new ≡ self.old) }
-        ensures smaller { maximum ≤ self.old.maximum → IsOk result }
     {
-        let room = room_for(maximum);
-        if maximum > self.maximum {
-            self.entries.reserve_exact(room - self.entries.len())?;
-        }
-        self.size = evict(&mut self.entries, self.size, maximum as usize);
+        let mut ring = self.ring_for(maximum)?;
+        self.size = evict(&mut self.ring, self.size, maximum as usize);
+        move_entries(&mut self.ring, &mut ring);
+        self.ring = ring;
         self.maximum = maximum;
         Ok(())
     }
@@ -118,27 +128,33 @@ impl Table {
     ///
     /// # Errors
     ///
-    /// [`AllocError`] where the allocation for a greater maximum was refused, and nothing has
-    /// changed.
+    /// [`AllocError`] where the allocation of a ring for the last maximum was refused, and nothing
+    /// has changed.
     pub(crate) fn resize_twice(&mut self, first: u32, last: u32) -> Result<(), AllocError>
         ensures ok { OnOk result (self.new ≡ resized (resized self.old first) last) }
         ensures err { OnErr result (self.new ≡ self.old) }
     {
-        let room = room_for(last);
-        if last > self.maximum {
-            self.entries.reserve_exact(room - self.entries.len())?;
-        }
-        let size = evict(&mut self.entries, self.size, first as usize);
-        self.size = evict(&mut self.entries, size, last as usize);
+        let mut ring = self.ring_for(last)?;
+        let size = evict(&mut self.ring, self.size, first as usize);
+        self.size = evict(&mut self.ring, size, last as usize);
+        move_entries(&mut self.ring, &mut ring);
+        self.ring = ring;
         self.maximum = last;
         Ok(())
+    }
+
+    /// An empty ring with the capacity for a maximum.
+    fn ring_for(&self, maximum: u32) -> Result<HeapCircularBuffer<Entry>, AllocError>
+        ensures { IfOk result (λ ring. ring ≡ buffer [] (max (maximum / 32) 1)) }
+    {
+        HeapCircularBuffer::with_capacity(*self.ring.allocator(), capacity_for(maximum))
     }
 
     /// Lets all entries leave. It takes no memory.
     pub(crate) fn clear(&mut self)
         ensures { self.new ≡ record { entries = []; maximum = self.old.maximum } }
     {
-        self.entries.clear();
+        self.ring.clear();
         self.size = 0;
     }
 
@@ -156,15 +172,25 @@ impl Table {
             self.clear();
             return;
         }
-        self.size = size + evict(&mut self.entries, self.size, maximum - size);
-        // There is room for one more.
-        let _ = self.entries.insert(0, entry);
+        self.size = size + evict(&mut self.ring, self.size, maximum - size);
+        // There is room for one more, so none is overwritten.
+        self.ring.push_front(entry);
     }
 }
 
-/// For how many entries a table with this maximum has room.
-fn room_for(maximum: u32) -> usize
-    ensures { result ≡ maximum / 32 }
+impl fmt::Debug for Table {
+    fn fmt<W: fmt::Write>(&self, f: &mut fmt::Formatter<W>) -> fmt::Result {
+        f.debug_struct("Table")
+            .field("len", &self.ring.len())
+            .field("size", &self.size)
+            .field("maximum", &self.maximum)
+            .finish()
+    }
+}
+
+/// The capacity of the ring for a maximum: as many entries as the maximum allows, but at least 1.
+fn capacity_for(maximum: u32) -> usize
+    ensures { result ≡ max (maximum / 32) 1 }
 {
-    (maximum / LEAST_SIZE) as usize
+    ((maximum / LEAST_SIZE) as usize).max(1)
 }

@@ -1,10 +1,10 @@
 //! The size of entries, and the eviction of the oldest (RFC 7541, sections 4.1, 4.3 and 4.4).
 
-ghost use Rattle.std.specs.Prelude.{◌≡◌, ◌+◌, ◌-◌, ◌^◌, ◌≤◌, length, min};
-ghost use Rattle.std.specs.Vec.{vec_capacity};
+ghost use Rattle.std.specs.Prelude.{◌≡◌, ◌+◌, ◌-◌, ◌^◌, ◌≤◌, [], length, min};
 ghost use Rattle.hpack.specs.Sizes.{entry_size, table_size, fit};
 
 use crate::types::entry::Entry;
+use circular_buffer::HeapCircularBuffer;
 
 /// What an entry takes beside its name and value.
 const OVERHEAD: usize = 32;
@@ -13,7 +13,7 @@ const OVERHEAD: usize = 32;
 pub(crate) fn size_of(entry: &Entry) -> usize
     ensures { result ≡ min (entry_size entry.now) (2 ^ 64 - 1) }
 {
-    size_of_octets(entry.name.as_slice(), entry.value.as_slice())
+    size_of_octets(entry.name(), entry.value())
 }
 
 /// The size of an entry or a field of this name and value, or the greatest number where that is
@@ -28,19 +28,31 @@ pub(crate) fn size_of_octets(name: &[u8], value: &[u8]) -> usize
 
 /// Removes the oldest entries until the size of the others is at most the bound, and answers that
 /// size.
-pub(crate) fn evict(entries: &mut Vec<Entry>, size: usize, bound: usize) -> usize
-    requires { size ≡ table_size entries.old.items }
-    ensures fitting { entries.new.items ≡ fit entries.old.items bound }
-    ensures size { result ≡ table_size entries.new.items }
+pub(crate) fn evict(ring: &mut HeapCircularBuffer<Entry>, size: usize, bound: usize) -> usize
+    requires { size ≡ table_size ring.old.items }
+    ensures fitting { ring.new.items ≡ fit ring.old.items bound }
+    ensures size { result ≡ table_size ring.new.items }
     ensures within { result ≤ bound }
-    ensures capacity { vec_capacity entries.new ≡ vec_capacity entries.old }
+    ensures capacity { ring.new.capacity ≡ ring.old.capacity }
 {
     let mut remaining = size;
     while remaining > bound {
-        let Some(oldest) = entries.pop() else {
+        let Some(oldest) = ring.pop_back() else {
             unreachable!();
         };
         remaining -= size_of(&oldest);
     }
     remaining
+}
+
+/// Moves the entries to an empty ring that has room for them.
+pub(crate) fn move_entries(from: &mut HeapCircularBuffer<Entry>, to: &mut HeapCircularBuffer<Entry>)
+    requires empty { to.old.items ≡ [] }
+    requires room { length from.old.items ≤ to.old.capacity }
+    ensures items { to.new.items ≡ from.old.items }
+    ensures capacity { to.new.capacity ≡ to.old.capacity }
+{
+    while let Some(oldest) = from.pop_back() {
+        to.push_front(oldest);
+    }
 }

@@ -2,30 +2,72 @@
 
 ghost use Rattle.std.specs.Prelude.{◌≡◌, IfOk};
 
-use crate::types::octets::Octets;
 use std::alloc::{AllocError, Global};
+use std::fmt;
+use std::marker::Model;
 
-/// An entry of a dynamic table: a name and a value.
-#[derive(Debug, Drop)]
+/// An entry of a dynamic table: a name and a value, in one allocation.
+#[derive(Drop)]
 pub struct Entry {
-    /// The name.
-    pub name: Octets,
-    /// The value.
-    pub value: Octets,
+    /// The name, and then the value.
+    octets: Vec<u8>,
+    /// How many of the octets are the name.
+    name_len: usize,
+}
+
+impl Model for Entry {
+    ghost use Rattle.std.specs.Prelude.{◌≤◌, length, take, drop};
+    ghost use Rattle.hpack.specs.Entry.{Entry as NameAndValue};
+
+    ghost Value = { NameAndValue };
+
+    ghost view = { λ entry. record {
+      name = take entry.name_len entry.octets.items;
+      value =
+          drop entry.name_len entry.octets.items;
+    } };
+
+    ghost invariant = { λ entry. entry.name_len ≤ length entry.octets.items };
 }
 
 impl Entry {
-    /// An entry of copies of a name and a value.
+    /// An entry with copies of the name and the value.
     ///
     /// # Errors
     ///
-    /// [`AllocError`] where an allocation was refused.
-    pub(crate) fn copy_of(alloc: Global, name: &[u8], value: &[u8]) -> Result<Entry, AllocError>
+    /// [`AllocError`] where the allocation was refused.
+    pub fn copy_of(alloc: Global, name: &[u8], value: &[u8]) -> Result<Entry, AllocError>
         ensures { IfOk result (λ entry. entry ≡ record { name = name.now; value = value.now }) }
     {
+        let mut octets = Vec::with_capacity(alloc, name.len() + value.len())?;
+        octets.extend_from_slice(name)?;
+        octets.extend_from_slice(value)?;
         Ok(Entry {
-            name: Octets::copy_of(alloc, name)?,
-            value: Octets::copy_of(alloc, value)?,
+            octets,
+            name_len: name.len(),
         })
+    }
+
+    /// The name.
+    pub fn name(&self) -> &[u8]
+        ensures { result.now ≡ self.now.name }
+    {
+        &self.octets[..self.name_len]
+    }
+
+    /// The value.
+    pub fn value(&self) -> &[u8]
+        ensures { result.now ≡ self.now.value }
+    {
+        &self.octets[self.name_len..]
+    }
+}
+
+impl fmt::Debug for Entry {
+    fn fmt<W: fmt::Write>(&self, f: &mut fmt::Formatter<W>) -> fmt::Result {
+        f.debug_struct("Entry")
+            .field("name", &self.name())
+            .field("value", &self.value())
+            .finish()
     }
 }

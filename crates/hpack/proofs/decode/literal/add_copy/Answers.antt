@@ -1,5 +1,5 @@
 use Rattle.std.proofs.Common.{arith}
-use Rattle.hpack.specs.declared.types.entry.Entry.{Entry}
+use Rattle.hpack.specs.Entry.{Entry}
 use Rattle.hpack.proofs.SizeLemmas.{fit-none}
 use Rattle.hpack.proofs.decode.literal.add_copy.Goals as goal
 

@@ -1,6 +1,6 @@
 use Rattle.hpack.specs.PendingTable.{represented}
 use Rattle.hpack.proofs.FieldLemmas.{write_step, after_step, write_end, after_end, extended_more}
-use Rattle.std.proofs.Common.{subst}
+use Rattle.std.proofs.Common.{subst, ◌∙◌}
 use Rattle.std.specs.List.{AllByRecursion}
 use Rattle.hpack_text.specs.Bits.{IsOctet}
 use Rattle.hpack.proofs.StateLemmas.{octets_step, octets_end}
@@ -27,6 +27,7 @@ loop-field-preserved c =
             subst (AllByRecursion IsOctet) c.as_slice-in-loop-field.ensures
                 c.are_octets-in-loop-field.ensures,
           ) c.loop-field.invariant.octets;
+      capacity = c.append_one.ensures.capacity ∙ c.loop-field.invariant.capacity;
       extended = extended_more c.args.out.now.items c.loop-field.out.items
           c.append_one.new.out.items _ c.loop-field.invariant.extended
           c.in_ok-append_one.ensures.written;

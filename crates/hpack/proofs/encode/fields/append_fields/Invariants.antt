@@ -2,7 +2,7 @@ use Rattle.std.proofs.Common.{◌≡◌, ◌++◌, drop}
 use Rattle.hpack_text.specs.Appended.{IsExtended}
 use Rattle.hpack.specs.Choice.{encoding_of_fields, after_fields}
 use Rattle.hpack.specs.Written.{AreOctets}
-use Rattle.hpack.specs.PendingTable.{represented, IsPendingTable, PreservesAdded}
+use Rattle.hpack.specs.PendingTable.{represented, IsPendingTable, PreservesAdded, capacity_of}
 use Rattle.hpack.proofs.encode.fields.append_fields.Given as goal
 
 abbrev pub invariant-loop-field : goal.invariant-loop-field
@@ -15,5 +15,6 @@ invariant-loop-field l = record {
       ≡ after_fields (represented l.initial.pending l.table) l.fields;
   added : PreservesAdded l.table l.initial.pending l.pending;
   octets : AreOctets (drop l.field-index l.fields) → AreOctets l.fields;
+  capacity : capacity_of l.pending ≡ capacity_of l.initial.pending;
   extended : IsExtended l.initial.out.items l.out.items;
 }

@@ -1,51 +1,42 @@
-use Rattle.std.proofs.Common.{◌∙◌, ◌+◌, drop, sym, ap, Bool, if◌then◌else◌}
-use Rattle.hpack.specs.Sought.{is_sought, first_static}
-use Rattle.hpack.proofs.SearchLemmas.{candidate_at, candidate_step, candidates_all}
-use Rattle.hpack.proofs.SearchLemmas.{first_static-none}
+use Rattle.std.proofs.Common.{◌≡◌, ◌∙◌, ◌<◌, ◌+◌, sym, ap, refl, length, arith}
+use Rattle.hpack.specs.Static.{static_entries}
+use Rattle.hpack.specs.Sought.{is_sought}
+use Rattle.hpack.specs.Hashes.{bucket_of}
+use Rattle.hpack.specs.Chains.{name_bucket}
+use Rattle.hpack.proofs.ChainLemmas.{reached_first, reached_next, reached_here, reached_end}
+use Rattle.hpack.proofs.StaticChainLemmas.{name_in_bucket, static_length}
 use Rattle.hpack.proofs.encode.search.static_index.Goals as goal
 
-pub is_static_match-requires-clause-at_least : goal.is_static_match-requires-clause-at_least
-is_static_match-requires-clause-at_least c =
-    (candidate_at _ c.candidates-candidates.result.now c.loop-candidate.candidate-index
-    c.from-index.result c.candidates-candidates.ensures c.loop-candidate-test.true
-    c.from-index.ensures).0
-
-pub is_static_match-requires-clause-at_most : goal.is_static_match-requires-clause-at_most
-is_static_match-requires-clause-at_most c =
-    (candidate_at _ c.candidates-candidates.result.now c.loop-candidate.candidate-index
-    c.from-index.result c.candidates-candidates.ensures c.loop-candidate-test.true
-    c.from-index.ensures).1
+pub loop-place-init : goal.loop-place-init
+loop-place-init c =
+    reached_first name_bucket (bucket_of 128 c.args.hash) (is_sought c.args.sought c.args.field.now)
+    1 static_entries c.first_place-place.result
+    (name_in_bucket c.args.sought c.args.field.now c.args.hash c.requires)
+    c.first_place-place.ensures
 
 pub returns-then-is_static_match : goal.returns-then-is_static_match
 returns-then-is_static_match c =
-    let step = candidate_step (is_sought c.args.sought c.args.field.now)
-    c.candidates-candidates.result.now c.loop-candidate.candidate-index c.from-index.result
-    c.is_static_match.result c.loop-candidate-test.true c.from-index.ensures
-    c.is_static_match.ensures in
-    let rest = first_static (is_sought c.args.sought c.args.field.now)
-    (drop (c.loop-candidate.candidate-index + 1) c.candidates-candidates.result.now) in
-    sym (ap (λ (b : Bool). if b then c.from-index.result else rest) c.if-is_static_match.true)
-    ∙ (sym step
-    ∙ (c.loop-candidate.invariant ∙ candidates_all c.args.sought c.args.field.now
-    c.as_slice.result.now c.candidates-candidates.result.now c.as_slice.ensures
-    c.candidates-candidates.ensures))
+    let short : c.loop-place.place < length static_entries =
+    omega (arith, c.loop-place-test.true, static_length) in
+    let number : c.loop-place.place + 1 ≡ 1 + c.loop-place.place = omega arith in
+    number ∙ reached_here name_bucket (bucket_of 128 c.args.hash)
+    (is_sought c.args.sought c.args.field.now) 1 static_entries c.loop-place.place
+    c.loop-place.invariant short
+    (λ other. sym (c.is_static_match.ensures other) ∙ c.if-is_static_match.true)
 
-pub loop-candidate-preserved : goal.loop-candidate-preserved
-loop-candidate-preserved c =
-    let step = candidate_step (is_sought c.args.sought c.args.field.now)
-    c.candidates-candidates.result.now c.loop-candidate.candidate-index c.from-index.result
-    c.is_static_match.result c.loop-candidate-test.true c.from-index.ensures
-    c.is_static_match.ensures in
-    let rest = first_static (is_sought c.args.sought c.args.field.now)
-    (drop (c.loop-candidate.candidate-index + 1) c.candidates-candidates.result.now) in
-    sym (ap (λ (b : Bool). if b then c.from-index.result else rest) c.if-is_static_match.false)
-    ∙ (sym step ∙ c.loop-candidate.invariant)
+pub loop-place-preserved : goal.loop-place-preserved
+loop-place-preserved c =
+    let short : c.loop-place.place < length static_entries =
+    omega (arith, c.loop-place-test.true, static_length) in
+    reached_next name_bucket (bucket_of 128 c.args.hash) (is_sought c.args.sought c.args.field.now)
+    1 static_entries c.loop-place.place c.skip_after.result _
+    (name_in_bucket c.args.sought c.args.field.now c.args.hash c.requires)
+    c.loop-place.invariant short
+    (λ other. sym (c.is_static_match.ensures other) ∙ c.if-is_static_match.false)
+    c.skip_after.ensures.leads refl
 
 pub returns : goal.returns
 returns c =
-    sym (first_static-none (is_sought c.args.sought c.args.field.now)
-    c.candidates-candidates.result.now c.loop-candidate.candidate-index
-    c.loop-candidate-test.false)
-    ∙ (c.loop-candidate.invariant ∙ candidates_all c.args.sought c.args.field.now
-    c.as_slice.result.now c.candidates-candidates.result.now c.as_slice.ensures
-    c.candidates-candidates.ensures)
+    reached_end name_bucket (bucket_of 128 c.args.hash) (is_sought c.args.sought c.args.field.now) 1
+    static_entries c.loop-place.place c.loop-place.invariant
+    (omega (arith, c.loop-place-test.false, static_length))

@@ -1,4 +1,6 @@
-use Rattle.std.proofs.Common.{◌∙◌, ◌++◌, ◌^◌, ◌<◌, sym, ap, refl, subst, arith}
+use Rattle.std.proofs.Common.{◌≡◌, false, ◌∙◌, ◌++◌, ◌^◌, ◌<◌, sym, ap, refl, subst, arith}
+use Rattle.std.specs.Result.{is_err}
+use Rattle.hpack.proofs.ResultLemmas.{on_ok}
 use Rattle.hpack.specs.Blocks.{Block}
 use Rattle.hpack.proofs.WrittenBlocks.{block_encodes}
 use Rattle.hpack.specs.Written.{IsValidEncoder}
@@ -16,16 +18,18 @@ returns-clause-written c =
       least = c.self.inside.least;
       limit = c.self.inside.limit;
     } in
-    let begun : IsBegun state (maxima_of c.due-updates.result) c.new-pending.result
+    let begun : IsBegun state (maxima_of c.due-updates.result) c.begin.new.self
     c.apply_to_pending.new.pending = record {
-      due = c.due-updates.ensures state (sym c.maximum.ensures) refl refl;
-      same = c.new-pending.ensures.same;
+      due = c.due-updates.ensures.due state (sym c.maximum.ensures) refl refl;
+      same = c.begin.ensures.same;
       updates = c.apply_to_pending.ensures.resized;
     } in
-    block_is_written state (maxima_of c.due-updates.result) c.new-pending.result
+    block_is_written state (maxima_of c.due-updates.result) c.begin.new.self
     c.apply_to_pending.new.pending c.args.fields.now c.args.out.now.items c.append.new.out.items
     c.append_fields.new.out.items begun c.in_ok-append.ensures.ok
-    c.in_ok-append_fields.ensures.written
+    (on_ok c.append_fields.result
+    (sym c.is_err.ensures.value ∙ c.if-is_err.false)
+    c.append_fields.ensures.written)
     ∙ ap (λ (s : EncoderState). c.args.out.now.items ++ block_of s c.args.fields.now) c.self.view_is
 
 pub returns-clause-after : goal.returns-clause-after
@@ -35,17 +39,23 @@ returns-clause-after c =
       least = c.self.inside.least;
       limit = c.self.inside.limit;
     } in
-    let begun : IsBegun state (maxima_of c.due-updates.result) c.new-pending.result
+    let begun : IsBegun state (maxima_of c.due-updates.result) c.begin.new.self
     c.apply_to_pending.new.pending = record {
-      due = c.due-updates.ensures state (sym c.maximum.ensures) refl refl;
-      same = c.new-pending.ensures.same;
+      due = c.due-updates.ensures.due state (sym c.maximum.ensures) refl refl;
+      same = c.begin.ensures.same;
       updates = c.apply_to_pending.ensures.resized;
     } in
-    block_is_done state (maxima_of c.due-updates.result) c.new-pending.result
+    block_is_done state (maxima_of c.due-updates.result) c.begin.new.self
     c.apply_to_pending.new.pending c.append_fields.new.pending c.args.fields.now
-    c.apply.new.table c.commit.new.table begun c.new-pending.ensures.none_added
-    c.apply_to_pending.ensures.added c.in_ok-append_fields.ensures.added
-    c.in_ok-append_fields.ensures.after c.in_ok-apply.ensures.ok c.commit.ensures
+    c.apply.new.table c.commit.new.table begun c.begin.ensures.none_added
+    c.apply_to_pending.ensures.added (on_ok c.append_fields.result
+    (sym c.is_err.ensures.value ∙ c.if-is_err.false)
+    c.append_fields.ensures.added)
+    (on_ok c.append_fields.result
+    (sym c.is_err.ensures.value ∙ c.if-is_err.false)
+    c.append_fields.ensures.after) (on_ok c.apply.result
+    (sym c.is_err-else-is_err.ensures.value ∙ c.if-is_err-2.false)
+    c.apply.ensures.ok) c.commit.ensures.table
     ∙ ap (λ (s : EncoderState). after_block s c.args.fields.now) c.self.view_is
 
 pub returns-clause-block : goal.returns-clause-block
@@ -58,10 +68,12 @@ returns-clause-block c = λ limit le.
     let small : state.limit < 2 ^ 32 = omega (arith, c.self.ranges) in
     let writing : IsValidEncoder c.args.self.now =
     subst IsValidEncoder c.self.view_is
-    (writing_of state c.new-pending.result c.new-pending.ensures.pending
-    c.new-pending.ensures.same c.self.invariant small) in
+    (writing_of state c.begin.new.self c.begin.ensures.pending
+    c.begin.ensures.same c.self.invariant.least small) in
     subst (λ (new : EncoderState). Block c.args.self.now.table limit
     (block_of c.args.self.now c.args.fields.now) c.args.fields.now new.table)
     (sym (returns-clause-after c))
     (block_encodes c.args.self.now limit c.args.fields.now writing
-    c.in_ok-append_fields.ensures.octets c.requires le)
+    (on_ok c.append_fields.result
+    (sym c.is_err.ensures.value ∙ c.if-is_err.false)
+    c.append_fields.ensures.octets) c.requires le)

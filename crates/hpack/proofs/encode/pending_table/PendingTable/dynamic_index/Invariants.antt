@@ -1,10 +1,17 @@
-use Rattle.std.proofs.Common.{◌≡◌, ◌+◌, drop, take}
+use Rattle.std.proofs.Common.{◌≡◌, ◌+◌, ◌-◌, ◌<◌, length, drop, take}
+use Rattle.hpack.specs.Entry.{Entry}
 use Rattle.hpack.specs.Sought.{is_sought, first_index}
 use Rattle.hpack.specs.PendingTable.{newest_first}
+use Rattle.hpack.specs.Chains.{bucket_by}
+use Rattle.hpack.specs.Hashes.{bucket_of}
+use Rattle.hpack.proofs.ChainLemmas.{IsReached}
 use Rattle.hpack.proofs.encode.pending_table.PendingTable.dynamic_index.Given as goal
 
 abbrev pub invariant-loop-place : goal.invariant-loop-place
 invariant-loop-place l =
-    first_index (is_sought l.sought l.field) (62 + l.place)
-    (drop l.place (take l.self.live (newest_first l.self l.table)))
-    ≡ first_index (is_sought l.sought l.field) 62 (take l.self.live (newest_first l.self l.table))
+    IsReached (bucket_by l.sought (length l.chains.newest.items))
+    (bucket_of (length l.chains.newest.items) l.hash) (is_sought l.sought l.field) 62
+    (take l.self.live (newest_first l.self l.table)) l.place
+
+abbrev pub decreases-loop-place : goal.decreases-loop-place
+decreases-loop-place l = l.self.live - l.place

@@ -1,9 +1,10 @@
-use Rattle.std.proofs.Common.{◌≡◌, ℕ, ◌-◌, ◌<◌, ap, ◌∙◌, arith}
-use Rattle.std.specs.Vec.{vec_capacity}
-use Rattle.std.proofs.Common.{vec_len}
+use Rattle.std.proofs.Common.{◌≡◌, ℕ, ◌-◌, ◌<◌, length, ap, ◌∙◌, arith}
+use Rattle.circular_buffer.specs.Buffer.{Buffer}
+use Rattle.hpack.specs.Entry.{Entry}
 use Rattle.hpack.specs.Sizes.{entry_size, table_size, fit}
 use Rattle.hpack.specs.Tables.{Entries}
-use Rattle.hpack.proofs.SizeLemmas.{table_size-cons, fit-none, one_more, inserted_first, added}
+use Rattle.hpack.proofs.SizeLemmas.{table_size-cons, fit-none, added}
+use Rattle.hpack.proofs.RingLemmas.{one_more_fits, pushed_newest}
 use Rattle.hpack.proofs.table.dynamic_table.Table.add.Goals as goal
 
 pub returns-then-size-maximum : goal.returns-then-size-maximum
@@ -17,53 +18,36 @@ pub invariant_of-self : goal.invariant_of-self
 invariant_of-self c =
     let exact : c.size_of-size.result ≡ entry_size c.args.entry =
     omega (arith, c.size_of-size.ensures, c.if-size-maximum.false) in
-    let room : vec_len c.evict.new.entries < vec_capacity c.evict.new.entries =
-    omega (
-      arith,
-      one_more c.evict.new.entries.items c.self.inside.maximum c.size_of-size.result
-          (vec_capacity c.evict.new.entries)
-          (omega (arith, c.evict.ensures.size, c.evict.ensures.within)) (omega (arith, exact))
-          c.if-size-maximum.false (omega (arith, c.self.invariant.room, c.evict.ensures.capacity)),
-      c.evict.new.entries.ok.0,
-    )
-    in
-    let items = inserted_first _ _ _ c.args.entry c.insert.ensures.items
-    (c.insert.ensures.succeeds room) in
+    let capacity = c.evict.ensures.capacity ∙ c.self.invariant.capacity in
+    let room = one_more_fits c.evict.new.ring.items c.self.inside.maximum c.size_of-size.result
+    c.evict.new.ring.capacity (omega (arith, c.evict.ensures.size, c.evict.ensures.within))
+    (omega (arith, exact)) c.if-size-maximum.false capacity in
+    let items = pushed_newest c.evict.new.ring c.push_front.new.self c.args.entry room
+    c.push_front.ensures.items in
     record {
       counted = omega (
         arith,
         exact,
         c.evict.ensures.size,
         ap table_size items
-            ∙ table_size-cons c.args.entry c.evict.new.entries.items,
+            ∙ table_size-cons c.args.entry c.evict.new.ring.items,
       );
       within = omega (arith, c.evict.ensures.within, c.if-size-maximum.false);
-      room = omega (
-        arith,
-        c.self.invariant.room,
-        c.evict.ensures.capacity,
-        c.insert.ensures.capacity,
-      );
+      capacity = ap (λ (b : Buffer Entry). b.capacity) c.push_front.ensures.items ∙ capacity;
     }
 
 pub returns : goal.returns
 returns c =
     let exact : c.size_of-size.result ≡ entry_size c.args.entry =
     omega (arith, c.size_of-size.ensures, c.if-size-maximum.false) in
-    let room : vec_len c.evict.new.entries < vec_capacity c.evict.new.entries =
-    omega (
-      arith,
-      one_more c.evict.new.entries.items c.self.inside.maximum c.size_of-size.result
-          (vec_capacity c.evict.new.entries)
-          (omega (arith, c.evict.ensures.size, c.evict.ensures.within)) (omega (arith, exact))
-          c.if-size-maximum.false (omega (arith, c.self.invariant.room, c.evict.ensures.capacity)),
-      c.evict.new.entries.ok.0,
-    )
-    in
-    let items = inserted_first _ _ _ c.args.entry c.insert.ensures.items
-    (c.insert.ensures.succeeds room) in
-    rw (← c.self.view_is) (added c.self.inside.entries.items c.insert.new.self.items
-    c.evict.new.entries.items c.args.entry c.self.inside.maximum
+    let capacity = c.evict.ensures.capacity ∙ c.self.invariant.capacity in
+    let room = one_more_fits c.evict.new.ring.items c.self.inside.maximum c.size_of-size.result
+    c.evict.new.ring.capacity (omega (arith, c.evict.ensures.size, c.evict.ensures.within))
+    (omega (arith, exact)) c.if-size-maximum.false capacity in
+    let items = pushed_newest c.evict.new.ring c.push_front.new.self c.args.entry room
+    c.push_front.ensures.items in
+    rw (← c.self.view_is) (added c.self.inside.ring.items c.push_front.new.self.items
+    c.evict.new.ring.items c.args.entry c.self.inside.maximum
     (omega (arith, exact, c.if-size-maximum.false))
     (c.evict.ensures.fitting
-    ∙ ap (λ (n : ℕ). fit c.self.inside.entries.items (c.self.inside.maximum - n)) exact) items)
+    ∙ ap (λ (n : ℕ). fit c.self.inside.ring.items (c.self.inside.maximum - n)) exact) items)

@@ -1,9 +1,11 @@
-use Rattle.std.proofs.Common.{arith}
-use Rattle.hpack.proofs.SizeLemmas.{entries_are_few}
+use Rattle.std.proofs.Common.{ap, arith}
+use Rattle.circular_buffer.specs.Buffer.{Buffer}
+use Rattle.hpack.specs.Entry.{Entry}
+use Rattle.hpack.proofs.RingLemmas.{entries_fit}
 use Rattle.hpack.proofs.table.dynamic_table.Table.resize.Goals as goal
 
-pub overflow_sub-room : goal.overflow_sub-room
-overflow_sub-room c =
-    let few = entries_are_few c.self.inside.entries.items c.self.inside.maximum
-    (omega (arith, c.self.invariant.counted, c.self.invariant.within)) in
-    omega (arith, few, c.self.inside.entries.ok.0, c.len.ensures, c.room_for-room.ensures)
+pub move_entries-requires-clause-room : goal.move_entries-requires-clause-room
+move_entries-requires-clause-room c =
+    entries_fit c.evict-self-inside.new.ring.items c.args.maximum c.in_ok-ring.ring.capacity
+    (omega (arith, c.evict-self-inside.ensures.size, c.evict-self-inside.ensures.within))
+    (ap (λ (b : Buffer Entry). b.capacity) c.in_ok-ring.ensures)

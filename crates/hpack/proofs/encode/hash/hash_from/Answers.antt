@@ -1,0 +1,28 @@
+use Rattle.std.proofs.Common.{◌∙◌, ℕ, sym, ap, arith}
+use Rattle.hpack.specs.Hashes.{mixed, hash_words}
+use Rattle.hpack.proofs.HashLemmas.{hash_words_more, hash_words_none, hash_long, hash_short}
+use Rattle.hpack.proofs.encode.hash.hash_from.Goals as goal
+
+pub returns-in_default : goal.returns-in_default
+returns-in_default c =
+    c.mixed.ensures ∙ hash_short c.args.hash c.short_word.result c.args.octets.now
+    c.in_default.ensures.cases c.short_word.ensures
+
+pub loop-rest-preserved : goal.loop-rest-preserved
+loop-rest-preserved c =
+    hash_words_more c.loop-rest.before_last c.mixed-before_last.result c.loop-rest.rest.now
+    c.in-Some-split_first_chunk.word.now c.in-Some-split_first_chunk.more.now
+    c.loop-rest-test.true c.in-Some-split_first_chunk.ensures.cases.0
+    c.in-Some-split_first_chunk.ensures.cases.1 c.in-Some-split_first_chunk.ensures.cases.2
+    (c.mixed-before_last.ensures
+    ∙ ap (λ (n : ℕ). mixed c.loop-rest.before_last n) c.from_le_bytes.ensures)
+    ∙ c.loop-rest.invariant
+
+pub returns : goal.returns
+returns c =
+    c.mixed-2.ensures ∙ (ap (λ (n : ℕ). mixed c.loop-rest.before_last n) c.from_le_bytes-2.ensures
+    ∙ hash_long c.args.hash c.loop-rest.before_last c.args.octets.now c.in-Some.last.now
+    c.in-Some.ensures.cases.0
+    (sym (hash_words_none c.loop-rest.before_last c.loop-rest.rest.now c.loop-rest-test.false)
+    ∙ c.loop-rest.invariant)
+    c.in-Some.ensures.cases.1.same)

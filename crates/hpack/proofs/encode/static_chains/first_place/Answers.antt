@@ -1,0 +1,14 @@
+use Rattle.std.proofs.Common.{ℕ, ◌≡◌, ◌∙◌, get_or, sym, ap, subst, arith}
+use Rattle.hpack.specs.declared.encode.static_chains.TheConstants.{FIRST_PLACES}
+use Rattle.hpack.specs.Static.{static_entries}
+use Rattle.hpack.specs.Hashes.{bucket_of}
+use Rattle.hpack.specs.Chains.{LeadsTo, name_bucket}
+use Rattle.hpack.proofs.StaticChainLemmas.{place_leads}
+use Rattle.hpack.proofs.encode.static_chains.first_place.Goals as goal
+
+pub returns : goal.returns
+returns c =
+    let own = c.bucket_at.result in
+    subst (λ (n : ℕ). LeadsTo name_bucket n static_entries c.from.result) c.bucket_at.ensures.value
+    (subst (λ (n : ℕ). LeadsTo name_bucket own static_entries n) (sym c.from.ensures)
+    (place_leads own c.bucket_at.ensures.within))

@@ -1,0 +1,36 @@
+//! Room for a block before it is appended.
+
+ghost use Rattle.std.specs.Prelude.{◌≡◌, ◌+◌, ◌^◌, ◌<◌, ◌≤◌, OnOk, IfErr, vec_len};
+ghost use Rattle.std.specs.Vec.{vec_capacity};
+ghost use Rattle.hpack.specs.Choice.{most_octets};
+ghost use Rattle.hpack.specs.Lists.{list_size as size_of_list};
+
+use crate::types::fault::Fault;
+use crate::types::field::Field;
+use crate::types::list_size::list_size;
+
+/// The octets of two size updates.
+const UPDATES: usize = 12;
+
+/// By how much a field's share of a list's size exceeds that of its block, beside name and value:
+/// 32 octets, and three integers of six octets.
+const SPARE: usize = 14;
+
+/// Reserves room for the block of the fields, whatever the encoder chooses.
+pub(crate) fn reserve_block(fields: &[Field], out: &mut Vec<u8>) -> Result<(), Fault>
+    requires { size_of_list fields.now < 2 ^ 35 }
+    ensures room { OnOk result (vec_len out.new + most_octets fields.now ≤ vec_capacity out.new) }
+    ensures items { out.new.items ≡ out.old.items }
+    ensures err { IfErr result (λ fault. fault ≡ Fault.Memory) }
+{
+    out.reserve(octets_of_block(fields))?;
+    Ok(())
+}
+
+/// The most octets of the block of the fields.
+fn octets_of_block(fields: &[Field]) -> usize
+    requires { size_of_list fields.now < 2 ^ 35 }
+    ensures { result ≡ most_octets fields.now }
+{
+    list_size(fields) + UPDATES - SPARE * fields.len()
+}
