@@ -1,0 +1,88 @@
+/* driver encode LISTS ROUNDS | decode BLOCKS ROUNDS | decode_into BLOCKS ROUNDS
+ *        | cut WIRE PIECE ROUNDS
+ * makes the rounds, and prints how many fields or frames they had.
+ * driver blocks LISTS | wire BLOCKS
+ * writes the blocks of lists, and a client's octets with the blocks, each in a HEADERS frame. */
+#include <stdio.h>
+#include <stdlib.h>
+#include <string.h>
+#include "measure.h"
+
+static uint8_t *read_all(const char *name, size_t *n) {
+  FILE *file = fopen(name, "rb");
+  uint8_t *octets;
+  long size;
+  if (!file || fseek(file, 0, SEEK_END) || (size = ftell(file)) < 0 || fseek(file, 0, SEEK_SET))
+    exit(3);
+  octets = malloc((size_t)size + 1);
+  if (!octets || fread(octets, 1, (size_t)size, file) != (size_t)size) exit(3);
+  fclose(file);
+  *n = (size_t)size;
+  return octets;
+}
+
+#ifdef MAKES_INPUT
+static int write_blocks(const uint8_t *lists, size_t n) {
+  size_t room = 4 * n + 65536;
+  uint8_t *blocks = malloc(room);
+  size_t size = blocks ? measure_blocks(lists, n, blocks, room) : 0;
+  return size == 0 || fwrite(blocks, 1, size, stdout) != size;
+}
+
+static void write_head(size_t length, uint8_t kind, uint8_t flags, uint32_t stream) {
+  uint8_t head[9] = {(uint8_t)(length >> 16), (uint8_t)(length >> 8), (uint8_t)length, kind, flags};
+  head[5] = (uint8_t)(stream >> 24);
+  head[6] = (uint8_t)(stream >> 16);
+  head[7] = (uint8_t)(stream >> 8);
+  head[8] = (uint8_t)stream;
+  fwrite(head, 1, sizeof head, stdout);
+}
+
+static int write_wire(const uint8_t *blocks, size_t n) {
+  uint32_t stream = 1;
+  size_t at = 0;
+  fputs("PRI * HTTP/2.0\r\n\r\nSM\r\n\r\n", stdout);
+  write_head(0, 4, 0, 0);
+  write_head(0, 4, 1, 0);
+  while (at + 4 <= n) {
+    size_t size = (size_t)blocks[at] << 24 | (size_t)blocks[at + 1] << 16 |
+                  (size_t)blocks[at + 2] << 8 | blocks[at + 3];
+    write_head(size, 1, 5, stream);
+    fwrite(blocks + at + 4, 1, size, stdout);
+    write_head(4, 8, 0, 0);
+    fwrite("\0\0\0\1", 1, 4, stdout);
+    write_head(5, 2, 0, stream);
+    fwrite("\0\0\0\0\17", 1, 5, stdout);
+    at += 4 + size;
+    stream += 2;
+  }
+  return ferror(stdout);
+}
+#endif
+
+int main(int argc, char **argv) {
+  struct counts counts = {0, 0};
+  size_t n;
+  uint8_t *octets;
+  int failed;
+  if (argc < 3) return 2;
+  octets = read_all(argv[2], &n);
+#ifdef MAKES_INPUT
+  if (!strcmp(argv[1], "blocks")) return write_blocks(octets, n);
+  if (!strcmp(argv[1], "wire")) return write_wire(octets, n);
+#endif
+  if (argc < 4) return 2;
+  if (!strcmp(argv[1], "encode"))
+    failed = measure_encode(octets, n, (uint32_t)atoi(argv[3]), &counts);
+  else if (!strcmp(argv[1], "decode"))
+    failed = measure_decode(octets, n, (uint32_t)atoi(argv[3]), &counts);
+  else if (!strcmp(argv[1], "decode_into"))
+    failed = measure_decode_into(octets, n, (uint32_t)atoi(argv[3]), &counts);
+  else if (!strcmp(argv[1], "cut") && argc == 5)
+    failed = measure_cut(octets, n, (size_t)atol(argv[3]), (uint32_t)atoi(argv[4]), &counts);
+  else
+    return 2;
+  printf("%llu %llu\n", (unsigned long long)counts.units, (unsigned long long)counts.octets);
+  free(octets);
+  return failed;
+}

@@ -1,0 +1,22 @@
+/* What is measured: the same calls over Belkjoef's crates and over nghttp2. Each answers 0, or 1
+ * where it failed. */
+#include <stddef.h>
+#include <stdint.h>
+
+struct counts {
+  uint64_t units;  /* fields, or frames */
+  uint64_t octets; /* of names and values, or of blocks */
+};
+
+/* Encodes the lists into blocks, of each the length in 32 bits and the octets, and answers their
+ * octets together, or 0 where they don't fit. Of Belkjoef's crates alone. */
+size_t measure_blocks(const uint8_t *lists, size_t n, uint8_t *blocks, size_t room);
+/* Encodes the lists, on a new encoder of 4,096 a round. */
+int measure_encode(const uint8_t *lists, size_t n, uint32_t rounds, struct counts *out);
+/* Decodes such blocks, on a new decoder of 4,096 a round, into lists that the caller owns. */
+int measure_decode(const uint8_t *blocks, size_t n, uint32_t rounds, struct counts *out);
+/* The same into a list that is kept. */
+int measure_decode_into(const uint8_t *blocks, size_t n, uint32_t rounds, struct counts *out);
+/* Cuts a client's octets into frames, in pieces of so many octets, and decodes the blocks. */
+int measure_cut(const uint8_t *octets, size_t n, size_t piece, uint32_t rounds,
+                struct counts *out);

@@ -1,0 +1,80 @@
+//! Decoding.
+
+use crate::counts::Counts;
+use crate::input::text;
+use hpack::{Decoded, Decoder, Fault, FieldList, List};
+use std::alloc::Global;
+
+/// The maximum and the limit of the table.
+const MAXIMUM: u32 = 4_096;
+
+/// Decodes the blocks so many times, into lists of their own.
+pub(crate) fn decode_rounds(alloc: Global, blocks: &[u8], rounds: u32, counts: &mut Counts) -> i32 {
+    for _ in 0..rounds {
+        if decode_round(alloc, blocks, counts).is_err() {
+            return 1;
+        }
+    }
+    0
+}
+
+fn decode_round(alloc: Global, blocks: &[u8], counts: &mut Counts) -> Result<(), Fault> {
+    let mut decoder = Decoder::new(alloc, MAXIMUM)?;
+    let mut unread = blocks;
+    for _ in 0..blocks.len() {
+        let Some((block, following)) = text(unread) else {
+            break;
+        };
+        unread = following;
+        if let List::Whole(fields) = decoder.decode(block, u32::MAX)? {
+            for field in &fields {
+                counts.add_one();
+                counts.add_octets(field.name.as_slice().len());
+                counts.add_octets(field.value.as_slice().len());
+            }
+        }
+    }
+    Ok(())
+}
+
+/// Decodes the blocks so many times, into a list that is kept.
+pub(crate) fn decode_into_rounds(
+    alloc: Global,
+    blocks: &[u8],
+    rounds: u32,
+    counts: &mut Counts,
+) -> i32 {
+    let mut list = FieldList::new(alloc);
+    for _ in 0..rounds {
+        if decode_into_round(alloc, blocks, &mut list, counts).is_err() {
+            return 1;
+        }
+    }
+    0
+}
+
+fn decode_into_round(
+    alloc: Global,
+    blocks: &[u8],
+    list: &mut FieldList,
+    counts: &mut Counts,
+) -> Result<(), Fault> {
+    let mut decoder = Decoder::new(alloc, MAXIMUM)?;
+    let mut unread = blocks;
+    for _ in 0..blocks.len() {
+        let Some((block, following)) = text(unread) else {
+            break;
+        };
+        unread = following;
+        if let Decoded::Whole = decoder.decode_into(block, u32::MAX, list)? {
+            for place in 0..list.len() {
+                if let Some(field) = list.get(place) {
+                    counts.add_one();
+                    counts.add_octets(field.name.len());
+                    counts.add_octets(field.value.len());
+                }
+            }
+        }
+    }
+    Ok(())
+}

@@ -1,0 +1,62 @@
+//! The calls of `measure.h` over the crates, for a driver in C.
+#![tactic(auto)]
+
+mod counts;
+mod cutting;
+mod decoding;
+mod encoding;
+mod input;
+
+use counts::Counts;
+use std::alloc::Global;
+
+/// Encodes the lists into blocks, and answers their octets together, or 0 where they don't fit.
+#[unsafe(no_mangle)]
+pub extern "C" fn measure_blocks(alloc: Global, lists: &[u8], blocks: &mut [u8]) -> usize {
+    encoding::write_blocks(alloc, lists, blocks)
+}
+
+/// Encodes the lists so many times.
+#[unsafe(no_mangle)]
+pub extern "C" fn measure_encode(
+    alloc: Global,
+    lists: &[u8],
+    rounds: u32,
+    counts: &mut Counts,
+) -> i32 {
+    encoding::encode_rounds(alloc, lists, rounds, counts)
+}
+
+/// Decodes the blocks so many times, into lists of their own.
+#[unsafe(no_mangle)]
+pub extern "C" fn measure_decode(
+    alloc: Global,
+    blocks: &[u8],
+    rounds: u32,
+    counts: &mut Counts,
+) -> i32 {
+    decoding::decode_rounds(alloc, blocks, rounds, counts)
+}
+
+/// Decodes the blocks so many times, into a list that is kept.
+#[unsafe(no_mangle)]
+pub extern "C" fn measure_decode_into(
+    alloc: Global,
+    blocks: &[u8],
+    rounds: u32,
+    counts: &mut Counts,
+) -> i32 {
+    decoding::decode_into_rounds(alloc, blocks, rounds, counts)
+}
+
+/// Cuts a client's octets, in pieces of so many, and decodes their field blocks, so many times.
+#[unsafe(no_mangle)]
+pub extern "C" fn measure_cut(
+    alloc: Global,
+    octets: &[u8],
+    piece: usize,
+    rounds: u32,
+    counts: &mut Counts,
+) -> i32 {
+    cutting::cut_rounds(alloc, octets, piece, rounds, counts)
+}
