@@ -1,5 +1,5 @@
--- Which numbers of streams a log says are used; and nothing was read of any other, since what comes
--- on an idle stream is a fault, nor written.
+-- Which numbers of streams are used, by the greatest; and of a number that isn't, what comes is a
+-- fault of the connection, and nothing but increments may be written.
 use Rattle.std.proofs.Common.{◌≡◌, ◌⊎◌, ◌≢◌, ℕ, ◌≤◌, ◌==◌, ◌%◌, nat_le, ◌&&◌, Bool, true, false}
 use Rattle.std.proofs.Common.{List, [], ◌∷◌, ◌++◌, Option, Some, None, refl, sym, ◌∙◌, inl, inr}
 use Rattle.std.proofs.Common.{arith}
@@ -28,7 +28,7 @@ use Rattle.h2_log_laws.proofs.ReplyInvariant.{used_more, used_here}
 use Rattle.h2_machine_laws.proofs.OneItemMore.{any_quiet, total_quiet}
 use Rattle.h2_machine_laws.proofs.UpInvariant.{opens_low}
 
--- What is not used was not used before.
+-- A number that isn't used wasn't used before.
 pub unused_before : (role : Role) (i : ℕ) (news items received sent : List Item)
     → is_used role i (news ++ received) (items ++ sent) ≡ false
     → is_used role i received sent ≡ false
@@ -75,7 +75,8 @@ and_same : (a b c : Bool) → (a ≡ true → b ≡ c) → (a && b) ≡ (a && c)
 and_same true b c same = same refl
 and_same false b c same = refl
 
--- A number is used just if it is odd and no greater than the greatest, where that is odd or nothing.
+-- A number is used just if it is odd and no greater than the greatest, where that is odd or
+-- nothing.
 pub used_by : (role : Role) (i : ℕ) (received sent : List Item)
     → (greatest_block (openings role received sent) ≡ 0)
     ⊎ (greatest_block (openings role received sent) % 2 ≡ 1)
@@ -105,7 +106,8 @@ block_used log (Some decoded) i end octets none =
         let idle : state log i ≡ Idle = state_idle _ _ _ is in
         absurd (none ProtocolError (rw (idle, may) refl))
 
--- What is read on an idle stream is a fault of the connection.
+-- An item that is no fault of the connection resets, ends and gives nothing of a number that isn't
+-- used after it, and has no DATA of it: on an idle stream each is a fault.
 pub unread_item : (log : Log) (decoded : Option Decoded) (item : Item) (i : ℕ) → i ≢ 0
     → is_used log.role i (item ∷ log.received) log.sent ≡ false
     → ((code : Code) → verdict_by_rules (log_view log) decoded item ≡ ConnectionFault code → ⊥)
@@ -169,7 +171,7 @@ written_used role received sent i end octets (inr goes) =
     used_more role i [] (block i end octets ∷ []) received sent
     (active_used role i received sent [] goes.active)
 
--- what may be written of a number ends it, or is DATA, only where the number is used after it
+-- what may be written neither ends a number, nor has DATA of it, that isn't used after it
 unwritten_item : (role : Role) (received sent : List Item) (item : Item) (i : ℕ)
     → Allowed role received sent item → is_used role i received (item ∷ sent) ≡ false
     → (ends i item ≡ false) × (data_on i item ≡ 0)
@@ -191,8 +193,8 @@ unwritten_item role received sent (alone (Data stream end octets pad)) i allowed
 unwritten_item role received sent item i allowed unused = (refl, refl)
 
 -- Nothing was ended, and no DATA written, of a number that isn't used.
-pub unwritten : (role : Role) (received sent : List Item) (i : ℕ) → AllowedHistory role received sent
-    → is_used role i received sent ≡ false
+pub unwritten : (role : Role) (received sent : List Item) (i : ℕ)
+    → AllowedHistory role received sent → is_used role i received sent ≡ false
     → (list_any (ends i) sent ≡ false) × (total (data_on i) sent ≡ 0)
 unfolding ends data_on total
 unwritten role _ _ i (starts values ok) unused = (refl, refl)
