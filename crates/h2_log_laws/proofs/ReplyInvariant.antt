@@ -112,8 +112,8 @@ active_resets role i news received sent reported active =
       once = lasts.kept;
     }
 
--- the number of a block that a server reads is used
-used_here : (role : Role) (i : ℕ) (end : Bool) (octets : List ℕ) (received sent : List Item)
+-- The number of a block that a server reads is used.
+pub used_here : (role : Role) (i : ℕ) (end : Bool) (octets : List ℕ) (received sent : List Item)
     → (is_server role && i % 2 == 1) ≡ true
     → is_used role i (block i end octets ∷ received) sent ≡ true
 unfolding is_used is_block_on

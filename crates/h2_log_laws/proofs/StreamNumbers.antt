@@ -70,8 +70,8 @@ odd_allowed role i received sent (inl may) = may.odd
 odd_allowed role i received sent (inr goes) = eqb-true (i % 2) 1
     (active_parts role i received sent [] goes.active).odd
 
--- a number of two, of which one is odd, and the other odd or nothing
-odd_max : (i n : ℕ) → i % 2 ≡ 1 → (n ≡ 0) ⊎ (n % 2 ≡ 1) → max i n % 2 ≡ 1
+-- The greater of two numbers is odd, of which one is odd, and the other odd or nothing.
+pub odd_max : (i n : ℕ) → i % 2 ≡ 1 → (n ≡ 0) ⊎ (n % 2 ≡ 1) → max i n % 2 ≡ 1
 odd_max i n odd (inl none) = let is : max i n ≡ i = omega arith in rw is odd
 odd_max i n odd (inr also) = elim (max_is i n) [
   | inl one ↦ rw one odd

@@ -43,9 +43,11 @@ mod RepresentedSteps
 mod SentConnectionItems
 mod SentQuietItems
 mod SentStreamItems
+mod SoundNumbers
 mod StreamsSame
 mod UpInvariant
 mod UpInvariantLogs
 mod UpInvariantReads
+mod UsedNumbers
 mod ViewsAgree
 mod WaitingOutput

@@ -215,7 +215,7 @@ up_log_read role received items sent news reported events item is f r =
     }
 
 -- A number from which a block opens is no greater than the greatest.
-opens_low : (i : ℕ) (items : List Item) → list_any (opens_from i) items ≡ true
+pub opens_low : (i : ℕ) (items : List Item) → list_any (opens_from i) items ≡ true
     → i ≤ greatest_block items
 unfolding opens_from greatest_block
 opens_low i [] some = absurd (both_ways false refl some)
