@@ -23,6 +23,8 @@ mod NextUnprocessed
 mod OneItemMore
 mod OwedOnStreams
 mod OwedSums
+mod RecvBeside
+mod RecvBlocks
 mod RecvConnectionFault
 mod RecvConnectionItems
 mod RecvData
