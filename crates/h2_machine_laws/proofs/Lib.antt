@@ -29,6 +29,7 @@ mod RecvConnectionFault
 mod RecvConnectionItems
 mod RecvData
 mod RecvEvents
+mod RecvOpenings
 mod RecvRead
 mod RecvReset
 mod RecvReturnedCredit

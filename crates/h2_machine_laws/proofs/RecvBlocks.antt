@@ -11,7 +11,7 @@ use Rattle.h2_block.specs.Grouping.{Item, block}
 use Rattle.h2_log.specs.declared.role.Role.{Role}
 use Rattle.h2_log.specs.declared.role.Role.TheVariants.{Client, Server}
 use Rattle.h2_log.specs.Items.{stream_of_item, data_on, data_of, increment_on, is_block_on, ends}
-use Rattle.h2_log.specs.Items.{resets, is_goaway, total, greatest_block}
+use Rattle.h2_log.specs.Items.{resets, one_reset, is_goaway, total, greatest_block}
 use Rattle.h2_log.specs.Events.{Event, FieldsEvent, flow_on, one_acked, one_pong, reported_total}
 use Rattle.h2_log.specs.Events.{reports_unprocessed, processed_by, greatest_processed}
 use Rattle.h2_log.specs.Settings.{is_server, value_read, one_settings}
@@ -327,3 +327,136 @@ later_reported e log decoded i end octets alive low taken w g =
     rw (stream_said e (core log) i g alive)
     (later_by e log decoded i end octets ((list_any (ends i) log.received || end) &&
     list_any (ends i) log.sent) refl alive low taken w g)
+
+-- A stream that this end has closed isn't active.
+pub closed_dead : (c : Core) (i : ℕ) → is_closed_by_us c.role i c.sent ≡ true
+    → active_by_items c i ≡ false
+unfolding is_closed_by_us
+closed_dead c i closed =
+    false_from_ne_true (active_by_items c i) (λ alive.
+    let parts = active_parts c.role i c.received c.sent c.reported alive in
+    elim (or_cases (list_any (resets i) c.sent) (is_above c.role i c.sent) closed) [
+      | inl was ↦ both_ways _ (lasts_parts i c.received c.sent parts.lasts).kept was
+      | inr above ↦ both_ways _ parts.below above
+    ])
+
+-- Streams of which the log says the same, where perhaps a greater number was used.
+pub streams_higher : (s : Streams) (highest : ℕ) (c d : Core) → ((j : ℕ) → SameAt j c d)
+    → highest ≡ greatest_used d → greatest_used c ≤ greatest_used d → processed d ≡ processed c
+    → total one_reset d.sent ≡ total one_reset c.sent → StreamsOf s c
+    → StreamsOf (record s { highest = highest }) d
+streams_higher s highest c d same is more shown count g =
+    let next : (greatest_used d - greatest_used c) + (greatest_used c + 1) ≡ greatest_used d + 1 =
+    omega (arith, more) in
+    let high : count_below (greatest_used d + 1) (active_by_items c)
+    ≡ count_below (greatest_used c + 1) (active_by_items c) =
+    ap (λ (n : ℕ). count_below n (active_by_items c)) (sym next)
+    ∙ count_high (greatest_used d - greatest_used c) (greatest_used c + 1) (active_by_items c)
+    (λ j above. none_above c j (omega (arith, above))) in
+    record {
+      entries = λ j. kept_at s.entries j c d (same j) (g.entries j);
+      active_count = g.active_count ∙ sym (count_same _ _ _ (λ j. (same j).active) ∙ high);
+      highest = is;
+      last_processed = g.last_processed ∙ sym shown;
+      resets = g.resets ∙ sym count;
+    }
+
+-- The greatest number that was used after a block, by the role.
+pub highest_block : (role : Role) (i h : ℕ) (end : Bool) (octets : List ℕ)
+    (received sent : List Item) → (is_server role ≡ true → (i % 2 == 1) ≡ true)
+    → h ≡ greatest_block (openings role received sent)
+    → (if is_server role && i % 2 == 1 && nat_lt h i then i else h)
+    ≡ greatest_block (openings role (block i end octets ∷ received) sent)
+unfolding greatest_block
+highest_block Client i h end octets received sent odd is = is
+highest_block Server i h end octets received sent odd is =
+    rw (odd refl) (by (nat_lt h i) refl)
+  where
+    by : (b : Bool) → nat_lt h i ≡ b → (if b then i else h) ≡ max i (greatest_block received)
+    by true less = let above : h < i = ltb-true h i less in omega (arith, above, is)
+    by false most = let low : i ≤ h = ltb-false h i most in omega (arith, low, is)
+
+-- A block lessens no greatest number.
+pub used_more : (role : Role) (i : ℕ) (end : Bool) (octets : List ℕ) (received sent : List Item)
+    → greatest_block (openings role received sent)
+    ≤ greatest_block (openings role (block i end octets ∷ received) sent)
+unfolding greatest_block
+used_more Client i end octets received sent = omega arith
+used_more Server i end octets received sent = omega arith
+
+-- The log says the same of every number after a block on a stream that this end has closed.
+ignored_same : (c : Core) (i : ℕ) (end : Bool) (octets : List ℕ)
+    → is_closed_by_us c.role i c.sent ≡ true → (j : ℕ) → SameAt j c (reads c (block i end octets))
+ignored_same c i end octets closed j = elim (cases_eq j i) [
+  | inl here ↦
+      let dead = closed_dead c i closed in
+      rw here (record {
+        active = closed_dead (reads c (block i end octets)) i closed ∙ sym dead;
+        was_reset = refl;
+        stream = λ alive. absurd (both_ways (active_by_items c i) dead alive);
+      })
+  | inr other ↦ same_read j c (block i end octets) (block_common i end octets).settings
+      (block_apart i end octets j other)
+]
+
+-- What an end keeps where a block on a stream that it has closed is read.
+ignored_advances : (h : CoreFacts) (c : Core) (i highest : ℕ) (end : Bool) (octets : List ℕ)
+    (decoded : Option Decoded) → is_closed_by_us c.role i c.sent ≡ true
+    → highest ≡ greatest_used (reads c (block i end octets)) → Advances h c
+    → Advances (record h {
+      reading = record h.reading {
+        table = table_after h.reading.table decoded (block i end octets);
+      };
+      streams = record h.streams { highest = highest };
+    }) (record (reads c (block i end octets)) {
+      table = table_after c.table decoded (block i end octets);
+    })
+ignored_advances h c i highest end octets decoded closed is g =
+    let item : Item = block i end octets in
+    let one = beside_table h c decoded item (beside_of h c g) in
+    let h1 : CoreFacts = record h {
+      reading = record h.reading { table = table_after h.reading.table decoded item };
+    } in
+    let c1 : Core = record c { table = table_after c.table decoded item } in
+    let two = beside_read h1 c1 item h.windows.send h.windows.recv
+    (block_common i end octets) (omega (arith, block_gives i end octets 0))
+    (omega (arith, block_takes i end octets)) one in
+    advances_with (record h1 { streams = record h.streams { highest = highest } }) (reads c1 item)
+    (streams_higher h.streams highest c (reads c item) (ignored_same c i end octets closed) is
+    (used_more c.role i end octets c.received c.sent) refl refl g.streams)
+    (record {
+      reading = two.reading;
+      encoder = two.encoder;
+      windows = two.windows;
+      peer = two.peer;
+      own = two.own;
+      goaway = two.goaway;
+      ping = two.ping;
+    })
+
+-- What a block on a stream that this end has closed makes of an end.
+pub block_ignored : (e : End) (log : Log) (decoded : Option Decoded) (i : ℕ) (end : Bool)
+    (octets : List ℕ) → is_closed_by_us log.role i log.sent ≡ true
+    → (is_server log.role ≡ true → (i % 2 == 1) ≡ true) → Waits e log → Going e (core log)
+    → After (after_ignored e decoded (block i end octets)) (with_verdict log decoded
+    (block i end octets) NoEvent)
+unfolding with_verdict after_ignored replies_to events_of discarded_flow stream_of_item with_sent
+    with_reported
+block_ignored e log decoded i end octets closed odd w g =
+    let item : Item = block i end octets in
+    let highest : ℕ = if is_fresh e i then i else e.streams.highest in
+    let is : highest ≡ greatest_used (reads (core log) item) =
+    ap (λ (role : Role). if is_server role && i % 2 == 1 && nat_lt e.streams.highest i then i
+    else e.streams.highest) w.same_role
+    ∙ highest_block log.role i e.streams.highest end octets log.received log.sent odd
+    g.streams.highest in
+    unsettled (record (with_table_after e decoded item) {
+      streams = record e.streams { highest = highest };
+    }) (read log decoded item) [] _
+    (omega (
+      arith,
+      dead_owing log (read log decoded item) i (closed_dead (core log) i closed),
+      block_takes i end octets,
+    ))
+    w g.windows.unreturned
+    (ignored_advances (core_facts e) (core log) i highest end octets decoded closed is g)
