@@ -34,6 +34,7 @@ mod RecvRead
 mod RecvReset
 mod RecvReturnedCredit
 mod RecvSettingsAck
+mod RecvStreamFaults
 mod RecvStreamItems
 mod RecvUnprocessed
 mod RecvVerdict
