@@ -31,6 +31,7 @@ mod RecvData
 mod RecvEvents
 mod RecvOpenings
 mod RecvRead
+mod RecvRefusals
 mod RecvReset
 mod RecvReturnedCredit
 mod RecvSettingsAck

@@ -44,7 +44,7 @@ pub record MayBeOpened (c : Core) (i : ℕ) : Type 0 where
   pub processed : greatest_processed c.reported ≤ greatest_used c
 
 -- Nothing was opened with such a number.
-fresh_dead : (c : Core) (i : ℕ) → greatest_used c < i → active_by_items c i ≡ false
+pub fresh_dead : (c : Core) (i : ℕ) → greatest_used c < i → active_by_items c i ≡ false
 fresh_dead c i rises = none_above c i rises
 
 -- A block opens its stream at a server.
@@ -56,7 +56,7 @@ opened_here Client i end octets received sent is = cc
 opened_here Server i end octets received sent is = rw (eq-eqb i i refl) refl
 
 -- Its number is the greatest then.
-used_here : (role : Role) (i : ℕ) (end : Bool) (octets : List ℕ) (received sent : List Item)
+pub used_here : (role : Role) (i : ℕ) (end : Bool) (octets : List ℕ) (received sent : List Item)
     → role ≡ Server → greatest_block (openings role received sent) < i
     → greatest_block (openings role (block i end octets ∷ received) sent) ≡ i
 unfolding greatest_block

@@ -50,16 +50,16 @@ use Rattle.h2_machine_laws.proofs.WaitingOutput.{Waits, wrote_connection}
 use Rattle.h2_log_laws.proofs.ReaderStates.{active_parts, lasts_parts}
 
 -- The event of a fault is harmless, and reports no flow.
-fault_harmless : (i code : ℕ) → ChangesNoStream (ResetEvent i code true)
+pub fault_harmless : (i code : ℕ) → ChangesNoStream (ResetEvent i code true)
 unfolding one_acked one_pong reports_unprocessed
 fault_harmless i code = record { acks = refl; pongs = refl; names = λ j. refl }
 
-fault_flow : (i code j : ℕ) → flow_on j (ResetEvent i code true) ≡ 0
+pub fault_flow : (i code j : ℕ) → flow_on j (ResetEvent i code true) ≡ 0
 unfolding flow_on
 fault_flow i code j = refl
 
 -- It shows its stream processed, or nothing.
-fault_shows : (i code : ℕ)
+pub fault_shows : (i code : ℕ)
     → processed_by (ResetEvent i code true) ≡ (if code == 11 then i else 0)
 unfolding processed_by
 fault_shows i code = refl
@@ -70,12 +70,12 @@ test_low true i = omega arith
 test_low false i = omega arith
 
 -- the core with an item that was read, the RST_STREAM that replies to it, and the event
-abbrev with_fault : Core → ℕ → ℕ → Item → Core
+abbrev pub with_fault : Core → ℕ → ℕ → Item → Core
 with_fault c i code item = reads (sends (report c (ResetEvent i code true)) (alone (Reset i code)))
     item
 
 -- Others are as they were.
-fault_same : (c : Core) (i code : ℕ) (item : Item) (j : ℕ) → IsCommon item
+pub fault_same : (c : Core) (i code : ℕ) (item : Item) (j : ℕ) → IsCommon item
     → ((k : ℕ) → k ≢ i → IsApart k item) → j ≢ i → SameAt j c (with_fault c i code item)
 fault_same c i code item j common apart other =
     let c1 : Core = report c (ResetEvent i code true) in
@@ -87,7 +87,7 @@ fault_same c i code item j common apart other =
     (same_read j c2 item common.settings (apart j other))
 
 -- The stream isn't active then.
-fault_dead : (c : Core) (i code : ℕ) (item : Item)
+pub fault_dead : (c : Core) (i code : ℕ) (item : Item)
     → active_by_items (with_fault c i code item) i ≡ false
 fault_dead c i code item =
     let d : Core = with_fault c i code item in
@@ -96,13 +96,13 @@ fault_dead c i code item =
     alive).lasts).kept (reset_here i code c.sent))
 
 -- One stream more was reset.
-fault_resets : (c : Core) (i code : ℕ) (item : Item) (n : ℕ) → n ≡ total one_reset c.sent
+pub fault_resets : (c : Core) (i code : ℕ) (item : Item) (n : ℕ) → n ≡ total one_reset c.sent
     → n + 1 ≡ total one_reset (with_fault c i code item).sent
 unfolding computing
 fault_resets c i code item n is = omega (arith, is, total_one one_reset (alone (Reset i code)) c.sent)
 
 -- RST_STREAM uses no number.
-fault_used : (c : Core) (i code : ℕ) (item : Item) → greatest_used (with_fault c i code item)
+pub fault_used : (c : Core) (i code : ℕ) (item : Item) → greatest_used (with_fault c i code item)
     ≡ greatest_used (reads c item)
 unfolding computing
 fault_used c i code item = used_wrote c.role (alone (Reset i code)) (item ∷ c.received) c.sent
@@ -110,7 +110,7 @@ fault_used c i code item = used_wrote c.role (alone (Reset i code)) (item ∷ c.
 
 -- What an end keeps where an item is read that is a fault of its stream, by what it makes of the
 -- streams.
-fault_advances : (h : CoreFacts) (c : Core) (i code : ℕ) (item : Item) (decoded : Option Decoded)
+pub fault_advances : (h : CoreFacts) (c : Core) (i code : ℕ) (item : Item) (decoded : Option Decoded)
     (recv : ℕ) (streams : Streams) → IsCommon item → increment_on 0 item ≡ 0
     → recv + data_of item ≡ h.windows.recv → encoder_after_item c.encoder item ≡ c.encoder
     → StreamsOf streams (with_fault c i code item) → Advances h c
