@@ -27,6 +27,7 @@ mod RecvConnectionFault
 mod RecvConnectionItems
 mod RecvData
 mod RecvEvents
+mod RecvPong
 mod RecvRead
 mod RecvReset
 mod RecvReturnedCredit
