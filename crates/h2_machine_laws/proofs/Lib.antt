@@ -31,6 +31,7 @@ mod RecvPong
 mod RecvRead
 mod RecvReset
 mod RecvReturnedCredit
+mod RecvSettings
 mod RecvSettingsAck
 mod RecvStreamItems
 mod RecvUnprocessed
