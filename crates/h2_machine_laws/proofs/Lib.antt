@@ -15,6 +15,7 @@ mod ConservedByCalls
 mod ConservedByFrames
 mod ConservedBySteps
 mod EachStream
+mod FirstSettings
 mod FreshNumbers
 mod GoAwaysSent
 mod LogCore
