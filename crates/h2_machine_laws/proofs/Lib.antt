@@ -15,6 +15,7 @@ mod ConservedByCalls
 mod ConservedByFrames
 mod ConservedBySteps
 mod EachStream
+mod FirstSettings
 mod FreshNumbers
 mod GoAwaysSent
 mod LogCore
@@ -30,10 +31,12 @@ mod RecvConnectionItems
 mod RecvData
 mod RecvEvents
 mod RecvOpenings
+mod RecvPong
 mod RecvRead
 mod RecvRefusals
 mod RecvReset
 mod RecvReturnedCredit
+mod RecvSettings
 mod RecvSettingsAck
 mod RecvStreamFaults
 mod RecvStreamItems
