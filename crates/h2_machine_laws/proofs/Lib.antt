@@ -42,6 +42,7 @@ mod RecvStreamFaults
 mod RecvStreamItems
 mod RecvUnprocessed
 mod RecvVerdict
+mod RecvVerdictCases
 mod RecvVerdictLimits
 mod RecvWithoutFrame
 mod RepresentedSteps

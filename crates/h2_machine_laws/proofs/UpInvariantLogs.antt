@@ -45,7 +45,7 @@ over_limits_by true v x is none = absurd (none EnhanceYourCalm (sym is))
 over_limits_by false v x is none = is
 
 -- A verdict after the limits that is no fault of the connection is that before them.
-rules_is : (log : Log) (decoded : Option Decoded) (item : Item) (v : Verdict)
+pub rules_is : (log : Log) (decoded : Option Decoded) (item : Item) (v : Verdict)
     → verdict_of (log_view log) decoded item ≡ v → ((code : Code) → v ≡ ConnectionFault code → ⊥)
     → verdict_by_rules (log_view log) decoded item ≡ v
 unfolding verdict_of over_limits

@@ -115,12 +115,12 @@ unseen_item log decoded (alone (Unknown kind flags stream payload)) i client abo
     (refl, refl, refl, refl)
 
 -- A verdict of pairs reports nothing.
-fault_reported : (x : Option Code) → verdict_of_fault x ≡ Reported → ⊥
+pub fault_reported : (x : Option Code) → verdict_of_fault x ≡ Reported → ⊥
 fault_reported None is = cc
 fault_reported (Some code) is = cc
 
 -- Nor does it reset a stream.
-fault_resets : (x : Option Code) (code : Code) → verdict_of_fault x ≡ StreamFault code → ⊥
+pub fault_resets : (x : Option Code) (code : Code) → verdict_of_fault x ≡ StreamFault code → ⊥
 fault_resets None code is = cc
 fault_resets (Some other) code is = cc
 
@@ -130,7 +130,7 @@ fault_no_event None is = refl
 fault_no_event (Some code) is = cc
 
 -- What is reported by a test passes it.
-reported_by : (b : Bool) → (if b then Reported else NoEvent) ≡ Reported → b ≡ true
+pub reported_by : (b : Bool) → (if b then Reported else NoEvent) ≡ Reported → b ≡ true
 reported_by true is = refl
 reported_by false is = cc
 
@@ -240,7 +240,7 @@ below_goaway i (alone (Continuation stream last fragment) ∷ sent) some = below
 below_goaway i (alone (Unknown kind flags stream payload) ∷ sent) some = below_goaway i sent some
 
 -- Nothing is above where no GOAWAY was written.
-above_none : (role : Role) (i : ℕ) (sent : List Item) → list_any is_goaway sent ≡ false
+pub above_none : (role : Role) (i : ℕ) (sent : List Item) → list_any is_goaway sent ≡ false
     → is_above role i sent ≡ false
 unfolding is_above
 above_none Client i sent none = refl
