@@ -30,6 +30,7 @@ mod RecvConnectionFault
 mod RecvConnectionItems
 mod RecvData
 mod RecvEvents
+mod RecvItems
 mod RecvOpenings
 mod RecvPong
 mod RecvRead
