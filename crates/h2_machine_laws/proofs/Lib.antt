@@ -30,6 +30,7 @@ mod RecvConnectionFault
 mod RecvConnectionItems
 mod RecvData
 mod RecvEvents
+mod RecvFrames
 mod RecvItems
 mod RecvOpenings
 mod RecvPong
@@ -39,6 +40,7 @@ mod RecvReset
 mod RecvReturnedCredit
 mod RecvSettings
 mod RecvSettingsAck
+mod RecvStarted
 mod RecvStreamFaults
 mod RecvStreamItems
 mod RecvUnprocessed
