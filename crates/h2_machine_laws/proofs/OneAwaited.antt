@@ -1,21 +1,21 @@
 -- One own PING at most awaits its answer, and one own SETTINGS their acknowledgment.
-use Rattle.std.proofs.Common.{◌≡◌, ◌≢◌, ◌≤◌, ℕ, ◌+◌, ◌==◌, nat_lt, ◌&&◌, Bool, true, false}
-use Rattle.std.proofs.Common.{if◌then◌else◌, List, [], ◌∷◌, ◌++◌, Option, Some, None, is_some, refl}
+use Rattle.std.proofs.Common.{◌≡◌, ◌≤◌, ℕ, ◌+◌, nat_lt, ◌&&◌, Bool, true, false}
+use Rattle.std.proofs.Common.{if◌then◌else◌, List, [], ◌∷◌, ◌++◌, Option, Some, None, refl}
 use Rattle.std.proofs.Common.{sym, ap, subst, ◌∙◌, arith}
 use Rattle.std.proofs.lemmas.Bool.{ltb-false}
 use Rattle.h2_frame.specs.declared.code.Code.{Code}
 use Rattle.h2_frame.specs.declared.code.Code.TheVariants.{InternalError}
-use Rattle.h2_frame.specs.Frames.{Frame, Data, Headers, Priority, Reset, Settings, Ping, GoAway}
-use Rattle.h2_frame.specs.Frames.{WindowUpdate, Continuation, Unknown}
+use Rattle.h2_frame.specs.Frames.{Frame, Settings, Ping}
+use Rattle.h2_frame.specs.Frames.{WindowUpdate}
 use Rattle.h2_wire.specs.Faults.{wire_fault_code}
-use Rattle.h2_block.specs.Grouping.{Item, alone, block}
+use Rattle.h2_block.specs.Grouping.{Item, alone}
 use Rattle.h2_log.specs.declared.role.Role.{Role}
 use Rattle.h2_log.specs.declared.refusal.Refusal.{Refusal}
 use Rattle.h2_log.specs.declared.refusal.Refusal.TheVariants.{Memory}
 use Rattle.h2_log.specs.Items.{one_ping, total}
 use Rattle.h2_log.specs.Events.{Event, one_acked, one_pong, reported_total}
-use Rattle.h2_log.specs.Acts.{Values, Act, Answer, Open, SendFields, SendData, Release, ResetStream}
-use Rattle.h2_log.specs.Acts.{Refuse, SendPing, SendGoAway, PutOut, ChangeSettings, Done, Refused}
+use Rattle.h2_log.specs.Acts.{Values, Act, Answer, SendData, Release}
+use Rattle.h2_log.specs.Acts.{Refuse, SendPing, PutOut, ChangeSettings, Done, Refused}
 use Rattle.h2_log.specs.Acts.{OutOfMemory}
 use Rattle.h2_log.specs.Settings.{one_settings, settings_count}
 use Rattle.h2_log.specs.Log.{Log, acked, waiting, newest_ping, ping_waits}
