@@ -2,8 +2,7 @@
 use Rattle.std.proofs.Common.{◌≡◌, ◌≢◌, ℕ, ◌+◌, ◌≤◌, ◌==◌, not, Bool, true, false, if◌then◌else◌}
 use Rattle.std.proofs.Common.{List, [], ◌∷◌, ◌++◌, length, Option, Some, None, refl, sym, ap, ◌∙◌}
 use Rattle.std.proofs.Common.{arith, length-append}
-use Rattle.std.proofs.lemmas.Bool.{ne_eqb, eqb-true, eqb-false}
-use Rattle.h2_frame.specs.declared.code.Code.{Code}
+use Rattle.std.proofs.lemmas.Bool.{ne_eqb, eqb-false}
 use Rattle.h2_frame.specs.declared.code.Code.TheVariants.{ProtocolError, InternalError}
 use Rattle.h2_frame.specs.Frames.{Frame, Settings}
 use Rattle.h2_wire.specs.Faults.{wire_fault_code}
@@ -18,7 +17,7 @@ use Rattle.h2_log.specs.Log.{Log, next_unprocessed}
 use Rattle.h2_log.specs.LogView.{log_view}
 use Rattle.h2_log.specs.Verdicts.{Verdict, ConnectionFault, StreamFault, NoEvent, Reported}
 use Rattle.h2_log.specs.ItemRules.{Decoded, FrameStep, fails_with, begins_block, completes}
-use Rattle.h2_log.specs.ItemRules.{verdict_of, replies_to, may_be_first, frame_step, grouping_step}
+use Rattle.h2_log.specs.ItemRules.{verdict_of, may_be_first, frame_step, grouping_step}
 use Rattle.h2_log.specs.ItemRules.{grouped}
 use Rattle.h2_log.specs.LogSteps.{read, with_sent, with_reported, with_unreturned, owed_at_close}
 use Rattle.h2_log.specs.LogSteps.{with_verdict, with_step, with_frame, used, took_none}

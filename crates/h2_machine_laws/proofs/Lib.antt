@@ -21,6 +21,7 @@ mod GoAwaysSent
 mod LogCore
 mod NewEnd
 mod NextUnprocessed
+mod OneAwaited
 mod OneItemMore
 mod OwedOnStreams
 mod OwedSums

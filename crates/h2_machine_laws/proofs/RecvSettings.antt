@@ -1,5 +1,6 @@
 -- The peer's SETTINGS are applied: windows of streams, how many streams are allowed, the encoder.
-use Rattle.std.proofs.Common.{◌≡◌, ℕ, ◌+◌, ◌==◌, not, min, Bool, true, false, if◌then◌else◌, pos, ◌+ℤ◌}
+use Rattle.std.proofs.Common.{◌≡◌, ℕ, ◌+◌, ◌==◌, not, min, Bool, true, false, if◌then◌else◌, pos}
+use Rattle.std.proofs.Common.{◌+ℤ◌}
 use Rattle.std.proofs.Common.{◌-ℤ◌, List, [], ◌∷◌, Option, refl, ap, sym, ◌∙◌, arith, zero-add}
 use Rattle.std.specs.List.{list_any}
 use Rattle.std.proofs.lemmas.Bool.{eqb-true, ne_eqb}
@@ -24,7 +25,8 @@ use Rattle.h2_machine.specs.Machine.{queue_output, with_encoder, after_ignored}
 use Rattle.h2_machine.specs.Represents.{entry_by}
 use Rattle.h2_log_laws.proofs.SettingsLists.{value_kept, value_changed}
 use Rattle.h2_machine_laws.proofs.EachStream.{changed_entry, get_each, each_by, shifted}
-use Rattle.h2_machine_laws.proofs.LogCore.{said, Core, core, CoreFacts, core_facts, Advances, Going, StreamsOf, active_by_items}
+use Rattle.h2_machine_laws.proofs.LogCore.{said, Core, core, CoreFacts, core_facts, Advances, Going}
+use Rattle.h2_machine_laws.proofs.LogCore.{StreamsOf, active_by_items}
 use Rattle.h2_machine_laws.proofs.OneItemMore.{total_quiet}
 use Rattle.h2_machine_laws.proofs.RecvConnectionItems.{dead_owing, zero_dead}
 use Rattle.h2_machine_laws.proofs.RecvRead.{active_read, used_read, reads, windows_read}
