@@ -25,6 +25,7 @@ mod OneAwaited
 mod OneItemMore
 mod OwedOnStreams
 mod OwedSums
+mod QuietNumbers
 mod RecvBeside
 mod RecvBlocks
 mod RecvConnectionFault

@@ -122,7 +122,7 @@ unfolding total
 one_total f item none = omega (arith, none)
 
 -- What no event of two lists passes.
-none_both : {X : Type 0} (p : X → Bool) (xs ys : List X) → list_any p xs ≡ false
+pub none_both : {X : Type 0} (p : X → Bool) (xs ys : List X) → list_any p xs ≡ false
     → list_any p ys ≡ false → list_any p (xs ++ ys) ≡ false
 none_both p [] ys here there = there
 none_both p (x ∷ xs) ys here there =
@@ -215,7 +215,7 @@ up_log_read role received items sent news reported events item is f r =
     }
 
 -- A number from which a block opens is no greater than the greatest.
-opens_low : (i : ℕ) (items : List Item) → list_any (opens_from i) items ≡ true
+pub opens_low : (i : ℕ) (items : List Item) → list_any (opens_from i) items ≡ true
     → i ≤ greatest_block items
 unfolding opens_from greatest_block
 opens_low i [] some = absurd (both_ways false refl some)

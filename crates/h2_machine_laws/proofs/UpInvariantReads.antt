@@ -33,7 +33,7 @@ use Rattle.h2_machine_laws.proofs.OneItemMore.{total_one}
 use Rattle.h2_machine_laws.proofs.UpInvariant.{IsUpLog, Reads, idle_above, pairs_size}
 
 -- The events of an item report no stream as unprocessed.
-events_unnamed : (log : Log) (decoded : Option Decoded) (v : Verdict) (item : Item) (i : ℕ)
+pub events_unnamed : (log : Log) (decoded : Option Decoded) (v : Verdict) (item : Item) (i : ℕ)
     → list_any (reports_unprocessed i) (events_of (log_view log) decoded v item) ≡ false
 unfolding events_of reports_unprocessed
 events_unnamed log decoded (ConnectionFault code) item i = refl
@@ -222,7 +222,7 @@ size_of log decoded v (alone (Continuation stream last fragment)) is none f = f.
 size_of log decoded v (alone (Unknown kind flags stream payload)) is none f = f.size
 
 -- GOAWAY below a number is GOAWAY.
-below_goaway : (i : ℕ) (sent : List Item) → list_any (is_goaway_below i) sent ≡ true
+pub below_goaway : (i : ℕ) (sent : List Item) → list_any (is_goaway_below i) sent ≡ true
     → list_any is_goaway sent ≡ true
 unfolding is_goaway_below is_goaway
 below_goaway i [] some = absurd (both_ways false refl some)
