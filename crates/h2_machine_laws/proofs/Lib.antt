@@ -22,6 +22,7 @@ mod LogCore
 mod NewEnd
 mod NextUnprocessed
 mod OneAwaited
+mod NumberedLogs
 mod OneItemMore
 mod OwedOnStreams
 mod OwedSums

@@ -58,11 +58,11 @@ use Rattle.h2_machine_laws.proofs.UpInvariantReads.{above_none, closed_by_us_is,
 use Rattle.h2_machine_laws.proofs.WaitingOutput.{Waits}
 
 -- A stream in the state Active is active.
-active_in : (log : Log) (i : ℕ) → state log i ≡ Active → active_by_items (core log) i ≡ true
+pub active_in : (log : Log) (i : ℕ) → state log i ≡ Active → active_by_items (core log) i ≡ true
 active_in log i is = state_is_active _ _ _ is
 
 -- In another state it isn't.
-dead_in : (log : Log) (i : ℕ) → Sound (core log) → state log i ≢ Active
+pub dead_in : (log : Log) (i : ℕ) → Sound (core log) → state log i ≢ Active
     → active_by_items (core log) i ≡ false
 dead_in log i sound other =
     false_from_ne_true _ (λ alive.
@@ -71,24 +71,24 @@ dead_in log i sound other =
     log.reported alive) alive))
 
 -- An active stream's number is no greater than the greatest.
-active_low : (c : Core) (i : ℕ) → active_by_items c i ≡ true → i ≤ greatest_used c
+pub active_low : (c : Core) (i : ℕ) → active_by_items c i ≡ true → i ≤ greatest_used c
 active_low c i alive =
     block_below i (openings c.role c.received c.sent)
     (active_parts c.role i c.received c.sent c.reported alive).opened
 
 -- A number in the state ClosedByUs was used, and in the state Idle it wasn't.
-closed_used : (used active closed : Bool) → state_by used active closed ≡ ClosedByUs → used ≡ true
+pub closed_used : (used active closed : Bool) → state_by used active closed ≡ ClosedByUs → used ≡ true
 closed_used true active closed is = refl
 closed_used false active closed is = cc
 
-idle_unused : (used active closed : Bool) → state_by used active closed ≡ Idle → used ≡ false
+pub idle_unused : (used active closed : Bool) → state_by used active closed ≡ Idle → used ≡ false
 idle_unused true true closed is = cc
 idle_unused true false true is = cc
 idle_unused true false false is = cc
 idle_unused false active closed is = refl
 
 -- A number that was used is odd.
-used_odd : (role : Role) (i : ℕ) (c : Core) → is_used c.role i c.received c.sent ≡ true
+pub used_odd : (role : Role) (i : ℕ) (c : Core) → is_used c.role i c.received c.sent ≡ true
     → (i % 2 == 1) ≡ true
 unfolding is_used
 used_odd role i c used = (and_parts _ _ used).0
