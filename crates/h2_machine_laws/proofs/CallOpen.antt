@@ -84,7 +84,7 @@ unfolding greatest_block
 greatest_more i end octets sent above = omega arith
 
 -- No more numbers pass above those that do.
-count_high : (more n : ℕ) (f : ℕ → Bool) → ((j : ℕ) → n ≤ j → f j ≡ false)
+pub count_high : (more n : ℕ) (f : ℕ → Bool) → ((j : ℕ) → n ≤ j → f j ≡ false)
     → count_below (more + n) f ≡ count_below n f
 unfolding count_below
 count_high zero n f none = rw (zero-add n) refl
@@ -92,7 +92,7 @@ count_high (suc more) n f none =
     rw (suc-add more n, none (more + n) (omega arith), count_high more n f none) (omega arith)
 
 -- One number more passes, above all others.
-count_added : (n i : ℕ) (f g : ℕ → Bool) → n ≤ i → ((j : ℕ) → n ≤ j → f j ≡ false) → g i ≡ true
+pub count_added : (n i : ℕ) (f g : ℕ → Bool) → n ≤ i → ((j : ℕ) → n ≤ j → f j ≡ false) → g i ≡ true
     → ((j : ℕ) → j ≢ i → g j ≡ f j)
     → count_below (i + 1) g ≡ count_below n f + 1
 unfolding count_below
@@ -132,7 +132,7 @@ others_same c j i end octets other =
     first_window (confirmed c) item c.sent refl)
 
 -- a window that is untouched: nothing was consumed, and nothing was added
-untouched_window : (own more consumed : ℕ) → more ≡ 0 → consumed ≡ 0
+pub untouched_window : (own more consumed : ℕ) → more ≡ 0 → consumed ≡ 0
     → pos own ≡ window (own + more) consumed
 untouched_window own more consumed none too = omega (arith, ints)
 
@@ -173,7 +173,7 @@ new_is h c i end octets clear g =
     (rw (eq-eqb i i refl) (end_or end (list_any (ends i) c.sent) clear.ended_out))
 
 -- Nothing above the greatest number is active.
-none_above : (c : Core) (j : ℕ) → greatest_used c < j → active_by_items c j ≡ false
+pub none_above : (c : Core) (j : ℕ) → greatest_used c < j → active_by_items c j ≡ false
 none_above c j above =
     false_from_ne_true (active_by_items c j) (λ active_is.
     let low = block_below j (openings c.role c.received c.sent)

@@ -33,14 +33,14 @@ use Rattle.h2_machine_laws.proofs.ViewsAgree.{active_agrees}
 use Rattle.h2_log_laws.proofs.ItemLists.{total_one}
 
 -- The log says the same of them.
-others_same : (c : Core) (id code i : ℕ) → i ≢ id → SameAt i c (sends c (alone (Reset id code)))
+pub others_same : (c : Core) (id code i : ℕ) → i ≢ id → SameAt i c (sends c (alone (Reset id code)))
 unfolding computing
 others_same c id code i other =
     same_sent i c (alone (Reset id code)) (reset_apart id code i other) refl (λ alive. refl)
     (own_quiet 4 first_window (confirmed c) (alone (Reset id code)) c.sent refl)
 
 -- The stream was reset.
-reset_here : (id code : ℕ) (sent : List Item) → list_any (resets id) (alone (Reset id code) ∷ sent)
+pub reset_here : (id code : ℕ) (sent : List Item) → list_any (resets id) (alone (Reset id code) ∷ sent)
     ≡ true
 unfolding resets
 reset_here id code sent = rw (eq-eqb id id refl) refl

@@ -210,7 +210,7 @@ within_by window count true is fits = not_less window count fits
 within_by window count false is fits = omega (arith, ltb-false 0 count is)
 
 -- DATA that doesn't exceed a window is within it.
-within_window : (window count : ℕ) → exceeds count (pos window) ≡ false → count ≤ window
+pub within_window : (window count : ℕ) → exceeds count (pos window) ≡ false → count ≤ window
 within_window window count fits = within_by window count (nat_lt 0 count) refl fits
 
 -- DATA that is no fault of the connection is no more than the peer may send.

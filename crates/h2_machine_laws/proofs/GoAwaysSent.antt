@@ -104,7 +104,7 @@ low_reported log (event ∷ events) low =
     low_up _ _ log.sent (processed_after (event ∷ events) log.reported) low
 
 -- No reply is a GOAWAY.
-replies_none : (v : Verdict) (item : Item) → list_any is_goaway (replies_to v item) ≡ false
+pub replies_none : (v : Verdict) (item : Item) → list_any is_goaway (replies_to v item) ≡ false
 unfolding replies_to is_goaway
 replies_none (ConnectionFault code) item = refl
 replies_none (StreamFault code) item = refl
@@ -123,11 +123,11 @@ low_read log decoded item v more events low =
     (low_wrote (read log decoded item) (replies_to v item) (replies_none v item) low))
 
 -- how many are GOAWAY, of one item
-one_goaway : Item → ℕ
+pub one_goaway : Item → ℕ
 one_goaway item = if is_goaway item then 1 else 0
 
 -- Where none is counted, none is one.
-none_counted : (items : List Item) → total one_goaway items ≡ 0 → list_any is_goaway items ≡ false
+pub none_counted : (items : List Item) → total one_goaway items ≡ 0 → list_any is_goaway items ≡ false
 unfolding total one_goaway
 none_counted [] none = refl
 none_counted (item ∷ items) none = by (is_goaway item) none (none_counted items)
@@ -139,13 +139,13 @@ none_counted (item ∷ items) none = by (is_goaway item) none (none_counted item
     by false none all = all (omega (arith, none))
 
 -- DATA is none.
-data_counted : (id : ℕ) (end : Bool) (octets : List ℕ)
+pub data_counted : (id : ℕ) (end : Bool) (octets : List ℕ)
     → one_goaway (alone (Data id end octets None)) ≡ 0
 unfolding one_goaway is_goaway
 data_counted id end octets = refl
 
 -- Nor are the updates of a release, by the test.
-release_none : (id count : ℕ) (ended : Bool)
+pub release_none : (id count : ℕ) (ended : Bool)
     → list_any is_goaway (alone (WindowUpdate 0 count) ∷
     (if ended then [] else alone (WindowUpdate id count) ∷ [])) ≡ false
 unfolding is_goaway
@@ -153,7 +153,7 @@ release_none id count true = refl
 release_none id count false = refl
 
 -- The last stream that was processed is no greater than the greatest, by the role.
-last_low : (b : Bool) (n : ℕ) → (if b then n else 0) ≤ n
+pub last_low : (b : Bool) (n : ℕ) → (if b then n else 0) ≤ n
 last_low true n = omega arith
 last_low false n = omega arith
 
@@ -245,7 +245,7 @@ unfolding with_call
 low_refusal log act refusal low = low
 
 -- A connection that fails by a call has failed.
-memory_fails : (log : Log) (act : Act) → (with_call log act OutOfMemory).failed ≡ None → ⊥
+pub memory_fails : (log : Log) (act : Act) → (with_call log act OutOfMemory).failed ≡ None → ⊥
 unfolding with_call
 memory_fails log act up = let wrong : Some InternalError ≡ None = up in cc
 

@@ -63,7 +63,7 @@ peer_read peer received item none g =
     }
 
 -- The GOAWAYs, where an item is read that is none.
-goaways_read : (goaway : GoAways) (received sent : List Item) (item : Item) → IsCommon item
+pub goaways_read : (goaway : GoAways) (received sent : List Item) (item : Item) → IsCommon item
     → RepresentsGoAways goaway received sent → RepresentsGoAways goaway (item ∷ received) sent
 goaways_read goaway received sent item q g =
     record {

@@ -137,21 +137,21 @@ goaway_reported e log decoded last code debug low w g =
     (goaway_read (core_facts e) (core log) last code debug low g))
 
 -- A WINDOW_UPDATE is neither SETTINGS nor GOAWAY.
-update_common : (i n : ℕ) → IsCommon (alone (WindowUpdate i n))
+pub update_common : (i n : ℕ) → IsCommon (alone (WindowUpdate i n))
 unfolding is_goaway least_goaway one_settings
 update_common i n = record { leaves = refl; least = λ items. refl; settings = refl }
 
 -- its increment of the connection's, by the test
-update_all : (i n : ℕ) → increment_on 0 (alone (WindowUpdate i n)) ≡ (if i == 0 then n else 0)
+pub update_all : (i n : ℕ) → increment_on 0 (alone (WindowUpdate i n)) ≡ (if i == 0 then n else 0)
 unfolding increment_on
 update_all i n = refl
 
 -- it takes nothing, and opens nothing
-update_none : (i n : ℕ) → data_of (alone (WindowUpdate i n)) ≡ 0
+pub update_none : (i n : ℕ) → data_of (alone (WindowUpdate i n)) ≡ 0
 unfolding data_of
 update_none i n = refl
 
-update_used : (c : Core) (i n : ℕ) → greatest_used (reads c (alone (WindowUpdate i n)))
+pub update_used : (c : Core) (i n : ℕ) → greatest_used (reads c (alone (WindowUpdate i n)))
     ≡ greatest_used c
 unfolding greatest_block
 update_used c i n = used_read c.role (alone (WindowUpdate i n)) c.received c.sent (λ items. refl)

@@ -119,7 +119,7 @@ returned_keeps_by part e more true gives keeps = gives _ ∙ keeps (e.windows.un
 returned_keeps_by part e more false gives keeps = keeps (e.windows.unreturned + more)
 
 -- Such a part doesn't hang on what is unreturned.
-returned_keeps : {A : Type 0} (part : End → A) (e : End) (more : ℕ)
+pub returned_keeps : {A : Type 0} (part : End → A) (e : End) (more : ℕ)
     → ((x : End) → part (return_credit x) ≡ part x)
     → ((n : ℕ) → part (record e { windows = record e.windows { unreturned = n } }) ≡ part e)
     → part (add_unreturned more e) ≡ part e

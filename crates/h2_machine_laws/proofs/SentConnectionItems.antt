@@ -54,7 +54,7 @@ ping_leaves ack octets =
     }
 
 -- Nor do SETTINGS.
-settings_leave : (ack : Bool) (pairs : List (ℕ × ℕ)) → LeavesStreams (alone (Settings ack pairs))
+pub settings_leave : (ack : Bool) (pairs : List (ℕ × ℕ)) → LeavesStreams (alone (Settings ack pairs))
 unfolding computing
 settings_leave ack pairs =
     record {

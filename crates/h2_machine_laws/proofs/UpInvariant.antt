@@ -122,7 +122,7 @@ unfolding total
 one_total f item none = omega (arith, none)
 
 -- What no event of two lists passes.
-none_both : {X : Type 0} (p : X → Bool) (xs ys : List X) → list_any p xs ≡ false
+pub none_both : {X : Type 0} (p : X → Bool) (xs ys : List X) → list_any p xs ≡ false
     → list_any p ys ≡ false → list_any p (xs ++ ys) ≡ false
 none_both p [] ys here there = there
 none_both p (x ∷ xs) ys here there =

@@ -32,7 +32,7 @@ use Rattle.h2_log_laws.proofs.ReaderStates.{state_idle}
 use Rattle.h2_machine_laws.proofs.UpInvariant.{IsUpLog, Reads, idle_above, pairs_size}
 
 -- The events of an item report no stream as unprocessed.
-events_unnamed : (log : Log) (decoded : Option Decoded) (v : Verdict) (item : Item) (i : ℕ)
+pub events_unnamed : (log : Log) (decoded : Option Decoded) (v : Verdict) (item : Item) (i : ℕ)
     → list_any (reports_unprocessed i) (events_of (log_view log) decoded v item) ≡ false
 unfolding events_of reports_unprocessed
 events_unnamed log decoded Reported (alone (Reset stream code)) i = refl
@@ -91,12 +91,12 @@ unseen_item log decoded (alone (WindowUpdate stream increment)) i client above n
 unseen_item log decoded item i client above none = (refl, refl, refl, refl)
 
 -- A verdict of pairs reports nothing.
-fault_reported : (x : Option Code) → verdict_of_fault x ≡ Reported → ⊥
+pub fault_reported : (x : Option Code) → verdict_of_fault x ≡ Reported → ⊥
 fault_reported None is = cc
 fault_reported (Some code) is = cc
 
 -- Nor does it reset a stream.
-fault_resets : (x : Option Code) (code : Code) → verdict_of_fault x ≡ StreamFault code → ⊥
+pub fault_resets : (x : Option Code) (code : Code) → verdict_of_fault x ≡ StreamFault code → ⊥
 fault_resets None code is = cc
 fault_resets (Some other) code is = cc
 
@@ -106,7 +106,7 @@ fault_no_event None is = refl
 fault_no_event (Some code) is = cc
 
 -- What is reported by a test passes it.
-reported_by : (b : Bool) → (if b then Reported else NoEvent) ≡ Reported → b ≡ true
+pub reported_by : (b : Bool) → (if b then Reported else NoEvent) ≡ Reported → b ≡ true
 reported_by true is = refl
 reported_by false is = cc
 
@@ -158,7 +158,7 @@ size_of log decoded NoEvent (alone (Settings false pairs)) is none f =
 size_of log decoded v item is none f = f.size
 
 -- GOAWAY below a number is GOAWAY.
-below_goaway : (i : ℕ) (sent : List Item) → list_any (is_goaway_below i) sent ≡ true
+pub below_goaway : (i : ℕ) (sent : List Item) → list_any (is_goaway_below i) sent ≡ true
     → list_any is_goaway sent ≡ true
 unfolding is_goaway_below is_goaway
 below_goaway i [] some = absurd (both_ways false refl some)
@@ -166,7 +166,7 @@ below_goaway i (alone (GoAway last code debug) ∷ sent) some = refl
 below_goaway i (item ∷ sent) some = below_goaway i sent some
 
 -- Nothing is above where no GOAWAY was written.
-above_none : (role : Role) (i : ℕ) (sent : List Item) → list_any is_goaway sent ≡ false
+pub above_none : (role : Role) (i : ℕ) (sent : List Item) → list_any is_goaway sent ≡ false
     → is_above role i sent ≡ false
 unfolding is_above
 above_none Client i sent none = refl
@@ -174,7 +174,7 @@ above_none Server i sent none =
     false_from_ne_true _ (λ some. both_ways _ none (below_goaway i sent some))
 
 -- A stream in the state ClosedByUs is.
-closed_by_us_is : (used active closed_by_us : Bool) → state_by used active closed_by_us ≡ ClosedByUs
+pub closed_by_us_is : (used active closed_by_us : Bool) → state_by used active closed_by_us ≡ ClosedByUs
     → closed_by_us ≡ true
 closed_by_us_is true false true is = refl
 closed_by_us_is true true closed_by_us is = cc

@@ -1,0 +1,197 @@
+-- What a field block that opens a stream at a server makes of an end and of its log.
+use Rattle.std.proofs.Common.{◌≡◌, ◌≢◌, ℕ, ◌+◌, ◌≤◌, ◌<◌, ◌%◌, ◌==◌, max, Bool, true, false, ◌&&◌}
+use Rattle.std.proofs.Common.{◌||◌, if◌then◌else◌, pos, List, [], ◌∷◌, Option, Some, None, refl, ap}
+use Rattle.std.proofs.Common.{sym, ◌∙◌, arith, zero-add}
+use Rattle.std.specs.List.{list_any}
+use Rattle.std.specs.FinMap as map
+use Rattle.std.proofs.lemmas.Bool.{eq-eqb, false_from_ne_true, both_ways, and_right}
+use Rattle.h2_block.specs.Grouping.{Item, block}
+use Rattle.h2_log.specs.declared.role.Role.{Role}
+use Rattle.h2_log.specs.declared.role.Role.TheVariants.{Client, Server}
+use Rattle.h2_log.specs.Items.{stream_of_item, data_on, increment_on, is_block_on, ends, resets}
+use Rattle.h2_log.specs.Items.{total, greatest_block}
+use Rattle.h2_log.specs.Events.{Event, FieldsEvent, flow_on, one_acked, reported_total}
+use Rattle.h2_log.specs.Events.{processed_by, greatest_processed}
+use Rattle.h2_log.specs.Settings.{is_server, value_read, own_value}
+use Rattle.h2_log.specs.States.{openings, is_above, count_below}
+use Rattle.h2_log.specs.Windows.{first_window, given_on, granted_on}
+use Rattle.h2_log.specs.Log.{Log, active}
+use Rattle.h2_log.specs.Verdicts.{Reported}
+use Rattle.h2_log.specs.ItemRules.{Decoded, replies_to}
+use Rattle.h2_log.specs.LogSteps.{read, with_sent, with_reported, owed_at_close, with_verdict}
+use Rattle.h2_log.specs.ItemEffects.{events_of, discarded_flow, fields_of}
+use Rattle.h2_log.specs.View.{StreamView}
+use Rattle.h2_machine.specs.End.{End, Streams, active_entry}
+use Rattle.h2_machine.specs.Machine.{with_table_after, after_reported}
+use Rattle.h2_machine_laws.proofs.CallOpen.{IsClear, count_added, none_above, untouched_window}
+use Rattle.h2_machine_laws.proofs.LogCore.{StreamsOf, said, Core, core, CoreFacts, core_facts, Advances, Going, confirmed, active_by_items, greatest_used}
+use Rattle.h2_machine_laws.proofs.RecvBlocks.{with_block, block_same, block_on, block_gives, block_ends, block_resets, fields_harmless, fields_flow, block_advances}
+use Rattle.h2_machine_laws.proofs.OwedAtClose.{dead_owing}
+use Rattle.h2_machine_laws.proofs.RecvEvents.{ChangesNoStream, active_reported}
+use Rattle.h2_machine_laws.proofs.RecvReturnedCredit.{After, unsettled}
+use Rattle.h2_machine_laws.proofs.RecvVerdict.{none_said}
+use Rattle.h2_machine_laws.proofs.StreamsSame.{SameAt, same_stream, said_set}
+use Rattle.h2_machine_laws.proofs.WaitingOutput.{Waits}
+use Rattle.h2_log_laws.proofs.ReaderStates.{active_from, lasts_from}
+
+-- What a log has of a number whose block opens a stream at a server.
+pub record MayBeOpened (c : Core) (i : ℕ) : Type 0 where
+  pub server : c.role ≡ Server
+  pub odd : i % 2 ≡ 1
+  pub rises : greatest_used c < i
+  pub clear : IsClear c i
+  pub below : is_above c.role i c.sent ≡ false
+  pub processed : greatest_processed c.reported ≤ greatest_used c
+
+-- Nothing was opened with such a number.
+pub fresh_dead : (c : Core) (i : ℕ) → greatest_used c < i → active_by_items c i ≡ false
+fresh_dead c i rises = none_above c i rises
+
+-- A block opens its stream at a server.
+opened_here : (role : Role) (i : ℕ) (end : Bool) (octets : List ℕ) (received sent : List Item)
+    → role ≡ Server
+    → list_any (is_block_on i) (openings role (block i end octets ∷ received) sent) ≡ true
+unfolding is_block_on
+opened_here Client i end octets received sent is = cc
+opened_here Server i end octets received sent is = rw (eq-eqb i i refl) refl
+
+-- Its number is the greatest then.
+pub used_here : (role : Role) (i : ℕ) (end : Bool) (octets : List ℕ) (received sent : List Item)
+    → role ≡ Server → greatest_block (openings role received sent) < i
+    → greatest_block (openings role (block i end octets ∷ received) sent) ≡ i
+unfolding greatest_block
+used_here Client i end octets received sent is above = cc
+used_here Server i end octets received sent is above = omega (arith, above)
+
+-- The new stream is active.
+new_active : (c : Core) (i : ℕ) (end : Bool) (octets : List ℕ) (event : Event)
+    → ChangesNoStream event → MayBeOpened c i
+    → active_by_items (with_block c i end octets event) i ≡ true
+new_active c i end octets event q may =
+    let item : Item = block i end octets in
+    let clear = may.clear in
+    active_reported c.role i (item ∷ c.received) c.sent event c.reported (q.names i)
+    ∙ active_from c.role i (item ∷ c.received) c.sent c.reported (record {
+      odd = eq-eqb (i % 2) 1 may.odd;
+      opened = opened_here c.role i end octets c.received c.sent may.server;
+      below = may.below;
+      lasts = lasts_from i (item ∷ c.received) c.sent (record {
+        ended = and_right (list_any (ends i) (item ∷ c.received)) _ clear.ended_out;
+        unreset = rw (block_resets i end octets i) clear.reset_in;
+        kept = clear.reset_out;
+      });
+      unnamed = clear.unnamed;
+    })
+
+-- the stream that is opened
+abbrev opened_stream : CoreFacts → Bool → StreamView
+opened_stream h end =
+    record {
+      send_window = pos h.peer.initial_window;
+      recv_window = pos h.own.in_force.initial_window;
+      owed = 0;
+      ended_in = end;
+      ended_out = false;
+    }
+
+-- nothing more
+end_or : (a b : Bool) → b ≡ false → a ≡ (a || b)
+end_or true b is = refl
+end_or false b is = sym is
+
+-- The new stream is what the log says.
+new_said : (h : CoreFacts) (c : Core) (i : ℕ) (end : Bool) (octets : List ℕ) (event : Event)
+    → one_acked event ≡ 0 → flow_on i event ≡ 0 → IsClear c i → Advances h c
+    → opened_stream h end ≡ said (with_block c i end octets event) i
+unfolding given_on granted_on total reported_total value_read
+new_said h c i end octets event acks flow clear g =
+    let d : Core = with_block c i end octets event in
+    same_stream (opened_stream h end) (said d i)
+    (ap (λ (n : ℕ). pos n) g.peer.initial_window
+    ∙ untouched_window (value_read 4 first_window c.received)
+    (total (increment_on i) d.received) (total (data_on i) c.sent)
+    (omega (arith, clear.given, block_gives i end octets i)) clear.taken_out)
+    (rw (acks, zero-add) (ap (λ (n : ℕ). pos n) g.own.in_force.initial_window
+    ∙ untouched_window (own_value 4 first_window (confirmed c) c.sent)
+    (total (increment_on i) c.sent) (total (data_on i) d.received)
+    clear.granted (omega (arith, clear.taken_in, block_on i end octets i))))
+    (rw (flow, zero-add) (sym clear.owed))
+    (rw (block_ends i end octets) (end_or end (list_any (ends i) c.received) clear.ended_in))
+    (sym clear.ended_out)
+
+-- The greatest stream that was processed is the new one.
+processed_here : (role : Role) (event : Event) (reported : List Event) (i : ℕ) → role ≡ Server
+    → processed_by event ≡ i → greatest_processed reported ≤ i
+    → i ≡ (if is_server role then greatest_processed (event ∷ reported) else 0)
+unfolding greatest_processed
+processed_here Client event reported i is shows low = cc
+processed_here Server event reported i is shows low = omega (arith, shows, low)
+
+-- The event shows it.
+fields_here : (i : ℕ) (fields : List Rattle.hpack.specs.declared.types.field.Field.Field)
+    (end : Bool) → processed_by (FieldsEvent i fields end) ≡ i
+unfolding processed_by
+fields_here i fields end = refl
+
+-- The streams with the new one are what the log says.
+new_streams : (h : CoreFacts) (c : Core) (i : ℕ) (end : Bool) (octets : List ℕ) (event : Event)
+    → ChangesNoStream event → ((j : ℕ) → flow_on j event ≡ 0) → processed_by event ≡ i
+    → MayBeOpened c i → Advances h c
+    → StreamsOf (record h.streams {
+      entries = map.insert h.streams.entries i (active_entry (opened_stream h end));
+      active_count = h.streams.active_count + 1;
+      highest = max i h.streams.highest;
+      last_processed = i;
+    }) (with_block c i end octets event)
+new_streams h c i end octets event q flow shows may g =
+    let d : Core = with_block c i end octets event in
+    let same : (j : ℕ) → j ≢ i → SameAt j c d =
+    λ j other. block_same c i end octets event j q (flow j) other in
+    let rises = may.rises in
+    let used : greatest_used d ≡ i = used_here c.role i end octets c.received c.sent may.server
+    rises in
+    let more = count_added (greatest_used c + 1) i (active_by_items c) (active_by_items d)
+    (omega (arith, rises)) (λ j high. none_above c j (omega (arith, high)))
+    (new_active c i end octets event q may) (λ j other. (same j other).active) in
+    record {
+      entries = said_set h.streams.entries i (opened_stream h end) c d g.streams.entries same
+          (new_active c i end octets event q may)
+          (new_said h c i end octets event q.acks (flow i) may.clear g);
+      active_count = ap (λ (n : ℕ). n + 1) g.streams.active_count ∙ sym more
+          ∙ ap (λ (n : ℕ). count_below (n + 1) (active_by_items d)) (sym used);
+      highest = omega (arith, g.streams.highest, rises, used);
+      last_processed = processed_here c.role event c.reported i may.server shows
+          (omega (arith, may.processed, rises));
+      resets = g.streams.resets;
+    }
+
+-- What a block that opens a stream makes of an end.
+pub opening_reported : (e : End) (log : Log) (decoded : Option Decoded) (i : ℕ) (end : Bool)
+    (octets : List ℕ) → MayBeOpened (core log) i → Waits e log → Going e (core log)
+    → After (after_reported e decoded (block i end octets)) (with_verdict log decoded
+    (block i end octets) Reported)
+unfolding with_verdict after_reported replies_to events_of discarded_flow stream_of_item with_sent
+opening_reported e log decoded i end octets may w g =
+    let c : Core = core log in
+    let item : Item = block i end octets in
+    let event : Event = FieldsEvent i (fields_of decoded) end in
+    let q = fields_harmless i (fields_of decoded) end in
+    let flow = fields_flow i (fields_of decoded) end in
+    let dead = fresh_dead c i may.rises in
+    let streams : Streams = record e.streams {
+      entries = map.insert e.streams.entries i (active_entry (opened_stream (core_facts e) end));
+      active_count = e.streams.active_count + 1;
+      highest = max i e.streams.highest;
+      last_processed = i;
+    } in
+    rw (none_said e c i g dead)
+    (unsettled (record (with_table_after e decoded item) { streams = streams })
+    (read log decoded item) (event ∷ []) _
+    (omega (
+      arith,
+      dead_owing log (with_reported (read log decoded item) (event ∷ [])) i dead,
+    ))
+    w g.windows.unreturned
+    (block_advances (core_facts e) c i end octets event decoded streams q
+    (new_streams (core_facts e) c i end octets event q flow
+    (fields_here i (fields_of decoded) end) may g) g))
