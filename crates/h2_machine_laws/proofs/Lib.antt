@@ -23,6 +23,7 @@ mod NewEnd
 mod NextUnprocessed
 mod OneAwaited
 mod NumberedLogs
+mod NumberedSteps
 mod OneItemMore
 mod OwedOnStreams
 mod OwedSums
