@@ -15,6 +15,7 @@ mod ConservedByCalls
 mod ConservedByFrames
 mod ConservedBySteps
 mod EachStream
+mod EveryStep
 mod FirstSettings
 mod FreshNumbers
 mod GoAwaysSent
@@ -56,6 +57,7 @@ mod RepresentedSteps
 mod SentConnectionItems
 mod SentQuietItems
 mod SentStreamItems
+mod SoundLogs
 mod StreamsSame
 mod UpInvariant
 mod UpInvariantLogs
