@@ -1,19 +1,16 @@
 -- After every step that a log may take a machine that represents it represents the log after it.
-use Rattle.std.proofs.Common.{◌≡◌, ◌≢◌, ℕ, List, Option, None, sym, subst, ◌∙◌}
-use Rattle.h2_frame.specs.declared.code.Code.TheVariants.{InternalError}
+use Rattle.std.proofs.Common.{◌≡◌, ℕ, List, Option, sym, subst}
 use Rattle.h2_frame.specs.Frames.{Frame}
-use Rattle.h2_wire.specs.Faults.{wire_fault_code}
 use Rattle.h2_log.specs.declared.role.Role.{Role}
 use Rattle.h2_log.specs.Acts.{Values}
 use Rattle.h2_log.specs.ItemRules.{Decoded}
-use Rattle.h2_log.specs.Log.{Log, next_unprocessed}
+use Rattle.h2_log.specs.Log.{Log}
 use Rattle.h2_log.specs.LogSteps.{took_frame, took_none}
-use Rattle.h2_log.specs.LogCalls.{opened}
 use Rattle.h2_log.specs.Histories.{IsLog, begins, took_some, took_one, met_fault, ran_out_of_memory}
 use Rattle.h2_log.specs.Histories.{reported_one, called_one, TakesOctets, TakesPart, TakesFrame}
 use Rattle.h2_log.specs.Histories.{TakesFault, MayRunOutOfMemory, IsDecodedFor}
 use Rattle.h2_machine.specs.End.{End}
-use Rattle.h2_machine.specs.Machine.{new_end, after_frame, close_unprocessed, unprocessed_of_end}
+use Rattle.h2_machine.specs.Machine.{new_end, after_frame, close_unprocessed}
 use Rattle.h2_machine.specs.Represents.{Represents}
 use Rattle.h2_log_laws.proofs.InvariantLogs.{log_represents}
 use Rattle.h2_machine_laws.specs.Machines.{Step, uses_part, ends_frame, meets_fault}
@@ -66,9 +63,11 @@ HasMachine values log = (e : End) × Represents values e log
 stepped : (role : Role) (values : Values) (log : Log) (step : Step) → IsLog role values log
     → (log.role ≡ role → MayStep log step) → HasMachine values log
     → HasMachine values (log_after log step)
-stepped role values log step came may (e, s) =
-    (machine_after e step, steps_represent values e log step s
-    (may (log_represents role values log came).own))
+stepped role values log step came may (e, s) = (
+  machine_after e step,
+  steps_represent values e log step s
+      (may (log_represents role values log came).own),
+)
 
 -- Of each log that comes about there is a machine that represents it.
 pub every_log_has_machine : (role : Role) (values : Values) (log : Log) → IsLog role values log

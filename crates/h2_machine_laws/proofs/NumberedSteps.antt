@@ -1,11 +1,11 @@
 -- Every log that hasn't failed has one own GOAWAY at most, and so on: calls and frames keep it.
-use Rattle.std.proofs.Common.{◌≡◌, ◌≢◌, ◌⊎◌, ℕ, ◌+◌, ◌-◌, ◌≤◌, ◌<◌, ◌==◌, nat_lt, Bool, true, false}
-use Rattle.std.proofs.Common.{◌&&◌, ◌||◌, if◌then◌else◌, List, [], ◌∷◌, ◌++◌, Option, Some, None, refl}
-use Rattle.std.proofs.Common.{sym, ap, subst, ◌∙◌, inl, inr, arith}
+use Rattle.std.proofs.Common.{◌≡◌, ◌≢◌, ℕ, ◌+◌, ◌-◌, ◌≤◌, ◌==◌, nat_lt, Bool, true, false}
+use Rattle.std.proofs.Common.{◌&&◌, if◌then◌else◌, List, [], ◌∷◌, ◌++◌, Option, Some, None, refl}
+use Rattle.std.proofs.Common.{sym, ap, subst, ◌∙◌, arith}
 use Rattle.std.specs.List.{list_any}
 use Rattle.std.proofs.lemmas.Bool.{both_ways, or_parts, ltb-false, eqb-true}
 use Rattle.h2_frame.specs.declared.code.Code.{Code}
-use Rattle.h2_frame.specs.declared.code.Code.TheVariants.{InternalError, EnhanceYourCalm}
+use Rattle.h2_frame.specs.declared.code.Code.TheVariants.{InternalError}
 use Rattle.h2_frame.specs.Codes.{code_number}
 use Rattle.h2_frame.specs.Frames.{Frame, Data, Headers, Priority, Reset, Settings, Ping, GoAway}
 use Rattle.h2_frame.specs.Frames.{WindowUpdate, Continuation, Unknown}
@@ -17,15 +17,14 @@ use Rattle.h2_log.specs.declared.role.Role.TheVariants.{Client, Server}
 use Rattle.h2_log.specs.declared.refusal.Refusal.{Refusal}
 use Rattle.h2_log.specs.declared.refusal.Refusal.TheVariants.{Memory}
 use Rattle.h2_log.specs.Items.{is_goaway, is_goaway_below, greatest_block, stream_of_item, total}
-use Rattle.h2_log.specs.Items.{resets, ends, increment_on, data_on, is_block_on}
-use Rattle.h2_log.specs.Events.{Event, UnprocessedEvent, ResetEvent, flow_on, reported_total}
+use Rattle.h2_log.specs.Events.{UnprocessedEvent, flow_on, reported_total}
 use Rattle.h2_log.specs.Events.{greatest_processed, processed_by, reports_unprocessed}
 use Rattle.h2_log.specs.Acts.{Values, Act, Answer, Open, SendFields, SendData, Release, ResetStream}
 use Rattle.h2_log.specs.Acts.{Refuse, SendPing, SendGoAway, PutOut, ChangeSettings, Done}
-use Rattle.h2_log.specs.Acts.{OutOfMemory, Refused}
+use Rattle.h2_log.specs.Acts.{Refused}
 use Rattle.h2_log.specs.LogView.{log_view}
 use Rattle.h2_log.specs.Settings.{is_server}
-use Rattle.h2_log.specs.States.{Active, openings}
+use Rattle.h2_log.specs.States.{Active}
 use Rattle.h2_log.specs.Limits.{full_output}
 use Rattle.h2_log.specs.Log.{Log, state, last_processed, waiting, next_unprocessed, released}
 use Rattle.h2_log.specs.Log.{unreleased}
@@ -49,13 +48,13 @@ use Rattle.h2_log_laws.proofs.LogGrowth.{grows_call, grows_wrote, grows_with_unr
 use Rattle.h2_log_laws.proofs.LogViewLemmas.{stream_is_active, owed_there}
 use Rattle.h2_machine_laws.proofs.GoAwaysSent.{one_goaway, none_counted, replies_none, memory_fails, data_counted, release_none}
 use Rattle.h2_machine_laws.proofs.LogCore.{core}
-use Rattle.h2_machine_laws.proofs.NumberedLogs.{IsNumbered, OneGoAway, goaway_sent, sent_numbered, reported_numbered, read_numbered, EventsFit, Continues}
+use Rattle.h2_machine_laws.proofs.NumberedLogs.{IsNumbered, goaway_sent, sent_numbered, reported_numbered, read_numbered, Continues}
 use Rattle.h2_machine_laws.proofs.QuietNumbers.{unused_before}
 use Rattle.h2_machine_laws.proofs.RecvItems.{active_in, active_low}
 use Rattle.h2_machine_laws.proofs.RecvVerdictCases.{data_is_fault, reset_is_fault, update_is_fault}
 use Rattle.h2_machine_laws.proofs.UpInvariant.{openings_server}
 use Rattle.h2_machine_laws.proofs.UpInvariantLogs.{rules_is}
-use Rattle.h2_machine_laws.proofs.UpInvariantReads.{events_unnamed, fault_resets}
+use Rattle.h2_machine_laws.proofs.UpInvariantReads.{events_unnamed}
 
 -- What is unreturned is added, by the test whether it is returned.
 unreturned_by : (log : Log) (more : ℕ) (b : Bool) → IsNumbered log

@@ -1,11 +1,11 @@
 -- What a field block on an active stream, and one that is ignored, make of an end and of its log.
-use Rattle.std.proofs.Common.{◌≡◌, ◌≢◌, ℕ, ◌+◌, ◌-◌, ◌≤◌, ◌<◌, ◌%◌, ◌==◌, nat_lt, nat_le, max, Bool}
+use Rattle.std.proofs.Common.{◌≡◌, ◌≢◌, ℕ, ◌+◌, ◌-◌, ◌≤◌, ◌<◌, ◌%◌, ◌==◌, nat_lt, max, Bool}
 use Rattle.std.proofs.Common.{true, false, ◌&&◌, ◌||◌, if◌then◌else◌, List, [], ◌∷◌, Option, refl, ap}
 use Rattle.std.proofs.Common.{sym, ◌∙◌, inl, inr, arith, zero-add}
 use Rattle.std.specs.List.{list_any}
 use Rattle.std.specs.FinMap as map
 use Rattle.std.proofs.lemmas.Bool.{both_ways, ne_eqb, eq-eqb, false_from_ne_true, cases_eq}
-use Rattle.std.proofs.lemmas.Bool.{and_left, or_cases, ltb-true, ltb-false, eqb-true}
+use Rattle.std.proofs.lemmas.Bool.{and_left, or_cases, ltb-true, ltb-false}
 use Rattle.hpack.specs.declared.types.field.Field.{Field}
 use Rattle.h2_block.specs.Grouping.{Item, block}
 use Rattle.h2_log.specs.declared.role.Role.{Role}
@@ -16,8 +16,8 @@ use Rattle.h2_log.specs.Events.{Event, FieldsEvent, flow_on, one_acked, one_pong
 use Rattle.h2_log.specs.Events.{reports_unprocessed, processed_by, greatest_processed}
 use Rattle.h2_log.specs.Settings.{is_server, value_read, one_settings}
 use Rattle.h2_log.specs.States.{openings, is_above, is_closed_by_us, count_below}
-use Rattle.h2_log.specs.Windows.{given_on, granted_on}
-use Rattle.h2_log.specs.Log.{Log, active, unreleased, released, least_goaway}
+use Rattle.h2_log.specs.Windows.{given_on}
+use Rattle.h2_log.specs.Log.{Log, unreleased, least_goaway}
 use Rattle.h2_log.specs.Verdicts.{NoEvent, Reported}
 use Rattle.h2_log.specs.ItemRules.{Decoded, replies_to}
 use Rattle.h2_log.specs.LogSteps.{read, with_sent, with_reported, with_unreturned, owed_at_close}
@@ -30,7 +30,7 @@ use Rattle.h2_machine.specs.Machine.{after_ignored, is_fresh}
 use Rattle.h2_machine_laws.proofs.CallOpen.{count_high, none_above}
 use Rattle.h2_machine_laws.proofs.LogCore.{StreamsOf, said, Core, core, CoreFacts, core_facts, Advances, Going, active_by_items, greatest_used, processed}
 use Rattle.h2_machine_laws.proofs.OwedSums.{get_set_same}
-use Rattle.h2_machine_laws.proofs.RecvBeside.{Beside, beside_of, beside_table, beside_read, beside_reported, advances_with}
+use Rattle.h2_machine_laws.proofs.RecvBeside.{beside_of, beside_table, beside_read, beside_reported, advances_with}
 use Rattle.h2_machine_laws.proofs.RecvConnectionItems.{none_owing, dead_owing}
 use Rattle.h2_machine_laws.proofs.RecvEvents.{report, ChangesNoStream, active_reported, same_reported}
 use Rattle.h2_machine_laws.proofs.RecvRead.{reads, IsCommon, IsApart, same_read}

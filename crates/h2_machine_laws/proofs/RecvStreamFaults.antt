@@ -1,24 +1,19 @@
 -- An item that is a fault of its stream resets it at an end as at its log.
-use Rattle.std.proofs.Common.{◌≡◌, ◌≢◌, ℕ, ◌+◌, ◌-◌, ◌≤◌, ◌<◌, ◌%◌, ◌==◌, nat_lt, max, Bool, true}
-use Rattle.std.proofs.Common.{false, ◌&&◌, ◌||◌, if◌then◌else◌, List, [], ◌∷◌, length, Option, Some}
-use Rattle.std.proofs.Common.{None, is_some, refl, ap, sym, ◌∙◌, arith, zero-add}
-use Rattle.std.specs.List.{list_any}
+use Rattle.std.proofs.Common.{◌≡◌, ◌≢◌, ℕ, ◌+◌, ◌-◌, ◌≤◌, ◌%◌, ◌==◌, nat_lt, Bool, true}
+use Rattle.std.proofs.Common.{false, ◌&&◌, if◌then◌else◌, List, [], ◌∷◌, length, Option}
+use Rattle.std.proofs.Common.{is_some, refl, ap, sym, ◌∙◌, arith, zero-add}
 use Rattle.std.specs.FinMap as map
-use Rattle.std.proofs.lemmas.Bool.{both_ways, false_from_ne_true, and_right, le-ltb, lt-ltb, eq-eqb, ne_eqb}
+use Rattle.std.proofs.lemmas.Bool.{both_ways, false_from_ne_true, and_right, le-ltb, ne_eqb}
 use Rattle.h2_frame.specs.declared.code.Code.{Code}
 use Rattle.h2_frame.specs.Codes.{code_number}
-use Rattle.h2_frame.specs.Frames.{Frame, Data, Reset, WindowUpdate}
+use Rattle.h2_frame.specs.Frames.{Data, Reset, WindowUpdate}
 use Rattle.h2_frame.specs.Encoding.{payload_of, stream_of}
 use Rattle.h2_block.specs.Grouping.{Item, alone, block}
-use Rattle.h2_log.specs.declared.role.Role.{Role}
-use Rattle.h2_log.specs.declared.role.Role.TheVariants.{Client, Server}
-use Rattle.h2_log.specs.Items.{stream_of_item, data_of, increment_on, resets, one_reset, total}
-use Rattle.h2_log.specs.Items.{greatest_block}
+use Rattle.h2_log.specs.Items.{stream_of_item, data_of, increment_on, one_reset, total}
 use Rattle.h2_log.specs.Events.{Event, ResetEvent, flow_on, one_acked, one_pong, reported_total}
-use Rattle.h2_log.specs.Events.{reports_unprocessed, processed_by, greatest_processed}
+use Rattle.h2_log.specs.Events.{reports_unprocessed, processed_by}
 use Rattle.h2_log.specs.Settings.{is_server}
-use Rattle.h2_log.specs.States.{openings, count_below}
-use Rattle.h2_log.specs.Log.{Log, active, unreleased, released}
+use Rattle.h2_log.specs.Log.{Log, unreleased, released}
 use Rattle.h2_log.specs.Verdicts.{StreamFault}
 use Rattle.h2_log.specs.ItemRules.{Decoded, replies_to}
 use Rattle.h2_log.specs.LogSteps.{read, with_sent, with_reported, with_unreturned, owed_at_close}
@@ -26,13 +21,11 @@ use Rattle.h2_log.specs.LogSteps.{with_verdict}
 use Rattle.h2_log.specs.ItemEffects.{events_of, discarded_flow, table_after}
 use Rattle.h2_log.specs.ItemEffects.{encoder_after_item}
 use Rattle.h2_log.specs.View.{StreamView}
-use Rattle.h2_machine.specs.End.{End, Streams, Entry, reset_entry, stream_at, owed_entry}
-use Rattle.h2_machine.specs.Machine.{with_table_after, narrow_recv_window, queue_output, reset_stream}
-use Rattle.h2_machine.specs.Machine.{after_stream_fault, is_fresh, is_calm, is_one, mark_used}
-use Rattle.h2_machine.specs.Represents.{entry_by}
-use Rattle.h2_machine_laws.proofs.CallOpen.{none_above, count_high}
+use Rattle.h2_machine.specs.End.{End, Streams, reset_entry, stream_at, owed_entry}
+use Rattle.h2_machine.specs.Machine.{with_table_after, queue_output, reset_stream}
+use Rattle.h2_machine.specs.Machine.{after_stream_fault, is_fresh, is_one}
 use Rattle.h2_machine_laws.proofs.CallReset.{others_same, reset_here}
-use Rattle.h2_machine_laws.proofs.LogCore.{StreamsOf, Core, core, CoreFacts, core_facts, Advances, Going, active_by_items, kept_back, greatest_used, said}
+use Rattle.h2_machine_laws.proofs.LogCore.{StreamsOf, Core, core, CoreFacts, core_facts, Advances, Going, active_by_items, kept_back, greatest_used}
 use Rattle.h2_machine_laws.proofs.OneItemMore.{total_one}
 use Rattle.h2_machine_laws.proofs.RecvBeside.{beside_of, beside_table, beside_read, beside_reported, beside_reset, advances_with}
 use Rattle.h2_machine_laws.proofs.RecvBlocks.{block_common, block_apart, block_gives, block_takes, block_used, taken_low, IsTaken}
@@ -42,10 +35,10 @@ use Rattle.h2_machine_laws.proofs.RecvReset.{data_common, data_apart, data_used,
 use Rattle.h2_machine_laws.proofs.RecvReturnedCredit.{After, returned}
 use Rattle.h2_machine_laws.proofs.RecvStreamItems.{update_common, update_apart, update_all, update_none, update_used}
 use Rattle.h2_machine_laws.proofs.RecvUnprocessed.{full_owing}
-use Rattle.h2_machine_laws.proofs.RecvVerdict.{active_said, stream_said, none_said}
+use Rattle.h2_machine_laws.proofs.RecvVerdict.{active_said, stream_said}
 use Rattle.h2_machine_laws.proofs.SentConnectionItems.{computing}
 use Rattle.h2_machine_laws.proofs.SentQuietItems.{sends, used_wrote}
-use Rattle.h2_machine_laws.proofs.StreamsSame.{streams_closed, said_reset, same_both, SameAt, active_some, count_same}
+use Rattle.h2_machine_laws.proofs.StreamsSame.{streams_closed, said_reset, same_both, SameAt, active_some}
 use Rattle.h2_machine_laws.proofs.WaitingOutput.{Waits, wrote_connection}
 use Rattle.h2_log_laws.proofs.ReaderStates.{active_parts, lasts_parts}
 
