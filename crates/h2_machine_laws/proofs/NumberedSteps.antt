@@ -51,6 +51,7 @@ use Rattle.h2_machine_laws.proofs.LogCore.{core}
 use Rattle.h2_machine_laws.proofs.NumberedLogs.{IsNumbered, goaway_sent, sent_numbered, reported_numbered, read_numbered, Continues}
 use Rattle.h2_machine_laws.proofs.QuietNumbers.{unused_before}
 use Rattle.h2_machine_laws.proofs.RecvItems.{active_in, active_low}
+use Rattle.h2_machine_laws.proofs.RecvStreamFaults.{test_low}
 use Rattle.h2_machine_laws.proofs.RecvVerdictCases.{data_is_fault, reset_is_fault, update_is_fault}
 use Rattle.h2_machine_laws.proofs.UpInvariant.{openings_server}
 use Rattle.h2_machine_laws.proofs.UpInvariantLogs.{rules_is}
@@ -73,11 +74,6 @@ unreturned_numbered : (more : ℕ) (log : Log) → IsNumbered log
 unfolding with_unreturned
 unreturned_numbered more log f =
     unreturned_by log more (nat_lt 0 more && nat_lt (waiting log) full_output) f
-
--- what a test leaves is no greater
-test_low : (b : Bool) (i : ℕ) → (if b then i else 0) ≤ i
-test_low true i = omega arith
-test_low false i = omega arith
 
 -- The number of an active stream is no greater than the greatest that was read, at a server.
 active_read_low : (log : Log) (i : ℕ) → is_server log.role ≡ true → state log i ≡ Active

@@ -32,6 +32,7 @@ use Rattle.h2_machine_laws.proofs.LogCore.{StreamsOf, said, Core, core, CoreFact
 use Rattle.h2_machine_laws.proofs.OwedSums.{get_set_same}
 use Rattle.h2_machine_laws.proofs.RecvBeside.{beside_of, beside_table, beside_read, beside_reported, advances_with}
 use Rattle.h2_machine_laws.proofs.RecvConnectionItems.{none_owing, dead_owing}
+use Rattle.h2_machine_laws.proofs.RecvData.{or_swapped, opened_more}
 use Rattle.h2_machine_laws.proofs.RecvEvents.{report, ChangesNoStream, active_reported, same_reported}
 use Rattle.h2_machine_laws.proofs.RecvRead.{reads, IsCommon, IsApart, same_read}
 use Rattle.h2_machine_laws.proofs.RecvReturnedCredit.{After, returned, unsettled}
@@ -132,13 +133,6 @@ block_same c i end octets event j q none other =
     (same_read j (report c event) (block i end octets) (block_common i end octets).settings
     (block_apart i end octets j other))
 
--- two flags in the other order
-or_swapped : (a b : Bool) → a || b ≡ b || a
-or_swapped true true = refl
-or_swapped true false = refl
-or_swapped false true = refl
-or_swapped false false = refl
-
 -- The stream with the peer's end is what the log says.
 block_said : (c : Core) (i : ℕ) (end : Bool) (octets : List ℕ) (event : Event)
     → one_acked event ≡ 0 → flow_on i event ≡ 0
@@ -152,18 +146,6 @@ block_said c i end octets event acks flow =
     (rw (block_on i end octets i, acks, zero-add, zero-add) refl)
     (rw (flow, zero-add) refl)
     (rw (block_ends i end octets) (or_swapped (list_any (ends i) c.received) end)) refl
-
--- what stands among the openings stands among more
-opened_more : (role : Role) (i : ℕ) (item : Item) (received sent : List Item)
-    → list_any (is_block_on i) (openings role received sent) ≡ true
-    → list_any (is_block_on i) (openings role (item ∷ received) sent) ≡ true
-opened_more Client i item received sent here = here
-opened_more Server i item received sent here = elim_or (is_block_on i item)
-    (list_any (is_block_on i) received) here
-  where
-    elim_or : (a b : Bool) → b ≡ true → (a || b) ≡ true
-    elim_or true b is = refl
-    elim_or false b is = is
 
 -- A block leaves its stream active, by the flags after it.
 block_is_active : (c : Core) (i : ℕ) (end : Bool) (octets : List ℕ) (event : Event)

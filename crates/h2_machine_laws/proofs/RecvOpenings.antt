@@ -23,7 +23,7 @@ use Rattle.h2_log.specs.ItemEffects.{events_of, discarded_flow, fields_of}
 use Rattle.h2_log.specs.View.{StreamView}
 use Rattle.h2_machine.specs.End.{End, Streams, active_entry}
 use Rattle.h2_machine.specs.Machine.{with_table_after, after_reported}
-use Rattle.h2_machine_laws.proofs.CallOpen.{IsClear, count_added, none_above, untouched_window}
+use Rattle.h2_machine_laws.proofs.CallOpen.{IsClear, count_added, none_above, untouched_window, end_or}
 use Rattle.h2_machine_laws.proofs.LogCore.{StreamsOf, said, Core, core, CoreFacts, core_facts, Advances, Going, confirmed, active_by_items, greatest_used}
 use Rattle.h2_machine_laws.proofs.RecvBlocks.{with_block, block_same, block_on, block_gives, block_ends, block_resets, fields_harmless, fields_flow, block_advances}
 use Rattle.h2_machine_laws.proofs.RecvConnectionItems.{dead_owing}
@@ -93,11 +93,6 @@ opened_stream h end =
       ended_in = end;
       ended_out = false;
     }
-
--- nothing more
-end_or : (a b : Bool) → b ≡ false → a ≡ (a || b)
-end_or true b is = refl
-end_or false b is = sym is
 
 -- The new stream is what the log says.
 new_said : (h : CoreFacts) (c : Core) (i : ℕ) (end : Bool) (octets : List ℕ) (event : Event)

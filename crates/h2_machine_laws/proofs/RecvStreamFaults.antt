@@ -58,7 +58,7 @@ unfolding processed_by
 fault_shows i code = refl
 
 -- what a test leaves is no greater
-test_low : (b : Bool) (i : ℕ) → (if b then i else 0) ≤ i
+pub test_low : (b : Bool) (i : ℕ) → (if b then i else 0) ≤ i
 test_low true i = omega arith
 test_low false i = omega arith
 
