@@ -137,7 +137,8 @@ item_quiet role i received sent (block stream end octets) allowed unused =
           subst (λ (j : ℕ). is_used role j received (block stream end octets ∷ sent) ≡ false)
           (sym same) unused in
           elim allowed.1 [
-            | inl may ↦ absurd (both_ways _ unused_here (opening_uses role stream end octets received
+            | inl may ↦ absurd (both_ways _ unused_here
+                (opening_uses role stream end octets received
                 sent may.client may.odd))
             | inr goes ↦ absurd (both_ways _ unused_here (used_more role stream []
                 (block stream end octets ∷ []) received sent
@@ -164,7 +165,8 @@ item_quiet role i received sent (alone (Reset stream code)) allowed unused = (re
 item_quiet role i received sent (alone (Settings ack pairs)) allowed unused = (refl, refl)
 item_quiet role i received sent (alone (Ping ack octets)) allowed unused = (refl, refl)
 item_quiet role i received sent (alone (GoAway last code debug)) allowed unused = (refl, refl)
-item_quiet role i received sent (alone (WindowUpdate stream increment)) allowed unused = (refl, refl)
+item_quiet role i received sent (alone (WindowUpdate stream increment)) allowed unused =
+    (refl, refl)
 item_quiet role i received sent (alone (Continuation stream whole fragment)) allowed unused =
     (refl, refl)
 item_quiet role i received sent (alone (Unknown kind flags stream payload)) allowed unused =

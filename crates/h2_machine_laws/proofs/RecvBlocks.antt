@@ -229,7 +229,8 @@ later_by : (e : End) (log : Log) (decoded : Option Decoded) (i : ℕ) (end : Boo
     (set_stream (with_table_after e decoded (block i end octets)) i (record (said (core log) i) {
       ended_in = (said (core log) i).ended_in || end;
     })) i 0
-    else set_stream (with_table_after e decoded (block i end octets)) i (record (said (core log) i) {
+    else set_stream (with_table_after e decoded (block i end octets)) i
+    (record (said (core log) i) {
       ended_in = (said (core log) i).ended_in || end;
     }))
     (with_reported (with_unreturned (0 + owed_at_close log

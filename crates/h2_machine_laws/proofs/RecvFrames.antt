@@ -60,7 +60,8 @@ goaway_typed : (role : Role) (log : Log) (octets : List ℕ) (last code : ℕ) (
 goaway_typed role log octets last code debug (inl inside) =
     absurd (none_after log.frames (GoAway last code debug) inside.none)
 goaway_typed role log octets last code debug (inr after) =
-    let whole = last_is_frame (limits_from log) (length (expected_preface (is_server role))) log.frames (GoAway last code debug) after.sound.body
+    let whole = last_is_frame (limits_from log) (length (expected_preface (is_server role)))
+    log.frames (GoAway last code debug) after.sound.body
     after.sound.framed in
     let carried = whole.2.encodes.carried in
     let number = carried.3 in

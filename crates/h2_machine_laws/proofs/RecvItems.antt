@@ -75,7 +75,8 @@ active_low c i alive =
     (active_parts c.role i c.received c.sent c.reported alive).opened
 
 -- A number in the state ClosedByUs was used, and in the state Idle it wasn't.
-pub closed_used : (used active closed : Bool) → state_by used active closed ≡ ClosedByUs → used ≡ true
+pub closed_used : (used active closed : Bool) → state_by used active closed ≡ ClosedByUs
+    → used ≡ true
 closed_used true active closed is = refl
 closed_used false active closed is = cc
 
@@ -110,7 +111,8 @@ is_server_role Server is = refl
 new_clear : (c : Core) (i : ℕ) → Sound c → is_server c.role ≡ true → (i % 2 == 1) ≡ true
     → is_used c.role i c.received c.sent ≡ false → IsClear c i
 new_clear c i sound server odd unused =
-    let some : i ≢ 0 = λ none. let one = eqb-true (i % 2) 1 odd in absurd (omega (arith, none, one)) in
+    let some : i ≢ 0 = λ none. let one = eqb-true (i % 2) 1 odd in
+    absurd (omega (arith, none, one)) in
     let clear : IsUnread i c = sound.unread i some unused in
     let come = clear.come in
     let gave = increments_read c.role i some c.received c.sent sound.with_sent in

@@ -92,7 +92,8 @@ fault_dead c i code item =
 pub fault_resets : (c : Core) (i code : ℕ) (item : Item) (n : ℕ) → n ≡ total one_reset c.sent
     → n + 1 ≡ total one_reset (with_fault c i code item).sent
 unfolding computing
-fault_resets c i code item n is = omega (arith, is, total_one one_reset (alone (Reset i code)) c.sent)
+fault_resets c i code item n is =
+    omega (arith, is, total_one one_reset (alone (Reset i code)) c.sent)
 
 -- RST_STREAM uses no number.
 pub fault_used : (c : Core) (i code : ℕ) (item : Item) → greatest_used (with_fault c i code item)
@@ -103,8 +104,9 @@ fault_used c i code item = used_wrote c.role (alone (Reset i code)) (item ∷ c.
 
 -- What an end keeps where an item is read that is a fault of its stream, by what it makes of the
 -- streams.
-pub fault_advances : (h : CoreFacts) (c : Core) (i code : ℕ) (item : Item) (decoded : Option Decoded)
-    (recv : ℕ) (streams : Streams) → IsCommon item → increment_on 0 item ≡ 0
+pub fault_advances : (h : CoreFacts) (c : Core) (i code : ℕ) (item : Item)
+    (decoded : Option Decoded) (recv : ℕ) (streams : Streams) → IsCommon item
+    → increment_on 0 item ≡ 0
     → recv + data_of item ≡ h.windows.recv → encoder_after_item c.encoder item ≡ c.encoder
     → StreamsOf streams (with_fault c i code item) → Advances h c
     → Advances (record h {
@@ -200,7 +202,8 @@ active_fault : (e : End) (log : Log) (decoded : Option Decoded) (i code recv n :
     (ResetEvent i code true ∷ [])) i) (with_sent (read log decoded item)
     (alone (Reset i code) ∷ []))) (ResetEvent i code true ∷ []))
 unfolding with_sent
-active_fault e log decoded i code recv n item common apart used gives takes is kept alive taken w g =
+active_fault e log decoded i code recv n item common apart used gives takes is kept alive taken w
+    g =
     let c : Core = core log in
     let one : is_one (is_some (stream_at e i)) ≡ 1 =
     ap (λ (s : Option StreamView). is_one (is_some s))
@@ -218,8 +221,8 @@ active_fault e log decoded i code recv n item common apart used gives takes is k
     (wrote_connection e.role e.failed e.output.waiting (read log decoded item)
     (alone (Reset i code)) [] w) g.windows.unreturned
     (fault_advances (core_facts e) c i code item decoded recv streams common gives takes
-    kept (fault_streams (core_facts e) c i code (is_one (is_some (stream_at e i))) item common apart used
-    alive taken one g) g)
+    kept (fault_streams (core_facts e) c i code (is_one (is_some (stream_at e i))) item common apart
+    used alive taken one g) g)
 
 -- A number that was used isn't fresh.
 used_stale : (e : End) (c : Core) (i : ℕ) → i ≤ greatest_used c → Going e c → is_fresh e i ≡ false
