@@ -137,7 +137,7 @@ pub untouched_window : (own more consumed : ℕ) → more ≡ 0 → consumed ≡
 untouched_window own more consumed none too = omega (arith, ints)
 
 -- nothing more
-end_or : (a b : Bool) → b ≡ false → a ≡ (a || b)
+pub end_or : (a b : Bool) → b ≡ false → a ≡ (a || b)
 end_or true b is = refl
 end_or false b is = sym is
 

@@ -16,6 +16,7 @@ mod ConservedByFrames
 mod ConservedBySteps
 mod EachStream
 mod EveryUpLog
+mod EveryStep
 mod FirstSettings
 mod FreshNumbers
 mod GoAwaysSent
@@ -25,6 +26,7 @@ mod NewEnd
 mod NextUnprocessed
 mod OneAwaited
 mod NumberedLogs
+mod NumberedSteps
 mod OneItemMore
 mod OwedAtClose
 mod OwedOnStreams
@@ -59,6 +61,7 @@ mod SentConnectionItems
 mod SentQuietItems
 mod SentStreamItems
 mod SoundNumbers
+mod SoundLogs
 mod StreamsSame
 mod UpInvariant
 mod UpInvariantLogs

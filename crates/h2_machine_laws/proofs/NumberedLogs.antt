@@ -1,12 +1,11 @@
 -- What every log that hasn't failed has of GOAWAYs, of the numbers that were used, and of what was
 -- released; and what keeps it.
-use Rattle.std.proofs.Common.{◌≡◌, ◌≢◌, ◌⊎◌, ℕ, ◌+◌, ◌-◌, ◌≤◌, ◌<◌, ◌%◌, ◌==◌, nat_lt, nat_le, max, Bool}
-use Rattle.std.proofs.Common.{true, false, not, ◌&&◌, ◌||◌, if◌then◌else◌, List, [], ◌∷◌, ◌++◌, Option}
-use Rattle.std.proofs.Common.{Some, None, refl, sym, ap, subst, ◌∙◌, inl, inr, arith}
+use Rattle.std.proofs.Common.{◌≡◌, ◌≢◌, ◌⊎◌, ℕ, ◌≤◌, ◌%◌, ◌==◌, nat_lt, Bool}
+use Rattle.std.proofs.Common.{true, false, ◌&&◌, ◌||◌, List, [], ◌∷◌, ◌++◌, Option}
+use Rattle.std.proofs.Common.{Some, None, refl, sym, subst, ◌∙◌, inl, inr, arith}
 use Rattle.std.specs.List.{list_any}
-use Rattle.std.proofs.lemmas.Bool.{both_ways, or_cases, or_left, or_from, and_parts, and_from}
-use Rattle.std.proofs.lemmas.Bool.{false_from_ne_true, eqb-true, eq-eqb, ne_eqb, cases_eq, or_parts}
-use Rattle.std.proofs.lemmas.Bool.{ltb-false}
+use Rattle.std.proofs.lemmas.Bool.{both_ways, or_cases, or_left, and_parts, and_from}
+use Rattle.std.proofs.lemmas.Bool.{eqb-true, eq-eqb, ne_eqb, cases_eq}
 use Rattle.h2_frame.specs.declared.code.Code.{Code}
 use Rattle.h2_frame.specs.declared.code.Code.TheVariants.{ProtocolError}
 use Rattle.h2_frame.specs.Frames.{Data, Headers, Priority, Reset, Settings, Ping, GoAway}
@@ -16,31 +15,27 @@ use Rattle.h2_log.specs.declared.role.Role.{Role}
 use Rattle.h2_log.specs.declared.role.Role.TheVariants.{Client, Server}
 use Rattle.h2_log.specs.Items.{data_on, increment_on, is_block_on, ends, resets, is_goaway, total}
 use Rattle.h2_log.specs.Items.{is_goaway_below, greatest_block}
-use Rattle.h2_log.specs.Events.{Event, ResetEvent, flow_on, reported_total, greatest_processed}
-use Rattle.h2_log.specs.Events.{processed_by, reports_unprocessed}
+use Rattle.h2_log.specs.Events.{Event, flow_on, reported_total, greatest_processed}
+use Rattle.h2_log.specs.Events.{reports_unprocessed}
 use Rattle.h2_log.specs.Acts.{Act, Answer}
 use Rattle.h2_log.specs.LogView.{log_view}
 use Rattle.h2_log.specs.Settings.{is_server}
-use Rattle.h2_log.specs.States.{State, Idle, Active, ClosedByUs, openings, is_used}
-use Rattle.h2_log.specs.Log.{Log, state, active, released}
+use Rattle.h2_log.specs.States.{State, Idle, Active, ClosedByUs, is_used}
+use Rattle.h2_log.specs.Log.{Log, state, released}
 use Rattle.h2_log.specs.Verdicts.{Verdict, ConnectionFault, StreamFault, NoEvent, Reported}
 use Rattle.h2_log.specs.Verdicts.{block_verdict, data_verdict, reset_verdict, update_verdict}
 use Rattle.h2_log.specs.ItemRules.{Decoded, verdict_by_rules, verdict_of_block}
-use Rattle.h2_log.specs.ItemEffects.{events_of}
 use Rattle.h2_log.specs.LogSteps.{read, with_sent, with_reported}
 use Rattle.h2_machine.specs.Represents.{goaway_sent_last}
 use Rattle.h2_log_laws.proofs.LogHistory.{reported_append}
 use Rattle.h2_log_laws.proofs.ReaderStates.{active_parts, state_idle, opens_here}
-use Rattle.h2_log_laws.proofs.StreamNumbers.{block_below}
 use Rattle.h2_machine_laws.proofs.LogCore.{core}
 use Rattle.h2_machine_laws.proofs.OneItemMore.{any_quiet}
 use Rattle.h2_log_laws.proofs.ItemLists.{total_one}
 use Rattle.h2_machine_laws.proofs.QuietNumbers.{AreOdd, unused_before}
 use Rattle.h2_machine_laws.proofs.RecvItems.{active_in, closed_used, used_odd}
 use Rattle.h2_machine_laws.proofs.RecvVerdictCases.{block_is_reported, block_is_fault, block_is_ignored}
-use Rattle.h2_machine_laws.proofs.RecvVerdictCases.{data_is_fault, reset_is_fault, update_is_fault}
-use Rattle.h2_machine_laws.proofs.UpInvariant.{none_both, openings_server}
-use Rattle.h2_machine_laws.proofs.UpInvariantReads.{below_goaway, fault_resets}
+use Rattle.h2_machine_laws.proofs.UpInvariant.{none_both}
 
 -- There is one GOAWAY at most, whose last stream is no greater than this number.
 pub record OneGoAway (n : ℕ) (sent : List Item) : Type 0 where
@@ -336,8 +331,12 @@ read_numbered log decoded item v is on f =
           record {
             unreset = any_quiet (resets i) item log.received here.1 ∙ was.unreset;
             unended = any_quiet (ends i) item log.received here.0 ∙ was.unended;
-            increments = omega (arith, total_one (increment_on i) item log.received, here.2,
-                was.increments);
+            increments = omega (
+              arith,
+              total_one (increment_on i) item log.received,
+              here.2,
+              was.increments,
+            );
             come = omega (arith, total_one (data_on i) item log.received, here.3, was.come);
           };
       released = f.released;

@@ -1,10 +1,10 @@
 -- What of a log concerns numbers that were not used; and which numbers were.
-use Rattle.std.proofs.Common.{◌≡◌, ◌≢◌, ◌⊎◌, ℕ, ◌+◌, ◌≤◌, ◌<◌, ◌%◌, ◌==◌, nat_le, max, Bool, true}
-use Rattle.std.proofs.Common.{false, ◌&&◌, ◌||◌, if◌then◌else◌, List, [], ◌∷◌, ◌++◌, refl, sym, ap, ◌∙◌}
+use Rattle.std.proofs.Common.{◌≡◌, ◌≢◌, ℕ, ◌≤◌, ◌<◌, ◌%◌, ◌==◌, nat_le, Bool, true}
+use Rattle.std.proofs.Common.{false, ◌&&◌, ◌||◌, List, [], ◌∷◌, ◌++◌, refl, sym, ◌∙◌}
 use Rattle.std.proofs.Common.{subst, inl, inr, arith}
 use Rattle.std.specs.List.{list_any}
-use Rattle.std.proofs.lemmas.Bool.{both_ways, or_cases, or_left, or_right, or_from, and_parts, and_from}
-use Rattle.std.proofs.lemmas.Bool.{eqb-true, eq-eqb, ne_eqb, cases_eq, cases_Bool, le-leb, leb-true, leb-false}
+use Rattle.std.proofs.lemmas.Bool.{both_ways, or_cases, or_left, or_right, or_from, and_from}
+use Rattle.std.proofs.lemmas.Bool.{eqb-true, eq-eqb, ne_eqb, cases_eq, le-leb, leb-true, leb-false}
 use Rattle.std.proofs.lemmas.Bool.{false_from_ne_true}
 use Rattle.h2_frame.specs.Frames.{Data, Headers, Priority, Reset, Settings, Ping, GoAway}
 use Rattle.h2_frame.specs.Frames.{WindowUpdate, Continuation, Unknown}
@@ -13,8 +13,7 @@ use Rattle.h2_log.specs.declared.role.Role.{Role}
 use Rattle.h2_log.specs.declared.role.Role.TheVariants.{Client, Server}
 use Rattle.h2_log.specs.Items.{data_on, is_block_on, opens_from, ends, total, greatest_block}
 use Rattle.h2_log.specs.States.{openings, is_used}
-use Rattle.h2_log.specs.Allowed.{AllowedHistory, starts, reads, writes, Allowed, MayOpen}
-use Rattle.h2_log.specs.Allowed.{MayContinue}
+use Rattle.h2_log.specs.Allowed.{AllowedHistory, starts, reads, writes, Allowed}
 use Rattle.h2_log_laws.proofs.ReaderStates.{active_parts, active_used, opens_here}
 use Rattle.h2_log_laws.proofs.ReplyInvariant.{used_more}
 use Rattle.h2_machine_laws.proofs.OneItemMore.{any_quiet}
@@ -62,6 +61,7 @@ used_is role i received sent odd = by (i % 2 == 1) refl
     both true b there back = sym (there refl)
     both false true there back = back refl
     both false false there back = refl
+
     by : (b : Bool) → (i % 2 == 1) ≡ b
         → (b && list_any (opens_from i) (openings role received sent))
         ≡ (b && nat_le i (greatest_block (openings role received sent)))
@@ -138,7 +138,8 @@ item_quiet role i received sent (block stream end octets) allowed unused =
           subst (λ (j : ℕ). is_used role j received (block stream end octets ∷ sent) ≡ false)
           (sym same) unused in
           elim allowed.1 [
-            | inl may ↦ absurd (both_ways _ unused_here (opening_uses role stream end octets received
+            | inl may ↦ absurd (both_ways _ unused_here
+                (opening_uses role stream end octets received
                 sent may.client may.odd))
             | inr goes ↦ absurd (both_ways _ unused_here (used_more role stream []
                 (block stream end octets ∷ []) received sent
@@ -165,7 +166,8 @@ item_quiet role i received sent (alone (Reset stream code)) allowed unused = (re
 item_quiet role i received sent (alone (Settings ack pairs)) allowed unused = (refl, refl)
 item_quiet role i received sent (alone (Ping ack octets)) allowed unused = (refl, refl)
 item_quiet role i received sent (alone (GoAway last code debug)) allowed unused = (refl, refl)
-item_quiet role i received sent (alone (WindowUpdate stream increment)) allowed unused = (refl, refl)
+item_quiet role i received sent (alone (WindowUpdate stream increment)) allowed unused =
+    (refl, refl)
 item_quiet role i received sent (alone (Continuation stream whole fragment)) allowed unused =
     (refl, refl)
 item_quiet role i received sent (alone (Unknown kind flags stream payload)) allowed unused =

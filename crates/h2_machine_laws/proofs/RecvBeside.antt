@@ -1,6 +1,6 @@
 -- What an end keeps besides its streams, and what an item that is read, an event and a reply make
 -- of it.
-use Rattle.std.proofs.Common.{◌≡◌, ℕ, ◌+◌, List, ◌∷◌, Option, refl, ap, arith}
+use Rattle.std.proofs.Common.{◌≡◌, ℕ, ◌+◌, Option, refl, ap, arith}
 use Rattle.hpack.specs.Tables.{Entries}
 use Rattle.h2_frame.specs.Frames.{Reset}
 use Rattle.h2_block.specs.Grouping.{Item, alone}

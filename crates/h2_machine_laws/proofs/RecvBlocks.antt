@@ -1,11 +1,11 @@
 -- What a field block on an active stream, and one that is ignored, make of an end and of its log.
-use Rattle.std.proofs.Common.{◌≡◌, ◌≢◌, ℕ, ◌+◌, ◌-◌, ◌≤◌, ◌<◌, ◌%◌, ◌==◌, nat_lt, nat_le, max, Bool}
+use Rattle.std.proofs.Common.{◌≡◌, ◌≢◌, ℕ, ◌+◌, ◌-◌, ◌≤◌, ◌<◌, ◌%◌, ◌==◌, nat_lt, max, Bool}
 use Rattle.std.proofs.Common.{true, false, ◌&&◌, ◌||◌, if◌then◌else◌, List, [], ◌∷◌, Option, refl, ap}
 use Rattle.std.proofs.Common.{sym, ◌∙◌, inl, inr, arith, zero-add}
 use Rattle.std.specs.List.{list_any}
 use Rattle.std.specs.FinMap as map
 use Rattle.std.proofs.lemmas.Bool.{both_ways, ne_eqb, eq-eqb, false_from_ne_true, cases_eq}
-use Rattle.std.proofs.lemmas.Bool.{and_left, or_cases, ltb-true, ltb-false, eqb-true}
+use Rattle.std.proofs.lemmas.Bool.{and_left, or_cases, ltb-true, ltb-false}
 use Rattle.hpack.specs.declared.types.field.Field.{Field}
 use Rattle.h2_block.specs.Grouping.{Item, block}
 use Rattle.h2_log.specs.declared.role.Role.{Role}
@@ -16,8 +16,8 @@ use Rattle.h2_log.specs.Events.{Event, FieldsEvent, flow_on, one_acked, one_pong
 use Rattle.h2_log.specs.Events.{reports_unprocessed, processed_by, greatest_processed}
 use Rattle.h2_log.specs.Settings.{is_server, value_read, one_settings}
 use Rattle.h2_log.specs.States.{openings, is_above, is_closed_by_us, count_below}
-use Rattle.h2_log.specs.Windows.{given_on, granted_on}
-use Rattle.h2_log.specs.Log.{Log, active, unreleased, released, least_goaway}
+use Rattle.h2_log.specs.Windows.{given_on}
+use Rattle.h2_log.specs.Log.{Log, unreleased, least_goaway}
 use Rattle.h2_log.specs.Verdicts.{NoEvent, Reported}
 use Rattle.h2_log.specs.ItemRules.{Decoded, replies_to}
 use Rattle.h2_log.specs.LogSteps.{read, with_sent, with_reported, with_unreturned, owed_at_close}
@@ -32,6 +32,7 @@ use Rattle.h2_machine_laws.proofs.LogCore.{StreamsOf, said, Core, core, CoreFact
 use Rattle.h2_machine_laws.proofs.OwedSums.{get_set_same}
 use Rattle.h2_machine_laws.proofs.RecvBeside.{Beside, beside_of, beside_table, beside_read, beside_reported, advances_with}
 use Rattle.h2_machine_laws.proofs.OwedAtClose.{none_owing, dead_owing}
+use Rattle.h2_machine_laws.proofs.RecvData.{or_swapped, opened_more}
 use Rattle.h2_machine_laws.proofs.RecvEvents.{report, ChangesNoStream, active_reported, same_reported}
 use Rattle.h2_machine_laws.proofs.RecvRead.{reads, IsCommon, same_read}
 use Rattle.h2_machine_laws.proofs.ItemsApart.{block_apart}
@@ -119,13 +120,6 @@ block_same c i end octets event j q none other =
     (same_read j (report c event) (block i end octets) (block_common i end octets).settings
     (block_apart i end octets j other) (block_gives i end octets j))
 
--- two flags in the other order
-or_swapped : (a b : Bool) → a || b ≡ b || a
-or_swapped true true = refl
-or_swapped true false = refl
-or_swapped false true = refl
-or_swapped false false = refl
-
 -- The stream with the peer's end is what the log says.
 block_said : (c : Core) (i : ℕ) (end : Bool) (octets : List ℕ) (event : Event)
     → one_acked event ≡ 0 → flow_on i event ≡ 0
@@ -139,18 +133,6 @@ block_said c i end octets event acks flow =
     (rw (block_on i end octets i, acks, zero-add, zero-add) refl)
     (rw (flow, zero-add) refl)
     (rw (block_ends i end octets) (or_swapped (list_any (ends i) c.received) end)) refl
-
--- what stands among the openings stands among more
-opened_more : (role : Role) (i : ℕ) (item : Item) (received sent : List Item)
-    → list_any (is_block_on i) (openings role received sent) ≡ true
-    → list_any (is_block_on i) (openings role (item ∷ received) sent) ≡ true
-opened_more Client i item received sent here = here
-opened_more Server i item received sent here = elim_or (is_block_on i item)
-    (list_any (is_block_on i) received) here
-  where
-    elim_or : (a b : Bool) → b ≡ true → (a || b) ≡ true
-    elim_or true b is = refl
-    elim_or false b is = is
 
 -- A block leaves its stream active, by the flags after it.
 block_is_active : (c : Core) (i : ℕ) (end : Bool) (octets : List ℕ) (event : Event)
@@ -234,7 +216,8 @@ later_by : (e : End) (log : Log) (decoded : Option Decoded) (i : ℕ) (end : Boo
     (set_stream (with_table_after e decoded (block i end octets)) i (record (said (core log) i) {
       ended_in = (said (core log) i).ended_in || end;
     })) i 0
-    else set_stream (with_table_after e decoded (block i end octets)) i (record (said (core log) i) {
+    else set_stream (with_table_after e decoded (block i end octets)) i
+    (record (said (core log) i) {
       ended_in = (said (core log) i).ended_in || end;
     }))
     (with_reported (with_unreturned (0 + owed_at_close log

@@ -92,7 +92,7 @@ used_recv_window : (g t n : ℕ) → (pos g -ℤ pos t) -ℤ pos n ≡ pos g -�
 used_recv_window g t n = omega (arith, ints)
 
 -- two flags in the other order
-or_swapped : (a b : Bool) → a || b ≡ b || a
+pub or_swapped : (a b : Bool) → a || b ≡ b || a
 or_swapped true true = refl
 or_swapped true false = refl
 or_swapped false true = refl
@@ -132,7 +132,7 @@ data_same c i end octets pad j other =
     (data_apart i end octets pad j other) (data_gives i end octets pad j))
 
 -- what stands among the openings stands among more
-opened_more : (role : Role) (i : ℕ) (item : Item) (received sent : List Item)
+pub opened_more : (role : Role) (i : ℕ) (item : Item) (received sent : List Item)
     → list_any (is_block_on i) (openings role received sent) ≡ true
     → list_any (is_block_on i) (openings role (item ∷ received) sent) ≡ true
 opened_more Client i item received sent here = here

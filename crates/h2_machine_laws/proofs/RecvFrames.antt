@@ -1,5 +1,5 @@
 -- After a frame a machine represents the log with it.
-use Rattle.std.proofs.Common.{◌≡◌, ◌≢◌, ℕ, ◌+◌, ◌≤◌, ◌==◌, not, Bool, true, false, ◌&&◌, List, []}
+use Rattle.std.proofs.Common.{◌≡◌, ◌≢◌, ℕ, ◌+◌, ◌≤◌, ◌==◌, not, Bool, true, false, List, []}
 use Rattle.std.proofs.Common.{if◌then◌else◌, ◌∷◌, ◌++◌, length, Option, Some, None, refl, ap, sym, ◌∙◌}
 use Rattle.std.proofs.Common.{subst, inl, inr, arith, length-append}
 use Rattle.std.proofs.lemmas.Bool.{ne_eqb}
@@ -7,7 +7,7 @@ use Rattle.h2_frame.specs.declared.code.Code.{Code}
 use Rattle.h2_frame.specs.Frames.{Frame, Data, Headers, Priority, Reset, Settings, Ping, GoAway}
 use Rattle.h2_frame.specs.Frames.{WindowUpdate, Continuation, Unknown}
 use Rattle.h2_block.specs.declared.fault.BlockFault.{BlockFault}
-use Rattle.h2_block.specs.Grouping.{Item, alone, block, Begun, next_fault}
+use Rattle.h2_block.specs.Grouping.{Item, alone, Begun}
 use Rattle.h2_wire.specs.Streams.{Limits, AreFrames, IsFrame, expected_preface}
 use Rattle.h2_log.specs.declared.role.Role.{Role}
 use Rattle.h2_log.specs.Acts.{Values}
@@ -24,12 +24,12 @@ use Rattle.h2_log.specs.Histories.{IsLog, TakesOctets, TakesFrame, IsDecodedFor,
 use Rattle.h2_log.proofs.StreamLemmas.{Keeps-frame}
 use Rattle.h2_machine.specs.End.{End, end_view}
 use Rattle.h2_machine.specs.Machine.{with_begun, after_step, after_frame}
-use Rattle.h2_machine.specs.Represents.{Represents, RepresentsWhileUp}
+use Rattle.h2_machine.specs.Represents.{Represents}
 use Rattle.h2_log_laws.proofs.InvariantLogs.{log_represents}
 use Rattle.h2_machine_laws.proofs.ConservedByFrames.{frame_holds}
 use Rattle.h2_machine_laws.proofs.ConservedBySteps.{holds, is_whole}
 use Rattle.h2_machine_laws.proofs.FirstSettings.{started_with_settings}
-use Rattle.h2_machine_laws.proofs.LogCore.{core, core_facts, Advances, Going, going, runs}
+use Rattle.h2_machine_laws.proofs.LogCore.{core, Going, going, runs}
 use Rattle.h2_machine_laws.proofs.RecvItems.{IsTypedItem, item_after}
 use Rattle.h2_machine_laws.proofs.RecvReturnedCredit.{After, after_going}
 use Rattle.h2_machine_laws.proofs.RecvStarted.{started_frame}
@@ -60,7 +60,8 @@ goaway_typed : (role : Role) (log : Log) (octets : List ℕ) (last code : ℕ) (
 goaway_typed role log octets last code debug (inl inside) =
     absurd (none_after log.frames (GoAway last code debug) inside.none)
 goaway_typed role log octets last code debug (inr after) =
-    let whole = last_is_frame (limits_from log) (length (expected_preface (is_server role))) log.frames (GoAway last code debug) after.sound.body
+    let whole = last_is_frame (limits_from log) (length (expected_preface (is_server role)))
+    log.frames (GoAway last code debug) after.sound.body
     after.sound.framed in
     let carried = whole.2.encodes.carried in
     let number = carried.3 in

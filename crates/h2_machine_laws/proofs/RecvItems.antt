@@ -1,31 +1,29 @@
 -- After an item, whatever its verdict, an end keeps what its log says.
-use Rattle.std.proofs.Common.{◌≡◌, ◌≢◌, ◌⊎◌, ℕ, ◌+◌, ◌≤◌, ◌<◌, ◌%◌, ◌==◌, nat_lt, nat_le, not, Bool}
-use Rattle.std.proofs.Common.{true, false, ◌&&◌, ◌||◌, if◌then◌else◌, ℤ, pos, List, [], ◌∷◌, length}
-use Rattle.std.proofs.Common.{Option, Some, None, is_some, refl, ap, sym, ◌∙◌, inl, inr, arith}
+use Rattle.std.proofs.Common.{◌≡◌, ◌≢◌, ℕ, ◌≤◌, ◌<◌, ◌%◌, ◌==◌, nat_le, not, Bool}
+use Rattle.std.proofs.Common.{true, false, ◌&&◌, if◌then◌else◌, ℤ, List, length}
+use Rattle.std.proofs.Common.{Option, Some, None, is_some, refl, ap, ◌∙◌, inl, inr, arith}
 use Rattle.std.specs.List.{list_any}
-use Rattle.std.proofs.lemmas.Bool.{both_ways, false_from_ne_true, and_parts, eqb-true, leb-true}
-use Rattle.std.proofs.lemmas.Bool.{lt-ltb, le-leb, leb-false, or_right, and_from, cases_Bool}
+use Rattle.std.proofs.lemmas.Bool.{both_ways, false_from_ne_true, and_parts, eqb-true}
+use Rattle.std.proofs.lemmas.Bool.{lt-ltb, leb-false, or_right, and_from}
 use Rattle.h2_frame.specs.declared.code.Code.{Code}
-use Rattle.h2_frame.specs.Frames.{Frame, Data, Headers, Priority, Reset, Settings, Ping, GoAway}
+use Rattle.h2_frame.specs.Frames.{Data, Headers, Priority, Reset, Settings, Ping, GoAway}
 use Rattle.h2_frame.specs.Frames.{WindowUpdate, Continuation, Unknown}
 use Rattle.h2_frame.specs.Encoding.{payload_of}
 use Rattle.h2_block.specs.Grouping.{Item, alone, block}
-use Rattle.hpack.specs.Lists.{list_size}
-use Rattle.h2_log.specs.Items.{data_of, is_block_on, resets, is_goaway, greatest_block}
-use Rattle.h2_log.specs.Events.{flow_on, reported_total}
+use Rattle.h2_log.specs.Items.{resets, is_goaway}
 use Rattle.h2_log.specs.LogView.{log_view}
 use Rattle.h2_log.specs.Settings.{is_server, settings_count}
-use Rattle.h2_log.specs.States.{State, Idle, Active, ClosedByUs, Closed, openings, is_used, is_above}
+use Rattle.h2_log.specs.States.{Idle, Active, ClosedByUs, openings, is_used, is_above}
 use Rattle.h2_log.specs.States.{is_closed_by_us, state_by, greatest_number}
 use Rattle.h2_log.specs.Windows.{connection_recv_window}
-use Rattle.h2_log.specs.Log.{Log, state, acked, newest_ping, ping_waits}
+use Rattle.h2_log.specs.Log.{Log, state}
 use Rattle.h2_log.specs.Verdicts.{Verdict, ConnectionFault, StreamFault, NoEvent, Reported}
 use Rattle.h2_log.specs.ItemRules.{Decoded, verdict_by_rules, verdict_of, verdict_of_block, exceeds}
-use Rattle.h2_log.specs.ItemRules.{replies_to, is_at_capacity, overflows_by}
+use Rattle.h2_log.specs.ItemRules.{replies_to}
 use Rattle.h2_log.specs.LogSteps.{with_verdict}
 use Rattle.h2_log.specs.declared.role.Role.{Role}
 use Rattle.h2_log.specs.declared.role.Role.TheVariants.{Client, Server}
-use Rattle.h2_machine.specs.End.{End, is_beyond}
+use Rattle.h2_machine.specs.End.{End}
 use Rattle.h2_machine.specs.Machine.{after_verdict}
 use Rattle.h2_machine.specs.Represents.{goaway_sent_last}
 use Rattle.h2_log_laws.proofs.AllowedHistories.{increments_read}
@@ -34,8 +32,8 @@ use Rattle.h2_log_laws.proofs.ReplyInvariant.{resets_used}
 use Rattle.h2_log_laws.proofs.StreamNumbers.{block_below}
 use Rattle.h2_machine_laws.proofs.CallOpen.{IsClear}
 use Rattle.h2_machine_laws.proofs.ConservedByFrames.{within_window}
-use Rattle.h2_machine_laws.proofs.LogCore.{Core, core, Going, active_by_items, greatest_used, confirmed}
-use Rattle.h2_machine_laws.proofs.RecvBlocks.{later_reported, block_ignored, closed_dead, IsTaken}
+use Rattle.h2_machine_laws.proofs.LogCore.{Core, core, Going, active_by_items, greatest_used}
+use Rattle.h2_machine_laws.proofs.RecvBlocks.{later_reported, block_ignored, closed_dead}
 use Rattle.h2_machine_laws.proofs.RecvConnectionFault.{fault_after}
 use Rattle.h2_machine_laws.proofs.RecvConnectionItems.{plain_ignored, ping_ignored}
 use Rattle.h2_machine_laws.proofs.RecvData.{data_reported}
@@ -77,7 +75,8 @@ active_low c i alive =
     (active_parts c.role i c.received c.sent c.reported alive).opened
 
 -- A number in the state ClosedByUs was used, and in the state Idle it wasn't.
-pub closed_used : (used active closed : Bool) → state_by used active closed ≡ ClosedByUs → used ≡ true
+pub closed_used : (used active closed : Bool) → state_by used active closed ≡ ClosedByUs
+    → used ≡ true
 closed_used true active closed is = refl
 closed_used false active closed is = cc
 
@@ -112,7 +111,8 @@ is_server_role Server is = refl
 new_clear : (c : Core) (i : ℕ) → Sound c → is_server c.role ≡ true → (i % 2 == 1) ≡ true
     → is_used c.role i c.received c.sent ≡ false → IsClear c i
 new_clear c i sound server odd unused =
-    let some : i ≢ 0 = λ none. let one = eqb-true (i % 2) 1 odd in absurd (omega (arith, none, one)) in
+    let some : i ≢ 0 = λ none. let one = eqb-true (i % 2) 1 odd in
+    absurd (omega (arith, none, one)) in
     let clear : IsUnread i c = sound.unread i some unused in
     let come = clear.come in
     let gave = increments_read c.role i some c.received c.sent sound.with_sent in

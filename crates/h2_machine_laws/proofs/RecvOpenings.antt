@@ -1,29 +1,29 @@
 -- What a field block that opens a stream at a server makes of an end and of its log.
-use Rattle.std.proofs.Common.{◌≡◌, ◌≢◌, ℕ, ◌+◌, ◌≤◌, ◌<◌, ◌%◌, ◌==◌, max, Bool, true, false, ◌&&◌}
-use Rattle.std.proofs.Common.{◌||◌, if◌then◌else◌, pos, List, [], ◌∷◌, Option, Some, None, refl, ap}
+use Rattle.std.proofs.Common.{◌≡◌, ◌≢◌, ℕ, ◌+◌, ◌≤◌, ◌<◌, ◌%◌, max, Bool, true, false}
+use Rattle.std.proofs.Common.{◌||◌, if◌then◌else◌, pos, List, [], ◌∷◌, Option, refl, ap}
 use Rattle.std.proofs.Common.{sym, ◌∙◌, arith, zero-add}
 use Rattle.std.specs.List.{list_any}
 use Rattle.std.specs.FinMap as map
-use Rattle.std.proofs.lemmas.Bool.{eq-eqb, false_from_ne_true, both_ways, and_right}
+use Rattle.std.proofs.lemmas.Bool.{eq-eqb, and_right}
 use Rattle.h2_block.specs.Grouping.{Item, block}
 use Rattle.h2_log.specs.declared.role.Role.{Role}
 use Rattle.h2_log.specs.declared.role.Role.TheVariants.{Client, Server}
-use Rattle.h2_log.specs.Items.{stream_of_item, data_on, increment_on, is_block_on, ends, resets}
+use Rattle.h2_log.specs.Items.{stream_of_item, data_on, increment_on, is_block_on, ends}
 use Rattle.h2_log.specs.Items.{total, greatest_block}
 use Rattle.h2_log.specs.Events.{Event, FieldsEvent, flow_on, one_acked, reported_total}
 use Rattle.h2_log.specs.Events.{processed_by, greatest_processed}
 use Rattle.h2_log.specs.Settings.{is_server, value_read, own_value}
 use Rattle.h2_log.specs.States.{openings, is_above, count_below}
 use Rattle.h2_log.specs.Windows.{first_window, given_on, granted_on}
-use Rattle.h2_log.specs.Log.{Log, active}
+use Rattle.h2_log.specs.Log.{Log}
 use Rattle.h2_log.specs.Verdicts.{Reported}
 use Rattle.h2_log.specs.ItemRules.{Decoded, replies_to}
-use Rattle.h2_log.specs.LogSteps.{read, with_sent, with_reported, owed_at_close, with_verdict}
+use Rattle.h2_log.specs.LogSteps.{read, with_sent, with_reported, with_verdict}
 use Rattle.h2_log.specs.ItemEffects.{events_of, discarded_flow, fields_of}
 use Rattle.h2_log.specs.View.{StreamView}
 use Rattle.h2_machine.specs.End.{End, Streams, active_entry}
 use Rattle.h2_machine.specs.Machine.{with_table_after, after_reported}
-use Rattle.h2_machine_laws.proofs.CallOpen.{IsClear, count_added, none_above, untouched_window}
+use Rattle.h2_machine_laws.proofs.CallOpen.{IsClear, count_added, none_above, untouched_window, end_or}
 use Rattle.h2_machine_laws.proofs.LogCore.{StreamsOf, said, Core, core, CoreFacts, core_facts, Advances, Going, confirmed, active_by_items, greatest_used}
 use Rattle.h2_machine_laws.proofs.RecvBlocks.{with_block, block_same, block_on, block_gives, block_ends, block_resets, fields_harmless, fields_flow, block_advances}
 use Rattle.h2_machine_laws.proofs.OwedAtClose.{dead_owing}
@@ -93,11 +93,6 @@ opened_stream h end =
       ended_in = end;
       ended_out = false;
     }
-
--- nothing more
-end_or : (a b : Bool) → b ≡ false → a ≡ (a || b)
-end_or true b is = refl
-end_or false b is = sym is
 
 -- The new stream is what the log says.
 new_said : (h : CoreFacts) (c : Core) (i : ℕ) (end : Bool) (octets : List ℕ) (event : Event)

@@ -1,8 +1,8 @@
 -- What a field block of a new number that is refused, or whose list is too large, makes of an end
 -- and of its log.
-use Rattle.std.proofs.Common.{◌≡◌, ◌≢◌, ℕ, ◌+◌, ◌-◌, ◌≤◌, ◌<◌, ◌%◌, ◌==◌, nat_lt, Bool, true, false}
-use Rattle.std.proofs.Common.{◌&&◌, if◌then◌else◌, List, [], ◌∷◌, Option, None, is_some, refl, ap}
-use Rattle.std.proofs.Common.{sym, ◌∙◌, inl, inr, arith, zero-add}
+use Rattle.std.proofs.Common.{◌≡◌, ◌≢◌, ℕ, ◌+◌, ◌-◌, ◌≤◌, ◌%◌, ◌==◌, nat_lt, Bool, true, false}
+use Rattle.std.proofs.Common.{if◌then◌else◌, List, [], ◌∷◌, Option, None, is_some, refl, ap}
+use Rattle.std.proofs.Common.{sym, ◌∙◌, inl, inr, arith}
 use Rattle.std.specs.List.{list_any}
 use Rattle.std.specs.FinMap as map
 use Rattle.std.proofs.lemmas.Bool.{cases_eq, lt-ltb, eq-eqb}
@@ -12,19 +12,18 @@ use Rattle.h2_frame.specs.Frames.{Reset}
 use Rattle.h2_block.specs.Grouping.{Item, alone, block}
 use Rattle.h2_log.specs.declared.role.Role.{Role}
 use Rattle.h2_log.specs.declared.role.Role.TheVariants.{Client, Server}
-use Rattle.h2_log.specs.Items.{stream_of_item, data_of, resets}
+use Rattle.h2_log.specs.Items.{stream_of_item, resets}
 use Rattle.h2_log.specs.Events.{Event, ResetEvent, greatest_processed, processed_by}
 use Rattle.h2_log.specs.Settings.{is_server}
 use Rattle.h2_log.specs.States.{count_below}
 use Rattle.h2_log.specs.Log.{Log}
 use Rattle.h2_log.specs.Verdicts.{StreamFault}
-use Rattle.h2_log.specs.View.{StreamView}
 use Rattle.h2_log.specs.ItemRules.{Decoded, replies_to}
-use Rattle.h2_log.specs.LogSteps.{read, with_sent, with_reported, owed_at_close, with_verdict}
+use Rattle.h2_log.specs.LogSteps.{read, with_sent, with_reported, with_verdict}
 use Rattle.h2_log.specs.ItemEffects.{events_of, discarded_flow}
 use Rattle.h2_machine.specs.End.{End, Streams, Entry, reset_entry, stream_in, stream_at, owed_entry}
-use Rattle.h2_machine.specs.Machine.{with_table_after, queue_output, reset_stream, mark_used}
-use Rattle.h2_machine.specs.Machine.{after_stream_fault, is_fresh, is_calm, is_one}
+use Rattle.h2_machine.specs.Machine.{with_table_after, queue_output}
+use Rattle.h2_machine.specs.Machine.{after_stream_fault, is_fresh, is_one}
 use Rattle.h2_machine.specs.Represents.{entry_by}
 use Rattle.h2_machine_laws.proofs.CallOpen.{none_above, count_high}
 use Rattle.h2_machine_laws.proofs.CallReset.{reset_here}

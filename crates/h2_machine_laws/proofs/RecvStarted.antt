@@ -1,6 +1,6 @@
 -- After a frame the first frame has come at an end, as long as the connection hasn't failed.
 use Rattle.std.proofs.Common.{◌≡◌, ℕ, ◌==◌, ◌+◌, Bool, true, false, not, ◌&&◌, ◌||◌, if◌then◌else◌, List}
-use Rattle.std.proofs.Common.{Option, Some, None, refl, sym, ap, ◌∙◌}
+use Rattle.std.proofs.Common.{Option, Some, None, refl, ◌∙◌}
 use Rattle.h2_frame.specs.declared.code.Code.{Code}
 use Rattle.h2_frame.specs.declared.code.Code.TheVariants.{ProtocolError}
 use Rattle.h2_frame.specs.Frames.{Frame, Data, Headers, Priority, Reset, Settings, Ping, GoAway}

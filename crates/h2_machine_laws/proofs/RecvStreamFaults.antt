@@ -1,24 +1,19 @@
 -- An item that is a fault of its stream resets it at an end as at its log.
-use Rattle.std.proofs.Common.{◌≡◌, ◌≢◌, ℕ, ◌+◌, ◌-◌, ◌≤◌, ◌<◌, ◌%◌, ◌==◌, nat_lt, max, Bool, true}
-use Rattle.std.proofs.Common.{false, ◌&&◌, ◌||◌, if◌then◌else◌, List, [], ◌∷◌, length, Option, Some}
-use Rattle.std.proofs.Common.{None, is_some, refl, ap, sym, ◌∙◌, arith, zero-add}
-use Rattle.std.specs.List.{list_any}
+use Rattle.std.proofs.Common.{◌≡◌, ◌≢◌, ℕ, ◌+◌, ◌-◌, ◌≤◌, ◌%◌, ◌==◌, nat_lt, Bool, true}
+use Rattle.std.proofs.Common.{false, ◌&&◌, if◌then◌else◌, List, [], ◌∷◌, length, Option}
+use Rattle.std.proofs.Common.{is_some, refl, ap, sym, ◌∙◌, arith, zero-add}
 use Rattle.std.specs.FinMap as map
-use Rattle.std.proofs.lemmas.Bool.{both_ways, false_from_ne_true, and_right, le-ltb, lt-ltb, eq-eqb, ne_eqb}
+use Rattle.std.proofs.lemmas.Bool.{both_ways, false_from_ne_true, and_right, le-ltb, ne_eqb}
 use Rattle.h2_frame.specs.declared.code.Code.{Code}
 use Rattle.h2_frame.specs.Codes.{code_number}
-use Rattle.h2_frame.specs.Frames.{Frame, Data, Reset, WindowUpdate}
+use Rattle.h2_frame.specs.Frames.{Data, Reset, WindowUpdate}
 use Rattle.h2_frame.specs.Encoding.{payload_of, stream_of}
 use Rattle.h2_block.specs.Grouping.{Item, alone, block}
-use Rattle.h2_log.specs.declared.role.Role.{Role}
-use Rattle.h2_log.specs.declared.role.Role.TheVariants.{Client, Server}
-use Rattle.h2_log.specs.Items.{stream_of_item, data_of, increment_on, resets, one_reset, total}
-use Rattle.h2_log.specs.Items.{greatest_block}
+use Rattle.h2_log.specs.Items.{stream_of_item, data_of, increment_on, one_reset, total}
 use Rattle.h2_log.specs.Events.{Event, ResetEvent, flow_on, one_acked, one_pong, reported_total}
-use Rattle.h2_log.specs.Events.{reports_unprocessed, processed_by, greatest_processed}
+use Rattle.h2_log.specs.Events.{reports_unprocessed, processed_by}
 use Rattle.h2_log.specs.Settings.{is_server}
-use Rattle.h2_log.specs.States.{openings, count_below}
-use Rattle.h2_log.specs.Log.{Log, active, unreleased, released}
+use Rattle.h2_log.specs.Log.{Log, unreleased, released}
 use Rattle.h2_log.specs.Verdicts.{StreamFault}
 use Rattle.h2_log.specs.ItemRules.{Decoded, replies_to}
 use Rattle.h2_log.specs.LogSteps.{read, with_sent, with_reported, with_unreturned, owed_at_close}
@@ -26,11 +21,9 @@ use Rattle.h2_log.specs.LogSteps.{with_verdict}
 use Rattle.h2_log.specs.ItemEffects.{events_of, discarded_flow, table_after}
 use Rattle.h2_log.specs.ItemEffects.{encoder_after_item}
 use Rattle.h2_log.specs.View.{StreamView}
-use Rattle.h2_machine.specs.End.{End, Streams, Entry, reset_entry, stream_at, owed_entry}
-use Rattle.h2_machine.specs.Machine.{with_table_after, narrow_recv_window, queue_output, reset_stream}
-use Rattle.h2_machine.specs.Machine.{after_stream_fault, is_fresh, is_calm, is_one, mark_used}
-use Rattle.h2_machine.specs.Represents.{entry_by}
-use Rattle.h2_machine_laws.proofs.CallOpen.{none_above, count_high}
+use Rattle.h2_machine.specs.End.{End, Streams, reset_entry, stream_at, owed_entry}
+use Rattle.h2_machine.specs.Machine.{with_table_after, queue_output, reset_stream}
+use Rattle.h2_machine.specs.Machine.{after_stream_fault, is_fresh, is_one}
 use Rattle.h2_machine_laws.proofs.CallReset.{others_same, reset_here}
 use Rattle.h2_machine_laws.proofs.LogCore.{StreamsOf, Core, core, CoreFacts, core_facts, Advances, Going, active_by_items, kept_back, greatest_used, said}
 use Rattle.h2_log_laws.proofs.ItemLists.{total_one}
@@ -50,7 +43,7 @@ use Rattle.h2_log_laws.proofs.ReleasedCredit.{gives_elsewhere}
 use Rattle.h2_machine_laws.proofs.RecvVerdict.{active_said, stream_said, none_said}
 use Rattle.h2_machine_laws.proofs.SentConnectionItems.{computing}
 use Rattle.h2_machine_laws.proofs.SentQuietItems.{sends, used_wrote}
-use Rattle.h2_machine_laws.proofs.StreamsSame.{streams_closed, said_reset, same_both, SameAt, active_some, count_same}
+use Rattle.h2_machine_laws.proofs.StreamsSame.{streams_closed, said_reset, same_both, SameAt, active_some}
 use Rattle.h2_machine_laws.proofs.WaitingOutput.{Waits, wrote_connection}
 use Rattle.h2_log_laws.proofs.ReaderStates.{active_parts, lasts_parts}
 
@@ -70,7 +63,7 @@ unfolding processed_by
 fault_shows i code = refl
 
 -- what a test leaves is no greater
-test_low : (b : Bool) (i : ℕ) → (if b then i else 0) ≤ i
+pub test_low : (b : Bool) (i : ℕ) → (if b then i else 0) ≤ i
 test_low true i = omega arith
 test_low false i = omega arith
 
@@ -105,7 +98,8 @@ fault_dead c i code item =
 pub fault_resets : (c : Core) (i code : ℕ) (item : Item) (n : ℕ) → n ≡ total one_reset c.sent
     → n + 1 ≡ total one_reset (with_fault c i code item).sent
 unfolding computing
-fault_resets c i code item n is = omega (arith, is, total_one one_reset (alone (Reset i code)) c.sent)
+fault_resets c i code item n is =
+    omega (arith, is, total_one one_reset (alone (Reset i code)) c.sent)
 
 -- RST_STREAM uses no number.
 pub fault_used : (c : Core) (i code : ℕ) (item : Item) → greatest_used (with_fault c i code item)
@@ -116,8 +110,9 @@ fault_used c i code item = used_wrote c.role (alone (Reset i code)) (item ∷ c.
 
 -- What an end keeps where an item is read that is a fault of its stream, by what it makes of the
 -- streams.
-pub fault_advances : (h : CoreFacts) (c : Core) (i code : ℕ) (item : Item) (decoded : Option Decoded)
-    (recv : ℕ) (streams : Streams) → IsCommon item → increment_on 0 item ≡ 0
+pub fault_advances : (h : CoreFacts) (c : Core) (i code : ℕ) (item : Item)
+    (decoded : Option Decoded) (recv : ℕ) (streams : Streams) → IsCommon item
+    → increment_on 0 item ≡ 0
     → recv + data_of item ≡ h.windows.recv → encoder_after_item c.encoder item ≡ c.encoder
     → StreamsOf streams (with_fault c i code item) → Advances h c
     → Advances (record h {
@@ -214,7 +209,8 @@ active_fault : (e : End) (log : Log) (decoded : Option Decoded) (i code recv n :
     (ResetEvent i code true ∷ [])) i) (with_sent (read log decoded item)
     (alone (Reset i code) ∷ []))) (ResetEvent i code true ∷ []))
 unfolding with_sent
-active_fault e log decoded i code recv n item common apart used gives takes is kept alive taken w g =
+active_fault e log decoded i code recv n item common apart used gives takes is kept alive taken w
+    g =
     let c : Core = core log in
     let one : is_one (is_some (stream_at e i)) ≡ 1 =
     ap (λ (s : Option StreamView). is_one (is_some s))
@@ -232,8 +228,8 @@ active_fault e log decoded i code recv n item common apart used gives takes is k
     (wrote_connection e.role e.failed e.output.waiting (read log decoded item)
     (alone (Reset i code)) [] w) g.windows.unreturned
     (fault_advances (core_facts e) c i code item decoded recv streams common gives takes
-    kept (fault_streams (core_facts e) c i code (is_one (is_some (stream_at e i))) item common apart used
-    alive taken one g) g)
+    kept (fault_streams (core_facts e) c i code (is_one (is_some (stream_at e i))) item common apart
+    used alive taken one g) g)
 
 -- A number that was used isn't fresh.
 used_stale : (e : End) (c : Core) (i : ℕ) → i ≤ greatest_used c → Going e c → is_fresh e i ≡ false

@@ -4,7 +4,7 @@ use Rattle.std.proofs.Common.{inr}
 use Rattle.h2_frame.specs.declared.code.Code.{Code}
 use Rattle.h2_frame.specs.declared.code.Code.TheVariants.{ProtocolError, FlowControlError}
 use Rattle.h2_log.specs.States.{State, Idle, Active, ClosedByUs, Closed}
-use Rattle.h2_log.specs.Verdicts.{Verdict, ConnectionFault, StreamFault, NoEvent, Reported}
+use Rattle.h2_log.specs.Verdicts.{ConnectionFault, StreamFault, NoEvent, Reported}
 use Rattle.h2_log.specs.Verdicts.{block_verdict, opening_verdict, data_verdict, reset_verdict}
 use Rattle.h2_log.specs.Verdicts.{update_verdict, connection_update_verdict}
 
