@@ -60,12 +60,10 @@ mod RepresentedSteps
 mod SentConnectionItems
 mod SentQuietItems
 mod SentStreamItems
-mod SoundNumbers
 mod SoundLogs
 mod StreamsSame
 mod UpInvariant
 mod UpInvariantLogs
 mod UpInvariantReads
-mod UsedNumbers
 mod ViewsAgree
 mod WaitingOutput
