@@ -1,6 +1,6 @@
 //! The list of a block's fields, while their size is within a limit (RFC 9113, section 6.5.2).
 
-ghost use Rattle.std.specs.Prelude.{◌≡◌, ◌+◌, ◌≤◌, [], OnOk, IfErr, true, vec_len};
+ghost use Rattle.std.specs.Prelude.{◌≡◌, ◌↔◌, ◌+◌, ◌≤◌, [], OnOk, IfErr, IsTrue, None, vec_len};
 
 use crate::table::eviction::size_of_octets;
 use crate::types::fault::Fault;
@@ -43,7 +43,7 @@ impl FieldListBuilder {
 
     /// Whether the size is above the limit.
     pub(crate) fn is_too_large(&self) -> bool
-        ensures { result ≡ true → self.now.remaining ≡ None }
+        ensures { IsTrue result ↔ (self.now.remaining ≡ None) }
     {
         self.remaining.is_none()
     }

@@ -100,6 +100,34 @@ fn fill(alloc: Global, list: &mut FieldList) -> Result<(), Fault> {
     Ok(())
 }
 
+/// Blocks that add nothing to the table take no memory once the list has the room for them. So
+/// `rt try --test --fail-alloc N`, by which the allocation N is refused, fails this test only for
+/// N up to 8, though it decodes hundreds of blocks.
+#[test]
+fn room_is_used_again(rt: HostRuntime) -> Result<(), Fail> {
+    let mut decoder = Decoder::new(rt.alloc(), 4096)?;
+    let mut list = FieldList::new(rt.alloc());
+    // An indexed field of each table, and literals, the first of them added: a, b.
+    let first = b"\x82\x40\x01a\x01b\x04\x8c\xf1\xe3\xc2\xe5\xf2\x3a\x6b\xa0\xab\x90\xf4\xff";
+    let next = b"\x82\xbe\x04\x8c\xf1\xe3\xc2\xe5\xf2\x3a\x6b\xa0\xab\x90\xf4\xff";
+    assert_eq!(rt;
+        decoder.decode_into(first, NO_LIMIT, &mut list)?,
+        Decoded::Whole
+    );
+    for round in 0..300 {
+        let limit = if round % 3 == 0 { 0 } else { NO_LIMIT };
+        let decoded = decoder.decode_into(next, limit, &mut list)?;
+        assert_eq!(rt; decoded == Decoded::TooLarge, limit == 0);
+    }
+    assert_eq!(rt; field_at(&rt, &list, 1).value, b"b".as_slice());
+    assert_eq!(rt; field_at(&rt, &list, 2).name, b":path".as_slice());
+    assert_eq!(rt;
+        field_at(&rt, &list, 2).value,
+        b"www.example.com".as_slice()
+    );
+    Ok(())
+}
+
 /// The value of a sensitive field isn't shown; that of another is.
 #[test]
 fn debug_form_of_a_list(rt: HostRuntime) -> Result<(), Fail> {

@@ -87,7 +87,9 @@ impl FieldList {
     }
 
     /// The octets and the places.
-    pub(crate) fn into_parts(self) -> (Vec<u8>, Vec<FieldPlace>) {
+    pub(crate) fn into_parts(self) -> (Vec<u8>, Vec<FieldPlace>)
+        ensures { self ≡ fields_of result.0.items result.1.items }
+    {
         let FieldList { octets, places } = self;
         (octets, places)
     }
