@@ -4,6 +4,7 @@ mod decoder;
 mod encoder;
 mod fields;
 mod in_step;
+mod index;
 mod lists;
 mod ring;
 mod static_table;
