@@ -167,5 +167,13 @@ fn entries(rt: HostRuntime) -> Result<(), Fail> {
     let empty = Entry::copy_of(rt.alloc(), b"", b"")?;
     assert_eq!(rt; empty.name(), b"".as_slice());
     assert_eq!(rt; empty.value(), b"".as_slice());
+    let shown = format!(in rt.alloc(); "{empty:?}")?;
+    assert_eq!(rt; shown.as_str(), "Entry { name: [], value: [] }");
+    let encoder = Encoder::new(rt.alloc(), 64)?;
+    let shown = format!(in rt.alloc(); "{encoder:?}")?;
+    assert_eq!(rt;
+        shown.as_str(),
+        "Encoder { table: Table { len: 0, size: 0, maximum: 64 }, least: 64, limit: 64 }"
+    );
     Ok(())
 }
