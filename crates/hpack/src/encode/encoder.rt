@@ -15,10 +15,11 @@ use crate::table::dynamic_table::Table;
 use crate::types::fault::Fault;
 use crate::types::field::Field;
 use std::alloc::Global;
+use std::fmt;
 use std::marker::Model;
 
 /// Encodes the blocks of one direction of a connection, in order.
-#[derive(Debug, Drop)]
+#[derive(Drop)]
 pub struct Encoder {
     alloc: Global,
     table: Table,
@@ -144,5 +145,15 @@ impl Encoder {
         self.pending.commit(&mut self.table);
         self.least = self.limit;
         Ok(())
+    }
+}
+
+impl fmt::Debug for Encoder {
+    fn fmt<W: fmt::Write>(&self, f: &mut fmt::Formatter<W>) -> fmt::Result {
+        f.debug_struct("Encoder")
+            .field("table", &self.table)
+            .field("least", &self.least)
+            .field("limit", &self.limit)
+            .finish()
     }
 }

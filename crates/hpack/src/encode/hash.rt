@@ -16,8 +16,15 @@ pub(crate) fn hash_from(hash: u64, octets: &[u8]) -> u64
     let Some(last) = octets.last_chunk::<8>() else {
         return mixed(hash, short_word(octets));
     };
-    let mut before_last = hash;
-    let mut rest = octets;
+    let last = u64::from_le_bytes(*last);
+    if octets.len() == 8 {
+        return mixed(hash, last);
+    }
+    let Some((first, after_first)) = octets.split_first_chunk::<8>() else {
+        unreachable!();
+    };
+    let mut before_last = mixed(hash, u64::from_le_bytes(*first));
+    let mut rest = after_first;
     while rest.len() > 8 {
         let Some((word, more)) = rest.split_first_chunk::<8>() else {
             unreachable!();
@@ -25,7 +32,7 @@ pub(crate) fn hash_from(hash: u64, octets: &[u8]) -> u64
         before_last = mixed(before_last, u64::from_le_bytes(*word));
         rest = more;
     }
-    mixed(before_last, u64::from_le_bytes(*last))
+    mixed(before_last, last)
 }
 
 /// The word of fewer than eight octets.

@@ -25,7 +25,7 @@ const FIRST_INDEX: u64 = 62;
 
 /// A table after changes that it hasn't undergone yet: of the entries that were added, from the
 /// newest on, and then of the table's own, the first `live` are still there.
-#[derive(Debug, Drop)]
+#[derive(Drop)]
 pub(crate) struct PendingTable {
     /// Copies of what was added, the newest last.
     added: Vec<Entry>,

@@ -6,7 +6,7 @@ use circular_buffer::HeapCircularBuffer;
 
 /// For each bucket, the entries in it, from the newest on. An entry is named by its place, which
 /// is 0 for the newest, or by how many were pushed up to it.
-#[derive(Debug, Drop)]
+#[derive(Drop)]
 pub(crate) struct Chains {
     /// For each bucket, the newest entry that was pushed to it, or 0.
     pub(crate) newest: Vec<u32>,
@@ -22,7 +22,7 @@ pub(crate) struct Chains {
 }
 
 /// The chains of a table's entries by their names, and by their names and values.
-#[derive(Debug, Drop)]
+#[derive(Drop)]
 pub(crate) struct Index {
     /// By the hash of the name.
     pub(crate) names: Chains,
