@@ -102,15 +102,16 @@ odd_some zero odd = λ none. both_ways false refl odd
 odd_some (suc i) odd = λ none. omega arith
 
 -- After an own GOAWAY an idle stream that the peer may open is above its last stream.
-idle_left : (role : Role) (i : ℕ) (received sent : List Item) (reported : List Event)
+idle_after_goaway : (role : Role) (i : ℕ) (received sent : List Item) (reported : List Event)
     → IsLow role received sent reported → is_used role i received sent ≡ false
     → (is_server role && i % 2 == 1) ≡ true → list_any is_goaway sent ≡ true
     → is_closed_by_us role i sent ≡ true
 unfolding is_used is_closed_by_us is_above
-idle_left Client i received sent reported low unused opens left =
+idle_after_goaway Client i received sent reported low unused opens goaway =
     absurd (both_ways false refl opens)
-idle_left Server i received sent reported low unused opens left =
-    or_right _ _ ((low refl i (odd_some i opens) (other_false (i % 2 == 1) _ unused opens)).1 left)
+idle_after_goaway Server i received sent reported low unused opens goaway =
+    or_right _ _ ((low refl i (odd_some i opens)
+    (other_false (i % 2 == 1) _ unused opens)).1 goaway)
 
 -- A block that opens is checked so, by whether GOAWAY was written.
 says_opening : (F S T : Type 0) (left full large : Bool) → F → (left ≡ true → S) → T
@@ -202,8 +203,8 @@ rules_say log (Some decoded) (block stream end octets) low =
     (λ is. active_faults log (block stream end octets) stream (state_active _ _ _ is))
     (λ idle opens. idle_faults log.role stream end octets log.received log.sent opens)
     (λ is. closed_by_us_is _ _ _ is)
-    (λ idle opens left. idle_left log.role stream log.received log.sent log.reported low
-    (idle_unused _ _ _ idle) opens left)
+    (λ idle opens goaway. idle_after_goaway log.role stream log.received log.sent log.reported low
+    (idle_unused _ _ _ idle) opens goaway)
     (λ used. used)
 rules_say log decoded (alone (Data stream end octets pad)) low =
     says_data (IsFaulty log (alone (Data stream end octets pad)))

@@ -85,7 +85,7 @@ wrote role received items sent reported table failed none are =
       low = λ up server i some unused.
           let old = are.low up server i some unused in (
             old.0,
-            λ left. elim (any_either is_goaway items sent left) [
+            λ goaway. elim (any_either is_goaway items sent goaway) [
               | inl here ↦ absurd (both_ways _ none here)
               | inr before ↦ any_after (is_goaway_below i) items sent (old.1 before)
             ],
@@ -129,7 +129,7 @@ wrote_goaway role received sent reported table failed last is are =
       decoded_in = are.decoded_in;
       low = λ up server i some unused.
           let old = are.low up server i some unused in
-          (old.0, λ left. goaway_here i last 0 sent (omega (arith, old.0, is server)));
+          (old.0, λ goaway. goaway_here i last 0 sent (omega (arith, old.0, is server)));
     }
 
 -- A stream that is reported as unprocessed keeps it.
