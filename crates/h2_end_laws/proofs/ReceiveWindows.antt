@@ -215,7 +215,8 @@ log_step_keeps log base i reads items events calls more some before is step =
     reports_view (with_unreturned more (with_sent base items)) events
     ∙ ap (λ (v : History). moved v [] [] events v.calls v.unreturned) returned in
     rw all (given_accounted (history_of log) i reads items events calls (log.unreturned + more) b
-    some (step_keeps (history_of log) i reads items events calls (log.unreturned + more) before step))
+    some
+    (step_keeps (history_of log) i reads items events calls (log.unreturned + more) before step))
 
 -- GOAWAY returns nothing
 goaway_gives : (i last code : ℕ) → increment_on i (alone (GoAway last code [])) ≡ 0
