@@ -25,7 +25,7 @@ use Rattle.h2_log.specs.LogView.{log_view}
 use Rattle.h2_log.specs.Verdicts.{Verdict, ConnectionFault, StreamFault, NoEvent, Reported}
 use Rattle.h2_log.specs.Verdicts.{reset_verdict, connection_update_verdict}
 use Rattle.h2_log.specs.Verdicts.{update_verdict, block_verdict, opening_verdict}
-use Rattle.h2_log.specs.ItemRules.{Decoded, peer_opens, verdict_of_fault, verdict_by_rules}
+use Rattle.h2_log.specs.ItemRules.{is_awaited_ping, Decoded, peer_opens, verdict_of_fault, verdict_by_rules}
 use Rattle.h2_log.specs.ItemRules.{settings_fault, completes}
 use Rattle.h2_log.specs.ItemEffects.{events_of, least_last}
 use Rattle.h2_log.specs.Histories.{IsDecodedIn}
@@ -138,12 +138,26 @@ says_block F S T Active opens left full false true a o c l t = a refl
 says_block F S T Active opens left full false false a o c l t = t (a refl)
 
 -- RST_STREAM is checked so.
-says_reset : (F : Type 0) (state : State) → Says F (Unit {0}) (Unit {0}) (reset_verdict state)
+says_reset : (F S : Type 0) (state : State) → (state ≡ ClosedByUs → S) → (state ≡ Closed → S)
+    → Says F S (Unit {0}) (reset_verdict state)
 unfolding reset_verdict
-says_reset F Idle = tt
-says_reset F Active = tt
-says_reset F ClosedByUs = tt
-says_reset F Closed = tt
+says_reset F S Idle c d = tt
+says_reset F S Active c d = tt
+says_reset F S ClosedByUs c d = c refl
+says_reset F S Closed c d = d refl
+
+-- A closed stream isn't active.
+closed_inactive : (used active closed_by_us : Bool) → state_by used active closed_by_us
+    ≡ ClosedByUs → active ≡ false
+closed_inactive false active closed_by_us is = cc
+closed_inactive true true closed_by_us is = cc
+closed_inactive true false closed_by_us is = refl
+
+over_inactive : (used active closed_by_us : Bool) → state_by used active closed_by_us ≡ Closed
+    → active ≡ false
+over_inactive false active closed_by_us is = cc
+over_inactive true true closed_by_us is = cc
+over_inactive true false closed_by_us is = refl
 
 -- SETTINGS are checked so.
 says_settings : (F T : Type 0) (fault : Option Code)
@@ -152,10 +166,10 @@ says_settings F T None = tt
 says_settings F T (Some code) = tt
 
 -- A reply is checked so.
-says_reply : (F T : Type 0) (b : Bool) → T
-    → Says F (Unit {0}) T (if b then Reported else NoEvent)
-says_reply F T true t = t
-says_reply F T false t = tt
+says_reply : (F S T : Type 0) (b : Bool) → (b ≡ false → S) → T
+    → Says F S T (if b then Reported else NoEvent)
+says_reply F S T true s t = t
+says_reply F S T false s t = s refl
 
 -- WINDOW_UPDATE of the connection is checked so, by its tests.
 says_connection : (F : Type 0) (none above : Bool)
@@ -191,13 +205,13 @@ says_updates F false state increment one other f = says_update F state increment
 
 -- Each item is checked so, by the rules.
 pub rules_say : (log : Log) (decoded : Option Decoded) (item : Item) → LogIsLow log
-    → Says (IsFaulty log item) (MayBeSilent log.role log.sent item) (IsSaid log item)
+    → Says (IsFaulty log item) (MayBeSilent log.role log.received log.sent log.reported item) (IsSaid log item)
     (verdict_by_rules (log_view log) decoded item)
 unfolding verdict_by_rules stream_of_item stream_of
 rules_say log None (block stream end octets) low = tt
 rules_say log (Some decoded) (block stream end octets) low =
     says_block (IsFaulty log (block stream end octets))
-    (MayBeSilent log.role log.sent (block stream end octets))
+    (MayBeSilent log.role log.received log.sent log.reported (block stream end octets))
     (IsSaid log (block stream end octets)) (state log stream) (peer_opens (log_view log) stream)
     _ _ _ _
     (λ is. active_faults log (block stream end octets) stream (state_active _ _ _ is))
@@ -214,15 +228,19 @@ rules_say log decoded (alone (Data stream end octets pad)) low =
 rules_say log decoded (alone (Headers stream end last fragment pad priority)) low = tt
 rules_say log decoded (alone (Priority stream octets)) low = tt
 rules_say log decoded (alone (Reset stream code)) low =
-    says_reset (IsFaulty log (alone (Reset stream code))) (state log stream)
+    says_reset (IsFaulty log (alone (Reset stream code))) (active log stream ≡ false)
+    (state log stream) (λ is. closed_inactive _ _ _ is) (λ is. over_inactive _ _ _ is)
 rules_say log decoded (alone (Settings false pairs)) low =
     says_settings (IsFaulty log (alone (Settings false pairs))) (false ≡ true)
     (settings_fault (log_view log) pairs)
 rules_say log decoded (alone (Settings true pairs)) low =
-    says_reply (IsFaulty log (alone (Settings true pairs))) (true ≡ true) (settings_wait log) refl
+    says_reply (IsFaulty log (alone (Settings true pairs))) (settings_wait log ≡ false)
+    (true ≡ true) (settings_wait log) (λ is. is) refl
 rules_say log decoded (alone (Ping false octets)) low = tt
 rules_say log decoded (alone (Ping true octets)) low =
-    says_reply (IsFaulty log (alone (Ping true octets))) (true ≡ true) _ refl
+    says_reply (IsFaulty log (alone (Ping true octets)))
+    (is_awaited_ping octets (log_view log).ping ≡ false) (true ≡ true)
+    (is_awaited_ping octets (log_view log).ping) (λ is. is) refl
 rules_say log decoded (alone (GoAway last code debug)) low = tt
 rules_say log decoded (alone (WindowUpdate stream increment)) low =
     says_updates (IsFaulty log (alone (WindowUpdate stream increment))) (stream == 0)
@@ -275,8 +293,8 @@ least_less last (Some before) = omega arith
 pub events_said : (log : Log) (decoded : Option Decoded) (item : Item) (verdict : Verdict)
     → ((code : Code) → verdict ≡ ConnectionFault code → ⊥)
     → IsDecodedIn log decoded (completes item) → IsSeen decoded item
-    → Says (IsFaulty log item) (MayBeSilent log.role log.sent item) (IsSaid log item) verdict
-    → AreEventsOf log.role (reading_of log decoded item verdict) (events_of
+    → Says (IsFaulty log item) (MayBeSilent log.role log.received log.sent log.reported item) (IsSaid log item) verdict
+    → AreEventsOf log.role log.received (reading_of log decoded item verdict) (events_of
     (log_view log) decoded verdict item)
 unfolding events_of
 events_said log decoded item (ConnectionFault code) none sees seen says = absurd (none code refl)
@@ -345,7 +363,7 @@ some_above (suc i) some = omega arith
 -- What is processed of an item is used after it.
 pub processed_low : (log : Log) (decoded : Option Decoded) (item : Item) (verdict : Verdict)
     (i : ℕ) → log.role ≡ Server → i ≢ 0 → list_any (opens_from i) (item ∷ log.received) ≡ false
-    → Says (IsFaulty log item) (MayBeSilent log.role log.sent item) (IsSaid log item) verdict
+    → Says (IsFaulty log item) (MayBeSilent log.role log.received log.sent log.reported item) (IsSaid log item) verdict
     → greatest_processed (events_of (log_view log) decoded verdict item) < i
 unfolding events_of greatest_processed processed_by
 processed_low log decoded item (ConnectionFault code) i server some none says = some_above i some

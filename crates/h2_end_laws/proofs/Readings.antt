@@ -161,13 +161,13 @@ event_stays _ _ _ reported (its_goaway last code least debug less) = refl
 event_stays _ _ _ reported (its_acknowledgment pairs) = refl
 event_stays _ _ _ reported (its_pong octets) = refl
 
-events_stay : (role : Role) (reading : Reading) (events reported : List Event)
-    → AreEventsOf role reading events
+events_stay : (role : Role) (received : List Item) (reading : Reading)
+    (events reported : List Event) → AreEventsOf role received reading events
     → events_of_items (events ++ reported) ≡ events ++ events_of_items reported
-events_stay role reading [] reported are = refl
-events_stay role reading (event ∷ []) reported are =
+events_stay role received reading [] reported are = refl
+events_stay role received reading (event ∷ []) reported are =
     event_stays reading.item reading.decoded event reported are
-events_stay role reading (event ∷ (other ∷ events)) reported are = absurd are
+events_stay role received reading (event ∷ (other ∷ events)) reported are = absurd are
 
 -- The greatest number of two lists of events.
 pub processed_append : (events reported : List Event) (i : ℕ) → greatest_processed events < i
@@ -202,7 +202,7 @@ item_read : (log : Log) (decoded : Option Decoded) (item : Item) (verdict : Verd
     → ((code : Code) → verdict ≡ ConnectionFault code → ⊥)
     → IsDecodedIn log decoded (completes item)
     → Says (IsSeen decoded item) (IsSeen decoded item) (IsSeen decoded item) verdict
-    → Says (IsFaulty log item) (MayBeSilent log.role log.sent item) (IsSaid log item) verdict
+    → Says (IsFaulty log item) (MayBeSilent log.role log.received log.sent log.reported item) (IsSaid log item) verdict
     → LogIsRead log
     → PendingRead (events_of (log_view log) decoded verdict item) (read log decoded item)
 item_read log decoded item verdict none sees seen says are =
@@ -215,8 +215,8 @@ item_read log decoded item verdict none sees seen says are =
           ∙ ap (λ (line : List Item). item ∷ line) are.items;
       events = events_next reading are.readings
           ∙ ap (λ (line : List Event). reading.events ++ line) are.events
-          ∙ sym (events_stay log.role reading reading.events log.reported said);
-      each = ([], reading.events, refl, refl, said, are.each);
+          ∙ sym (events_stay log.role log.received reading reading.events log.reported said);
+      each = ([], reading.events, refl, refl, rw are.items said, are.each);
       decoded_in = (log.table, are.decoded_in, decodes log decoded item verdict sees is_seen);
       low = λ up server i some unused.
           let before = or_parts (opens_from i item) (list_any (opens_from i) log.received) unused in
@@ -306,7 +306,7 @@ replies_stay NoEvent (alone (Unknown kind flags stream payload)) = refl
 verdict_keeps : (log : Log) (decoded : Option Decoded) (item : Item) (verdict : Verdict)
     → IsDecodedIn log decoded (completes item)
     → Says (IsSeen decoded item) (IsSeen decoded item) (IsSeen decoded item) verdict
-    → Says (IsFaulty log item) (MayBeSilent log.role log.sent item) (IsSaid log item) verdict
+    → Says (IsFaulty log item) (MayBeSilent log.role log.received log.sent log.reported item) (IsSaid log item) verdict
     → LogIsRead log → LogIsRead (with_verdict log decoded item verdict)
 unfolding with_verdict
 verdict_keeps log decoded item (ConnectionFault code) sees seen says are =
