@@ -9,4 +9,5 @@ pub mod ReceiveWindows
 pub mod Sendable
 pub mod SendableCalls
 pub mod SendableItems
+pub mod SendingLists
 pub mod Sendings

@@ -25,7 +25,8 @@ use Rattle.h2_log.specs.LogView.{log_view}
 use Rattle.h2_log.specs.Verdicts.{Verdict, ConnectionFault, StreamFault, NoEvent, Reported}
 use Rattle.h2_log.specs.Verdicts.{reset_verdict, connection_update_verdict}
 use Rattle.h2_log.specs.Verdicts.{update_verdict, block_verdict, opening_verdict}
-use Rattle.h2_log.specs.ItemRules.{is_awaited_ping, Decoded, peer_opens, verdict_of_fault, verdict_by_rules}
+use Rattle.h2_log.specs.ItemRules.{is_awaited_ping, Decoded, peer_opens, verdict_of_fault}
+use Rattle.h2_log.specs.ItemRules.{verdict_by_rules}
 use Rattle.h2_log.specs.ItemRules.{settings_fault, completes}
 use Rattle.h2_log.specs.ItemEffects.{events_of, least_last}
 use Rattle.h2_log.specs.Histories.{IsDecodedIn}
@@ -52,6 +53,10 @@ LogIsLow log = IsLow log.role log.received log.sent log.reported
 abbrev pub IsFaulty : Log → Item → Type 0
 IsFaulty log item =
     is_used log.role (stream_of_item item) (item ∷ log.received) log.sent ≡ true
+
+-- An item of which nothing need be reported.
+abbrev pub IsUnreported : Log → Item → Type 0
+IsUnreported log item = MayBeSilent log.role log.received log.sent log.reported item
 
 -- What is reported: fields of a stream that is used; of SETTINGS and PING those that reply.
 abbrev pub IsSaid : Log → Item → Type 0
@@ -205,13 +210,13 @@ says_updates F false state increment one other f = says_update F state increment
 
 -- Each item is checked so, by the rules.
 pub rules_say : (log : Log) (decoded : Option Decoded) (item : Item) → LogIsLow log
-    → Says (IsFaulty log item) (MayBeSilent log.role log.received log.sent log.reported item) (IsSaid log item)
+    → Says (IsFaulty log item) (IsUnreported log item) (IsSaid log item)
     (verdict_by_rules (log_view log) decoded item)
 unfolding verdict_by_rules stream_of_item stream_of
 rules_say log None (block stream end octets) low = tt
 rules_say log (Some decoded) (block stream end octets) low =
     says_block (IsFaulty log (block stream end octets))
-    (MayBeSilent log.role log.received log.sent log.reported (block stream end octets))
+    (IsUnreported log (block stream end octets))
     (IsSaid log (block stream end octets)) (state log stream) (peer_opens (log_view log) stream)
     _ _ _ _
     (λ is. active_faults log (block stream end octets) stream (state_active _ _ _ is))
@@ -293,7 +298,7 @@ least_less last (Some before) = omega arith
 pub events_said : (log : Log) (decoded : Option Decoded) (item : Item) (verdict : Verdict)
     → ((code : Code) → verdict ≡ ConnectionFault code → ⊥)
     → IsDecodedIn log decoded (completes item) → IsSeen decoded item
-    → Says (IsFaulty log item) (MayBeSilent log.role log.received log.sent log.reported item) (IsSaid log item) verdict
+    → Says (IsFaulty log item) (IsUnreported log item) (IsSaid log item) verdict
     → AreEventsOf log.role log.received (reading_of log decoded item verdict) (events_of
     (log_view log) decoded verdict item)
 unfolding events_of
@@ -363,7 +368,7 @@ some_above (suc i) some = omega arith
 -- What is processed of an item is used after it.
 pub processed_low : (log : Log) (decoded : Option Decoded) (item : Item) (verdict : Verdict)
     (i : ℕ) → log.role ≡ Server → i ≢ 0 → list_any (opens_from i) (item ∷ log.received) ≡ false
-    → Says (IsFaulty log item) (MayBeSilent log.role log.received log.sent log.reported item) (IsSaid log item) verdict
+    → Says (IsFaulty log item) (IsUnreported log item) (IsSaid log item) verdict
     → greatest_processed (events_of (log_view log) decoded verdict item) < i
 unfolding events_of greatest_processed processed_by
 processed_low log decoded item (ConnectionFault code) i server some none says = some_above i some

@@ -30,9 +30,10 @@ use Rattle.h2_log_laws.proofs.LogHistory.{any_either}
 use Rattle.h2_end_laws.specs.Readings.{Reading, IsEventOf, its_fields, its_octets, its_reset}
 use Rattle.h2_end_laws.specs.Readings.{its_fault, its_goaway, its_acknowledgment, its_pong}
 use Rattle.h2_end_laws.specs.Readings.{AreEventsOf, DecodesTo, AreDecoded, items_read, events_read}
-use Rattle.h2_end_laws.specs.Readings.{MayBeSilent, events_of_items, AreReadings}
+use Rattle.h2_end_laws.specs.Readings.{events_of_items, AreReadings}
 use Rattle.h2_end_laws.proofs.ReadVerdicts.{Says, says_of}
-use Rattle.h2_end_laws.proofs.ReadingRules.{IsLow, IsFaulty, IsSaid, IsSeen, rules_say}
+use Rattle.h2_end_laws.proofs.ReadingRules.{IsUnreported, IsLow, IsFaulty, IsSaid, IsSeen}
+use Rattle.h2_end_laws.proofs.ReadingRules.{rules_say}
 use Rattle.h2_end_laws.proofs.ReadingRules.{rules_see, reading_of, events_said, processed_low}
 
 -- What HasReadings says, by the parts of a log; and, as long as the connection hasn't failed, that
@@ -202,7 +203,7 @@ item_read : (log : Log) (decoded : Option Decoded) (item : Item) (verdict : Verd
     → ((code : Code) → verdict ≡ ConnectionFault code → ⊥)
     → IsDecodedIn log decoded (completes item)
     → Says (IsSeen decoded item) (IsSeen decoded item) (IsSeen decoded item) verdict
-    → Says (IsFaulty log item) (MayBeSilent log.role log.received log.sent log.reported item) (IsSaid log item) verdict
+    → Says (IsFaulty log item) (IsUnreported log item) (IsSaid log item) verdict
     → LogIsRead log
     → PendingRead (events_of (log_view log) decoded verdict item) (read log decoded item)
 item_read log decoded item verdict none sees seen says are =
@@ -306,7 +307,7 @@ replies_stay NoEvent (alone (Unknown kind flags stream payload)) = refl
 verdict_keeps : (log : Log) (decoded : Option Decoded) (item : Item) (verdict : Verdict)
     → IsDecodedIn log decoded (completes item)
     → Says (IsSeen decoded item) (IsSeen decoded item) (IsSeen decoded item) verdict
-    → Says (IsFaulty log item) (MayBeSilent log.role log.received log.sent log.reported item) (IsSaid log item) verdict
+    → Says (IsFaulty log item) (IsUnreported log item) (IsSaid log item) verdict
     → LogIsRead log → LogIsRead (with_verdict log decoded item verdict)
 unfolding with_verdict
 verdict_keeps log decoded item (ConnectionFault code) sees seen says are =

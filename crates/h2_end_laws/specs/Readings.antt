@@ -107,7 +107,8 @@ abbrev pub AreReadings : Role → (sent : List Item) → (reported : List Event)
 AreReadings role sent reported [] = Unit {0}
 AreReadings role sent reported (reading ∷ readings) =
     (newer : List Item) × (later : List Event) × (sent ≡ newer ++ reading.sent)
-    × (reported ≡ later ++ reading.reported) × AreEventsOf role (items_read readings) reading reading.events
+    × (reported ≡ later ++ reading.reported)
+    × AreEventsOf role (items_read readings) reading reading.events
     × AreReadings role reading.sent reading.reported readings
 
 -- What a log has read, and what it has made of it.
