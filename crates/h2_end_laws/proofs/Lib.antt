@@ -13,6 +13,7 @@ pub mod Replies
 pub mod Sendable
 pub mod SendableCalls
 pub mod SendableItems
+pub mod SendingLists
 pub mod Sendings
 pub mod TakeAnswers
 pub mod TakenFrames

@@ -158,7 +158,8 @@ begins_read role values =
       events = refl;
       each = tt;
       decoded_in = refl;
-      low = λ up server i some unused. (above i some, λ left. absurd (both_ways false refl left));
+      low = λ up server i some unused.
+          (above i some, λ goaway. absurd (both_ways false refl goaway));
     }
   where
     above : (i : ℕ) → i ≢ 0 → 0 < i

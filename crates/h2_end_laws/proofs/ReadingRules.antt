@@ -25,7 +25,8 @@ use Rattle.h2_log.specs.LogView.{log_view}
 use Rattle.h2_log.specs.Verdicts.{Verdict, ConnectionFault, StreamFault, NoEvent, Reported}
 use Rattle.h2_log.specs.Verdicts.{reset_verdict, connection_update_verdict}
 use Rattle.h2_log.specs.Verdicts.{update_verdict, block_verdict, opening_verdict}
-use Rattle.h2_log.specs.ItemRules.{Decoded, peer_opens, verdict_of_fault, verdict_by_rules}
+use Rattle.h2_log.specs.ItemRules.{is_awaited_ping, Decoded, peer_opens, verdict_of_fault}
+use Rattle.h2_log.specs.ItemRules.{verdict_by_rules}
 use Rattle.h2_log.specs.ItemRules.{settings_fault, completes}
 use Rattle.h2_log.specs.ItemEffects.{events_of, least_last}
 use Rattle.h2_log.specs.Histories.{IsDecodedIn}
@@ -53,6 +54,10 @@ LogIsLow log = IsLow log.role log.received log.sent log.reported
 abbrev pub IsFaulty : Log → Item → Type 0
 IsFaulty log item =
     is_used log.role (stream_of_item item) (item ∷ log.received) log.sent ≡ true
+
+-- An item of which nothing need be reported.
+abbrev pub IsUnreported : Log → Item → Type 0
+IsUnreported log item = MayBeSilent log.role log.received log.sent log.reported item
 
 -- What is reported: fields of a stream that is used; of SETTINGS and PING those that reply.
 abbrev pub IsSaid : Log → Item → Type 0
@@ -103,15 +108,16 @@ odd_some zero odd = λ none. both_ways false refl odd
 odd_some (suc i) odd = λ none. omega arith
 
 -- After an own GOAWAY an idle stream that the peer may open is above its last stream.
-idle_left : (role : Role) (i : ℕ) (received sent : List Item) (reported : List Event)
+idle_after_goaway : (role : Role) (i : ℕ) (received sent : List Item) (reported : List Event)
     → IsLow role received sent reported → is_used role i received sent ≡ false
     → (is_server role && i % 2 == 1) ≡ true → list_any is_goaway sent ≡ true
     → is_closed_by_us role i sent ≡ true
 unfolding is_used is_closed_by_us is_above
-idle_left Client i received sent reported low unused opens left =
+idle_after_goaway Client i received sent reported low unused opens goaway =
     absurd (both_ways false refl opens)
-idle_left Server i received sent reported low unused opens left =
-    or_right _ _ ((low refl i (odd_some i opens) (other_false (i % 2 == 1) _ unused opens)).1 left)
+idle_after_goaway Server i received sent reported low unused opens goaway =
+    or_right _ _ ((low refl i (odd_some i opens)
+    (other_false (i % 2 == 1) _ unused opens)).1 goaway)
 
 -- A block that opens is checked so, by whether GOAWAY was written.
 says_opening : (F S T : Type 0) (left full large : Bool) → F → (left ≡ true → S) → T
@@ -138,12 +144,26 @@ says_block F S T Active opens left full false true a o c l t = a refl
 says_block F S T Active opens left full false false a o c l t = t (a refl)
 
 -- RST_STREAM is checked so.
-says_reset : (F : Type 0) (state : State) → Says F (Unit {0}) (Unit {0}) (reset_verdict state)
+says_reset : (F S : Type 0) (state : State) → (state ≡ ClosedByUs → S) → (state ≡ Closed → S)
+    → Says F S (Unit {0}) (reset_verdict state)
 unfolding reset_verdict
-says_reset F Idle = tt
-says_reset F Active = tt
-says_reset F ClosedByUs = tt
-says_reset F Closed = tt
+says_reset F S Idle c d = tt
+says_reset F S Active c d = tt
+says_reset F S ClosedByUs c d = c refl
+says_reset F S Closed c d = d refl
+
+-- A closed stream isn't active.
+closed_inactive : (used active closed_by_us : Bool) → state_by used active closed_by_us
+    ≡ ClosedByUs → active ≡ false
+closed_inactive false active closed_by_us is = cc
+closed_inactive true true closed_by_us is = cc
+closed_inactive true false closed_by_us is = refl
+
+over_inactive : (used active closed_by_us : Bool) → state_by used active closed_by_us ≡ Closed
+    → active ≡ false
+over_inactive false active closed_by_us is = cc
+over_inactive true true closed_by_us is = cc
+over_inactive true false closed_by_us is = refl
 
 -- SETTINGS are checked so.
 says_settings : (F T : Type 0) (fault : Option Code)
@@ -152,10 +172,10 @@ says_settings F T None = tt
 says_settings F T (Some code) = tt
 
 -- A reply is checked so.
-says_reply : (F T : Type 0) (b : Bool) → T
-    → Says F (Unit {0}) T (if b then Reported else NoEvent)
-says_reply F T true t = t
-says_reply F T false t = tt
+says_reply : (F S T : Type 0) (b : Bool) → (b ≡ false → S) → T
+    → Says F S T (if b then Reported else NoEvent)
+says_reply F S T true s t = t
+says_reply F S T false s t = s refl
 
 -- WINDOW_UPDATE of the connection is checked so, by its tests.
 says_connection : (F : Type 0) (none above : Bool)
@@ -191,20 +211,20 @@ says_updates F false state increment one other f = says_update F state increment
 
 -- Each item is checked so, by the rules.
 pub rules_say : (log : Log) (decoded : Option Decoded) (item : Item) → LogIsLow log
-    → Says (IsFaulty log item) (MayBeSilent log.role log.sent item) (IsSaid log item)
+    → Says (IsFaulty log item) (IsUnreported log item) (IsSaid log item)
     (verdict_by_rules (log_view log) decoded item)
 unfolding verdict_by_rules stream_of_item stream_of
 rules_say log None (block stream end octets) low = tt
 rules_say log (Some decoded) (block stream end octets) low =
     says_block (IsFaulty log (block stream end octets))
-    (MayBeSilent log.role log.sent (block stream end octets))
+    (IsUnreported log (block stream end octets))
     (IsSaid log (block stream end octets)) (state log stream) (peer_opens (log_view log) stream)
     _ _ _ _
     (λ is. active_faults log (block stream end octets) stream (state_is_active _ _ _ is))
     (λ idle opens. idle_faults log.role stream end octets log.received log.sent opens)
     (λ is. closed_by_us_is _ _ _ is)
-    (λ idle opens left. idle_left log.role stream log.received log.sent log.reported low
-    (idle_unused _ _ _ idle) opens left)
+    (λ idle opens goaway. idle_after_goaway log.role stream log.received log.sent log.reported low
+    (idle_unused _ _ _ idle) opens goaway)
     (λ used. used)
 rules_say log decoded (alone (Data stream end octets pad)) low =
     says_data (IsFaulty log (alone (Data stream end octets pad)))
@@ -214,15 +234,19 @@ rules_say log decoded (alone (Data stream end octets pad)) low =
 rules_say log decoded (alone (Headers stream end last fragment pad priority)) low = tt
 rules_say log decoded (alone (Priority stream octets)) low = tt
 rules_say log decoded (alone (Reset stream code)) low =
-    says_reset (IsFaulty log (alone (Reset stream code))) (state log stream)
+    says_reset (IsFaulty log (alone (Reset stream code))) (active log stream ≡ false)
+    (state log stream) (λ is. closed_inactive _ _ _ is) (λ is. over_inactive _ _ _ is)
 rules_say log decoded (alone (Settings false pairs)) low =
     says_settings (IsFaulty log (alone (Settings false pairs))) (false ≡ true)
     (settings_fault (log_view log) pairs)
 rules_say log decoded (alone (Settings true pairs)) low =
-    says_reply (IsFaulty log (alone (Settings true pairs))) (true ≡ true) (settings_wait log) refl
+    says_reply (IsFaulty log (alone (Settings true pairs))) (settings_wait log ≡ false)
+    (true ≡ true) (settings_wait log) (λ is. is) refl
 rules_say log decoded (alone (Ping false octets)) low = tt
 rules_say log decoded (alone (Ping true octets)) low =
-    says_reply (IsFaulty log (alone (Ping true octets))) (true ≡ true) _ refl
+    says_reply (IsFaulty log (alone (Ping true octets)))
+    (is_awaited_ping octets (log_view log).ping ≡ false) (true ≡ true)
+    (is_awaited_ping octets (log_view log).ping) (λ is. is) refl
 rules_say log decoded (alone (GoAway last code debug)) low = tt
 rules_say log decoded (alone (WindowUpdate stream increment)) low =
     says_updates (IsFaulty log (alone (WindowUpdate stream increment))) (stream == 0)
@@ -275,8 +299,8 @@ least_less last (Some before) = omega arith
 pub events_said : (log : Log) (decoded : Option Decoded) (item : Item) (verdict : Verdict)
     → ((code : Code) → verdict ≡ ConnectionFault code → ⊥)
     → IsDecodedIn log decoded (completes item) → IsSeen decoded item
-    → Says (IsFaulty log item) (MayBeSilent log.role log.sent item) (IsSaid log item) verdict
-    → AreEventsOf log.role (reading_of log decoded item verdict) (events_of
+    → Says (IsFaulty log item) (IsUnreported log item) (IsSaid log item) verdict
+    → AreEventsOf log.role log.received (reading_of log decoded item verdict) (events_of
     (log_view log) decoded verdict item)
 unfolding events_of
 events_said log decoded item (ConnectionFault code) none sees seen says = absurd (none code refl)
@@ -345,7 +369,7 @@ some_above (suc i) some = omega arith
 -- What is processed of an item is used after it.
 pub processed_low : (log : Log) (decoded : Option Decoded) (item : Item) (verdict : Verdict)
     (i : ℕ) → log.role ≡ Server → i ≢ 0 → list_any (opens_from i) (item ∷ log.received) ≡ false
-    → Says (IsFaulty log item) (MayBeSilent log.role log.sent item) (IsSaid log item) verdict
+    → Says (IsFaulty log item) (IsUnreported log item) (IsSaid log item) verdict
     → greatest_processed (events_of (log_view log) decoded verdict item) < i
 unfolding events_of greatest_processed processed_by
 processed_low log decoded item (ConnectionFault code) i server some none says = some_above i some

@@ -30,9 +30,10 @@ use Rattle.h2_log_laws.proofs.LogHistory.{any_either}
 use Rattle.h2_end_laws.specs.Readings.{Reading, IsEventOf, its_fields, its_octets, its_reset}
 use Rattle.h2_end_laws.specs.Readings.{its_fault, its_goaway, its_acknowledgment, its_pong}
 use Rattle.h2_end_laws.specs.Readings.{AreEventsOf, DecodesTo, AreDecoded, items_read, events_read}
-use Rattle.h2_end_laws.specs.Readings.{MayBeSilent, events_of_items, AreReadings}
+use Rattle.h2_end_laws.specs.Readings.{events_of_items, AreReadings}
 use Rattle.h2_end_laws.proofs.ReadVerdicts.{Says, says_of}
-use Rattle.h2_end_laws.proofs.ReadingRules.{IsLow, IsFaulty, IsSaid, IsSeen, rules_say}
+use Rattle.h2_end_laws.proofs.ReadingRules.{IsUnreported, IsLow, IsFaulty, IsSaid, IsSeen}
+use Rattle.h2_end_laws.proofs.ReadingRules.{rules_say}
 use Rattle.h2_end_laws.proofs.ReadingRules.{rules_see, reading_of, events_said, processed_low}
 
 -- What HasReadings says, by the parts of a log; and, as long as the connection hasn't failed, that
@@ -85,7 +86,7 @@ wrote role received items sent reported table failed none are =
       low = λ up server i some unused.
           let old = are.low up server i some unused in (
             old.0,
-            λ left. elim (any_either is_goaway items sent left) [
+            λ goaway. elim (any_either is_goaway items sent goaway) [
               | inl here ↦ absurd (both_ways _ none here)
               | inr before ↦ any_after (is_goaway_below i) items sent (old.1 before)
             ],
@@ -129,7 +130,7 @@ wrote_goaway role received sent reported table failed last is are =
       decoded_in = are.decoded_in;
       low = λ up server i some unused.
           let old = are.low up server i some unused in
-          (old.0, λ left. goaway_here i last 0 sent (omega (arith, old.0, is server)));
+          (old.0, λ goaway. goaway_here i last 0 sent (omega (arith, old.0, is server)));
     }
 
 -- A stream that is reported as unprocessed keeps it.
@@ -161,13 +162,13 @@ event_stays _ _ _ reported (its_goaway last code least debug less) = refl
 event_stays _ _ _ reported (its_acknowledgment pairs) = refl
 event_stays _ _ _ reported (its_pong octets) = refl
 
-events_stay : (role : Role) (reading : Reading) (events reported : List Event)
-    → AreEventsOf role reading events
+events_stay : (role : Role) (received : List Item) (reading : Reading)
+    (events reported : List Event) → AreEventsOf role received reading events
     → events_of_items (events ++ reported) ≡ events ++ events_of_items reported
-events_stay role reading [] reported are = refl
-events_stay role reading (event ∷ []) reported are =
+events_stay role received reading [] reported are = refl
+events_stay role received reading (event ∷ []) reported are =
     event_stays reading.item reading.decoded event reported are
-events_stay role reading (event ∷ (other ∷ events)) reported are = absurd are
+events_stay role received reading (event ∷ (other ∷ events)) reported are = absurd are
 
 -- The greatest number of two lists of events.
 pub processed_append : (events reported : List Event) (i : ℕ) → greatest_processed events < i
@@ -202,7 +203,7 @@ item_read : (log : Log) (decoded : Option Decoded) (item : Item) (verdict : Verd
     → ((code : Code) → verdict ≡ ConnectionFault code → ⊥)
     → IsDecodedIn log decoded (completes item)
     → Says (IsSeen decoded item) (IsSeen decoded item) (IsSeen decoded item) verdict
-    → Says (IsFaulty log item) (MayBeSilent log.role log.sent item) (IsSaid log item) verdict
+    → Says (IsFaulty log item) (IsUnreported log item) (IsSaid log item) verdict
     → LogIsRead log
     → PendingRead (events_of (log_view log) decoded verdict item) (read log decoded item)
 item_read log decoded item verdict none sees seen says are =
@@ -215,8 +216,8 @@ item_read log decoded item verdict none sees seen says are =
           ∙ ap (λ (line : List Item). item ∷ line) are.items;
       events = events_next reading are.readings
           ∙ ap (λ (line : List Event). reading.events ++ line) are.events
-          ∙ sym (events_stay log.role reading reading.events log.reported said);
-      each = ([], reading.events, refl, refl, said, are.each);
+          ∙ sym (events_stay log.role log.received reading reading.events log.reported said);
+      each = ([], reading.events, refl, refl, rw are.items said, are.each);
       decoded_in = (log.table, are.decoded_in, decodes log decoded item verdict sees is_seen);
       low = λ up server i some unused.
           let before = or_parts (opens_from i item) (list_any (opens_from i) log.received) unused in
@@ -306,7 +307,7 @@ replies_stay NoEvent (alone (Unknown kind flags stream payload)) = refl
 verdict_keeps : (log : Log) (decoded : Option Decoded) (item : Item) (verdict : Verdict)
     → IsDecodedIn log decoded (completes item)
     → Says (IsSeen decoded item) (IsSeen decoded item) (IsSeen decoded item) verdict
-    → Says (IsFaulty log item) (MayBeSilent log.role log.sent item) (IsSaid log item) verdict
+    → Says (IsFaulty log item) (IsUnreported log item) (IsSaid log item) verdict
     → LogIsRead log → LogIsRead (with_verdict log decoded item verdict)
 unfolding with_verdict
 verdict_keeps log decoded item (ConnectionFault code) sees seen says are =

@@ -133,8 +133,8 @@ unfolding unreleased
 unreleased_is log i = refl
 
 -- A release returns to its stream what it releases, unless the peer has ended it.
-release_here : (log : Log) (i count : ℕ) → i ≢ 0 → IsAccounted (history_of log) i → active log i ≡ true
-    → count ≤ unreleased log i
+release_here : (log : Log) (i count : ℕ) → i ≢ 0 → IsAccounted (history_of log) i
+    → active log i ≡ true → count ≤ unreleased log i
     → Steps (history_of log) i [] (updates i count (ended_in ((log_view log).stream i))) []
     ((Release i count, Done) ∷ log.calls)
 release_here log i count some before alive much =
@@ -300,7 +300,8 @@ call_keeps log act answer i some before (fails none may is) =
     (recalled_keeps log i act OutOfMemory before (released_failed i act log.calls)))
 
 -- It stands of a new log.
-begins_accounted : (role : Role) (values : Values) (i : ℕ) → IsAccounted (history_of (opened role values)) i
+begins_accounted : (role : Role) (values : Values) (i : ℕ)
+    → IsAccounted (history_of (opened role values)) i
 unfolding opened with_sent total reported_total released increment_on is_active is_block_on
 begins_accounted role values i =
     record {

@@ -120,8 +120,8 @@ unfolding reported_total flow_on total data_on
 flow_same stream end octets pad i = refl
 
 -- On a stream that this end has closed by then nothing needs to be kept.
-closed_steps : (v : History) (i : ℕ) (reads items : List Item) (events : List Event) → IsAccounted v i
-    → is_closed_by_us v.role i (items ++ v.sent) ≡ true
+closed_steps : (v : History) (i : ℕ) (reads items : List Item) (events : List Event)
+    → IsAccounted v i → is_closed_by_us v.role i (items ++ v.sent) ≡ true
     → total (increment_on i) items ≡ 0 → reported_total (flow_on i) events ≡ 0
     → Steps v i reads items events v.calls
 closed_steps v i reads items events before closed gives flows =

@@ -102,7 +102,8 @@ none_released a b le none = omega arith
 
 -- A step keeps what stands.
 pub step_keeps : (v : History) (i : ℕ) (reads items : List Item) (events : List Event)
-    (calls : List (Act × Answer)) (unreturned : ℕ) → IsAccounted v i → Steps v i reads items events calls
+    (calls : List (Act × Answer)) (unreturned : ℕ) → IsAccounted v i
+    → Steps v i reads items events calls
     → IsAccounted (moved v reads items events calls unreturned) i
 step_keeps v i reads items events calls unreturned before step =
     record {
@@ -197,7 +198,8 @@ pub log_step_keeps : (log base : Log) (i : ℕ) (reads items : List Item) (event
     (calls : List (Act × Answer)) (more : ℕ) → i ≢ 0 → IsAccounted (history_of log) i
     → history_of base ≡ moved (history_of log) reads [] [] calls log.unreturned
     → Steps (history_of log) i reads items events calls
-    → IsAccounted (history_of (with_reported (with_unreturned more (with_sent base items)) events)) i
+    → IsAccounted (history_of (with_reported (with_unreturned more (with_sent base items)) events))
+    i
 log_step_keeps log base i reads items events calls more some before is step =
     let b = nat_lt 0 more && nat_lt (waiting (with_sent base items)) full_output in
     let written : history_of (with_sent base items)
@@ -212,7 +214,8 @@ log_step_keeps log base i reads items events calls more some before is step =
     (history_of log) reads items [] calls (log.unreturned + more))) =
     reports_view (with_unreturned more (with_sent base items)) events
     ∙ ap (λ (v : History). moved v [] [] events v.calls v.unreturned) returned in
-    rw all (given_accounted (history_of log) i reads items events calls (log.unreturned + more) b some
+    rw all (given_accounted (history_of log) i reads items events calls (log.unreturned + more) b
+    some
     (step_keeps (history_of log) i reads items events calls (log.unreturned + more) before step))
 
 -- GOAWAY returns nothing

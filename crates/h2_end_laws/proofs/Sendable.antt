@@ -32,9 +32,9 @@ use Rattle.h2_log.specs.Limits.{max_frame_size_sent}
 use Rattle.h2_log_laws.specs.Sending.{IsSendable}
 use Rattle.h2_log_laws.proofs.ItemLists.{total_after}
 use Rattle.h2_log_laws.proofs.LogViewLemmas.{data_by_sums}
-use Rattle.h2_end_laws.specs.Readings.{MayBeSilent}
 use Rattle.h2_end_laws.proofs.ReadVerdicts.{Says, says_of}
-use Rattle.h2_end_laws.proofs.ReadingRules.{LogIsLow, IsFaulty, IsSaid, rules_say, says_always}
+use Rattle.h2_end_laws.proofs.ReadingRules.{IsUnreported, LogIsLow, IsFaulty, IsSaid, rules_say}
+use Rattle.h2_end_laws.proofs.ReadingRules.{says_always}
 use Rattle.h2_end_laws.proofs.ReadingRules.{used_some}
 use Rattle.h2_end_laws.proofs.Readings.{processed_append}
 use Rattle.h2_end_laws.proofs.SendableItems.{reset_sendable, update_sendable, goaway_sendable}
@@ -285,7 +285,7 @@ processed_fit log decoded (alone (Unknown kind flags stream payload)) Reported f
 
 -- What is replied to a fit item can be sent.
 replies_sendable : (log : Log) (verdict : Verdict) (item : Item) → IsFitItem item
-    → Says (IsFaulty log item) (MayBeSilent log.role log.sent item) (IsSaid log item) verdict
+    → Says (IsFaulty log item) (IsUnreported log item) (IsSaid log item) verdict
     → AllByRecursion (IsSendable max_frame_size_sent) (replies_to verdict item)
 unfolding replies_to
 replies_sendable log (ConnectionFault code) item fit says = tt
@@ -329,7 +329,7 @@ item_read log decoded item verdict fit is_within are =
 verdict_keeps : (role : Role) (log : Log) (decoded : Option Decoded) (item : Item)
     (verdict : Verdict) → IsFitItem item
     → Says (IsWithin log item) (IsWithin log item) (IsWithin log item) verdict
-    → Says (IsFaulty log item) (MayBeSilent log.role log.sent item) (IsSaid log item) verdict
+    → Says (IsFaulty log item) (IsUnreported log item) (IsSaid log item) verdict
     → LogIsFit log → LogIsAllowed role (with_verdict log decoded item verdict)
     → LogIsFit (with_verdict log decoded item verdict)
 unfolding with_verdict

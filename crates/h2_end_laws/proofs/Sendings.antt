@@ -1,13 +1,10 @@
 -- The field blocks that an end has written are of the lists of its calls.
-use Rattle.std.proofs.Common.{◌≡◌, ℕ, zero, suc, ◌+◌, ◌==◌, nat_le, nat_lt, ◌&&◌, not, min, Bool}
+use Rattle.std.proofs.Common.{◌≡◌, ℕ, zero, suc, ◌+◌, ◌==◌, nat_le, nat_lt, ◌&&◌, not, Bool}
 use Rattle.std.proofs.Common.{true, false, if◌then◌else◌, List, [], ◌∷◌, ◌++◌, length, take, drop}
-use Rattle.std.proofs.Common.{Option, Some, None, fold, refl, sym, ap, ◌∙◌, append_assoc}
-use Rattle.std.proofs.Common.{append-nil}
-use Rattle.std.proofs.lemmas.List.Sums.{fold-append}
+use Rattle.std.proofs.Common.{Option, Some, None, refl, sym, ap, ◌∙◌}
 use Rattle.hpack.specs.declared.types.field.Field.{Field}
 use Rattle.hpack.specs.Lists.{EncoderState}
 use Rattle.hpack.specs.Choice.{block_of, after_block}
-use Rattle.hpack.specs.Limits.{after_limit}
 use Rattle.h2_frame.specs.declared.code.Code.{Code}
 use Rattle.h2_frame.specs.declared.code.Code.TheVariants.{InternalError}
 use Rattle.h2_frame.specs.Codes.{code_number}
@@ -27,7 +24,6 @@ use Rattle.h2_log.specs.View.{ended_in}
 use Rattle.h2_log.specs.Verdicts.{Verdict, ConnectionFault, StreamFault, NoEvent, Reported}
 use Rattle.h2_log.specs.ItemRules.{Decoded, replies_to, FrameStep, fails_with, begins_block}
 use Rattle.h2_log.specs.ItemRules.{completes, frame_step}
-use Rattle.h2_log.specs.ItemEffects.{encoder_after_settings}
 use Rattle.h2_log.specs.CallRules.{items_of, answer_of, refuse_fault, encoder_after_call}
 use Rattle.h2_log.specs.CallRules.{returns_before_put_out, data_items, data_frames}
 use Rattle.h2_log.specs.Limits.{full_output}
@@ -37,148 +33,40 @@ use Rattle.h2_log.specs.LogCalls.{opened, called, with_items, refused_with, befo
 use Rattle.h2_log.specs.LogCalls.{with_call, MayAnswer, accepts, refuses, lacks, fails}
 use Rattle.h2_log.specs.Histories.{IsLog, begins, took_some, took_one, met_fault, ran_out_of_memory}
 use Rattle.h2_log.specs.Histories.{reported_one, called_one}
-use Rattle.h2_log_laws.specs.Tables.{Sending, encoder_before, octets_sent, encoder_after}
-use Rattle.h2_end_laws.specs.Sendings.{first_encoder, blocks_written, lists_accepted, lists_of}
-use Rattle.h2_end_laws.specs.Sendings.{HasSendings}
-
--- What HasSendings says, by the calls, the items that were written, and the encoder.
-pub record AreSent (calls : List (Act × Answer)) (sent : List Item)
-    (encoder : EncoderState) : Type 0 where
-  pub sendings : List Sending
-  pub limits : List ℕ
-  pub lists : lists_of sendings ≡ lists_accepted calls
-  pub octets : blocks_written sent ≡ octets_sent first_encoder sendings
-  pub encoder_is : encoder ≡ fold after_limit (encoder_after first_encoder sendings) limits
-
--- the same of a log
-abbrev pub LogIsSent : Log → Type 0
-LogIsSent log = AreSent log.calls log.sent log.encoder
-
--- Blocks of two lists of items.
-blocks_append : (items sent : List Item)
-    → blocks_written (items ++ sent) ≡ blocks_written sent ++ blocks_written items
-unfolding blocks_written
-blocks_append [] sent = sym (append-nil (blocks_written sent))
-blocks_append (block stream end octets ∷ items) sent =
-    ap (λ (line : List (List ℕ)). line ++ octets ∷ []) (blocks_append items sent)
-    ∙ append_assoc (blocks_written sent) (blocks_written items) (octets ∷ [])
-blocks_append (alone frame ∷ items) sent = blocks_append items sent
-
--- Items without a block change nothing.
-more_sent : (calls : List (Act × Answer)) (items sent : List Item) (encoder : EncoderState)
-    → blocks_written items ≡ [] → AreSent calls sent encoder → AreSent calls (items ++ sent) encoder
-more_sent calls items sent encoder none is =
-    record {
-      sendings = is.sendings;
-      limits = is.limits;
-      lists = is.lists;
-      octets = blocks_append items sent
-          ∙ ap (λ (line : List (List ℕ)). blocks_written sent ++ line) none
-          ∙ append-nil (blocks_written sent)
-          ∙ is.octets;
-      encoder_is = is.encoder_is;
-    }
-
--- the lists of sendings with one more
-lists_next : (sendings : List Sending) (sending : Sending)
-    → lists_of (sendings ++ sending ∷ []) ≡ lists_of sendings ++ sending.fields ∷ []
-unfolding lists_of
-lists_next [] sending = refl
-lists_next (first ∷ sendings) sending =
-    ap (λ (line : List (List Field)). first.fields ∷ line) (lists_next sendings sending)
-
--- the octets of sendings with one more
-octets_next : (encoder : EncoderState) (sendings : List Sending) (sending : Sending)
-    → octets_sent encoder (sendings ++ sending ∷ []) ≡ octets_sent encoder sendings
-    ++ block_of (encoder_before (encoder_after encoder sendings) sending) sending.fields ∷ []
-octets_next encoder [] sending = refl
-octets_next encoder (first ∷ sendings) sending =
-    ap (λ (line : List (List ℕ)). block_of (encoder_before encoder first) first.fields ∷ line)
-    (octets_next (after_block (encoder_before encoder first) first.fields) sendings sending)
-
--- the encoder after them
-after_next : (encoder : EncoderState) (sendings : List Sending) (sending : Sending)
-    → encoder_after encoder (sendings ++ sending ∷ [])
-    ≡ after_block (encoder_before (encoder_after encoder sendings) sending) sending.fields
-after_next encoder [] sending = refl
-after_next encoder (first ∷ sendings) sending =
-    after_next (after_block (encoder_before encoder first) first.fields) sendings sending
-
--- A block more, of a list that a call was given.
-block_sent : (calls : List (Act × Answer)) (call : Act × Answer) (sent : List Item)
-    (encoder : EncoderState) (stream : ℕ) (end : Bool) (fields : List Field)
-    → lists_accepted (call ∷ calls) ≡ lists_accepted calls ++ fields ∷ []
-    → AreSent calls sent encoder
-    → AreSent (call ∷ calls) (block stream end (block_of encoder fields) ∷ sent)
-    (after_block encoder fields)
-unfolding blocks_written
-block_sent calls call sent encoder stream end fields accepted is =
-    let sending : Sending = record { limits = is.limits; fields = fields; reader = 0 } in
-    record {
-      sendings = is.sendings ++ sending ∷ [];
-      limits = [];
-      lists = lists_next is.sendings sending
-          ∙ ap (λ (line : List (List Field)). line ++ fields ∷ []) is.lists ∙ sym accepted;
-      octets = ap (λ (line : List (List ℕ)). line ++ block_of encoder fields ∷ []) is.octets
-          ∙ ap (λ (state : EncoderState). octets_sent first_encoder is.sendings
-          ++ block_of state fields ∷ []) is.encoder_is
-          ∙ sym (octets_next first_encoder is.sendings sending);
-      encoder_is = ap (λ (state : EncoderState). after_block state fields) is.encoder_is
-          ∙ sym (after_next first_encoder is.sendings sending);
-    }
-
--- The encoder after a pair, by the limits that those after it set.
-pair_limits : (encoder : EncoderState) (value : ℕ) (pairs : List (ℕ × ℕ)) (b : Bool)
-    → ((state : EncoderState) → (limits : List ℕ)
-    × (encoder_after_settings state pairs ≡ fold after_limit state limits))
-    → (limits : List ℕ)
-    × (encoder_after_settings (if b then after_limit encoder (min value 4096) else encoder) pairs
-    ≡ fold after_limit encoder limits)
-pair_limits encoder value pairs true goes =
-    let after = goes (after_limit encoder (min value 4096)) in
-    (min value 4096 ∷ after.0, after.1)
-pair_limits encoder value pairs false goes = goes encoder
-
--- The encoder after SETTINGS, by the limits that they set.
-settings_limits : (pairs : List (ℕ × ℕ)) (encoder : EncoderState)
-    → (limits : List ℕ) × (encoder_after_settings encoder pairs ≡ fold after_limit encoder limits)
-unfolding encoder_after_settings
-settings_limits [] encoder = ([], refl)
-settings_limits (pair ∷ pairs) encoder =
-    pair_limits encoder pair.1 pairs (pair.0 == 1) (settings_limits pairs)
-
--- More limits were read.
-more_limits : (calls : List (Act × Answer)) (sent : List Item) (encoder : EncoderState)
-    (limits : List ℕ) → AreSent calls sent encoder
-    → AreSent calls sent (fold after_limit encoder limits)
-more_limits calls sent encoder limits is =
-    record {
-      sendings = is.sendings;
-      limits = is.limits ++ limits;
-      lists = is.lists;
-      octets = is.octets;
-      encoder_is = ap (λ (state : EncoderState). fold after_limit state limits) is.encoder_is
-          ∙ sym (fold-append after_limit (encoder_after first_encoder is.sendings) is.limits
-          limits);
-    }
+use Rattle.h2_end_laws.specs.Sendings.{blocks_written, lists_accepted, lists_of}
+use Rattle.h2_end_laws.specs.Sendings.{limits_of, limits_read, HasSendings}
+use Rattle.h2_end_laws.proofs.SendingLists.{LogIsSent, blocks_append, more_sent, block_sent}
+use Rattle.h2_end_laws.proofs.SendingLists.{settings_limits, more_limits, same_limits}
 
 -- An item that is read keeps this.
 read_keeps : (log : Log) (decoded : Option Decoded) (item : Item) → LogIsSent log
     → LogIsSent (read log decoded item)
+unfolding limits_read
 read_keeps log decoded (alone (Settings false pairs)) is =
-    let after = settings_limits pairs log.encoder in
-    rw (after.1) (more_limits log.calls log.sent log.encoder after.0 is)
-read_keeps log decoded (alone (Settings true pairs)) is = is
-read_keeps log decoded (alone (Data stream end octets pad)) is = is
-read_keeps log decoded (alone (Headers stream end whole fragment pad priority)) is = is
-read_keeps log decoded (alone (Priority stream octets)) is = is
-read_keeps log decoded (alone (Reset stream code)) is = is
-read_keeps log decoded (alone (Ping ack octets)) is = is
-read_keeps log decoded (alone (GoAway last code debug)) is = is
-read_keeps log decoded (alone (WindowUpdate stream increment)) is = is
-read_keeps log decoded (alone (Continuation stream whole fragment)) is = is
-read_keeps log decoded (alone (Unknown kind flags stream payload)) is = is
-read_keeps log decoded (block stream end octets) is = is
+    rw (settings_limits pairs log.encoder)
+    (more_limits log.calls log.received log.sent log.encoder pairs is)
+read_keeps log decoded (alone (Settings true pairs)) is =
+    same_limits log.calls _ log.received log.sent log.encoder refl is
+read_keeps log decoded (alone (Data stream end octets pad)) is =
+    same_limits log.calls _ log.received log.sent log.encoder refl is
+read_keeps log decoded (alone (Headers stream end whole fragment pad priority)) is =
+    same_limits log.calls _ log.received log.sent log.encoder refl is
+read_keeps log decoded (alone (Priority stream octets)) is =
+    same_limits log.calls _ log.received log.sent log.encoder refl is
+read_keeps log decoded (alone (Reset stream code)) is =
+    same_limits log.calls _ log.received log.sent log.encoder refl is
+read_keeps log decoded (alone (Ping ack octets)) is =
+    same_limits log.calls _ log.received log.sent log.encoder refl is
+read_keeps log decoded (alone (GoAway last code debug)) is =
+    same_limits log.calls _ log.received log.sent log.encoder refl is
+read_keeps log decoded (alone (WindowUpdate stream increment)) is =
+    same_limits log.calls _ log.received log.sent log.encoder refl is
+read_keeps log decoded (alone (Continuation stream whole fragment)) is =
+    same_limits log.calls _ log.received log.sent log.encoder refl is
+read_keeps log decoded (alone (Unknown kind flags stream payload)) is =
+    same_limits log.calls _ log.received log.sent log.encoder refl is
+read_keeps log decoded (block stream end octets) is =
+    same_limits log.calls _ log.received log.sent log.encoder refl is
 
 -- So do items that are written without a block, and events.
 wrote_keeps : (log : Log) (items : List Item) → blocks_written items ≡ [] → LogIsSent log
@@ -186,7 +74,7 @@ wrote_keeps : (log : Log) (items : List Item) → blocks_written items ≡ [] �
 unfolding with_sent
 wrote_keeps log [] none is = is
 wrote_keeps log (item ∷ items) none is =
-    more_sent log.calls (item ∷ items) log.sent log.encoder none is
+    more_sent log.calls log.received (item ∷ items) log.sent log.encoder none is
 
 reports_keep : (log : Log) (events : List Event) → LogIsSent log → LogIsSent
     (with_reported log events)
@@ -314,6 +202,7 @@ quiet_called log act answer lists same is =
     record {
       sendings = is.sendings;
       limits = is.limits;
+      read = is.read;
       lists = is.lists ∙ sym lists;
       octets = is.octets;
       encoder_is = same ∙ is.encoder_is;
@@ -339,7 +228,8 @@ block_call : (log : Log) (act : Act) (answer : Answer) (stream : ℕ) (end : Boo
     → LogIsSent (with_items log act answer)
 unfolding with_items with_sent
 block_call log act answer stream end fields items lists after is =
-    let one = block_sent log.calls (act, answer) log.sent log.encoder stream end fields lists is in
+    let one = block_sent log.calls (act, answer) log.received log.sent log.encoder stream end fields
+    lists is in
     rw items (unreturned_keeps _ _ (rw after one))
 
 -- A stream that was refused.
@@ -444,9 +334,16 @@ call_keeps log act answer is (fails none may same) =
 
 -- A new log.
 begins_sent : (role : Role) (values : Values) → LogIsSent (opened role values)
-unfolding opened with_sent blocks_written lists_accepted lists_of
+unfolding opened with_sent blocks_written lists_accepted lists_of limits_of limits_read
 begins_sent role values =
-    record { sendings = []; limits = []; lists = refl; octets = refl; encoder_is = refl }
+    record {
+      sendings = [];
+      limits = [];
+      read = refl;
+      lists = refl;
+      octets = refl;
+      encoder_is = refl;
+    }
 
 -- Every log.
 log_sent : (role : Role) (values : Values) (log : Log) → IsLog role values log → LogIsSent log
@@ -472,6 +369,7 @@ log_has_sendings role values log is =
     record {
       sendings = sent.sendings;
       limits = sent.limits;
+      read = sent.read;
       lists = sent.lists;
       octets = sent.octets;
       encoder = sent.encoder_is;

@@ -2,7 +2,7 @@
 -- and which events were reported of them (RFC 9113, sections 4.3, 5.1, 6 and 8.1). Lists have the
 -- newest first.
 use Rattle.std.specs.Prelude.{◌≡◌, ◌≢◌, ◌≤◌, ℕ, Bool, true, false, List, [], ◌∷◌, ◌++◌, length}
-use Rattle.std.specs.Prelude.{Option, Some, None}
+use Rattle.std.specs.Prelude.{nat_lt, Option, Some, None}
 use Rattle.hpack.specs.Blocks.{Block}
 use Rattle.hpack.specs.Tables.{Entries}
 use Rattle.hpack.specs.Lists.{empty_table}
@@ -10,13 +10,14 @@ use Rattle.h2_frame.specs.Frames.{Data, Reset, Settings, Ping, GoAway}
 use Rattle.h2_frame.specs.Encoding.{payload_of}
 use Rattle.h2_block.specs.Grouping.{Item, alone, block}
 use Rattle.h2_log.specs.declared.role.Role.{Role}
-use Rattle.h2_log.specs.Items.{stream_of_item}
+use Rattle.h2_log.specs.Items.{stream_of_item, one_ping, total}
 use Rattle.h2_log.specs.Events.{Event, FieldsEvent, DataEvent, ResetEvent, GoAwayEvent}
-use Rattle.h2_log.specs.Events.{UnprocessedEvent, AckedEvent, PongEvent, one_acked, reported_total}
-use Rattle.h2_log.specs.ItemRules.{Decoded}
-use Rattle.h2_log.specs.Settings.{own_value}
-use Rattle.h2_log.specs.States.{is_closed_by_us}
-use Rattle.h2_log.specs.Log.{Log}
+use Rattle.h2_log.specs.Events.{UnprocessedEvent, AckedEvent, PongEvent, one_acked, one_pong}
+use Rattle.h2_log.specs.Events.{reported_total}
+use Rattle.h2_log.specs.ItemRules.{Decoded, is_awaited_ping}
+use Rattle.h2_log.specs.Settings.{own_value, settings_count}
+use Rattle.h2_log.specs.States.{is_active, is_closed_by_us, when}
+use Rattle.h2_log.specs.Log.{Log, newest_ping}
 
 -- an item that was read; what had been written and reported by then; what its block decodes to; and
 -- what was reported of it
@@ -44,20 +45,31 @@ pub data IsEventOf : Item → Option Decoded → Event → Type 0 where
       → IsEventOf (alone (Settings true pairs)) None AckedEvent
   its_pong : (octets : List ℕ) → IsEventOf (alone (Ping true octets)) None (PongEvent octets)
 
--- Items of which nothing need be reported: field blocks and DATA of a stream that this end has
--- closed by then, and whatever isn't GOAWAY.
-abbrev pub MayBeSilent : Role → List Item → Item → Type 0
-MayBeSilent role sent (block stream end octets) = is_closed_by_us role stream sent ≡ true
-MayBeSilent role sent (alone (Data stream end octets pad)) =
+-- Items of which nothing need be reported, by what had been read, written and reported by then:
+-- field blocks and DATA of a stream that this end has closed; RST_STREAM of a stream that isn't
+-- active; replies that aren't awaited; and whatever isn't GOAWAY.
+abbrev pub MayBeSilent : Role → (received sent : List Item) → List Event → Item → Type 0
+MayBeSilent role received sent reported (block stream end octets) =
     is_closed_by_us role stream sent ≡ true
-MayBeSilent role sent (alone (GoAway last code debug)) = ⊥
-MayBeSilent role sent (alone frame) = Unit {0}
+MayBeSilent role received sent reported (alone (Data stream end octets pad)) =
+    is_closed_by_us role stream sent ≡ true
+MayBeSilent role received sent reported (alone (Reset stream code)) =
+    is_active role stream received sent reported ≡ false
+MayBeSilent role received sent reported (alone (Settings true pairs)) =
+    nat_lt (reported_total one_acked reported) (settings_count sent) ≡ false
+MayBeSilent role received sent reported (alone (Ping true octets)) =
+    is_awaited_ping octets (when (nat_lt (reported_total one_pong reported) (total one_ping sent))
+    (newest_ping sent)) ≡ false
+MayBeSilent role received sent reported (alone (GoAway last code debug)) = ⊥
+MayBeSilent role received sent reported (alone frame) = Unit {0}
 
--- At most one event is reported of an item, and it is what the item says.
-abbrev pub AreEventsOf : Role → Reading → List Event → Type 0
-AreEventsOf role reading [] = MayBeSilent role reading.sent reading.item
-AreEventsOf role reading (event ∷ []) = IsEventOf reading.item reading.decoded event
-AreEventsOf role reading (event ∷ other ∷ events) = ⊥
+-- At most one event is reported of an item, and it is what the item says. `received`: the items
+-- that were read before it.
+abbrev pub AreEventsOf : Role → (received : List Item) → Reading → List Event → Type 0
+AreEventsOf role received reading [] =
+    MayBeSilent role received reading.sent reading.reported reading.item
+AreEventsOf role received reading (event ∷ []) = IsEventOf reading.item reading.decoded event
+AreEventsOf role received reading (event ∷ other ∷ events) = ⊥
 
 -- A block decodes at the table after all blocks before it, with the table limit that was in force;
 -- other items change no table.
@@ -95,7 +107,8 @@ abbrev pub AreReadings : Role → (sent : List Item) → (reported : List Event)
 AreReadings role sent reported [] = Unit {0}
 AreReadings role sent reported (reading ∷ readings) =
     (newer : List Item) × (later : List Event) × (sent ≡ newer ++ reading.sent)
-    × (reported ≡ later ++ reading.reported) × AreEventsOf role reading reading.events
+    × (reported ≡ later ++ reading.reported)
+    × AreEventsOf role (items_read readings) reading reading.events
     × AreReadings role reading.sent reading.reported readings
 
 -- What a log has read, and what it has made of it.
