@@ -9,6 +9,8 @@ pub mod Readings
 pub mod ReceiveWindowCalls
 pub mod ReceiveWindowSteps
 pub mod ReceiveWindows
+pub mod ReplayedLogs
+pub mod ReplayedOctets
 pub mod Replies
 pub mod Sendable
 pub mod SendableCalls
@@ -17,4 +19,5 @@ pub mod SendingLists
 pub mod Sendings
 pub mod TakeAnswers
 pub mod TakenFrames
+pub mod TurnsAdded
 pub mod Unread
