@@ -6,3 +6,7 @@ pub mod Replies
 pub mod TakeAnswers
 pub mod TakenFrames
 pub mod Unread
+pub mod GroupedPrefixes
+pub mod OutputPrefixes
+pub mod Overlaps
+pub mod ReadPrefixes
