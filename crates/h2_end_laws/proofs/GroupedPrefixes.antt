@@ -1,5 +1,5 @@
 -- A prefix of frames that group groups to the first of their items, and a block that has begun.
-use Rattle.std.proofs.Common.{◌≡◌, ◌⊎◌, ℕ, ◌≤◌, Bool, List, [], ◌∷◌, ◌++◌, length, Option, None}
+use Rattle.std.proofs.Common.{◌≡◌, ℕ, ◌+◌, ◌≤◌, Bool, false, List, [], ◌∷◌, ◌++◌, length, Option, None}
 use Rattle.std.proofs.Common.{Some, refl, sym, ap, ◌∙◌, arith, inl, inr, append_assoc, append-nil}
 use Rattle.std.proofs.Common.{length-append}
 use Rattle.h2_frame.specs.Frames.{Frame, Headers, Continuation}
@@ -65,6 +65,14 @@ begun_only begun frames items is within =
       };
     }
 
+-- The first of octets are no more.
+no_more : (octets part left : List ℕ) → octets ≡ part ++ left → length octets ≤ max_block_octets
+    → length part ≤ max_block_octets
+no_more octets part left joined within =
+    let counted : length octets ≡ length part + length left = ap length joined
+    ∙ length-append part left in
+    omega (arith, counted, within)
+
 -- A prefix of a block that has begun.
 begun_prefix : (stream : ℕ) (end : Bool) (octets : List ℕ) (frames more : List Frame)
     (items : List Item) → IsBegun stream end octets (frames ++ more)
@@ -79,8 +87,6 @@ begun_prefix stream end octets (frame ∷ frames) more items is within =
     let joined : octets ≡ (is.fragment ++ prefix.0) ++ prefix.1 = is.joined
     ∙ ap (λ (line : List ℕ). is.fragment ++ line) prefix.2
     ∙ sym (append_assoc is.fragment prefix.0 prefix.1) in
-    let counted : length octets ≡ length (is.fragment ++ prefix.0) + length prefix.1 =
-    ap length joined ∙ length-append (is.fragment ++ prefix.0) prefix.1 in
     begun_only (record { stream = stream; end = end; octets = is.fragment ++ prefix.0 })
     (frame ∷ frames) items (record {
       fragment = is.fragment;
@@ -91,7 +97,7 @@ begun_prefix stream end octets (frame ∷ frames) more items is within =
       opened = ap (λ (head : Frame). head ∷ frames) opened;
       continued = prefix.3;
       joined = refl;
-    }) (omega (arith, counted, within))
+    }) (no_more octets (is.fragment ++ prefix.0) prefix.1 joined within)
 
 -- A prefix of one frame that isn't all of it.
 less_than_one : (frames between : List Frame) (one next : Frame) (items : List Item)
@@ -99,6 +105,12 @@ less_than_one : (frames between : List Frame) (one next : Frame) (items : List I
 less_than_one [] between one next items line = no_frames items
 less_than_one (frame ∷ frames) between one next items line =
     let counted = simp length-append at (ap length line) in absurd (omega (arith, counted))
+
+-- One more before both.
+one_after : (first frame : Frame) (preceding frames : List Frame) → first ≡ frame
+    → (more : List Frame) × (preceding ≡ frames ++ more)
+    → (more : List Frame) × (first ∷ preceding ≡ frame ∷ frames ++ more)
+one_after first frame preceding frames same (more, is) = (more, rw (same, is) refl)
 
 -- Frames without the last one begin with any of them but the last ones.
 without_last : (frames between preceding : List Frame) (next last : Frame)
@@ -110,8 +122,8 @@ without_last (frame ∷ frames) between [] next last line =
 without_last (frame ∷ frames) between (first ∷ preceding) next last line =
     let same : first ≡ frame = cc in
     let line_on : preceding ++ last ∷ [] ≡ frames ++ next ∷ between = cc in
-    let more = without_last frames between preceding next last line_on in
-    (more.0, rw (same, more.1) refl)
+    one_after first frame preceding frames same
+    (without_last frames between preceding next last line_on)
 
 -- A prefix of an item that isn't all of it.
 item_prefix : (item : Item) (whole frames between : List Frame) (next : Frame) (items : List Item)
@@ -122,10 +134,8 @@ item_prefix (block stream end octets) whole frames between next items (inl singl
     less_than_one frames between _ next items (sym single.one ∙ line)
 item_prefix (block stream end octets) whole frames between next items (inr ended, within) line =
     let more = without_last frames between ended.preceding next _ (sym ended.ended ∙ line) in
-    let counted : length octets ≡ length ended.prefix + length ended.last =
-    ap length ended.joined ∙ length-append ended.prefix ended.last in
     begun_prefix stream end ended.prefix frames more.0 items (rw more.1 at ended.begun)
-    (omega (arith, counted, within))
+    (no_more octets ended.prefix ended.last ended.joined within)
 
 -- One more item before those of a prefix.
 one_before : (item : Item) (items : List Item) (frames whole between : List Frame)
@@ -169,10 +179,10 @@ items_prefix (item ∷ items) begun complete left frames more (whole, others, sp
     line ∙ rw split (append_assoc whole others left) in
     elim (overlap frames more whole (others ++ left) line_now) [
       | inl (between, begins, follows) ↦
-        one_before item items frames whole between is begins
-        (items_prefix items begun others left between more are unfinished (sym follows))
+          one_before item items frames whole between is begins
+          (items_prefix items begun others left between more are unfinished (sym follows))
       | inr (next, between, begins, follows) ↦
-        item_prefix item whole frames between next (item ∷ items) is begins
+          item_prefix item whole frames between next (item ∷ items) is begins
     ]
 
 -- A prefix of frames that group.

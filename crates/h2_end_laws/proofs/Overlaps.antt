@@ -5,7 +5,7 @@ use Rattle.std.proofs.Common.{◌≡◌, ◌⊎◌, List, [], ◌∷◌, ◌++�
 abbrev pub Overlaps : {A : Type 0} → List A → List A → List A → List A → Type 0
 Overlaps {A} one tail other end = ((between : List A) × (one ≡ other ++ between)
     × (end ≡ between ++ tail))
-    ⊎ ((next : A) (between : List A) × (other ≡ one ++ next ∷ between)
+    ⊎ ((next : A) × (between : List A) × (other ≡ one ++ next ∷ between)
     × (tail ≡ next ∷ between ++ end))
 
 -- One more before both.

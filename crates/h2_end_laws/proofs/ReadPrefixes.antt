@@ -113,13 +113,13 @@ body_prefix limits preceding (frame ∷ frames) body unparsed octets more
     line ∙ rw split (append_assoc whole others unparsed) in
     elim (overlap octets more whole (others ++ unparsed) line_now) [
       | inl (between, is, follows) ↦
-        let at : preceding + length body + 9 ≡ preceding + length whole + length others + 9 =
-        rw (split, length-append) (omega arith) in
-        one_complete limits preceding frame frames octets whole unparsed more between sound is
-        (body_prefix limits (preceding + length whole) frames others unparsed between more framed
-        (rw at at partial) (sym follows))
+          let at : preceding + length body + 9 ≡ preceding + length whole + length others + 9 =
+          rw (split, length-append) (omega arith) in
+          one_complete limits preceding frame frames octets whole unparsed more between sound is
+          (body_prefix limits (preceding + length whole) frames others unparsed between more framed
+          (rw at at partial) (sym follows))
       | inr (next, between, is, follows) ↦
-        none_complete limits preceding frame frames octets whole unparsed more next between sound is
+          none_complete limits preceding frame frames octets whole unparsed more next between sound is
     ]
 
 -- A prefix of a stream, read.
@@ -207,9 +207,9 @@ prefix_read expects limits frames unparsed octets more (inr past) =
     ap (λ (part : List ℕ). length part + 9) past.sound.opened ∙ rw length-append refl in
     elim (overlap octets more preface (body ++ unparsed) line) [
       | inl (between, is, follows) ↦
-        after expects limits frames unparsed octets more between is
-        (body_prefix limits (length preface) frames body unparsed between more past.sound.framed
-        (rw at at past.partial) (sym follows))
+          after expects limits frames unparsed octets more between is
+          (body_prefix limits (length preface) frames body unparsed between more past.sound.framed
+          (rw at at past.partial) (sym follows))
       | inr (next, between, is, follows) ↦
-        inside expects limits frames unparsed octets more next between is
+          inside expects limits frames unparsed octets more next between is
     ]
