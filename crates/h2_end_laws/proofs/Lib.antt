@@ -10,3 +10,5 @@ pub mod GroupedPrefixes
 pub mod OutputPrefixes
 pub mod Overlaps
 pub mod ReadPrefixes
+pub mod BareLogs
+pub mod PayloadLimits
