@@ -1,6 +1,6 @@
 -- Logs that are the same but for their turns and for the limits of payloads: what they read and are
 -- asked makes of them logs that are the same but for these.
-use Rattle.std.proofs.Common.{◌≡◌, ℕ, ◌+◌, max, nat_lt, Bool, true, false, if◌then◌else◌, List, []}
+use Rattle.std.proofs.Common.{◌≡◌, ℕ, ◌+◌, max, Bool, true, false, if◌then◌else◌, List, []}
 use Rattle.std.proofs.Common.{◌∷◌, ◌++◌, Option, Some, None, refl, sym, ap, ap₂, ◌∙◌}
 use Rattle.h2_frame.specs.declared.code.Code.{Code}
 use Rattle.h2_frame.specs.declared.code.Code.TheVariants.{InternalError}
@@ -138,7 +138,8 @@ unfolding with_sent
 failure_bare code last log = refl
 
 pub failure_same : (log other : Log) (code : Code) (last final : ℕ) → last ≡ final
-    → AreSameBare log other → AreSameBare (with_failure code last log) (with_failure code final other)
+    → AreSameBare log other
+    → AreSameBare (with_failure code last log) (with_failure code final other)
 failure_same log other code last final equal same =
     bare_by (λ one. with_failure code last one) (failure_bare code last) log other same
     ∙ ap (λ (n : ℕ). bare (with_failure code n other)) equal

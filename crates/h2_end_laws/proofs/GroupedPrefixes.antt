@@ -1,7 +1,7 @@
 -- A prefix of frames that group groups to the first of their items, and a block that has begun.
-use Rattle.std.proofs.Common.{◌≡◌, ℕ, ◌+◌, ◌≤◌, Bool, false, List, [], ◌∷◌, ◌++◌, length, Option, None}
-use Rattle.std.proofs.Common.{Some, refl, sym, ap, ◌∙◌, arith, inl, inr, append_assoc, append-nil}
-use Rattle.std.proofs.Common.{length-append}
+use Rattle.std.proofs.Common.{◌≡◌, ℕ, ◌+◌, ◌≤◌, Bool, false, List, [], ◌∷◌, ◌++◌, length, Option}
+use Rattle.std.proofs.Common.{None, Some, refl, sym, ap, ◌∙◌, arith, inl, inr, append_assoc}
+use Rattle.std.proofs.Common.{append-nil, length-append}
 use Rattle.h2_frame.specs.Frames.{Frame, Headers, Continuation}
 use Rattle.h2_block.specs.Grouping.{Item, alone, block, Begun, max_block_octets, AreContinuations}
 use Rattle.h2_block.specs.Grouping.{IsBegun, IsItem, AreItems, IsLeft, Groups}
@@ -73,6 +73,17 @@ no_more octets part left joined within =
     ∙ length-append part left in
     omega (arith, counted, within)
 
+-- Octets that are joined of three.
+joined_twice : (octets fragment others part left : List ℕ) → octets ≡ fragment ++ others
+    → others ≡ part ++ left → octets ≡ (fragment ++ part) ++ left
+joined_twice octets fragment others part left joined split = joined
+    ∙ ap (λ (line : List ℕ). fragment ++ line) split ∙ sym (append_assoc fragment part left)
+
+-- The first of frames is one.
+same_first : (frame head : Frame) (frames : List Frame) → frame ≡ head
+    → frame ∷ frames ≡ head ∷ frames
+same_first frame head frames same = ap (λ (first : Frame). first ∷ frames) same
+
 -- A prefix of a block that has begun.
 begun_prefix : (stream : ℕ) (end : Bool) (octets : List ℕ) (frames more : List Frame)
     (items : List Item) → IsBegun stream end octets (frames ++ more)
@@ -84,9 +95,6 @@ begun_prefix stream end octets (frame ∷ frames) more items is within =
     let following : frames ++ more ≡ is.following = (let e = is.opened in cc) in
     let prefix = continued_prefix stream frames more is.others
     (rw (← following) at is.continued) in
-    let joined : octets ≡ (is.fragment ++ prefix.0) ++ prefix.1 = is.joined
-    ∙ ap (λ (line : List ℕ). is.fragment ++ line) prefix.2
-    ∙ sym (append_assoc is.fragment prefix.0 prefix.1) in
     begun_only (record { stream = stream; end = end; octets = is.fragment ++ prefix.0 })
     (frame ∷ frames) items (record {
       fragment = is.fragment;
@@ -94,10 +102,11 @@ begun_prefix stream end octets (frame ∷ frames) more items is within =
       priority = is.priority;
       following = frames;
       others = prefix.0;
-      opened = ap (λ (head : Frame). head ∷ frames) opened;
+      opened = same_first frame _ frames opened;
       continued = prefix.3;
       joined = refl;
-    }) (no_more octets (is.fragment ++ prefix.0) prefix.1 joined within)
+    }) (no_more octets (is.fragment ++ prefix.0) prefix.1
+    (joined_twice octets is.fragment is.others prefix.0 prefix.1 is.joined prefix.2) within)
 
 -- A prefix of one frame that isn't all of it.
 less_than_one : (frames between : List Frame) (one next : Frame) (items : List Item)

@@ -1,8 +1,7 @@
 -- An end names no greatest frame size, so that a payload that it reads may always have 16,384
 -- octets.
 use Rattle.std.proofs.Common.{◌≡◌, ℕ, ◌==◌, nat_le, max, Bool, true, false, if◌then◌else◌, List}
-use Rattle.std.proofs.Common.{[], ◌∷◌, length, inl, inr, refl, sym, ap, ap₂, ◌∙◌, arith}
-use Rattle.std.proofs.lemmas.Bool.{eq-eqb}
+use Rattle.std.proofs.Common.{[], ◌∷◌, length, inl, inr, refl, ap, ◌∙◌}
 use Rattle.std.proofs.Math.Path.{fun_ext}
 use Rattle.h2_frame.specs.Frames.{Settings}
 use Rattle.h2_wire.specs.Streams.{Limits}
@@ -108,7 +107,9 @@ history_names role received _ (writes {sent = sent} item before allowed) =
 -- The limit that is in force.
 limit_now : (role : Role) (values : Values) (log : Log) → IsLog role values log
     → payload_limit (acked log) log.sent ≡ 16384
-limit_now role values log is = (history_names _ _ _ (written_is_allowed role values log is)).1 (acked log)
+limit_now role values log is =
+    let names = history_names _ _ _ (written_is_allowed role values log is) in
+    names.1 (acked log)
 
 -- A limit is that of before, or the one that is in force.
 either_limit : (b : Bool) (before now : ℕ) → before ≡ 16384 → now ≡ 16384

@@ -1,14 +1,14 @@
 -- A prefix of octets that are read without a fault is read as the first of their frames, and a
 -- partial frame.
-use Rattle.std.proofs.Common.{◌≡◌, ◌⊎◌, ℕ, ◌+◌, ◌≤◌, Bool, List, [], ◌∷◌, ◌++◌, length, refl, sym}
-use Rattle.std.proofs.Common.{ap, ◌∙◌, arith, subst, inl, inr, append_assoc, append-nil}
+use Rattle.std.proofs.Common.{◌≡◌, ◌⊎◌, ℕ, ◌+◌, Bool, List, [], ◌∷◌, ◌++◌, length, refl, sym}
+use Rattle.std.proofs.Common.{ap, ◌∙◌, arith, inl, inr, append_assoc}
 use Rattle.std.proofs.Common.{length-append}
-use Rattle.h2_frame.specs.Heads.{head_of, head_fault}
+use Rattle.h2_frame.specs.Heads.{head_of}
 use Rattle.h2_frame.specs.Frames.{Frame}
 use Rattle.h2_frame.proofs.HeadLemmas.{head_of-append}
-use Rattle.h2_wire.specs.Streams.{expected_preface, Limits, IsFrame, AreFrames, IsSound, Frames}
+use Rattle.h2_wire.specs.Streams.{expected_preface, Limits, IsFrame, AreFrames, Frames}
 use Rattle.h2_wire.specs.Streams.{IsPartial}
-use Rattle.h2_end_laws.proofs.Overlaps.{Overlaps, overlap}
+use Rattle.h2_end_laws.proofs.Overlaps.{overlap}
 
 -- A prefix of a partial frame is partial.
 partial_prefix : (limit : ℕ) (octets more : List ℕ) → IsPartial limit (octets ++ more)
@@ -119,7 +119,8 @@ body_prefix limits preceding (frame ∷ frames) body unparsed octets more
           (body_prefix limits (preceding + length whole) frames others unparsed between more framed
           (rw at at partial) (sym follows))
       | inr (next, between, is, follows) ↦
-          none_complete limits preceding frame frames octets whole unparsed more next between sound is
+          none_complete limits preceding frame frames octets whole unparsed more next between sound
+          is
     ]
 
 -- A prefix of a stream, read.
