@@ -1,7 +1,14 @@
 -- The lemmas of the laws.
+pub mod BareLogs
 pub mod Failures
 pub mod Grouped
+pub mod GroupedPrefixes
 pub mod OneTake
+pub mod OutputPrefixes
+pub mod Overlaps
+pub mod PayloadLimits
+pub mod PieceParts
+pub mod ReadPrefixes
 pub mod ReadVerdicts
 pub mod ReadingCalls
 pub mod ReadingRules

@@ -1,0 +1,61 @@
+-- A prefix of what an end has written.
+use Rattle.std.proofs.Common.{◌≡◌, ℕ, ◌≤◌, not, List, [], ◌++◌, None, refl, sym, ap, ◌∙◌, arith}
+use Rattle.std.specs.List.{AllByRecursion}
+use Rattle.h2_frame.specs.Frames.{Frame}
+use Rattle.h2_wire.specs.Streams.{Limits, Frames, expected_preface}
+use Rattle.h2_block.specs.Grouping.{Item, Groups}
+use Rattle.h2_log.specs.declared.role.Role.{Role}
+use Rattle.h2_log.specs.Acts.{Values}
+use Rattle.h2_log.specs.Items.{encoding_of_items}
+use Rattle.h2_log.specs.Settings.{is_server}
+use Rattle.h2_log.specs.Limits.{max_frame_size_sent}
+use Rattle.h2_log.specs.Log.{Log}
+use Rattle.h2_log.specs.Histories.{IsLog}
+use Rattle.h2_log.proofs.StreamLemmas.{stream_of_log}
+use Rattle.h2_log_laws.specs.Sending.{IsSendable, frames_of_items, oldest_first}
+use Rattle.h2_log_laws.proofs.OutputRead.{items_read, items_grouped}
+use Rattle.h2_log_laws.proofs.TurnsOfLogs.{turns_report}
+use Rattle.h2_end_laws.specs.Prefixes.{IsPrefixOfItems}
+use Rattle.h2_end_laws.proofs.ReadPrefixes.{prefix_read}
+use Rattle.h2_end_laws.proofs.GroupedPrefixes.{prefix_grouped}
+
+-- A prefix of octets that are read as frames that group to items.
+items_begin : (role : Role) (limits : Limits) (octets more : List ℕ) (frames : List Frame)
+    (sent : List Item) → Frames (not (is_server role)) limits (octets ++ more) frames []
+    → Groups frames (oldest_first sent) None → IsPrefixOfItems role limits octets sent
+items_begin role limits octets more frames sent read groups =
+    let prefix = prefix_read (not (is_server role)) limits frames [] octets more read in
+    let grouped = prefix_grouped prefix.first prefix.later (oldest_first sent) None
+    (rw prefix.frames_are at groups) in
+    record {
+      frames = prefix.first;
+      unparsed = prefix.left;
+      items = grouped.first;
+      begun = grouped.begun;
+      later = grouped.later;
+      read = prefix.read;
+      groups = grouped.groups;
+      first = grouped.items_are;
+    }
+
+-- What is written of a log, of its role.
+written_of : (role : Role) (log : Log) → log.role ≡ role → log.written
+    ≡ expected_preface (not (is_server log.role)) ++ encoding_of_items max_frame_size_sent log.sent
+    → log.written
+    ≡ expected_preface (not (is_server role)) ++ encoding_of_items max_frame_size_sent log.sent
+written_of role log same written = rw same at written
+
+-- A prefix of what a log has written, whose items can be sent.
+pub output_begins : (role : Role) (values : Values) (log : Log) (limits : Limits)
+    (octets more : List ℕ) → IsLog role values log → log.written ≡ octets ++ more
+    → ((place : ℕ) → max_frame_size_sent ≤ limits place)
+    → AllByRecursion (IsSendable max_frame_size_sent) log.sent
+    → IsPrefixOfItems role limits octets log.sent
+output_begins role values log limits octets more is joined high sendable =
+    let written = written_of role log (stream_of_log role values log is).role
+    (turns_report role values log is).items in
+    let read = items_read max_frame_size_sent (not (is_server role)) limits log.sent (omega arith)
+    high sendable in
+    items_begin role limits octets more (frames_of_items max_frame_size_sent log.sent) log.sent
+    (rw (← written, joined) at read)
+    (items_grouped max_frame_size_sent log.sent (omega arith) sendable)
