@@ -15,6 +15,7 @@ mod ConservedByCalls
 mod ConservedByFrames
 mod ConservedBySteps
 mod EachStream
+mod EntryCounts
 mod EveryUpLog
 mod FreshNumbers
 mod GoAwaysSent
