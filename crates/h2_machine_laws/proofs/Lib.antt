@@ -14,6 +14,8 @@ mod CallWithoutStream
 mod ConservedByCalls
 mod ConservedByFrames
 mod ConservedBySteps
+mod CountedByCalls
+mod CountedBySteps
 mod EachStream
 mod EntryCounts
 mod EveryUpLog

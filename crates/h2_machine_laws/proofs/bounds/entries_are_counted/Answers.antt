@@ -1,8 +1,18 @@
 -- By the lemmas on each step.
 use Rattle.std.proofs.Common.{arith}
+use Rattle.std.specs.FinMap as map
+use Rattle.h2_machine.specs.Machine.{new_end, after_call}
+use Rattle.h2_machine_laws.proofs.CountedByCalls.{new_counts, call_counts}
+use Rattle.h2_machine_laws.proofs.CountedBySteps.{counted, is_counted}
 use Rattle.h2_machine_laws.proofs.EntryCounts.{active_counted, reset_counted, all_counted}
 use Rattle.h2_machine_laws.proofs.bounds.entries_are_counted.Goals as goal
-use Rattle.std.specs.FinMap as map
+
+pub returns-clause-begins : goal.returns-clause-begins
+returns-clause-begins c role values = is_counted (new_end role values) (new_counts role values)
+
+pub returns-clause-call : goal.returns-clause-call
+returns-clause-call c e act accepted typed h =
+    is_counted (after_call e act) (call_counts e act accepted (counted e h))
 
 pub returns-clause-most : goal.returns-clause-most
 returns-clause-most c e bounded counted =
