@@ -15,6 +15,7 @@ mod ConservedByCalls
 mod ConservedByFrames
 mod ConservedBySteps
 mod CountedByCalls
+mod CountedByFrames
 mod CountedBySteps
 mod EachStream
 mod EntryCounts
