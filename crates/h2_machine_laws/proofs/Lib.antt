@@ -30,6 +30,8 @@ mod OneItemMore
 mod OwedAtClose
 mod OwedOnStreams
 mod OwedSums
+mod RangesOfCalls
+mod RangesOfSteps
 mod RecvConnectionFault
 mod RecvConnectionItems
 mod RecvData
@@ -47,6 +49,7 @@ mod RepresentedSteps
 mod SentConnectionItems
 mod SentQuietItems
 mod SentStreamItems
+mod StreamRanges
 mod StreamsSame
 mod UpInvariant
 mod UpInvariantLogs
