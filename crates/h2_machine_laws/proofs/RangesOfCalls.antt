@@ -45,7 +45,7 @@ opened_fits e i end above most h =
       peer_most = h.peer_most;
       own_fits = h.own_fits;
       all = set_fits e.peer.initial_window e.own.in_force.initial_window e.streams.entries i
-          (new_stream e false end)
+          (new_stream e false end) (λ zero. omega (arith, above, zero))
           (new_fits_stream e.peer.initial_window e.own.in_force.initial_window false end
           h.peer_most) h.all;
       reading = h.reading;
@@ -56,9 +56,9 @@ fields_fit : (e : End) (i : ℕ) (end : Bool) (x : Option StreamView) → stream
     → Fits (after_fields_sent e i end x)
 fields_fit e i end None active h = h
 fields_fit e i end (Some stream) active h =
-    changed_fits e i (record stream { ended_out = end })
+    changed_fits e i (record stream { ended_out = end }) (h.all i stream active).0
     (ended_fits_stream e.peer.initial_window e.own.in_force.initial_window stream stream.ended_in
-    end (h.all i stream active)) h
+    end (h.all i stream active).1) h
 
 -- One of two ends, by a test.
 either : (b : Bool) (x y : End) → Fits x → Fits y → Fits (if b then x else y)
@@ -94,9 +94,9 @@ sent_fits e i octets end count (Some stream) active lets h =
       ended_out = end && count == length octets;
     } in
     either (count == 0 && not (length octets == 0 && end)) e (update_stream after i next) h
-    (changed_fits after i next
+    (changed_fits after i next (h.all i stream active).0
     (sent_fits_stream e.peer.initial_window e.own.in_force.initial_window stream count
-    (end && count == length octets) (lets stream refl) h.peer_most (h.all i stream active))
+    (end && count == length octets) (lets stream refl) h.peer_most (h.all i stream active).1)
     (send_in_range (queue_output e (data_items 16384 i octets end count)) (e.windows.send - count)
     (omega (arith, h.send_most)) h))
 
@@ -109,9 +109,9 @@ release_fits e i count (Some stream) active most h =
     (record stream {
       owed = stream.owed - count;
       recv_window = if stream.ended_in then stream.recv_window else stream.recv_window +ℤ pos count;
-    })
+    }) (h.all i stream active).0
     (released_fits_stream e.peer.initial_window e.own.in_force.initial_window stream count most
-    (h.all i stream active)) h
+    (h.all i stream active).1) h
 
 -- A stream was refused, or the connection ended.
 refused_by : (e : End) (i code : ℕ) (x : Option Code) → Fits e → Fits (after_refuse e i code x)

@@ -1,7 +1,7 @@
 -- The values of an end are in their ranges: step by step.
 use Rattle.std.proofs.Common.{◌≡◌, ℕ, ◌+◌, ◌-◌, ◌<◌, ◌≤◌, ◌==◌, nat_lt, max, ◌&&◌, ◌||◌}
 use Rattle.std.proofs.Common.{if◌then◌else◌, Bool, true, false, List, length, pos, ◌+ℤ◌, Option}
-use Rattle.std.proofs.Common.{Some, None, refl, arith}
+use Rattle.std.proofs.Common.{Some, None, ◌≢◌, refl, ap, ◌∙◌, arith}
 use Rattle.std.specs.FinMap as map
 use Rattle.hpack.specs.Sizes.{table_size}
 use Rattle.hpack.specs.Tables.{Entries}
@@ -59,6 +59,17 @@ Fits e =
     Fit e.streams.highest e.streams.last_processed e.goaway.sent e.windows.send
     e.peer.initial_window e.own e.streams.entries e.reading.begun e.reading.table
 
+-- An active stream's number isn't 0, where no stream is active with that.
+not_zero : (e : End) (i : ℕ) (stream : StreamView) → stream_at e 0 ≡ None
+    → stream_at e i ≡ Some stream → i ≢ 0
+not_zero e i stream none is zero =
+    let gone : stream_at e i ≡ None = ap (λ (j : ℕ). stream_at e j) zero ∙ none in cc
+
+-- Nothing is there where nothing can be.
+none_at : (x : Option StreamView) → ((stream : StreamView) → x ≡ Some stream → ⊥) → x ≡ None
+none_at None never = refl
+none_at (Some stream) never = absurd (never stream refl)
+
 -- Values in range are so by these.
 pub fits : (e : End) → ValuesAreInRange e → Fits e
 fits e h =
@@ -75,12 +86,12 @@ fits e h =
         limit_most = h.table_limit;
         next = h.awaited;
       };
-      all = λ i stream is. record {
+      all = λ i stream is. (λ zero. not_zero e i stream h.connection is zero, record {
         send_most = (h.streams i stream is).send_most;
         send_least = (h.streams i stream is).send_least;
         recv_most = (h.streams i stream is).recv_most;
         recv_least = (h.streams i stream is).recv_least;
-      };
+      });
       reading = record { few = h.begun; size = h.table; most = h.maximum };
     }
 
@@ -97,11 +108,12 @@ are_in_range e h =
       table_limit = h.own_fits.limit_most;
       awaited = h.own_fits.next;
       streams = λ i stream is. record {
-        send_most = (h.all i stream is).send_most;
-        send_least = (h.all i stream is).send_least;
-        recv_most = (h.all i stream is).recv_most;
-        recv_least = (h.all i stream is).recv_least;
+        send_most = (h.all i stream is).1.send_most;
+        send_least = (h.all i stream is).1.send_least;
+        recv_most = (h.all i stream is).1.recv_most;
+        recv_least = (h.all i stream is).1.recv_least;
       };
+      connection = none_at (stream_at e 0) (λ stream is. (h.all 0 stream is).0 refl);
       begun = h.reading.few;
       table = h.reading.size;
       maximum = h.reading.most;
@@ -158,13 +170,13 @@ reset_stream_fits e i more h =
     (reset_fits e.peer.initial_window e.own.in_force.initial_window e.streams.entries i h.all) h)
 
 -- A stream is set that is in range.
-pub set_stream_fits : (e : End) (i : ℕ) (stream : StreamView)
+pub set_stream_fits : (e : End) (i : ℕ) (stream : StreamView) → i ≢ 0
     → WindowsFit e.peer.initial_window e.own.in_force.initial_window stream → Fits e
     → Fits (set_stream e i stream)
-set_stream_fits e i stream one h =
+set_stream_fits e i stream apart one h =
     streams_fit e (map.insert e.streams.entries i (active_entry stream))
-    (set_fits e.peer.initial_window e.own.in_force.initial_window e.streams.entries i stream one
-    h.all) h
+    (set_fits e.peer.initial_window e.own.in_force.initial_window e.streams.entries i stream
+    apart one h.all) h
 
 -- A stream was changed: it is over, or it is set, by the test.
 changed_by : (e : End) (i : ℕ) (stream : StreamView) (b : Bool) → Fits (set_stream e i stream)
@@ -173,11 +185,12 @@ changed_by e i stream true h = closed_fits (set_stream e i stream) i 0 h
 changed_by e i stream false h = h
 
 -- A stream was changed: it is over, or it is set.
-pub changed_fits : (e : End) (i : ℕ) (stream : StreamView)
+pub changed_fits : (e : End) (i : ℕ) (stream : StreamView) → i ≢ 0
     → WindowsFit e.peer.initial_window e.own.in_force.initial_window stream → Fits e
     → Fits (update_stream e i stream)
-changed_fits e i stream one h =
-    changed_by e i stream (stream.ended_in && stream.ended_out) (set_stream_fits e i stream one h)
+changed_fits e i stream apart one h =
+    changed_by e i stream (stream.ended_in && stream.ended_out)
+    (set_stream_fits e i stream apart one h)
 
 -- DATA was reported that doesn't exceed its stream's window.
 pub data_in_range : (e : End) (i count : ℕ) (end : Bool) (x : Option StreamView)
@@ -186,13 +199,15 @@ pub data_in_range : (e : End) (i count : ℕ) (end : Bool) (x : Option StreamVie
 data_in_range e i count end None active within h = h
 data_in_range e i count end (Some stream) active within h =
     changed_fits (narrow_recv_window e count) i (with_flow stream count end)
+    (h.all i stream active).0
     (data_fits_stream e.peer.initial_window e.own.in_force.initial_window stream count
-    (stream.ended_in || end) within h.own_fits.window_most (h.all i stream active)) h
+    (stream.ended_in || end) within h.own_fits.window_most (h.all i stream active).1) h
 
 -- A block was reported, on a stream whose number has 31 bits.
 pub block_in_range : (e : End) (i : ℕ) (end : Bool) (x : Option StreamView) → stream_at e i ≡ x
-    → i ≤ greatest_number → Fits e → Fits (receive_block e i end x)
-block_in_range e i end None active within h =
+    → i ≤ greatest_number → (x ≡ None → i ≢ 0) → Fits e
+    → Fits (receive_block e i end x)
+block_in_range e i end None active within apart h =
     record {
       numbers = record {
         highest_most = omega (arith, h.numbers.highest_most);
@@ -203,15 +218,16 @@ block_in_range e i end None active within h =
       peer_most = h.peer_most;
       own_fits = h.own_fits;
       all = set_fits e.peer.initial_window e.own.in_force.initial_window e.streams.entries i
-          (new_stream e end false)
+          (new_stream e end false) (apart refl)
           (new_fits_stream e.peer.initial_window e.own.in_force.initial_window end false
           h.peer_most) h.all;
       reading = h.reading;
     }
-block_in_range e i end (Some stream) active within h =
+block_in_range e i end (Some stream) active within apart h =
     changed_fits e i (record stream { ended_in = stream.ended_in || end })
+    (h.all i stream active).0
     (ended_fits_stream e.peer.initial_window e.own.in_force.initial_window stream
-    (stream.ended_in || end) stream.ended_out (h.all i stream active)) h
+    (stream.ended_in || end) stream.ended_out (h.all i stream active).1) h
 
 -- Own values come into force.
 pub enforced_in_range : (e : End) (x : Option Values) → e.own.awaited ≡ x → Fits e
@@ -262,5 +278,6 @@ pub widened_in_range : (e : End) (i increment : ℕ) (x : Option StreamView) →
 widened_in_range e i increment None active most within h = widened_by e increment (i == 0) most h
 widened_in_range e i increment (Some stream) active most within h =
     set_stream_fits e i (record stream { send_window = stream.send_window +ℤ pos increment })
+    (h.all i stream active).0
     (widened_fits_stream e.peer.initial_window e.own.in_force.initial_window stream increment within
-    (h.all i stream active)) h
+    (h.all i stream active).1) h

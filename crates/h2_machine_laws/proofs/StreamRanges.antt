@@ -1,9 +1,9 @@
 -- The windows of streams are in their ranges: what an entry that is set, removed or shifted makes of
 -- that.
-use Rattle.std.proofs.Common.{◌≡◌, ℕ, ◌+◌, ◌-◌, ◌<◌, ◌≤◌, ◌==◌, nat_lt, ◌&&◌, ◌||◌, Bool, true}
+use Rattle.std.proofs.Common.{◌≡◌, ◌≢◌, ℕ, ◌+◌, ◌-◌, ◌<◌, ◌≤◌, ◌==◌, nat_lt, ◌&&◌, ◌||◌, Bool, true}
 use Rattle.std.proofs.Common.{false, cond, if◌then◌else◌, ℤ, pos, negsuc, ◌+ℤ◌, ◌-ℤ◌, int_lt, List}
 use Rattle.std.proofs.Common.{[], ◌∷◌, Option, Some, None, refl, sym, ap, subst, ◌∙◌, arith}
-use Rattle.std.proofs.Common.{ltb-false}
+use Rattle.std.proofs.Common.{ltb-false, eqb-true}
 use Rattle.std.proofs.lemmas.Bool.{false_from_ne_true}
 use Rattle.std.proofs.lemmas.Int.{ints}
 use Rattle.std.specs.Ordering.{nat_cmp, is_eq}
@@ -26,25 +26,27 @@ pub record WindowsFit (peer own : ℕ) (stream : StreamView) : Type 0 where
   pub recv_most : int_lt (pos own) (stream.recv_window +ℤ pos stream.owed) ≡ false
   pub recv_least : int_lt (stream.recv_window +ℤ pos greatest_window) (pos own) ≡ false
 
--- So are those of all active streams.
+-- So are those of all active streams, whose numbers aren't 0.
 abbrev pub StreamsFit : (peer own : ℕ) → StreamMap → Type 0
 StreamsFit peer own m = (i : ℕ) (stream : StreamView) → stream_in (map.get m i) ≡ Some stream
-    → WindowsFit peer own stream
+    → (i ≢ 0) × WindowsFit peer own stream
 
 -- An entry is set whose stream is in range, by the test whether a number is its own.
-set_by : (peer own : ℕ) (m : StreamMap) (v : Entry) (q : ℕ) (s : StreamView) (b : Bool)
-    → ((t : StreamView) → stream_in (Some v) ≡ Some t → WindowsFit peer own t)
+set_by : (peer own : ℕ) (m : StreamMap) (k : ℕ) (v : Entry) (q : ℕ) (s : StreamView) (b : Bool)
+    → (q == k) ≡ b
+    → ((t : StreamView) → stream_in (Some v) ≡ Some t → (k ≢ 0) × WindowsFit peer own t)
     → StreamsFit peer own m → stream_in (if b then Some v else map.get m q) ≡ Some s
-    → WindowsFit peer own s
-set_by peer own m v q s true one all is = one s is
-set_by peer own m v q s false one all is = all q s is
+    → (q ≢ 0) × WindowsFit peer own s
+set_by peer own m k v q s true same one all is =
+    let h = one s is in (λ zero. h.0 (sym (eqb-true q k same) ∙ zero), h.1)
+set_by peer own m k v q s false same one all is = all q s is
 
 -- An entry is set whose stream is in range.
 entry_fits : (peer own : ℕ) (m : StreamMap) (k : ℕ) (v : Entry)
-    → ((t : StreamView) → stream_in (Some v) ≡ Some t → WindowsFit peer own t)
+    → ((t : StreamView) → stream_in (Some v) ≡ Some t → (k ≢ 0) × WindowsFit peer own t)
     → StreamsFit peer own m → StreamsFit peer own (map.insert m k v)
 entry_fits peer own m k v one all q s is =
-    set_by peer own m v q s (q == k) one all (sym (ap stream_in (get_set m k v q)) ∙ is)
+    set_by peer own m k v q s (q == k) refl one all (sym (ap stream_in (get_set m k v q)) ∙ is)
 
 -- A stream that is the same is in range too.
 same_fits : (peer own : ℕ) (stream other : StreamView) → WindowsFit peer own stream
@@ -53,11 +55,12 @@ same_fits peer own stream other h is =
     let same : stream ≡ other = cc in subst (WindowsFit peer own) same h
 
 -- A stream is set that is in range.
-pub set_fits : (peer own : ℕ) (m : StreamMap) (k : ℕ) (stream : StreamView)
+pub set_fits : (peer own : ℕ) (m : StreamMap) (k : ℕ) (stream : StreamView) → k ≢ 0
     → WindowsFit peer own stream → StreamsFit peer own m
     → StreamsFit peer own (map.insert m k (active_entry stream))
-set_fits peer own m k stream one all =
-    entry_fits peer own m k (active_entry stream) (λ t is. same_fits peer own stream t one is) all
+set_fits peer own m k stream apart one all =
+    entry_fits peer own m k (active_entry stream)
+    (λ t is. (apart, same_fits peer own stream t one is)) all
 
 -- A stream is reset.
 pub reset_fits : (peer own : ℕ) (m : StreamMap) (k : ℕ) → StreamsFit peer own m
@@ -68,7 +71,7 @@ reset_fits peer own m k all =
 -- An entry is removed, by the test whether a number is its own.
 removed_by : (peer own : ℕ) (m : StreamMap) (q : ℕ) (s : StreamView) (b : Bool)
     → StreamsFit peer own m → stream_in (if b then None else map.get m q) ≡ Some s
-    → WindowsFit peer own s
+    → (q ≢ 0) × WindowsFit peer own s
 removed_by peer own m q s true all is = absurd (cc)
 removed_by peer own m q s false all is = all q s is
 
@@ -139,7 +142,7 @@ none_above old new m none i stream is =
 pub none_above_same : (old own : ℕ) (m : StreamMap) → StreamsFit old own m → NoneAbove old old m
 none_above_same old own m all i stream is =
     let most : int_lt (pos greatest_window) stream.send_window ≡ false =
-    (all i stream is).send_most in
+    (all i stream is).1.send_most in
     above_same greatest_window old stream.send_window most
   where
     above_same : (greatest old : ℕ) (w : ℤ) → int_lt (pos greatest) w ≡ false
@@ -147,55 +150,55 @@ none_above_same old own m all i stream is =
     above_same greatest old w is = false_from_ne_true _ (λ less. omega (arith, ints))
 
 -- Send windows are shifted, by the entry.
-send_by : (old new own : ℕ) (x : Option Entry) (s : StreamView)
-    → ((t : StreamView) → stream_in x ≡ Some t → WindowsFit old own t)
+send_by : (old new own q : ℕ) (x : Option Entry) (s : StreamView)
+    → ((t : StreamView) → stream_in x ≡ Some t → (q ≢ 0) × WindowsFit old own t)
     → ((t : StreamView) → stream_in x ≡ Some t
     → int_lt (pos (greatest_window + old)) (t.send_window +ℤ pos new) ≡ false)
     → stream_in (changed_entry (shifted_entry old new) x) ≡ Some s
-    → WindowsFit new own s
-send_by old new own None s all most is = absurd (cc)
-send_by old new own (Some reset_entry) s all most is = absurd (cc)
-send_by old new own (Some (active_entry t)) s all most is =
+    → (q ≢ 0) × WindowsFit new own s
+send_by old new own q None s all most is = absurd (cc)
+send_by old new own q (Some reset_entry) s all most is = absurd (cc)
+send_by old new own q (Some (active_entry t)) s all most is =
     let h = all t refl in
-    same_fits new own
+    (h.0, same_fits new own
     (record t { send_window = (t.send_window +ℤ pos new) -ℤ pos old }) s
     (record {
       send_most = shift_most greatest_window old new t.send_window (most t refl);
-      send_least = shift_least greatest_window old new t.send_window h.send_least;
-      recv_most = h.recv_most;
-      recv_least = h.recv_least;
-    }) is
+      send_least = shift_least greatest_window old new t.send_window h.1.send_least;
+      recv_most = h.1.recv_most;
+      recv_least = h.1.recv_least;
+    }) is)
 
 -- Send windows are shifted to another initial window of the peer's.
 pub send_shifted_fits : (old new own : ℕ) (m : StreamMap) → NoneAbove old new m
     → StreamsFit old own m → StreamsFit new own (each_entry (shifted_entry old new) m)
 send_shifted_fits old new own m none all q s is =
-    send_by old new own (map.get m q) s (all q) (none q)
+    send_by old new own q (map.get m q) s (all q) (none q)
     (sym (ap stream_in (get_each (shifted_entry old new) m q)) ∙ is)
 
 -- Receive windows are shifted, by the entry.
-recv_by : (peer old new : ℕ) (x : Option Entry) (s : StreamView)
-    → ((t : StreamView) → stream_in x ≡ Some t → WindowsFit peer old t)
+recv_by : (peer old new q : ℕ) (x : Option Entry) (s : StreamView)
+    → ((t : StreamView) → stream_in x ≡ Some t → (q ≢ 0) × WindowsFit peer old t)
     → stream_in (changed_entry (recv_shifted_entry old new) x) ≡ Some s
-    → WindowsFit peer new s
-recv_by peer old new None s all is = absurd (cc)
-recv_by peer old new (Some reset_entry) s all is = absurd (cc)
-recv_by peer old new (Some (active_entry t)) s all is =
+    → (q ≢ 0) × WindowsFit peer new s
+recv_by peer old new q None s all is = absurd (cc)
+recv_by peer old new q (Some reset_entry) s all is = absurd (cc)
+recv_by peer old new q (Some (active_entry t)) s all is =
     let h = all t refl in
-    same_fits peer new
+    (h.0, same_fits peer new
     (record t { recv_window = (t.recv_window +ℤ pos new) -ℤ pos old }) s
     (record {
-      send_most = h.send_most;
-      send_least = h.send_least;
-      recv_most = shift_owed old new t.owed t.recv_window h.recv_most;
-      recv_least = shift_least greatest_window old new t.recv_window h.recv_least;
-    }) is
+      send_most = h.1.send_most;
+      send_least = h.1.send_least;
+      recv_most = shift_owed old new t.owed t.recv_window h.1.recv_most;
+      recv_least = shift_least greatest_window old new t.recv_window h.1.recv_least;
+    }) is)
 
 -- Receive windows are shifted to another initial window of this end's.
 pub recv_shifted_fits : (peer old new : ℕ) (m : StreamMap) → StreamsFit peer old m
     → StreamsFit peer new (each_entry (recv_shifted_entry old new) m)
 recv_shifted_fits peer old new m all q s is =
-    recv_by peer old new (map.get m q) s (all q)
+    recv_by peer old new q (map.get m q) s (all q)
     (sym (ap stream_in (get_each (recv_shifted_entry old new) m q)) ∙ is)
 
 -- A receive window after DATA is as far below the initial window, by the test whether that has
