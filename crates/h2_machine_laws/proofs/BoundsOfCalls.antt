@@ -204,7 +204,7 @@ output_removed e count bounded =
     }
 
 -- Values that are the same are within the same bounds.
-same_range : (values others : Values) → AreInRange values → Some values ≡ Some others
+pub same_range : (values others : Values) → AreInRange values → Some values ≡ Some others
     → AreInRange others
 same_range values others in_range is =
     let same : values ≡ others = cc in subst AreInRange same in_range

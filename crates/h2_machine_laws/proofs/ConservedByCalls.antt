@@ -32,7 +32,7 @@ use Rattle.h2_machine_laws.proofs.ConservedBySteps.{active_used}
 use Rattle.h2_machine_laws.proofs.OwedSums.{total-empty}
 
 -- A stream is active where it isn't that none is.
-is_active_by : (x : Option StreamView) → not (is_some x) ≡ false
+pub is_active_by : (x : Option StreamView) → not (is_some x) ≡ false
     → (stream : StreamView) × (x ≡ Some stream)
 is_active_by None is = cc
 is_active_by (Some stream) is = (stream, refl)
@@ -49,7 +49,7 @@ next_by used true none = omega (arith, eqb-true used 0 none)
 next_by used false some = omega arith
 
 -- A client's next number is above those that were used.
-next_above : (server : Bool) (used : ℕ) → server ≡ false
+pub next_above : (server : Bool) (used : ℕ) → server ≡ false
     → used < (if server then 0 else number_after used)
 next_above true used client = cc
 next_above false used client = next_by used (used == 0) refl

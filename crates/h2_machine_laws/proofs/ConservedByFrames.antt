@@ -56,7 +56,7 @@ within_limits resets waits size v u is continues =
     || (nat_lt 0 size && nat_lt max_output (waits + size))) v u is continues
 
 -- DATA that is no fault of the connection is within the connection's receive window.
-data_within : (s : State) (passes ended over : Bool)
+pub data_within : (s : State) (passes ended over : Bool)
     → NoConnectionFault (data_verdict s passes ended over) → passes ≡ false
 unfolding data_verdict
 data_within Idle passes ended over continues = absurd (continues ProtocolError refl)
@@ -67,7 +67,7 @@ data_within Active true ended over continues = absurd (continues FlowControlErro
 data_within Active false ended over continues = refl
 
 -- DATA is a fault of a stream only where the stream is active.
-data_active : (s : State) (passes ended over : Bool) (code : Code)
+pub data_active : (s : State) (passes ended over : Bool) (code : Code)
     → data_verdict s passes ended over ≡ StreamFault code → s ≡ Active
 unfolding data_verdict
 data_active Idle passes ended over code is = cc
@@ -77,7 +77,7 @@ data_active ClosedByUs false ended over code is = cc
 data_active Active passes ended over code is = refl
 
 -- An increment is a fault of a stream only where the stream is active.
-update_active : (s : State) (increment : ℕ) (above : Bool) (code : Code)
+pub update_active : (s : State) (increment : ℕ) (above : Bool) (code : Code)
     → update_verdict s increment above ≡ StreamFault code → s ≡ Active
 unfolding update_verdict
 update_active Idle increment above code is = cc
@@ -86,7 +86,7 @@ update_active Closed increment above code is = cc
 update_active Active increment above code is = refl
 
 -- RST_STREAM is no fault of a stream.
-reset_no_fault : (s : State) (code : Code) → reset_verdict s ≢ StreamFault code
+pub reset_no_fault : (s : State) (code : Code) → reset_verdict s ≢ StreamFault code
 unfolding reset_verdict
 reset_no_fault Idle code is = cc
 reset_no_fault Active code is = cc
@@ -94,7 +94,7 @@ reset_no_fault ClosedByUs code is = cc
 reset_no_fault Closed code is = cc
 
 -- An increment of the connection's window is no fault of a stream, by the tests.
-connection_no_fault : (zero above : Bool) (code : Code)
+pub connection_no_fault : (zero above : Bool) (code : Code)
     → (if zero then ConnectionFault ProtocolError
     else if above then ConnectionFault FlowControlError
     else NoEvent) ≢ StreamFault code
@@ -103,7 +103,7 @@ connection_no_fault false true code is = cc
 connection_no_fault false false code is = cc
 
 -- A number of which nothing is kept isn't active.
-none_active : (idle above : Bool) → state_by_entry None idle above ≢ Active
+pub none_active : (idle above : Bool) → state_by_entry None idle above ≢ Active
 none_active true above is = cc
 none_active false true is = cc
 none_active false false is = cc
@@ -123,7 +123,7 @@ active_within e i active h =
 
 -- A block is a fault of a stream only where something is kept of it, or where the peer may open it
 -- and it is idle.
-fault_at_none : (server odd even later above left full ended large : Bool) (code : Code)
+pub fault_at_none : (server odd even later above left full ended large : Bool) (code : Code)
     → block_verdict (state_by_entry None (even || later) above) (server && odd) left full
     ended large ≡ StreamFault code
     → (odd ≡ true → even ≡ false) → (server && odd && later) ≡ true
@@ -143,7 +143,7 @@ fault_at_none false odd false false true left full ended large code is differs =
 fault_at_none false odd false false false left full ended large code is differs = cc
 
 -- An odd number isn't even.
-odd_not_even : (i : ℕ) → (i % 2 == 1) ≡ true → (i % 2 == 0) ≡ false
+pub odd_not_even : (i : ℕ) → (i % 2 == 1) ≡ true → (i % 2 == 0) ≡ false
 odd_not_even i odd = ne_eqb (i % 2) 0 (λ is. absurd (omega (arith, eqb-true (i % 2) 1 odd)))
 
 -- The number of a block that is a fault of its stream was used, or is now, by its entry.
@@ -171,7 +171,7 @@ block_used e (Some decoded) i end octets code is h =
     (nat_lt max_list (list_size decoded.fields)) code refl is h
 
 -- A fresh number is above all that were used.
-fresh_above : (server odd later : Bool) → (server && odd && later) ≡ true → later ≡ true
+pub fresh_above : (server odd later : Bool) → (server && odd && later) ≡ true → later ≡ true
 fresh_above true true true is = refl
 fresh_above true true false is = is
 fresh_above true false later is = cc
@@ -190,7 +190,7 @@ highest_by e i true fresh h =
 highest_by e i false fresh h = h
 
 -- The number is used then.
-used_then : (used i : ℕ) (b : Bool) → (b ≡ true) ⊎ (i ≤ used) → i ≤ (if b then i else used)
+pub used_then : (used i : ℕ) (b : Bool) → (b ≡ true) ⊎ (i ≤ used) → i ≤ (if b then i else used)
 used_then used i true either = omega arith
 used_then used i false (inl is) = cc
 used_then used i false (inr within) = within
@@ -200,11 +200,11 @@ abbrev pub flow_of : ℕ → Bool → List ℕ → Option ℕ → ℕ
 flow_of stream end octets pad = length (payload_of (Data stream end octets pad))
 
 -- A window that isn't less than octets lets them through.
-not_less : (window count : ℕ) → int_lt (pos window) (pos count) ≡ false → count ≤ window
+pub not_less : (window count : ℕ) → int_lt (pos window) (pos count) ≡ false → count ≤ window
 not_less window count is = omega (arith, ints)
 
 -- DATA that doesn't exceed a window is within it, by the test whether it has octets.
-within_by : (window count : ℕ) (some : Bool) → nat_lt 0 count ≡ some
+pub within_by : (window count : ℕ) (some : Bool) → nat_lt 0 count ≡ some
     → (some && int_lt (pos window) (pos count)) ≡ false → count ≤ window
 within_by window count true is fits = not_less window count fits
 within_by window count false is fits = omega (arith, ltb-false 0 count is)
@@ -214,7 +214,7 @@ pub within_window : (window count : ℕ) → exceeds count (pos window) ≡ fals
 within_window window count fits = within_by window count (nat_lt 0 count) refl fits
 
 -- DATA that is no fault of the connection is no more than the peer may send.
-data_fits : (e : End) (decoded : Option Decoded) (i : ℕ) (end : Bool) (octets : List ℕ)
+pub data_fits : (e : End) (decoded : Option Decoded) (i : ℕ) (end : Bool) (octets : List ℕ)
     (pad : Option ℕ)
     → NoConnectionFault (verdict_by_rules (end_view e) decoded (alone (Data i end octets pad)))
     → flow_of i end octets pad ≤ e.windows.recv

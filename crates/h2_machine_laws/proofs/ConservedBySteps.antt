@@ -76,7 +76,7 @@ ended e i more h =
     })
 
 -- Nothing is kept above a number, once an entry is set that isn't above it.
-clear_after : (m : StreamMap) (i used later : ℕ) (x : Entry) → used ≤ later → i ≤ later
+pub clear_after : (m : StreamMap) (i used later : ℕ) (x : Entry) → used ≤ later → i ≤ later
     → ((j : ℕ) → used < j → map.get m j ≡ None)
     → (j : ℕ) → later < j → map.get (map.insert m i x) j ≡ None
 clear_after m i used later x most within clear j above =
@@ -137,7 +137,7 @@ nothing_owed (Some reset_entry) is = refl
 nothing_owed (Some (active_entry other)) is = cc
 
 -- A number of which something is kept was used, by the test.
-used_by : (m : StreamMap) (used i : ℕ) (x : Entry) → ((j : ℕ) → used < j → map.get m j ≡ None)
+pub used_by : (m : StreamMap) (used i : ℕ) (x : Entry) → ((j : ℕ) → used < j → map.get m j ≡ None)
     → map.get m i ≡ Some x
     → (b : Bool) → nat_lt used i ≡ b → i ≤ used
 used_by m used i x clear kept true above =

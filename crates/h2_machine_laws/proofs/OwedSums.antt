@@ -136,7 +136,7 @@ inserted_again_at m k v q kept true same =
 inserted_again_at m k v q kept false same = refl
 
 -- An entry that is removed and inserted again changes nothing.
-inserted_again : (m : StreamMap) (k : ℕ) (v : Entry) → map.get m k ≡ Some v
+pub inserted_again : (m : StreamMap) (k : ℕ) (v : Entry) → map.get m k ≡ Some v
     → map.insert (map.remove m k) k v ≡ m
 inserted_again m k v kept =
     map.same_map nat_cmp_total map.nat_cmp-IsAntisymmetric (map.insert (map.remove m k) k v) m
@@ -151,7 +151,7 @@ gone_at m k q none true same = sym (ap (λ (i : ℕ). map.get m i) (eqb-true q k
 gone_at m k q none false same = refl
 
 -- To remove where nothing is kept changes nothing.
-gone : (m : StreamMap) (k : ℕ) → map.get m k ≡ None → map.remove m k ≡ m
+pub gone : (m : StreamMap) (k : ℕ) → map.get m k ≡ None → map.remove m k ≡ m
 gone m k none =
     map.same_map nat_cmp_total map.nat_cmp-IsAntisymmetric (map.remove m k) m
     (λ q. get_removed m k q ∙ gone_at m k q none (q == k) refl)

@@ -38,6 +38,8 @@ pub record ValuesAreInRange (e : End) : Type 0 where
   pub awaited : (values : Values) → e.own.awaited ≡ Some values → AreInRange values
   pub streams : (i : ℕ) (stream : StreamView) → stream_at e i ≡ Some stream
       → StreamIsInRange e stream
+  -- No stream is active with the number 0, which is the connection's (RFC 9113, section 5.1.1).
+  pub connection : stream_at e 0 ≡ None
   pub begun : (begun : Begun) → e.reading.begun ≡ Some begun
       → length begun.octets ≤ max_block_octets
   pub table : table_size e.reading.table.entries ≤ e.reading.table.maximum
