@@ -1,6 +1,6 @@
 -- What happened to an end, octet by octet, however the octets were cut into pieces: the octets that
--- were used, the calls with their answers, and the streams that were reported as unprocessed, in
--- order.
+-- were used, the calls with their answers, the streams that were reported as unprocessed, and where
+-- memory was refused, in order.
 use Rattle.std.specs.Prelude.{◌≡◌, ℕ, Bool, true, false, List, [], ◌∷◌, ◌++◌}
 use Rattle.std.specs.Prelude.{map as each}
 use Rattle.h2_log.specs.declared.role.Role.{Role}
@@ -17,7 +17,7 @@ pub data Mark : Type 0 where
   Call : (act : Act) (answer : Answer) → Mark
   -- a stream was reported that the peer doesn't process
   Unprocessed : Mark
-  -- memory was refused; in_frame: for a frame that had ended with the octet before, and isn't read
+  -- memory was refused; in_frame: for the frame that ended with the octet before, which isn't read
   OutOfMemory : (in_frame : Bool) → Mark
 
 -- Whether memory was refused for a frame that had ended.
