@@ -8,6 +8,7 @@ pub mod OutputPrefixes
 pub mod Overlaps
 pub mod PayloadLimits
 pub mod PieceParts
+pub mod PieceRuns
 pub mod ReadPrefixes
 pub mod ReadVerdicts
 pub mod ReadingCalls
@@ -19,6 +20,8 @@ pub mod ReceiveWindows
 pub mod ReplayedLogs
 pub mod ReplayedOctets
 pub mod Replies
+pub mod Runs
+pub mod RunsOfLogs
 pub mod Sendable
 pub mod SendableCalls
 pub mod SendableItems

@@ -1,13 +1,14 @@
 -- What happened to an end, octet by octet, however the octets were cut into pieces: the octets that
--- were used, the calls with their answers, and the streams that were reported as unprocessed, in
--- order.
-use Rattle.std.specs.Prelude.{◌≡◌, ℕ, List, [], ◌∷◌, ◌++◌}
+-- were used, the calls with their answers, the streams that were reported as unprocessed, and where
+-- memory was refused, in order.
+use Rattle.std.specs.Prelude.{◌≡◌, ℕ, Bool, true, false, List, [], ◌∷◌, ◌++◌}
 use Rattle.std.specs.Prelude.{map as each}
 use Rattle.h2_log.specs.declared.role.Role.{Role}
 use Rattle.h2_log.specs.Acts.{Values, Act, Answer}
 use Rattle.h2_log.specs.Log.{Log}
 use Rattle.h2_log.specs.Histories.{IsLog, begins, took_some, took_one, met_fault, ran_out_of_memory}
-use Rattle.h2_log.specs.Histories.{reported_one, called_one}
+use Rattle.h2_log.specs.Histories.{reported_one, called_one, MayRunOutOfMemory, with_none}
+use Rattle.h2_log.specs.Histories.{with_part, with_frame}
 
 pub data Mark : Type 0 where
   -- an octet was used
@@ -16,8 +17,15 @@ pub data Mark : Type 0 where
   Call : (act : Act) (answer : Answer) → Mark
   -- a stream was reported that the peer doesn't process
   Unprocessed : Mark
-  -- memory was refused
-  OutOfMemory : Mark
+  -- memory was refused; in_frame: for the frame that ended with the octet before, which isn't read
+  OutOfMemory : (in_frame : Bool) → Mark
+
+-- Whether memory was refused for a frame that had ended.
+abbrev pub is_in_frame : {role : Role} → {log : Log} → {octets : List ℕ}
+    → MayRunOutOfMemory role log octets → Bool
+is_in_frame (with_none none) = false
+is_in_frame (with_part takes unparsed part) = false
+is_in_frame (with_frame takes frame ends) = true
 
 -- the marks of a log's history, the first one first
 unfoldable pub script_of : {role : Role} → {values : Values} → {log : Log}
@@ -28,7 +36,7 @@ script_of (took_one is takes octets frame decoded ends decodes) =
     script_of is ++ each Octet octets
 script_of (met_fault is takes octets fault meets) = script_of is ++ each Octet octets
 script_of (ran_out_of_memory is up octets may) =
-    script_of is ++ (each Octet octets ++ OutOfMemory ∷ [])
+    script_of is ++ (each Octet octets ++ OutOfMemory (is_in_frame may) ∷ [])
 script_of (reported_one is up next) = script_of is ++ Unprocessed ∷ []
 script_of (called_one is act answer typed may) = script_of is ++ Call act answer ∷ []
 

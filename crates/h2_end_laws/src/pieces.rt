@@ -11,8 +11,9 @@ ghost use Rattle.h2_end_laws.specs.Prefixes.{IsPrefixOfItems};
 ghost use Rattle.h2_end_laws.specs.Scripts.{script_of, AreSameButTurns};
 
 /// Two ends of one role and configuration that have used the same octets, with the same calls and
-/// answers at the same places among them, have the same frames, items, events, output and fault,
-/// however the octets were cut into pieces: their logs are the same but for the turns.
+/// answers, and memory refused, at the same places among them, have the same frames, items, events,
+/// output and fault, however the octets were cut into pieces: their logs are the same but for the
+/// turns.
 pub fn pieces_do_not_matter()
     ensures { (role : Role) (values : Values) (log other : Log) (history : IsLog role values log)
         (another : IsLog role values other) → script_of history ≡ script_of another

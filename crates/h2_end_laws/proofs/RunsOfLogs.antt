@@ -1,0 +1,199 @@
+-- However octets were cut into pieces, a log is one that its script makes octet by octet.
+use Rattle.std.proofs.Common.{◌≡◌, ℕ, true, false, List, [], ◌∷◌, ◌++◌, length, Option, None, refl}
+use Rattle.std.proofs.Common.{sym, ap, ◌∙◌, subst, inl, inr, append-nil}
+use Rattle.std.proofs.Common.{map as each}
+use Rattle.h2_frame.specs.Frames.{Frame}
+use Rattle.h2_wire.specs.declared.fault.WireFault.{WireFault}
+use Rattle.h2_wire.specs.Streams.{Limits, Frames, WireFaultAt}
+use Rattle.h2_log.specs.declared.role.Role.{Role}
+use Rattle.h2_log.specs.Acts.{Values}
+use Rattle.h2_log.specs.Settings.{is_server}
+use Rattle.h2_log.specs.Log.{Log}
+use Rattle.h2_log.specs.ItemRules.{Decoded}
+use Rattle.h2_log.specs.LogSteps.{took_frame, took_fault, took_out_of_memory}
+use Rattle.h2_log.specs.Histories.{IsLog, begins, took_some, took_one, met_fault, ran_out_of_memory}
+use Rattle.h2_log.specs.Histories.{reported_one, called_one, MayRunOutOfMemory, with_none}
+use Rattle.h2_log.specs.Histories.{with_part, with_frame, IsDecodedFor, TakesPart, TakesFrame}
+use Rattle.h2_log.specs.Histories.{TakesFault}
+use Rattle.h2_log.proofs.StreamLemmas.{stream_of_log}
+use Rattle.h2_end_laws.specs.Scripts.{Mark, Octet, Call, Unprocessed, OutOfMemory, script_of}
+use Rattle.h2_end_laws.specs.Scripts.{is_in_frame, AreSameButTurns}
+use Rattle.h2_end_laws.proofs.BareLogs.{bare, none_same, call_same}
+use Rattle.h2_end_laws.proofs.PayloadLimits.{payload_limits, limits_of_log, limits_to_come}
+use Rattle.h2_end_laws.proofs.PieceParts.{last_or}
+use Rattle.h2_end_laws.proofs.PieceRuns.{back, IsReadOf, parts_run, frame_run, fault_run, lost_run}
+use Rattle.h2_end_laws.proofs.PieceRuns.{refused_run, refused_at_once, none_end}
+use Rattle.h2_end_laws.proofs.Runs.{Run, one_run, no_fault}
+
+-- Marks after marks.
+back_after : (marks newer older : List Mark) → back (marks ++ newer) older
+    ≡ back newer (back marks older)
+back_after [] newer older = refl
+back_after (mark ∷ marks) newer older = back_after marks newer (mark ∷ older)
+
+-- The frames of a log that hasn't failed are those of its octets.
+log_read : (role : Role) (values : Values) (log : Log) → IsLog role values log → log.failed ≡ None
+    → IsReadOf role log
+log_read role values log is up =
+    subst (λ (limits : Limits). Frames (is_server role) limits log.input log.frames log.unparsed)
+    (limits_of_log role values log is) ((stream_of_log role values log is).framed up)
+
+-- What comes is read with the limits that are always in force.
+part_read : (role : Role) (values : Values) (log : Log) (octets unparsed : List ℕ)
+    → IsLog role values log → TakesPart role log octets unparsed
+    → Frames (is_server role) payload_limits (log.input ++ octets) log.frames unparsed
+part_read role values log octets unparsed is part =
+    subst (λ (limits : Limits). Frames (is_server role) limits (log.input ++ octets) log.frames
+    unparsed) (limits_to_come role values log is) part
+
+frame_read : (role : Role) (values : Values) (log : Log) (octets : List ℕ) (frame : Frame)
+    → IsLog role values log → TakesFrame role log octets frame
+    → Frames (is_server role) payload_limits (log.input ++ octets) (log.frames ++ frame ∷ []) []
+frame_read role values log octets frame is ends =
+    subst (λ (limits : Limits). Frames (is_server role) limits (log.input ++ octets)
+    (log.frames ++ frame ∷ []) []) (limits_to_come role values log is) ends
+
+fault_read : (role : Role) (values : Values) (log : Log) (octets : List ℕ) (fault : WireFault)
+    → IsLog role values log → TakesFault role log octets fault
+    → WireFaultAt (is_server role) payload_limits (log.input ++ octets) log.frames
+    (length (log.input ++ octets)) fault
+fault_read role values log octets fault is at =
+    subst (λ (limits : Limits). WireFaultAt (is_server role) limits (log.input ++ octets) log.frames
+    (length (log.input ++ octets)) fault) (limits_to_come role values log is) at
+
+-- Octets with whose last a frame ends.
+frame_piece : (role : Role) (values : Values) (octets : List ℕ) (marks : List Mark) (log : Log)
+    (frame : Frame) (decoded : Option Decoded) → Run role values marks (bare log)
+    → IsReadOf role log
+    → Frames (is_server role) payload_limits (log.input ++ octets) (log.frames ++ frame ∷ []) []
+    → IsDecodedFor log decoded frame
+    → Run role values (back (each Octet octets) marks) (bare (took_frame log octets decoded frame))
+frame_piece role values octets marks log frame decoded run read ends sees =
+    elim (last_or octets) [
+      | inl none ↦ absurd (none_end role log octets frame none read ends)
+      | inr (init, last, is) ↦
+          subst (λ (line : List ℕ). Run role values (back (each Octet line) marks)
+          (bare (took_frame log line decoded frame))) (sym is)
+          (frame_run role values init last marks log frame decoded run read
+          (subst (λ (line : List ℕ). Frames (is_server role) payload_limits (log.input ++ line)
+          (log.frames ++ frame ∷ []) []) is ends) sees)
+    ]
+
+-- No octets make no fault.
+none_fault : (role : Role) (log : Log) (octets : List ℕ) (fault : WireFault) → octets ≡ []
+    → IsReadOf role log
+    → WireFaultAt (is_server role) payload_limits (log.input ++ octets) log.frames
+    (length (log.input ++ octets)) fault → ⊥
+none_fault role log octets fault none read at =
+    no_fault role (log.input ++ octets) log.unparsed log.frames log.frames _ fault
+    (subst (λ (input : List ℕ). Frames (is_server role) payload_limits input log.frames
+    log.unparsed) (sym (ap (λ (line : List ℕ). log.input ++ line) none ∙ append-nil log.input))
+    read) at
+
+-- Octets whose last makes a fault.
+fault_piece : (role : Role) (values : Values) (octets : List ℕ) (marks : List Mark) (log : Log)
+    (fault : WireFault) → Run role values marks (bare log) → IsReadOf role log
+    → WireFaultAt (is_server role) payload_limits (log.input ++ octets) log.frames
+    (length (log.input ++ octets)) fault
+    → Run role values (back (each Octet octets) marks) (bare (took_fault log octets fault))
+fault_piece role values octets marks log fault run read at =
+    elim (last_or octets) [
+      | inl none ↦ absurd (none_fault role log octets fault none read at)
+      | inr (init, last, is) ↦
+          subst (λ (line : List ℕ). Run role values (back (each Octet line) marks)
+          (bare (took_fault log line fault))) (sym is)
+          (fault_run role values init last marks log fault run read
+          (subst (λ (line : List ℕ). WireFaultAt (is_server role) payload_limits
+          (log.input ++ line) log.frames (length (log.input ++ line)) fault) is at))
+    ]
+
+-- Octets with whose last a frame ends for which memory is refused.
+lost_piece : (role : Role) (values : Values) (octets : List ℕ) (marks : List Mark) (log : Log)
+    (frame : Frame) → Run role values marks (bare log) → IsReadOf role log
+    → Frames (is_server role) payload_limits (log.input ++ octets) (log.frames ++ frame ∷ []) []
+    → Run role values (back (each Octet octets ++ OutOfMemory true ∷ []) marks)
+    (bare (took_out_of_memory log octets))
+lost_piece role values octets marks log frame run read ends =
+    elim (last_or octets) [
+      | inl none ↦ absurd (none_end role log octets frame none read ends)
+      | inr (init, last, is) ↦
+          subst (λ (line : List ℕ). Run role values
+          (back (each Octet line ++ OutOfMemory true ∷ []) marks)
+          (bare (took_out_of_memory log line))) (sym is)
+          (subst (λ (line : List Mark). Run role values line
+          (bare (took_out_of_memory log (init ++ last ∷ []))))
+          (sym (back_after (each Octet (init ++ last ∷ [])) (OutOfMemory true ∷ []) marks))
+          (lost_run role values init last marks log frame run read
+          (subst (λ (line : List ℕ). Frames (is_server role) payload_limits (log.input ++ line)
+          (log.frames ++ frame ∷ []) []) is ends)))
+    ]
+
+-- Memory is refused.
+memory_piece : (role : Role) (values : Values) (octets : List ℕ) (marks : List Mark) (log : Log)
+    → IsLog role values log → log.failed ≡ None → (may : MayRunOutOfMemory role log octets)
+    → Run role values marks (bare log)
+    → Run role values (back (each Octet octets ++ OutOfMemory (is_in_frame may) ∷ []) marks)
+    (bare (took_out_of_memory log octets))
+memory_piece role values octets marks log is up (with_none none) run =
+    subst (λ (line : List ℕ). Run role values
+    (back (each Octet line ++ OutOfMemory false ∷ []) marks)
+    (bare (took_out_of_memory log line))) (sym none)
+    (refused_at_once role values marks log run)
+memory_piece role values octets marks log is up (with_part takes unparsed part) run =
+    subst (λ (line : List Mark). Run role values line (bare (took_out_of_memory log octets)))
+    (sym (back_after (each Octet octets) (OutOfMemory false ∷ []) marks))
+    (refused_run role values octets unparsed marks log run (log_read role values log is up)
+    (part_read role values log octets unparsed is part))
+memory_piece role values octets marks log is up (with_frame takes frame ends) run =
+    lost_piece role values octets marks log frame run (log_read role values log is up)
+    (frame_read role values log octets frame is ends)
+
+-- One more piece after a script.
+after_piece : (role : Role) (values : Values) (script piece : List Mark) (log : Log)
+    → Run role values (back piece (back script [])) log
+    → Run role values (back (script ++ piece) []) log
+after_piece role values script piece log run =
+    subst (λ (line : List Mark). Run role values line log) (sym (back_after script piece [])) run
+
+-- Every log.
+run_of : (role : Role) (values : Values) (log : Log) (history : IsLog role values log)
+    → Run role values (back (script_of history) []) (bare log)
+unfolding script_of
+run_of role values _ (begins in_range) = refl
+run_of role values _ (took_some {log = log} is takes octets unparsed part) =
+    after_piece role values (script_of is) (each Octet octets) _
+    (parts_run role values octets _ log unparsed (run_of role values log is)
+    (log_read role values log is takes.up) (part_read role values log octets unparsed is part))
+run_of role values _ (took_one {log = log} is takes octets frame decoded ends sees) =
+    after_piece role values (script_of is) (each Octet octets) _
+    (frame_piece role values octets _ log frame decoded (run_of role values log is)
+    (log_read role values log is takes.up) (frame_read role values log octets frame is ends) sees)
+run_of role values _ (met_fault {log = log} is takes octets fault at) =
+    after_piece role values (script_of is) (each Octet octets) _
+    (fault_piece role values octets _ log fault (run_of role values log is)
+    (log_read role values log is takes.up) (fault_read role values log octets fault is at))
+run_of role values _ (ran_out_of_memory {log = log} is up octets may) =
+    after_piece role values (script_of is) (each Octet octets ++ OutOfMemory (is_in_frame may) ∷ [])
+    _ (memory_piece role values octets _ log is up may (run_of role values log is))
+run_of role values _ (reported_one {log = log} is up some) =
+    after_piece role values (script_of is) (Unprocessed ∷ []) _
+    (bare log, run_of role values log is, none_same log (bare log) refl)
+run_of role values _ (called_one {log = log} is act answer typed may) =
+    after_piece role values (script_of is) (Call act answer ∷ []) _
+    (bare log, run_of role values log is, call_same log (bare log) act answer refl)
+
+-- A log with its limits, without its turns.
+abbrev limited : Log → Limits → Log
+limited log limits = record log { limits = limits; turns = [] }
+
+-- Two histories with one script are of one log, but for the turns.
+pub same_but_turns : (role : Role) (values : Values) (log other : Log)
+    (history : IsLog role values log) (another : IsLog role values other)
+    → script_of history ≡ script_of another → AreSameButTurns log other
+same_but_turns role values log other history another script =
+    let run : Run role values (back (script_of history) []) (bare other) =
+    subst (λ (line : List Mark). Run role values (back line []) (bare other)) (sym script)
+    (run_of role values other another) in
+    ap (limited log) (limits_of_log role values log history)
+    ∙ one_run role values _ (bare log) (bare other) (run_of role values log history) run
+    ∙ sym (ap (limited other) (limits_of_log role values other another))
