@@ -31,6 +31,7 @@ mod OwedAtClose
 mod OwedOnStreams
 mod OwedSums
 mod RangesOfCalls
+mod RangesOfFrames
 mod RangesOfSteps
 mod RecvConnectionFault
 mod RecvConnectionItems
@@ -51,6 +52,7 @@ mod SentQuietItems
 mod SentStreamItems
 mod StreamRanges
 mod StreamsSame
+mod TableRanges
 mod UpInvariant
 mod UpInvariantLogs
 mod UpInvariantReads
