@@ -37,6 +37,7 @@ mod OwedOnStreams
 mod OwedSums
 mod QuietNumbers
 mod RangesOfCalls
+mod RangesOfFrames
 mod RangesOfSteps
 mod RecvBeside
 mod RecvBlocks
@@ -69,6 +70,7 @@ mod SentStreamItems
 mod SoundLogs
 mod StreamRanges
 mod StreamsSame
+mod TableRanges
 mod UpInvariant
 mod UpInvariantLogs
 mod UpInvariantReads

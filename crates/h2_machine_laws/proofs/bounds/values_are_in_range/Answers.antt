@@ -1,12 +1,17 @@
 -- By the lemmas on each step.
 use Rattle.h2_machine.specs.Machine.{new_end, after_call, fail, close_unprocessed}
 use Rattle.h2_machine_laws.proofs.RangesOfCalls.{new_fits, call_fits}
+use Rattle.h2_machine_laws.proofs.RangesOfFrames.{frame_in_range}
 use Rattle.h2_machine_laws.proofs.RangesOfSteps.{fits, are_in_range, closed_fits}
 use Rattle.h2_machine_laws.proofs.bounds.values_are_in_range.Goals as goal
 
 pub returns-clause-begins : goal.returns-clause-begins
 returns-clause-begins c role values in_range =
     are_in_range (new_end role values) (new_fits role values in_range)
+
+pub returns-clause-frame : goal.returns-clause-frame
+returns-clause-frame c e decoded frame up most seen h =
+    frame_in_range e decoded frame most seen h
 
 pub returns-clause-fault : goal.returns-clause-fault
 returns-clause-fault c e code h = are_in_range (fail code e.streams.last_processed e) (fits e h)
