@@ -7,3 +7,4 @@ pub mod Replays
 pub mod Scripts
 pub mod Sendings
 pub mod Takes
+pub mod Written

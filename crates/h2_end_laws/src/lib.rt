@@ -16,6 +16,7 @@ pub use reads::{events_are_of_the_items, items_are_frames_grouped};
 pub use replays::replays_are_logs;
 pub use takes::take_answers;
 pub use writes::{
-    blocks_are_of_the_lists, each_is_replied_to, nothing_follows_a_failure, receive_window_is_kept,
-    written_items_can_be_sent,
+    blocks_are_of_the_lists, each_is_replied_to, each_step_writes_what_it_owes,
+    nothing_follows_a_failure, receive_window_is_kept, stream_window_is_conserved,
+    windows_hold_data, written_items_can_be_sent,
 };

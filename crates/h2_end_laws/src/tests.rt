@@ -1,15 +1,17 @@
 //! The laws are called.
 
 use crate::{
-    blocks_are_of_the_lists, each_is_replied_to, events_are_of_the_items, items_are_frames_grouped,
-    nothing_follows_a_failure, pieces_do_not_matter, prefix_of_the_output, receive_window_is_kept,
-    replays_are_logs, take_answers, written_items_can_be_sent,
+    blocks_are_of_the_lists, each_is_replied_to, each_step_writes_what_it_owes,
+    events_are_of_the_items, items_are_frames_grouped, nothing_follows_a_failure,
+    pieces_do_not_matter, prefix_of_the_output, receive_window_is_kept, replays_are_logs,
+    stream_window_is_conserved, take_answers, windows_hold_data, written_items_can_be_sent,
 };
 
 #[test]
 fn laws_are_called() {
     blocks_are_of_the_lists();
     each_is_replied_to();
+    each_step_writes_what_it_owes();
     events_are_of_the_items();
     items_are_frames_grouped();
     nothing_follows_a_failure();
@@ -17,6 +19,8 @@ fn laws_are_called() {
     prefix_of_the_output();
     receive_window_is_kept();
     replays_are_logs();
+    stream_window_is_conserved();
     take_answers();
+    windows_hold_data();
     written_items_can_be_sent();
 }

@@ -1,21 +1,29 @@
 //! What an end writes.
 
-ghost use Rattle.std.specs.Prelude.{◌≡◌, ℕ, true, false, Some, pos, ◌+ℤ◌};
+ghost use Rattle.std.specs.Prelude.{◌≡◌, ℕ, ◌+◌, ◌<◌, Bool, true, false, List, ◌++◌, Option, Some};
+ghost use Rattle.std.specs.Prelude.{None, pos, ◌+ℤ◌, int_lt};
 ghost use Rattle.std.specs.List.{AllByRecursion, list_any};
 ghost use Rattle.h2_frame.specs.declared.code.Code.{Code};
 ghost use Rattle.h2_log.specs.declared.role.Role.{Role};
-ghost use Rattle.h2_log.specs.Items.{ends};
-ghost use Rattle.h2_log.specs.Acts.{Values, Act, Answer};
-ghost use Rattle.h2_log.specs.Settings.{own_value};
-ghost use Rattle.h2_log.specs.Windows.{first_window};
+ghost use Rattle.h2_block.specs.Grouping.{Item};
+ghost use Rattle.h2_log.specs.Items.{data_on, ends, increment_on, total};
+ghost use Rattle.h2_log.specs.Acts.{Values, Act, Answer, SendData, Refuse, Count};
+ghost use Rattle.h2_log.specs.Settings.{own_value, value_read};
+ghost use Rattle.h2_log.specs.Windows.{first_window, connection_send_window};
 ghost use Rattle.h2_log.specs.Limits.{max_frame_size_sent};
-ghost use Rattle.h2_log.specs.Log.{Log, acked, active, owed, recv_window};
+ghost use Rattle.h2_log.specs.Log.{Log, acked, active, owed, recv_window, send_window};
+ghost use Rattle.h2_log.specs.LogView.{log_view};
+ghost use Rattle.h2_log.specs.Verdicts.{ConnectionFault};
+ghost use Rattle.h2_log.specs.ItemRules.{Decoded, verdict_of, replies_to};
+ghost use Rattle.h2_log.specs.CallRules.{refusal_of, answer_of, items_of, refuse_fault};
+ghost use Rattle.h2_log.specs.LogSteps.{with_item};
 ghost use Rattle.h2_log.specs.LogCalls.{MayAnswer, with_call};
 ghost use Rattle.h2_log.specs.Histories.{IsLog};
 ghost use Rattle.h2_log_laws.specs.Sending.{IsSendable};
 ghost use Rattle.h2_end_laws.specs.Failures.{EndsInGoAway};
 ghost use Rattle.h2_end_laws.specs.Replies.{replies_due, replies_among};
 ghost use Rattle.h2_end_laws.specs.Sendings.{HasSendings};
+ghost use Rattle.h2_end_laws.specs.Written.{Writes};
 
 /// Each SETTINGS that was read has been acknowledged once, and each PING answered once with its
 /// octets, in order, and nothing else (RFC 9113, sections 6.5.3 and 6.7).
@@ -56,4 +64,45 @@ pub fn receive_window_is_kept()
         → active log i ≡ true → list_any (ends i) log.received ≡ false
         → recv_window log i +ℤ pos (owed log i)
         ≡ pos (own_value 4 first_window (acked log) log.sent) }
+{}
+
+/// What each step writes: of a call that is accepted, what it owes; of an item that is no fault of
+/// the connection, what is replied to it; and credit. Nothing comes in between, so that field blocks
+/// are unbroken (section 4.3).
+pub fn each_step_writes_what_it_owes()
+    ensures call { (log : Log) (act : Act) (answer : Answer) → log.failed ≡ None
+        → refusal_of (log_view log) act ≡ None → answer ≡ answer_of (log_view log) act
+        → ((id code : ℕ) → act ≡ Refuse id code → refuse_fault (log_view log) code ≡ None)
+        → Writes log (with_call log act answer) (items_of (log_view log) act answer) }
+    ensures item { (log : Log) (decoded : Option Decoded) (item : Item)
+        → ((code : Code) → verdict_of (log_view log) decoded item ≡ ConnectionFault code → ⊥)
+        → Writes log (with_item log decoded item)
+        (replies_to (verdict_of (log_view log) decoded item) item) }
+{}
+
+/// Right after DATA with octets was written, neither send window is negative (section 6.9.1).
+pub fn windows_hold_data()
+    ensures { (role : Role) (values : Values) (log : Log) (id count : ℕ) (octets : List ℕ)
+        (end : Bool) → IsLog role values log
+        → refusal_of (log_view log) (SendData id octets end) ≡ None
+        → answer_of (log_view log) (SendData id octets end) ≡ Count count → 0 < count
+        → (int_lt (send_window (with_call log (SendData id octets end) (Count count)) id) (pos 0)
+        ≡ false)
+        × (int_lt (connection_send_window log.received
+        (with_call log (SendData id octets end) (Count count)).sent) (pos 0) ≡ false) }
+{}
+
+/// A stream's window is conserved: what one end may send, its DATA under way, the increments that
+/// come back and what the other end owes are the initial window in force at the other end, as long
+/// as that is the one that was read last, and the stream is active there and not ended.
+pub fn stream_window_is_conserved()
+    ensures { (role : Role) (values : Values) (log theirs : Log) (way back : List Item) (i : ℕ)
+        → IsLog role values theirs → log.sent ≡ way ++ theirs.received
+        → theirs.sent ≡ back ++ log.received
+        → active theirs i ≡ true → list_any (ends i) theirs.received ≡ false
+        → value_read 4 first_window log.received
+        ≡ own_value 4 first_window (acked theirs) theirs.sent
+        → (send_window log i +ℤ pos (total (data_on i) way))
+        +ℤ pos (total (increment_on i) back + owed theirs i)
+        ≡ pos (own_value 4 first_window (acked theirs) theirs.sent) }
 {}

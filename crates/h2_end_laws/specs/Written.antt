@@ -1,0 +1,23 @@
+-- What is written in one step: what is owed, and then perhaps one WINDOW_UPDATE on stream 0 that
+-- returns credit (RFC 9113, section 6.9).
+use Rattle.std.specs.Prelude.{◌≡◌, ◌⊎◌, ℕ, List, [], ◌∷◌, ◌++◌}
+use Rattle.h2_frame.specs.Frames.{WindowUpdate}
+use Rattle.h2_block.specs.Grouping.{Item, alone}
+use Rattle.h2_log.specs.Items.{encoding_of_items}
+use Rattle.h2_log.specs.Limits.{max_frame_size_sent}
+use Rattle.h2_log.specs.Log.{Log}
+
+-- Nothing, or one WINDOW_UPDATE on stream 0.
+abbrev pub IsCredit : List Item → Type 0
+IsCredit items = (items ≡ []) ⊎ ((count : ℕ) × (items ≡ alone (WindowUpdate 0 count) ∷ []))
+
+-- These items were written, the newest first, with nothing in between, and credit before or after
+-- them.
+pub record Writes (before after : Log) (items : List Item) : Type 0 where
+  pub first : List Item
+  pub last : List Item
+  pub is_first : IsCredit first
+  pub is_last : IsCredit last
+  pub sent : after.sent ≡ last ++ (items ++ (first ++ before.sent))
+  pub written : after.written ≡ before.written
+      ++ encoding_of_items max_frame_size_sent (last ++ (items ++ first))
