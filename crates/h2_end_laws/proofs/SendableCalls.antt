@@ -103,7 +103,8 @@ active_above log i alive = some_above i (active_some log i alive)
 
 -- A call that writes what can be sent.
 items_keep : (role : Role) (log : Log) (act : Act) (answer : Answer)
-    → AllByRecursion (IsSendable max_frame_size_sent) (items_of (log_view log) act answer) → LogIsFit log
+    → AllByRecursion (IsSendable max_frame_size_sent) (items_of (log_view log) act answer)
+    → LogIsFit log
     → LogIsAllowed role (with_items log act answer) → LogIsFit (with_items log act answer)
 unfolding with_items
 items_keep role log act answer all are allowed =
@@ -131,7 +132,8 @@ number_low log with_sent none =
 open_sendable : (log : Log) (fields : List Field) (end : Bool)
     → AllowedHistory log.role log.received log.sent
     → refusal_of (log_view log) (Open fields end) ≡ None
-    → IsSendable max_frame_size_sent (block (log_view log).next_number end (block_of log.encoder fields))
+    → IsSendable max_frame_size_sent (block (log_view log).next_number end
+    (block_of log.encoder fields))
 unfolding conditions
 open_sendable log fields end with_sent none =
     let c1 = first_none _ _ _ none in
@@ -171,7 +173,8 @@ payload_short log = omega arith
 -- What a body writes.
 data_call_sendable : (log : Log) (id : ℕ) (octets : List ℕ) (end : Bool) (count : ℕ)
     → LogIsFit log → refusal_of (log_view log) (SendData id octets end) ≡ None
-    → AllByRecursion (IsSendable max_frame_size_sent) (data_items (max_payload_sent log) id octets end count)
+    → AllByRecursion (IsSendable max_frame_size_sent) (data_items
+    (max_payload_sent log) id octets end count)
 unfolding conditions
 data_call_sendable log id octets end count are none =
     let c1 = first_none _ _ _ none in
@@ -210,7 +213,8 @@ owed_low log i good are alive =
 
 -- The updates of a release, by the test whether the peer has ended the stream.
 updates_by : (id count : ℕ) (ended : Bool) → id < 2 ^ 31 → count < 2 ^ 31
-    → AllByRecursion (IsSendable max_frame_size_sent) (alone (WindowUpdate 0 count) ∷ (if ended then [] else alone
+    → AllByRecursion (IsSendable max_frame_size_sent) (alone (WindowUpdate 0 count) ∷
+    (if ended then [] else alone
     (WindowUpdate id count) ∷ []))
 updates_by id count true low small = (update_sendable 0 count (omega arith) small, tt)
 updates_by id count false low small =
@@ -219,7 +223,8 @@ updates_by id count false low small =
 -- What a release writes.
 release_sendable : (role : Role) (log : Log) (id count : ℕ) → Represents role (history_of log)
     → LogIsFit log → refusal_of (log_view log) (Release id count) ≡ None
-    → AllByRecursion (IsSendable max_frame_size_sent) (alone (WindowUpdate 0 count) ∷ (if ended_in ((log_view log).stream
+    → AllByRecursion (IsSendable max_frame_size_sent) (alone (WindowUpdate 0 count) ∷
+    (if ended_in ((log_view log).stream
     id) then [] else alone (WindowUpdate id count) ∷ []))
 unfolding conditions
 release_sendable role log id count represents are none =

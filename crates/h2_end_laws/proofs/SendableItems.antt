@@ -52,7 +52,8 @@ frame_sendable frame standalone short low fits good typed =
 
 -- DATA without padding.
 pub data_sendable : (stream : ℕ) (end : Bool) (octets : List ℕ) → 1 ≤ stream → stream < 2 ^ 31
-    → length octets ≤ max_frame_size_sent → IsSendable max_frame_size_sent (alone (Data stream end octets None))
+    → length octets ≤ max_frame_size_sent
+    → IsSendable max_frame_size_sent (alone (Data stream end octets None))
 unfolding is_standalone stream_of kind_of_frame fits_stream has_good_values payload_of
 data_sendable stream end octets some low short =
     frame_sendable (Data stream end octets None) refl short low (lt-ltb 0 stream some) refl tt
@@ -184,7 +185,8 @@ all_of_both P (item ∷ one) other here there = (here.0, all_of_both P one other
 data_by : (most id : ℕ) (octets : List ℕ) (end : Bool) (after : List Item) (b : Bool)
     → nat_le (length octets) most ≡ b → 1 ≤ id → id < 2 ^ 31 → most ≤ max_frame_size_sent
     → AllByRecursion (IsSendable max_frame_size_sent) after
-    → AllByRecursion (IsSendable max_frame_size_sent) (if b then alone (Data id end octets None) ∷ []
+    → AllByRecursion (IsSendable max_frame_size_sent) (if b then alone
+    (Data id end octets None) ∷ []
     else after ++ alone (Data id false (take most octets) None) ∷ [])
 data_by most id octets end after true test some low short there = (
   data_sendable id end octets some low (omega (arith, leb-true (length octets) most test, short)),
@@ -201,7 +203,8 @@ data_by most id octets end after false test some low short there =
     )
 
 data_frames_sendable : (count most id : ℕ) (octets : List ℕ) (end : Bool) → 1 ≤ id → id < 2 ^ 31
-    → most ≤ max_frame_size_sent → AllByRecursion (IsSendable max_frame_size_sent) (data_frames count most id octets end)
+    → most ≤ max_frame_size_sent
+    → AllByRecursion (IsSendable max_frame_size_sent) (data_frames count most id octets end)
 unfolding data_frames
 data_frames_sendable zero most id octets end some low short = tt
 data_frames_sendable (suc count) most id octets end some low short =
@@ -209,7 +212,8 @@ data_frames_sendable (suc count) most id octets end some low short =
     (nat_le (length octets) most) refl some low short
     (data_frames_sendable count most id (drop most octets) end some low short)
 
-data_items_by : (items : List Item) (b : Bool) → AllByRecursion (IsSendable max_frame_size_sent) items
+data_items_by : (items : List Item) (b : Bool)
+    → AllByRecursion (IsSendable max_frame_size_sent) items
     → AllByRecursion (IsSendable max_frame_size_sent) (if b then [] else items)
 data_items_by items true all = tt
 data_items_by items false all = all

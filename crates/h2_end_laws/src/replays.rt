@@ -10,8 +10,8 @@ ghost use Rattle.h2_end_laws.specs.Replays.{ReplayAct, IsReplay, acts_told, phas
 ghost use Rattle.h2_end_laws.specs.Replays.{octets_of_acts};
 
 /// The log of a replay comes about. Its turns tell of the acts, in order, with one call and one
-/// answer each; of the octets used, the octets written and the events of the log. Those used are the
-/// octets of the acts, and a prefix of them once the connection has failed.
+/// answer each; of the octets used, the octets written and the events of the log. Those used are
+/// the octets of the acts, and a prefix of them once the connection has failed.
 pub fn replays_are_logs()
     ensures closed { (role : Role) (values : Values) (acts : List ReplayAct) (log : Log)
         (turns : List Turn) → IsReplay role values acts log turns → IsLog role values log }

@@ -67,8 +67,8 @@ pub fn receive_window_is_kept()
 {}
 
 /// What each step writes: of a call that is accepted, what it owes; of an item that is no fault of
-/// the connection, what is replied to it; and credit. Nothing comes in between, so that field blocks
-/// are unbroken (section 4.3).
+/// the connection, what is replied to it; and credit. Nothing comes in between, so that field
+/// blocks are unbroken (section 4.3).
 pub fn each_step_writes_what_it_owes()
     ensures call { (log : Log) (act : Act) (answer : Answer) → log.failed ≡ None
         → refusal_of (log_view log) act ≡ None → answer ≡ answer_of (log_view log) act

@@ -26,8 +26,8 @@ pub fn written_items_are_read()
         → Groups (frames_of_items most items) (oldest_first items) None }
 {}
 
-/// The greatest payload that an end sends is no greater than the SETTINGS_MAX_FRAME_SIZE that it has
-/// received last (RFC 9113, section 4.2).
+/// The greatest payload that an end sends is no greater than the SETTINGS_MAX_FRAME_SIZE that it
+/// has received last (RFC 9113, section 4.2).
 pub fn payload_fits()
     ensures { (role : Role) (values : Values) (log : Log) → IsLog role values log
         → max_payload_sent log ≤ value_read 5 16384 log.received }

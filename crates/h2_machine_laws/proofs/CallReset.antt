@@ -40,7 +40,8 @@ others_same c id code i other =
     (own_quiet 4 first_window (confirmed c) (alone (Reset id code)) c.sent refl)
 
 -- The stream was reset.
-pub reset_here : (id code : ℕ) (sent : List Item) → list_any (resets id) (alone (Reset id code) ∷ sent)
+pub reset_here : (id code : ℕ) (sent : List Item)
+    → list_any (resets id) (alone (Reset id code) ∷ sent)
     ≡ true
 unfolding resets
 reset_here id code sent = rw (eq-eqb id id refl) refl

@@ -30,11 +30,13 @@ use Rattle.h2_machine.specs.Machine.{after_ignored, after_stream_fault, after_ve
 use Rattle.h2_machine.specs.Machine.{narrow_recv_window, with_encoder, with_table_after}
 use Rattle.hpack.specs.Lists.{list_size}
 use Rattle.h2_machine_laws.proofs.ConservedByFrames.{data_active, update_active, reset_no_fault}
-use Rattle.h2_machine_laws.proofs.ConservedByFrames.{connection_no_fault, none_active, fault_at_none}
+use Rattle.h2_machine_laws.proofs.ConservedByFrames.{connection_no_fault, none_active}
+use Rattle.h2_machine_laws.proofs.ConservedByFrames.{fault_at_none}
 use Rattle.h2_machine_laws.proofs.ConservedByFrames.{odd_not_even, fresh_above, used_then, flow_of}
 use Rattle.h2_machine_laws.proofs.ConservedByFrames.{verdict_within_limits}
 use Rattle.h2_machine_laws.proofs.CountedBySteps.{Counts, Counted, counts_returned, counts_ended}
-use Rattle.h2_machine_laws.proofs.CountedBySteps.{counts_reset, kept_used, data_counts, block_counts}
+use Rattle.h2_machine_laws.proofs.CountedBySteps.{counts_reset, kept_used, data_counts}
+use Rattle.h2_machine_laws.proofs.CountedBySteps.{block_counts}
 use Rattle.h2_machine_laws.proofs.CountedBySteps.{more_counts, values_count, enforced_counts}
 use Rattle.h2_machine_laws.proofs.CountedBySteps.{widened_counts}
 

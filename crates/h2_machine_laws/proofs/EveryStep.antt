@@ -21,7 +21,8 @@ use Rattle.h2_machine_laws.proofs.NewEnd.{new_represents}
 use Rattle.h2_machine_laws.proofs.NextUnprocessed.{next_same}
 use Rattle.h2_machine_laws.proofs.RecvFrames.{frame_represents}
 use Rattle.h2_machine_laws.proofs.RecvUnprocessed.{unprocessed_represents}
-use Rattle.h2_machine_laws.proofs.RecvWithoutFrame.{part_represents, fault_represents, out_of_memory_represents}
+use Rattle.h2_machine_laws.proofs.RecvWithoutFrame.{part_represents, fault_represents}
+use Rattle.h2_machine_laws.proofs.RecvWithoutFrame.{out_of_memory_represents}
 use Rattle.h2_machine_laws.proofs.SoundLogs.{sound_log}
 
 -- After a frame a machine represents the log with it.

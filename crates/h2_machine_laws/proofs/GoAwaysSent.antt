@@ -127,7 +127,8 @@ pub one_goaway : Item → ℕ
 one_goaway item = if is_goaway item then 1 else 0
 
 -- Where none is counted, none is one.
-pub none_counted : (items : List Item) → total one_goaway items ≡ 0 → list_any is_goaway items ≡ false
+pub none_counted : (items : List Item) → total one_goaway items ≡ 0
+    → list_any is_goaway items ≡ false
 unfolding total one_goaway
 none_counted [] none = refl
 none_counted (item ∷ items) none = by (is_goaway item) none (none_counted items)

@@ -34,7 +34,8 @@ use Rattle.h2_machine_laws.proofs.OneItemMore.{any_quiet}
 use Rattle.h2_log_laws.proofs.ItemLists.{total_one}
 use Rattle.h2_machine_laws.proofs.QuietNumbers.{AreOdd, unused_before}
 use Rattle.h2_machine_laws.proofs.RecvItems.{active_in, closed_used, used_odd}
-use Rattle.h2_machine_laws.proofs.RecvVerdictCases.{block_is_reported, block_is_fault, block_is_ignored}
+use Rattle.h2_machine_laws.proofs.RecvVerdictCases.{block_is_reported, block_is_fault}
+use Rattle.h2_machine_laws.proofs.RecvVerdictCases.{block_is_ignored}
 use Rattle.h2_machine_laws.proofs.UpInvariant.{none_both}
 
 -- There is one GOAWAY at most, whose last stream is no greater than this number.

@@ -47,9 +47,11 @@ use Rattle.h2_log_laws.proofs.InvariantCalls.{released_refused}
 use Rattle.h2_log_laws.proofs.CallConditions.{first_none}
 use Rattle.h2_log_laws.proofs.LogGrowth.{grows_call, grows_wrote, grows_with_unreturned}
 use Rattle.h2_log_laws.proofs.LogViewLemmas.{stream_is_active, owed_there}
-use Rattle.h2_machine_laws.proofs.GoAwaysSent.{one_goaway, none_counted, replies_none, memory_fails, data_counted, release_none}
+use Rattle.h2_machine_laws.proofs.GoAwaysSent.{one_goaway, none_counted, replies_none, memory_fails}
+use Rattle.h2_machine_laws.proofs.GoAwaysSent.{data_counted, release_none}
 use Rattle.h2_machine_laws.proofs.LogCore.{core}
-use Rattle.h2_machine_laws.proofs.NumberedLogs.{IsNumbered, goaway_sent, sent_numbered, reported_numbered, read_numbered, Continues}
+use Rattle.h2_machine_laws.proofs.NumberedLogs.{IsNumbered, goaway_sent, sent_numbered}
+use Rattle.h2_machine_laws.proofs.NumberedLogs.{reported_numbered, read_numbered, Continues}
 use Rattle.h2_machine_laws.proofs.QuietNumbers.{unused_before}
 use Rattle.h2_machine_laws.proofs.RecvItems.{active_in, active_low}
 use Rattle.h2_machine_laws.proofs.RecvStreamFaults.{test_low}

@@ -212,7 +212,8 @@ new_fits role values in_range =
         limit_most = omega arith;
         next = λ others is. same_range values others in_range is;
       };
-      all = λ i stream is. absurd (none_active (map.get map.empty i) stream (map.get-empty nat_cmp i) is);
+      all = λ i stream is. absurd (none_active (map.get map.empty i) stream
+          (map.get-empty nat_cmp i) is);
       reading = record {
         few = λ one is. absurd (cc);
         size = omega arith;

@@ -1,6 +1,7 @@
 -- The values of an end are in their ranges after each item, by its verdict, and after each frame.
 use Rattle.std.proofs.Common.{◌≡◌, ◌≢◌, ℕ, ◌+◌, ◌<◌, ◌≤◌, ◌^◌, ◌-◌, ◌==◌, ◌%◌, nat_lt, not, ◌&&◌}
-use Rattle.std.proofs.Common.{◌||◌, if◌then◌else◌, Bool, true, false, List, pos, ◌+ℤ◌, int_lt, [], ◌∷◌}
+use Rattle.std.proofs.Common.{◌||◌, if◌then◌else◌, Bool, true, false, List, pos, ◌+ℤ◌, int_lt, []}
+use Rattle.std.proofs.Common.{◌∷◌}
 use Rattle.std.proofs.Common.{◌++◌, length, length-append, Option, Some, None, is_some}
 use Rattle.std.proofs.Common.{refl, sym, ap, subst, ◌∙◌, arith, ltb-true, ltb-false, eqb-true}
 use Rattle.std.proofs.lemmas.Bool.{and_parts}
@@ -281,7 +282,8 @@ stream_within true above is = cc
 stream_within false true is = cc
 stream_within false false is = refl
 
--- An increment that is no fault leaves an active stream's window at most the greatest, by the entry.
+-- An increment that is no fault leaves an active stream's window at most the greatest, by the
+-- entry.
 update_by : (x : Option Entry) (idle above : Bool) (increment : ℕ)
     → update_verdict (state_by_entry x idle above) increment
     (overflows_stream increment (stream_in x)) ≡ NoEvent

@@ -14,7 +14,8 @@ use Rattle.h2_machine_laws.proofs.LogCore.{Core, CoreFacts, Advances, StreamsOf,
 use Rattle.h2_machine_laws.proofs.RecvEvents.{report, reported_kept}
 use Rattle.h2_machine_laws.proofs.RecvRead.{IsCommon, reads, windows_read, peer_read, goaways_read}
 use Rattle.h2_machine_laws.proofs.SentConnectionItems.{computing}
-use Rattle.h2_machine_laws.proofs.SentQuietItems.{sends, windows_sent, own_sent, goaways_sent, ping_sent}
+use Rattle.h2_machine_laws.proofs.SentQuietItems.{sends, windows_sent, own_sent, goaways_sent}
+use Rattle.h2_machine_laws.proofs.SentQuietItems.{ping_sent}
 
 -- An end keeps what a log says, but for its streams.
 pub record Beside (h : CoreFacts) (c : Core) : Type 0 where

@@ -1,6 +1,7 @@
 -- What a field block on an active stream, and one that is ignored, make of an end and of its log.
 use Rattle.std.proofs.Common.{◌≡◌, ◌≢◌, ℕ, ◌+◌, ◌-◌, ◌≤◌, ◌<◌, ◌%◌, ◌==◌, nat_lt, max, Bool}
-use Rattle.std.proofs.Common.{true, false, ◌&&◌, ◌||◌, if◌then◌else◌, List, [], ◌∷◌, Option, refl, ap}
+use Rattle.std.proofs.Common.{true, false, ◌&&◌, ◌||◌, if◌then◌else◌, List, [], ◌∷◌, Option, refl}
+use Rattle.std.proofs.Common.{ap}
 use Rattle.std.proofs.Common.{sym, ◌∙◌, inl, inr, arith, zero-add}
 use Rattle.std.specs.List.{list_any}
 use Rattle.std.specs.FinMap as map
@@ -28,18 +29,23 @@ use Rattle.h2_machine.specs.End.{End, StreamMap, Streams, active_entry, owed_ent
 use Rattle.h2_machine.specs.Machine.{with_table_after, set_stream, close_stream, after_reported}
 use Rattle.h2_machine.specs.Machine.{after_ignored, is_fresh}
 use Rattle.h2_machine_laws.proofs.CallOpen.{count_high, none_above}
-use Rattle.h2_machine_laws.proofs.LogCore.{StreamsOf, said, Core, core, CoreFacts, core_facts, Advances, Going, active_by_items, greatest_used, processed}
+use Rattle.h2_machine_laws.proofs.LogCore.{StreamsOf, said, Core, core, CoreFacts, core_facts}
+use Rattle.h2_machine_laws.proofs.LogCore.{Advances, Going, active_by_items, greatest_used}
+use Rattle.h2_machine_laws.proofs.LogCore.{processed}
 use Rattle.h2_machine_laws.proofs.OwedSums.{get_set_same}
-use Rattle.h2_machine_laws.proofs.RecvBeside.{Beside, beside_of, beside_table, beside_read, beside_reported, advances_with}
+use Rattle.h2_machine_laws.proofs.RecvBeside.{Beside, beside_of, beside_table, beside_read}
+use Rattle.h2_machine_laws.proofs.RecvBeside.{beside_reported, advances_with}
 use Rattle.h2_machine_laws.proofs.OwedAtClose.{none_owing, dead_owing}
 use Rattle.h2_machine_laws.proofs.RecvData.{or_swapped, opened_more}
-use Rattle.h2_machine_laws.proofs.RecvEvents.{report, ChangesNoStream, active_reported, same_reported}
+use Rattle.h2_machine_laws.proofs.RecvEvents.{report, ChangesNoStream, active_reported}
+use Rattle.h2_machine_laws.proofs.RecvEvents.{same_reported}
 use Rattle.h2_machine_laws.proofs.RecvRead.{reads, IsCommon, same_read}
 use Rattle.h2_machine_laws.proofs.ItemsApart.{block_apart}
 use Rattle.h2_machine_laws.proofs.RecvReturnedCredit.{After, returned, unsettled}
 use Rattle.h2_machine_laws.proofs.OwedAtClose.{owes_all}
 use Rattle.h2_machine_laws.proofs.RecvVerdict.{stream_said}
-use Rattle.h2_machine_laws.proofs.StreamsSame.{streams_set, streams_closed, said_over, same_both, SameAt, kept_at, same_stream, count_same}
+use Rattle.h2_machine_laws.proofs.StreamsSame.{streams_set, streams_closed, said_over, same_both}
+use Rattle.h2_machine_laws.proofs.StreamsSame.{SameAt, kept_at, same_stream, count_same}
 use Rattle.h2_machine_laws.proofs.WaitingOutput.{Waits}
 use Rattle.h2_log_laws.proofs.ReaderStates.{active_parts, active_from, lasts_parts, lasts_from}
 

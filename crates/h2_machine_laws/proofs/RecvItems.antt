@@ -27,7 +27,8 @@ use Rattle.h2_machine.specs.End.{End}
 use Rattle.h2_machine.specs.Machine.{after_verdict}
 use Rattle.h2_machine.specs.Represents.{goaway_sent_last}
 use Rattle.h2_log_laws.proofs.AllowedHistories.{increments_read}
-use Rattle.h2_log_laws.proofs.ReaderStates.{active_parts, active_used, state_active, state_is_active}
+use Rattle.h2_log_laws.proofs.ReaderStates.{active_parts, active_used, state_active}
+use Rattle.h2_log_laws.proofs.ReaderStates.{state_is_active}
 use Rattle.h2_log_laws.proofs.ReplyInvariant.{resets_used}
 use Rattle.h2_log_laws.proofs.StreamNumbers.{block_below}
 use Rattle.h2_machine_laws.proofs.CallOpen.{IsClear}
@@ -47,12 +48,16 @@ use Rattle.h2_machine_laws.proofs.RecvSettingsAck.{ack_reported}
 use Rattle.h2_machine_laws.proofs.RecvStreamFaults.{block_fault, data_fault, update_fault}
 use Rattle.h2_machine_laws.proofs.RecvStreamItems.{goaway_reported, update_ignored}
 use Rattle.h2_machine_laws.proofs.RecvVerdict.{Sound, IsUnread, recv_same}
-use Rattle.h2_machine_laws.proofs.RecvVerdictCases.{block_is_reported, block_is_fault, block_is_ignored}
-use Rattle.h2_machine_laws.proofs.RecvVerdictCases.{data_is_reported, data_is_fault, data_is_ignored}
-use Rattle.h2_machine_laws.proofs.RecvVerdictCases.{reset_is_reported, reset_is_ignored, reset_is_fault}
+use Rattle.h2_machine_laws.proofs.RecvVerdictCases.{block_is_reported, block_is_fault}
+use Rattle.h2_machine_laws.proofs.RecvVerdictCases.{block_is_ignored}
+use Rattle.h2_machine_laws.proofs.RecvVerdictCases.{data_is_reported, data_is_fault}
+use Rattle.h2_machine_laws.proofs.RecvVerdictCases.{data_is_ignored}
+use Rattle.h2_machine_laws.proofs.RecvVerdictCases.{reset_is_reported, reset_is_ignored}
+use Rattle.h2_machine_laws.proofs.RecvVerdictCases.{reset_is_fault}
 use Rattle.h2_machine_laws.proofs.RecvVerdictCases.{update_is_fault, update_is_reported}
 use Rattle.h2_machine_laws.proofs.UpInvariantLogs.{rules_is}
-use Rattle.h2_machine_laws.proofs.UpInvariantReads.{above_none, closed_by_us_is, fault_reported, fault_resets, reported_by}
+use Rattle.h2_machine_laws.proofs.UpInvariantReads.{above_none, closed_by_us_is, fault_reported}
+use Rattle.h2_machine_laws.proofs.UpInvariantReads.{fault_resets, reported_by}
 use Rattle.h2_machine_laws.proofs.WaitingOutput.{Waits}
 
 -- A stream in the state Active is active.

@@ -23,9 +23,14 @@ use Rattle.h2_log.specs.ItemEffects.{events_of, discarded_flow, fields_of}
 use Rattle.h2_log.specs.View.{StreamView}
 use Rattle.h2_machine.specs.End.{End, Streams, active_entry}
 use Rattle.h2_machine.specs.Machine.{with_table_after, after_reported}
-use Rattle.h2_machine_laws.proofs.CallOpen.{IsClear, count_added, none_above, untouched_window, end_or}
-use Rattle.h2_machine_laws.proofs.LogCore.{StreamsOf, said, Core, core, CoreFacts, core_facts, Advances, Going, confirmed, active_by_items, greatest_used}
-use Rattle.h2_machine_laws.proofs.RecvBlocks.{with_block, block_same, block_on, block_gives, block_ends, block_resets, fields_harmless, fields_flow, block_advances}
+use Rattle.h2_machine_laws.proofs.CallOpen.{IsClear, count_added, none_above, untouched_window}
+use Rattle.h2_machine_laws.proofs.CallOpen.{end_or}
+use Rattle.h2_machine_laws.proofs.LogCore.{StreamsOf, said, Core, core, CoreFacts, core_facts}
+use Rattle.h2_machine_laws.proofs.LogCore.{Advances, Going, confirmed, active_by_items}
+use Rattle.h2_machine_laws.proofs.LogCore.{greatest_used}
+use Rattle.h2_machine_laws.proofs.RecvBlocks.{with_block, block_same, block_on, block_gives}
+use Rattle.h2_machine_laws.proofs.RecvBlocks.{block_ends, block_resets, fields_harmless}
+use Rattle.h2_machine_laws.proofs.RecvBlocks.{fields_flow, block_advances}
 use Rattle.h2_machine_laws.proofs.OwedAtClose.{dead_owing}
 use Rattle.h2_machine_laws.proofs.RecvEvents.{ChangesNoStream, active_reported}
 use Rattle.h2_machine_laws.proofs.RecvReturnedCredit.{After, unsettled}

@@ -27,13 +27,16 @@ use Rattle.h2_machine.specs.Machine.{after_stream_fault, is_fresh, is_one}
 use Rattle.h2_machine.specs.Represents.{entry_by}
 use Rattle.h2_machine_laws.proofs.CallOpen.{none_above, count_high}
 use Rattle.h2_machine_laws.proofs.CallReset.{reset_here}
-use Rattle.h2_machine_laws.proofs.LogCore.{StreamsOf, Core, core, CoreFacts, core_facts, Advances, Going, active_by_items, greatest_used, said}
+use Rattle.h2_machine_laws.proofs.LogCore.{StreamsOf, Core, core, CoreFacts, core_facts, Advances}
+use Rattle.h2_machine_laws.proofs.LogCore.{Going, active_by_items, greatest_used, said}
 use Rattle.h2_machine_laws.proofs.RecvBlocks.{block_common, block_gives, block_takes}
 use Rattle.h2_machine_laws.proofs.ItemsApart.{block_apart}
 use Rattle.h2_machine_laws.proofs.OwedAtClose.{dead_owing}
 use Rattle.h2_machine_laws.proofs.RecvOpenings.{MayBeOpened, used_here, fresh_dead}
 use Rattle.h2_machine_laws.proofs.RecvReturnedCredit.{After, returned}
-use Rattle.h2_machine_laws.proofs.RecvStreamFaults.{with_fault, fault_same, fault_dead, fault_resets, fault_used, fault_advances, fault_shows}
+use Rattle.h2_machine_laws.proofs.RecvStreamFaults.{with_fault, fault_same, fault_dead}
+use Rattle.h2_machine_laws.proofs.RecvStreamFaults.{fault_resets, fault_used, fault_advances}
+use Rattle.h2_machine_laws.proofs.RecvStreamFaults.{fault_shows}
 use Rattle.h2_machine_laws.proofs.StreamsSame.{said_reset, SameAt, count_same}
 use Rattle.h2_machine_laws.proofs.WaitingOutput.{Waits, wrote_connection}
 

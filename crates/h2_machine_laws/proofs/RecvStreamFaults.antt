@@ -25,10 +25,13 @@ use Rattle.h2_machine.specs.End.{End, Streams, reset_entry, stream_at, owed_entr
 use Rattle.h2_machine.specs.Machine.{with_table_after, queue_output, reset_stream}
 use Rattle.h2_machine.specs.Machine.{after_stream_fault, is_fresh, is_one}
 use Rattle.h2_machine_laws.proofs.CallReset.{others_same, reset_here}
-use Rattle.h2_machine_laws.proofs.LogCore.{StreamsOf, Core, core, CoreFacts, core_facts, Advances, Going, active_by_items, kept_back, greatest_used, said}
+use Rattle.h2_machine_laws.proofs.LogCore.{StreamsOf, Core, core, CoreFacts, core_facts, Advances}
+use Rattle.h2_machine_laws.proofs.LogCore.{Going, active_by_items, kept_back, greatest_used, said}
 use Rattle.h2_log_laws.proofs.ItemLists.{total_one}
-use Rattle.h2_machine_laws.proofs.RecvBeside.{beside_of, beside_table, beside_read, beside_reported, beside_reset, advances_with}
-use Rattle.h2_machine_laws.proofs.RecvBlocks.{block_common, block_gives, block_takes, block_used, taken_low, IsTaken}
+use Rattle.h2_machine_laws.proofs.RecvBeside.{beside_of, beside_table, beside_read, beside_reported}
+use Rattle.h2_machine_laws.proofs.RecvBeside.{beside_reset, advances_with}
+use Rattle.h2_machine_laws.proofs.RecvBlocks.{block_common, block_gives, block_takes, block_used}
+use Rattle.h2_machine_laws.proofs.RecvBlocks.{taken_low, IsTaken}
 use Rattle.h2_machine_laws.proofs.ItemsApart.{block_apart}
 use Rattle.h2_machine_laws.proofs.RecvEvents.{report, ChangesNoStream, same_reported}
 use Rattle.h2_machine_laws.proofs.RecvRead.{reads, IsCommon, same_read}
@@ -36,14 +39,16 @@ use Rattle.h2_machine_laws.proofs.ItemsApart.{IsApart}
 use Rattle.h2_machine_laws.proofs.RecvReset.{data_common, data_used, data_gives, data_takes}
 use Rattle.h2_machine_laws.proofs.ItemsApart.{data_apart}
 use Rattle.h2_machine_laws.proofs.RecvReturnedCredit.{After, returned}
-use Rattle.h2_machine_laws.proofs.RecvStreamItems.{update_common, update_all, update_none, update_used}
+use Rattle.h2_machine_laws.proofs.RecvStreamItems.{update_common, update_all, update_none}
+use Rattle.h2_machine_laws.proofs.RecvStreamItems.{update_used}
 use Rattle.h2_machine_laws.proofs.ItemsApart.{update_apart}
 use Rattle.h2_machine_laws.proofs.OwedAtClose.{owes_all}
 use Rattle.h2_log_laws.proofs.ReleasedCredit.{gives_elsewhere}
 use Rattle.h2_machine_laws.proofs.RecvVerdict.{active_said, stream_said, none_said}
 use Rattle.h2_machine_laws.proofs.SentConnectionItems.{computing}
 use Rattle.h2_machine_laws.proofs.SentQuietItems.{sends, used_wrote}
-use Rattle.h2_machine_laws.proofs.StreamsSame.{streams_closed, said_reset, same_both, SameAt, active_some}
+use Rattle.h2_machine_laws.proofs.StreamsSame.{streams_closed, said_reset, same_both, SameAt}
+use Rattle.h2_machine_laws.proofs.StreamsSame.{active_some}
 use Rattle.h2_machine_laws.proofs.WaitingOutput.{Waits, wrote_connection}
 use Rattle.h2_log_laws.proofs.ReaderStates.{active_parts, lasts_parts}
 

@@ -54,7 +54,8 @@ ping_leaves ack octets =
     }
 
 -- Nor do SETTINGS.
-pub settings_leave : (ack : Bool) (pairs : List (ℕ × ℕ)) → LeavesStreams (alone (Settings ack pairs))
+pub settings_leave : (ack : Bool) (pairs : List (ℕ × ℕ))
+    → LeavesStreams (alone (Settings ack pairs))
 unfolding computing
 settings_leave ack pairs =
     record {

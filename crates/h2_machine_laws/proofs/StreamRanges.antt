@@ -1,5 +1,5 @@
--- The windows of streams are in their ranges: what an entry that is set, removed or shifted makes of
--- that.
+-- The windows of streams are in their ranges: what an entry that is set, removed or shifted makes
+-- of that.
 use Rattle.std.proofs.Common.{◌≡◌, ◌≢◌, ℕ, ◌+◌, ◌-◌, ◌<◌, ◌≤◌, ◌==◌, nat_lt, ◌&&◌, ◌||◌, Bool, true}
 use Rattle.std.proofs.Common.{false, cond, if◌then◌else◌, ℤ, pos, negsuc, ◌+ℤ◌, ◌-ℤ◌, int_lt, List}
 use Rattle.std.proofs.Common.{[], ◌∷◌, Option, Some, None, refl, sym, ap, subst, ◌∙◌, arith}
@@ -207,7 +207,8 @@ data_least : (greatest own count : ℕ) (w : ℤ) (some : Bool) → nat_lt 0 cou
     → (some && int_lt w (pos count)) ≡ false → own ≤ greatest
     → int_lt (w +ℤ pos greatest) (pos own) ≡ false
     → int_lt ((w -ℤ pos count) +ℤ pos greatest) (pos own) ≡ false
-data_least greatest own count w true some fits most is = false_from_ne_true _ (λ less. omega (arith, ints))
+data_least greatest own count w true some fits most is = false_from_ne_true _ (λ less. omega
+    (arith, ints))
 data_least greatest own count w false none fits most is =
     let zero : count ≤ 0 = ltb-false 0 count none in
     false_from_ne_true _ (λ less. omega (arith, ints, zero))
@@ -244,8 +245,10 @@ sent_most greatest count w is = false_from_ne_true _ (λ less. omega (arith, int
 sent_least : (greatest peer count : ℕ) (w : ℤ) → count ≤ at_least_none w → peer ≤ greatest
     → int_lt (w +ℤ pos greatest) (pos peer) ≡ false
     → int_lt ((w -ℤ pos count) +ℤ pos greatest) (pos peer) ≡ false
-sent_least greatest peer count (pos n) few most is = false_from_ne_true _ (λ less. omega (arith, ints))
-sent_least greatest peer count (negsuc n) few most is = false_from_ne_true _ (λ less. omega (arith, ints))
+sent_least greatest peer count (pos n) few most is = false_from_ne_true _ (λ less. omega
+    (arith, ints))
+sent_least greatest peer count (negsuc n) few most is = false_from_ne_true _ (λ less. omega
+    (arith, ints))
 
 -- A stream after octets that its window lets through.
 pub sent_fits_stream : (peer own : ℕ) (stream : StreamView) (count : ℕ) (ended : Bool)

@@ -174,7 +174,8 @@ above_none Server i sent none =
     false_from_ne_true _ (λ some. both_ways _ none (below_goaway i sent some))
 
 -- A stream in the state ClosedByUs is.
-pub closed_by_us_is : (used active closed_by_us : Bool) → state_by used active closed_by_us ≡ ClosedByUs
+pub closed_by_us_is : (used active closed_by_us : Bool)
+    → state_by used active closed_by_us ≡ ClosedByUs
     → closed_by_us ≡ true
 closed_by_us_is true false true is = refl
 closed_by_us_is true true closed_by_us is = cc

@@ -97,7 +97,8 @@ pub fails_connection : (role : Role) (failed : Option Code) (waits : List ℕ) (
     (code : Code) (last other : ℕ) → last ≡ other
     → ConnectionFacts role failed waits log
     → ConnectionFacts role (Some code) (waits
-    ++ encoding_of_items max_frame_size_sent (alone (GoAway last (code_number code) []) ∷ [])) (with_failure code other log)
+    ++ encoding_of_items max_frame_size_sent (alone (GoAway last (code_number code) []) ∷ []))
+        (with_failure code other log)
 unfolding with_sent
 fails_connection role failed waits log code last other same s =
     let wrote = wrote_connection role failed waits log (alone (GoAway other (code_number code) []))
@@ -117,7 +118,8 @@ pub with_unreturned_connection_by : (role : Role) (failed : Option Code) (waits 
     (log : Log) (more unreturned : ℕ) (b : Bool) → unreturned ≡ log.unreturned
     → ConnectionFacts role failed waits log
     → ConnectionFacts role failed (if b then waits
-    ++ encoding_of_items max_frame_size_sent (alone (WindowUpdate 0 (unreturned + more)) ∷ []) else waits)
+    ++ encoding_of_items max_frame_size_sent (alone (WindowUpdate 0
+        (unreturned + more)) ∷ []) else waits)
     (if b then with_credit_returned (record log { unreturned = log.unreturned + more }) else record
     log { unreturned = log.unreturned + more })
 unfolding with_sent

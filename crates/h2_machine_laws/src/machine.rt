@@ -20,7 +20,8 @@ ghost use Rattle.h2_machine.specs.Machine.{new_end, after_frame, fail, close_unp
 ghost use Rattle.h2_machine.specs.Machine.{unprocessed_of_end};
 ghost use Rattle.h2_machine.specs.Represents.{Represents};
 ghost use Rattle.h2_log.specs.declared.role.Role.{Role};
-ghost use Rattle.h2_machine_laws.specs.Machines.{end_after, Step, MayStep, log_after, machine_after};
+ghost use Rattle.h2_machine_laws.specs.Machines.{end_after, Step, MayStep, log_after};
+ghost use Rattle.h2_machine_laws.specs.Machines.{machine_after};
 
 /// A new machine represents the log of a new end.
 pub fn new_end_represents()
@@ -44,7 +45,8 @@ pub fn calls_preserve_representation()
 pub fn steps_without_frames_preserve_representation()
     ensures part { (values : Values) (e : End) (log : Log) (octets unparsed : List ℕ)
         → Represents values e log → TakesOctets log
-        → TakesPart e.role log octets unparsed → Represents values e (took_part log octets unparsed) }
+        → TakesPart e.role log octets unparsed
+        → Represents values e (took_part log octets unparsed) }
     ensures fault { (values : Values) (e : End) (log : Log) (octets : List ℕ) (fault : WireFault)
         → Represents values e log → TakesOctets log
         → TakesFault e.role log octets fault → Represents values (fail (wire_fault_code fault)

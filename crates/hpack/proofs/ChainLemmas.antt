@@ -6,7 +6,8 @@ use Rattle.std.proofs.Common.{length-drop}
 use Rattle.std.specs.List.{slice_get}
 use Rattle.std.proofs.lemmas.Option.{get_or_from_slice_get}
 use Rattle.std.proofs.lemmas.Bool.{cases_eq, cases_lt}
-use Rattle.std.proofs.lemmas.List.{get_or-set_same, get_or-set_other, length-set, drop-drop, get_or-drop}
+use Rattle.std.proofs.lemmas.List.{get_or-set_same, get_or-set_other, length-set, drop-drop}
+use Rattle.std.proofs.lemmas.List.{get_or-drop}
 use Rattle.hpack.specs.Entry.{Entry}
 use Rattle.hpack.specs.Sought.{first_index}
 use Rattle.hpack.specs.Chains.{LeadsTo, AreLinked, AreHeads}
@@ -157,7 +158,8 @@ pub linked_read : (bucket : Entry → ℕ) (entries : List Entry) (skips : List 
 linked_read bucket entries skips place skip other linked lt is =
     let same : get_or skips place 0 ≡ skip =
     get_or_from_slice_get skips place skip 0 is in
-    subst (λ (n : ℕ). LeadsTo bucket (bucket (get_or entries place other)) (drop (place + 1) entries)
+    subst (λ (n : ℕ). LeadsTo bucket (bucket (get_or entries place other)) (drop
+        (place + 1) entries)
     n) same
     (subst (λ (n : ℕ). LeadsTo bucket (bucket (get_or entries place other)) (drop n entries)
     (get_or skips place 0)) (let e : suc place ≡ place + 1 = omega arith in e)
@@ -183,7 +185,8 @@ pub record IsReached (bucket : Entry → ℕ) (sought : ℕ) (test : Entry → B
 
 -- The first place of a chain.
 pub reached_first : (bucket : Entry → ℕ) (sought : ℕ) (test : Entry → Bool)
-    (start : ℕ) (entries : List Entry) (place : ℕ) → ((one : Entry) → test one ≡ true → bucket one ≡ sought)
+    (start : ℕ) (entries : List Entry) (place : ℕ) → ((one : Entry) → test one ≡ true
+        → bucket one ≡ sought)
     → LeadsTo bucket sought entries place → IsReached bucket sought test start entries place
 reached_first bucket sought test start entries place only leads =
     record {

@@ -1,5 +1,6 @@
 -- Octets that are compared by words.
-use Rattle.std.proofs.Common.{◌≡◌, ◌≢◌, ℕ, zero, suc, ◌+◌, ◌-◌, ◌<◌, ◌≤◌, ◌==◌, ◌&&◌, nat_eq, Bool, true, false}
+use Rattle.std.proofs.Common.{◌≡◌, ◌≢◌, ℕ, zero, suc, ◌+◌, ◌-◌, ◌<◌, ◌≤◌, ◌==◌, ◌&&◌, nat_eq, Bool}
+use Rattle.std.proofs.Common.{true, false}
 use Rattle.std.proofs.Common.{List, [], ◌∷◌, length, get_or, take, drop, refl, sym, ap, ◌∙◌}
 use Rattle.std.proofs.Common.{subst, arith, length-drop}
 use Rattle.std.specs.Int.{w64, from_le_bytes, to_le_bytes}
@@ -28,7 +29,8 @@ other_lengths xs ys other =
 
 -- Where the first octets are the same, the others decide.
 same_rest : (count : ℕ) (xs ys : List ℕ) → count ≤ length xs → count ≤ length ys
-    → take count xs ≡ take count ys → same_octets (drop count xs) (drop count ys) ≡ same_octets xs ys
+    → take count xs ≡ take count ys
+    → same_octets (drop count xs) (drop count ys) ≡ same_octets xs ys
 same_rest zero xs ys long other_long same = refl
 same_rest (suc count) [] ys long other_long same = absurd (omega arith)
 same_rest (suc count) (x ∷ xs) [] long other_long same = absurd (omega arith)

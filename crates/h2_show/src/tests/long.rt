@@ -99,7 +99,8 @@ fn list_of_indices_above_the_limit(rt: HostRuntime) -> Result<(), Fail> {
     check(&rt, &stream, lines, Status::Good)
 }
 
-// A block in HEADERS and three CONTINUATIONs: one field whose value is 65,503 times `b`, or one more.
+// A block in HEADERS and three CONTINUATIONs: one field whose value is 65,503 times `b`, or one
+// more.
 fn long_field(alloc: Global, more: bool) -> Result<Vec<u8>, Fail> {
     let mut block = Vec::new(alloc);
     block.extend_from_slice(b"\x00\x01a\x7f")?;

@@ -90,8 +90,8 @@ impl Chains {
     }
 }
 
-/// Lowers all numbers, where the greatest one could be passed: what is older than that is as good as
-/// none, since far fewer entries are kept.
+/// Lowers all numbers, where the greatest one could be passed: what is older than that is as good
+/// as none, since far fewer entries are kept.
 fn lower(newest: &mut Vec<u32>)
     ensures len { length newest.new.items ≡ length newest.old.items }
     ensures lowered { (one : ℕ) → one < length newest.old.items

@@ -11,7 +11,8 @@ returns-then-is_too_large-clause-ok c =
       h.0,
       h.1,
       h.2,
-      too_large_stays c.args.builder.now _ h.0 (c.is_too_large.ensures.0 c.if-is_too_large.true) refl
+      too_large_stays c.args.builder.now _ h.0
+          (c.is_too_large.ensures.0 c.if-is_too_large.true) refl
           refl,
     ))
     c.skip_at.ensures.ok
