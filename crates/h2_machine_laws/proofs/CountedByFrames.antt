@@ -1,15 +1,14 @@
 -- The counts of an end are those of its entries after each item, by its verdict, and after each
 -- frame.
-use Rattle.std.proofs.Common.{◌≡◌, ◌≢◌, ◌⊎◌, ℕ, ◌+◌, ◌<◌, ◌≤◌, ◌==◌, ◌%◌, nat_lt, ◌&&◌}
+use Rattle.std.proofs.Common.{◌≡◌, ◌⊎◌, ℕ, ◌<◌, ◌≤◌, ◌==◌, ◌%◌, nat_lt, ◌&&◌}
 use Rattle.std.proofs.Common.{◌||◌, if◌then◌else◌, Bool, true, false, List, pos, [], ◌∷◌}
-use Rattle.std.proofs.Common.{length, Option, Some, None, is_some, refl, sym, inl, inr, arith}
+use Rattle.std.proofs.Common.{Option, Some, None, is_some, refl, inl, inr, arith}
 use Rattle.std.proofs.Common.{ltb-true}
 use Rattle.std.specs.FinMap as map
 use Rattle.h2_frame.specs.declared.code.Code.{Code}
 use Rattle.h2_frame.specs.Frames.{Frame, Data, Headers, Priority, Reset, Settings, Ping, GoAway}
 use Rattle.h2_frame.specs.Frames.{WindowUpdate, Continuation, Unknown}
 use Rattle.h2_frame.specs.Encoding.{stream_of}
-use Rattle.h2_frame.specs.Codes.{code_number}
 use Rattle.h2_block.specs.Grouping.{Item, alone, block}
 use Rattle.h2_machine.specs.End.{end_view, End, Entry, active_entry, reset_entry, stream_in}
 use Rattle.h2_machine.specs.End.{stream_at, state_by_entry, state_at, is_above}
@@ -30,11 +29,13 @@ use Rattle.h2_machine.specs.Machine.{after_ignored, after_stream_fault, after_ve
 use Rattle.h2_machine.specs.Machine.{narrow_recv_window, with_encoder, with_table_after}
 use Rattle.hpack.specs.Lists.{list_size}
 use Rattle.h2_machine_laws.proofs.ConservedByFrames.{data_active, update_active, reset_no_fault}
-use Rattle.h2_machine_laws.proofs.ConservedByFrames.{connection_no_fault, none_active, fault_at_none}
+use Rattle.h2_machine_laws.proofs.ConservedByFrames.{connection_no_fault, none_active}
+use Rattle.h2_machine_laws.proofs.ConservedByFrames.{fault_at_none}
 use Rattle.h2_machine_laws.proofs.ConservedByFrames.{odd_not_even, fresh_above, used_then, flow_of}
 use Rattle.h2_machine_laws.proofs.ConservedByFrames.{verdict_within_limits}
 use Rattle.h2_machine_laws.proofs.CountedBySteps.{Counts, Counted, counts_returned, counts_ended}
-use Rattle.h2_machine_laws.proofs.CountedBySteps.{counts_reset, kept_used, data_counts, block_counts}
+use Rattle.h2_machine_laws.proofs.CountedBySteps.{counts_reset, kept_used, data_counts}
+use Rattle.h2_machine_laws.proofs.CountedBySteps.{block_counts}
 use Rattle.h2_machine_laws.proofs.CountedBySteps.{more_counts, values_count, enforced_counts}
 use Rattle.h2_machine_laws.proofs.CountedBySteps.{widened_counts}
 
