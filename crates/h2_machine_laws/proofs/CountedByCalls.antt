@@ -1,8 +1,8 @@
 -- The counts of an end are those of its entries after each call that isn't refused; and they are so
 -- at first.
-use Rattle.std.proofs.Common.{◌≡◌, ℕ, ◌+◌, ◌-◌, ◌<◌, ◌≤◌, ◌==◌, nat_lt, not, ◌&&◌, ◌||◌}
+use Rattle.std.proofs.Common.{◌≡◌, ℕ, ◌+◌, ◌-◌, ◌<◌, ◌==◌, nat_lt, not, ◌&&◌, ◌||◌}
 use Rattle.std.proofs.Common.{if◌then◌else◌, Bool, true, false, List, [], ◌∷◌, length, pos, ◌+ℤ◌}
-use Rattle.std.proofs.Common.{◌-ℤ◌, Option, Some, None, is_some, refl, ap, arith}
+use Rattle.std.proofs.Common.{◌-ℤ◌, Option, Some, None, refl, ap, arith}
 use Rattle.std.specs.Ordering.{nat_cmp}
 use Rattle.std.specs.FinMap as map
 use Rattle.h2_frame.specs.declared.code.Code.{Code}

@@ -1,15 +1,14 @@
 -- The counts of an end are those of its entries after each item, by its verdict, and after each
 -- frame.
-use Rattle.std.proofs.Common.{◌≡◌, ◌≢◌, ◌⊎◌, ℕ, ◌+◌, ◌<◌, ◌≤◌, ◌==◌, ◌%◌, nat_lt, ◌&&◌}
+use Rattle.std.proofs.Common.{◌≡◌, ◌⊎◌, ℕ, ◌<◌, ◌≤◌, ◌==◌, ◌%◌, nat_lt, ◌&&◌}
 use Rattle.std.proofs.Common.{◌||◌, if◌then◌else◌, Bool, true, false, List, pos, [], ◌∷◌}
-use Rattle.std.proofs.Common.{length, Option, Some, None, is_some, refl, sym, inl, inr, arith}
+use Rattle.std.proofs.Common.{Option, Some, None, is_some, refl, inl, inr, arith}
 use Rattle.std.proofs.Common.{ltb-true}
 use Rattle.std.specs.FinMap as map
 use Rattle.h2_frame.specs.declared.code.Code.{Code}
 use Rattle.h2_frame.specs.Frames.{Frame, Data, Headers, Priority, Reset, Settings, Ping, GoAway}
 use Rattle.h2_frame.specs.Frames.{WindowUpdate, Continuation, Unknown}
 use Rattle.h2_frame.specs.Encoding.{stream_of}
-use Rattle.h2_frame.specs.Codes.{code_number}
 use Rattle.h2_block.specs.Grouping.{Item, alone, block}
 use Rattle.h2_machine.specs.End.{end_view, End, Entry, active_entry, reset_entry, stream_in}
 use Rattle.h2_machine.specs.End.{stream_at, state_by_entry, state_at, is_above}

@@ -123,8 +123,12 @@ counts_opened active resets used later m i stream none most within h =
     let inactive : one_active (map.get m i) ≡ 0 =
     active_by_entry (map.get m i) ∙ ap (λ (x : Option StreamView). is_one (is_some x)) none in
     record {
-      exact = omega (arith, h.exact, count-insert one_active refl m i
-          (active_entry stream), inactive);
+      exact = omega (
+        arith,
+        h.exact,
+        count-insert one_active refl m i (active_entry stream),
+        inactive,
+      );
       most = omega (arith, h.most, count-insert one_reset refl m i (active_entry stream));
       clear = clear_after m i used later (active_entry stream) most within h.clear;
     }

@@ -1,6 +1,6 @@
 -- How many entries are active, and how many are of streams that were reset: what an entry that is
 -- set, removed or changed makes of it.
-use Rattle.std.proofs.Common.{◌≡◌, ℕ, ◌+◌, ◌≤◌, Bool, cond, T, List, [], ◌∷◌, length, Option, Some}
+use Rattle.std.proofs.Common.{◌≡◌, ℕ, ◌+◌, cond, T, List, [], ◌∷◌, length, Option, Some}
 use Rattle.std.proofs.Common.{None, Ordering, Less, Equal, Greater, refl, sym, ap, ◌∙◌, arith}
 use Rattle.std.specs.Ordering.{nat_cmp, is_eq}
 use Rattle.std.specs.Cmp.{nat_cmp_total}

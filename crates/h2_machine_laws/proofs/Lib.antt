@@ -1,4 +1,5 @@
 -- The lemmas of the laws.
+mod BlocksBegun
 mod BoundsOfCalls
 mod BoundsOfFrames
 mod BoundsOfSteps
@@ -17,6 +18,7 @@ mod ConservedBySteps
 mod CountedByCalls
 mod CountedByFrames
 mod CountedBySteps
+mod CountedUnprocessed
 mod EachStream
 mod EntryCounts
 mod EveryStep

@@ -33,7 +33,7 @@ use Rattle.h2_log_laws.proofs.StreamNumbers.{client_low, last_none, least_none}
 use Rattle.h2_log_laws.proofs.InvariantLogs.{written_is_allowed}
 
 -- A number that is found, is active, and is above another.
-record Found (above n : ℕ) (es : List (ℕ × Entry)) : Type 0 where
+pub record Found (above n : ℕ) (es : List (ℕ × Entry)) : Type 0 where
   pub x : Entry
   pub found : map.find nat_cmp n es ≡ Some x
   pub active_by_items : is_active_entry x ≡ true
@@ -59,7 +59,7 @@ first_by above e es false is h after some =
     }
 
 -- The first active number is found.
-first_found : (above : ℕ) (es : List (ℕ × Entry)) → T (map.is_sorted nat_cmp es)
+pub first_found : (above : ℕ) (es : List (ℕ × Entry)) → T (map.is_sorted nat_cmp es)
     → first_active above es ≢ 0 → Found above (first_active above es) es
 unfolding first_active
 first_found above [] h some = absurd (some refl)

@@ -1,8 +1,8 @@
 -- The values of an end are in their ranges after each call that isn't refused; and they are so at
 -- first.
-use Rattle.std.proofs.Common.{◌≡◌, ℕ, ◌+◌, ◌-◌, ◌<◌, ◌≤◌, ◌==◌, nat_lt, not, min, ◌&&◌, ◌||◌}
+use Rattle.std.proofs.Common.{◌≡◌, ℕ, ◌-◌, ◌<◌, ◌≤◌, ◌==◌, nat_lt, not, ◌&&◌}
 use Rattle.std.proofs.Common.{if◌then◌else◌, Bool, true, false, List, [], ◌∷◌, length, pos, ◌+ℤ◌}
-use Rattle.std.proofs.Common.{◌-ℤ◌, ℤ, Option, Some, None, refl, subst, arith, ltb-false}
+use Rattle.std.proofs.Common.{◌-ℤ◌, Option, Some, None, refl, subst, arith, ltb-false}
 use Rattle.std.specs.Ordering.{nat_cmp}
 use Rattle.std.specs.FinMap as map
 use Rattle.h2_frame.specs.declared.code.Code.{Code}
@@ -16,7 +16,6 @@ use Rattle.h2_log.specs.Settings.{is_server}
 use Rattle.h2_log.specs.States.{greatest_number}
 use Rattle.h2_log.specs.CallRules.{data_items, conditions, refusal_of, at_least_none, data_count}
 use Rattle.h2_log.specs.CallRules.{answer_of, refuse_fault, returns_before_put_out}
-use Rattle.h2_log.specs.Limits.{max_data}
 use Rattle.h2_log.specs.View.{StreamView, owed_on}
 use Rattle.h2_log.specs.declared.role.Role.{Role}
 use Rattle.h2_machine.specs.Machine.{return_credit, queue_output, queue_call, update_stream}
@@ -212,8 +211,8 @@ new_fits role values in_range =
         limit_most = omega arith;
         next = λ others is. same_range values others in_range is;
       };
-      all = λ i stream is. absurd (none_active (map.get map.empty i) stream
-          (map.get-empty nat_cmp i) is);
+      all = λ i stream is. absurd
+          (none_active (map.get map.empty i) stream (map.get-empty nat_cmp i) is);
       reading = record {
         few = λ one is. absurd (cc);
         size = omega arith;

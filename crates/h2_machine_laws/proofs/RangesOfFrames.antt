@@ -1,9 +1,9 @@
 -- The values of an end are in their ranges after each item, by its verdict, and after each frame.
-use Rattle.std.proofs.Common.{◌≡◌, ◌≢◌, ℕ, ◌+◌, ◌<◌, ◌≤◌, ◌^◌, ◌-◌, ◌==◌, ◌%◌, nat_lt, not, ◌&&◌}
+use Rattle.std.proofs.Common.{◌≡◌, ◌≢◌, ℕ, ◌+◌, ◌<◌, ◌≤◌, ◌^◌, ◌-◌, ◌==◌, ◌%◌, nat_lt, ◌&&◌}
 use Rattle.std.proofs.Common.{◌||◌, if◌then◌else◌, Bool, true, false, List, pos, ◌+ℤ◌, int_lt, []}
 use Rattle.std.proofs.Common.{◌∷◌}
-use Rattle.std.proofs.Common.{◌++◌, length, length-append, Option, Some, None, is_some}
-use Rattle.std.proofs.Common.{refl, sym, ap, subst, ◌∙◌, arith, ltb-true, ltb-false, eqb-true}
+use Rattle.std.proofs.Common.{length, Option, Some, None, is_some}
+use Rattle.std.proofs.Common.{refl, subst, arith, ltb-true, ltb-false, eqb-true}
 use Rattle.std.proofs.lemmas.Bool.{and_parts}
 use Rattle.std.proofs.lemmas.Int.{ints}
 use Rattle.std.specs.FinMap as map
@@ -11,17 +11,13 @@ use Rattle.hpack.specs.Blocks.{Block}
 use Rattle.hpack.specs.Lists.{list_size}
 use Rattle.h2_frame.specs.declared.code.Code.{Code}
 use Rattle.h2_frame.specs.declared.code.Code.TheVariants.{ProtocolError, FlowControlError}
-use Rattle.h2_frame.specs.Codes.{code_number}
 use Rattle.h2_frame.specs.Encoding.{stream_of}
-use Rattle.h2_frame.specs.Frames.{Frame, Data, Headers, Priority, Reset, Settings, Ping, GoAway}
-use Rattle.h2_frame.specs.Frames.{WindowUpdate, Continuation, Unknown}
-use Rattle.h2_block.specs.declared.fault.BlockFault.{BlockFault}
-use Rattle.h2_block.specs.declared.fault.BlockFault.TheVariants.{Interrupted, TooLong}
-use Rattle.h2_block.specs.Grouping.{Item, alone, block, Begun, max_block_octets, next_fault}
-use Rattle.h2_block.specs.Grouping.{fault_outside, fault_inside}
+use Rattle.h2_frame.specs.Frames.{Frame, Data, Reset, Settings, Ping, GoAway}
+use Rattle.h2_frame.specs.Frames.{WindowUpdate}
+use Rattle.h2_block.specs.Grouping.{Item, alone, block, Begun, max_block_octets}
 use Rattle.h2_log.specs.ItemEffects.{encoder_after_item}
 use Rattle.h2_log.specs.ItemRules.{Decoded, FrameStep, fails_with, begins_block, completes}
-use Rattle.h2_log.specs.ItemRules.{frame_step, may_be_first, grouped, grouping_step, exceeds}
+use Rattle.h2_log.specs.ItemRules.{frame_step, exceeds}
 use Rattle.h2_log.specs.ItemRules.{exceeds_stream, overflows_by, overflows_stream, is_at_capacity}
 use Rattle.h2_log.specs.ItemRules.{first_fault, settings_fault, verdict_of_fault, verdict_by_rules}
 use Rattle.h2_log.specs.ItemRules.{verdict_of}
@@ -41,6 +37,7 @@ use Rattle.h2_machine.specs.Machine.{after_ignored, after_stream_fault, after_ve
 use Rattle.h2_machine.specs.Machine.{narrow_recv_window, with_encoder, with_table_after, mark_used}
 use Rattle.h2_machine.specs.Machine.{apply_settings, is_calm}
 use Rattle.h2_machine_laws.specs.Ranges.{ValuesAreInRange, IsDecodedAt}
+use Rattle.h2_machine_laws.proofs.BlocksBegun.{StepFits, frame_step_fits}
 use Rattle.h2_machine_laws.proofs.ConservedByFrames.{fresh_above, flow_of, verdict_within_limits}
 use Rattle.h2_machine_laws.proofs.RangesOfSteps.{Fits, fits, are_in_range, returned_fits}
 use Rattle.h2_machine_laws.proofs.RangesOfSteps.{closed_fits, reset_stream_fits, data_in_range}
@@ -208,9 +205,10 @@ pair_by : (e : End) (value before : ℕ) (b : Bool)
     → (b && nat_lt (2 ^ 31 - 1) value) ≡ false
     → (b && any_above e.peer.initial_window value (map.entries e.streams.entries)) ≡ false
     → Shifts e before → Shifts e (if b then value else before)
-pair_by e value before true within none h =
-    (ltb-false (2 ^ 31 - 1) value within,
-    none_above e.peer.initial_window value e.streams.entries none)
+pair_by e value before true within none h = (
+  ltb-false (2 ^ 31 - 1) value within,
+  none_above e.peer.initial_window value e.streams.entries none,
+)
 pair_by e value before false within none h = h
 
 -- The initial window after SETTINGS without fault.
@@ -241,9 +239,11 @@ no_fault (Some code) is = cc
 window_shifts : (e : End) (pairs : List (ℕ × ℕ)) → settings_fault (end_view e) pairs ≡ None
     → Fits e → Shifts e (value_after 4 e.peer.initial_window pairs)
 window_shifts e pairs is h =
-    value_fits e pairs e.peer.initial_window is
-    (h.peer_most, none_above_same e.peer.initial_window e.own.in_force.initial_window
-    e.streams.entries h.all)
+    value_fits e pairs e.peer.initial_window is (
+      h.peer_most,
+      none_above_same e.peer.initial_window e.own.in_force.initial_window
+          e.streams.entries h.all,
+    )
 
 -- The peer's SETTINGS are applied.
 settings_fit : (e : End) (pairs : List (ℕ × ℕ))
@@ -308,14 +308,16 @@ update_fits : (e : End) (i increment : ℕ) (b : Bool) → (i == 0) ≡ b
     → Fits e → (b ≡ true → e.windows.send + increment ≤ greatest_window)
     × (overflows_stream increment (stream_at e i) ≡ false)
 unfolding connection_update_verdict
-update_fits e i increment true zero is h =
-    (λ same. at_most greatest_window e.windows.send increment
-    (connection_within (increment == 0) (overflows_by increment (pos e.windows.send)) is),
-    none_overflows e i increment (stream_at e i) refl (eqb-true i 0 zero) h)
-update_fits e i increment false zero is h =
-    (λ same. absurd (cc),
-    update_by (map.get e.streams.entries i) (i % 2 == 0 || nat_lt e.streams.highest i)
-    (is_above e i) increment is)
+update_fits e i increment true zero is h = (
+  λ same. at_most greatest_window e.windows.send increment
+      (connection_within (increment == 0) (overflows_by increment (pos e.windows.send)) is),
+  none_overflows e i increment (stream_at e i) refl (eqb-true i 0 zero) h,
+)
+update_fits e i increment false zero is h = (
+  λ same. absurd (cc),
+  update_by (map.get e.streams.entries i) (i % 2 == 0 || nat_lt e.streams.highest i)
+      (is_above e i) increment is,
+)
 
 -- An item was ignored.
 ignored : (e : End) (decoded : Option Decoded) (item : Item) → Known e decoded item
@@ -366,84 +368,6 @@ after_one e decoded item NoEvent known is h =
 after_one e decoded item Reported known is h =
     reported e decoded item known
     (verdict_within_limits e decoded item Reported is (λ other wrong. cc)) h
-
--- What a frame makes of the block that has begun is within the limit, and is of the frame's stream.
-abbrev StepFits : ℕ → FrameStep → Type 0
-StepFits i (fails_with code) = Unit {0}
-StepFits i (begins_block begun) = length begun.octets ≤ max_block_octets
-StepFits i (completes (block stream end octets)) = stream ≡ i
-StepFits i (completes (alone frame)) = Unit {0}
-
--- HEADERS begin a block within the limit, or complete it, by the tests.
-headers_fit : (i : ℕ) (end last : Bool) (fragment : List ℕ) (pad : Option ℕ)
-    (priority : Option (List ℕ)) (b : Bool) → nat_lt max_block_octets (length fragment) ≡ b
-    → StepFits i (grouping_step None (Headers i end last fragment pad priority)
-    (if b then Some TooLong else None))
-unfolding grouping_step grouped
-headers_fit i end last fragment pad priority true long = tt
-headers_fit i end true fragment pad priority false fitting = refl
-headers_fit i end false fragment pad priority false fitting =
-    ltb-false max_block_octets (length fragment) fitting
-
--- CONTINUATION leaves a block within the limit, or completes it, by the tests.
-continuation_fits : (begun : Begun) (i : ℕ) (last : Bool) (fragment : List ℕ) (same long : Bool)
-    → (i == begun.stream) ≡ same
-    → nat_lt max_block_octets (length begun.octets + length fragment) ≡ long
-    → StepFits i (grouping_step (Some begun) (Continuation i last fragment)
-    (if not same then Some Interrupted else if long then Some TooLong else None))
-unfolding grouping_step grouped
-continuation_fits begun i last fragment false long apart is = tt
-continuation_fits begun i last fragment true true same is = tt
-continuation_fits begun i true fragment true false same is = sym (eqb-true i begun.stream same)
-continuation_fits begun i false fragment true false same is =
-    omega (
-      arith,
-      ltb-false max_block_octets (length begun.octets + length fragment) is,
-      length-append begun.octets fragment,
-    )
-
--- What a frame makes of the block that has begun, or of none.
-grouping_fits : (begun : Option Begun) (frame : Frame)
-    → StepFits (stream_of frame) (grouping_step begun frame (next_fault begun frame))
-unfolding grouping_step grouped fault_outside fault_inside stream_of
-grouping_fits None (Data i end octets pad) = tt
-grouping_fits None (Headers i end last fragment pad priority) =
-    headers_fit i end last fragment pad priority (nat_lt max_block_octets (length fragment)) refl
-grouping_fits None (Priority i octets) = tt
-grouping_fits None (Reset i code) = tt
-grouping_fits None (Settings ack pairs) = tt
-grouping_fits None (Ping ack octets) = tt
-grouping_fits None (GoAway last code debug) = tt
-grouping_fits None (WindowUpdate i increment) = tt
-grouping_fits None (Continuation i last fragment) = tt
-grouping_fits None (Unknown kind flags i payload) = tt
-grouping_fits (Some begun) (Data i end octets pad) = tt
-grouping_fits (Some begun) (Headers i end last fragment pad priority) = tt
-grouping_fits (Some begun) (Priority i octets) = tt
-grouping_fits (Some begun) (Reset i code) = tt
-grouping_fits (Some begun) (Settings ack pairs) = tt
-grouping_fits (Some begun) (Ping ack octets) = tt
-grouping_fits (Some begun) (GoAway last code debug) = tt
-grouping_fits (Some begun) (WindowUpdate i increment) = tt
-grouping_fits (Some begun) (Continuation i last fragment) =
-    continuation_fits begun i last fragment (i == begun.stream)
-    (nat_lt max_block_octets (length begun.octets + length fragment)) refl refl
-grouping_fits (Some begun) (Unknown kind flags i payload) = tt
-
--- What a frame makes of the block that has begun, by the test whether it may come.
-first_fits : (i : ℕ) (b : Bool) (step : FrameStep) → StepFits i step
-    → StepFits i (if b then fails_with ProtocolError else step)
-first_fits i true step h = tt
-first_fits i false step h = h
-
--- What a frame makes of the block that has begun is within the limit, and of its stream.
-frame_step_fits : (e : End) (frame : Frame)
-    → StepFits (stream_of frame) (frame_step (end_view e) frame)
-unfolding frame_step
-frame_step_fits e frame =
-    first_fits (stream_of frame) (not e.reading.started && not (may_be_first frame))
-    (grouping_step e.reading.begun frame (next_fault e.reading.begun frame))
-    (grouping_fits e.reading.begun frame)
 
 -- A block that is the same is within the same limit.
 same_begun : (begun other : Begun) → length begun.octets ≤ max_block_octets

@@ -1,6 +1,6 @@
 -- The values of an end are in their ranges: step by step.
-use Rattle.std.proofs.Common.{◌≡◌, ℕ, ◌+◌, ◌-◌, ◌<◌, ◌≤◌, ◌==◌, nat_lt, max, ◌&&◌, ◌||◌}
-use Rattle.std.proofs.Common.{if◌then◌else◌, Bool, true, false, List, length, pos, ◌+ℤ◌, Option}
+use Rattle.std.proofs.Common.{◌≡◌, ℕ, ◌+◌, ◌≤◌, ◌==◌, nat_lt, ◌&&◌, ◌||◌}
+use Rattle.std.proofs.Common.{if◌then◌else◌, Bool, true, false, length, pos, ◌+ℤ◌, Option}
 use Rattle.std.proofs.Common.{Some, None, ◌≢◌, refl, ap, ◌∙◌, arith}
 use Rattle.std.specs.FinMap as map
 use Rattle.hpack.specs.Sizes.{table_size}
@@ -8,17 +8,17 @@ use Rattle.hpack.specs.Tables.{Entries}
 use Rattle.h2_block.specs.Grouping.{Begun, max_block_octets}
 use Rattle.h2_log.specs.Acts.{Values, AreInRange}
 use Rattle.h2_log.specs.Limits.{full_output, max_table_limit}
-use Rattle.h2_log.specs.ItemRules.{exceeds_stream, overflows_stream, overflows_by}
+use Rattle.h2_log.specs.ItemRules.{exceeds_stream, overflows_stream}
 use Rattle.h2_log.specs.States.{greatest_number}
 use Rattle.h2_log.specs.View.{StreamView}
 use Rattle.h2_log.specs.Windows.{greatest_window}
-use Rattle.h2_machine.specs.End.{End, Entry, StreamMap, OwnSettings, active_entry, reset_entry}
-use Rattle.h2_machine.specs.End.{stream_in, stream_at, owed_entry}
+use Rattle.h2_machine.specs.End.{End, StreamMap, OwnSettings, active_entry, reset_entry}
+use Rattle.h2_machine.specs.End.{stream_at, owed_entry}
 use Rattle.h2_machine.specs.Machine.{return_credit, add_unreturned, set_stream, close_stream}
 use Rattle.h2_machine.specs.Machine.{reset_stream, update_stream, with_flow, receive_data}
 use Rattle.h2_machine.specs.Machine.{receive_block, apply_own_settings, widen_send_window}
 use Rattle.h2_machine.specs.Machine.{new_stream, more_unreturned, narrow_recv_window}
-use Rattle.h2_machine_laws.specs.Ranges.{ValuesAreInRange, StreamIsInRange}
+use Rattle.h2_machine_laws.specs.Ranges.{ValuesAreInRange}
 use Rattle.h2_machine_laws.proofs.StreamRanges.{WindowsFit, StreamsFit, set_fits, reset_fits}
 use Rattle.h2_machine_laws.proofs.StreamRanges.{removed_fits, recv_shifted_fits, data_fits_stream}
 use Rattle.h2_machine_laws.proofs.StreamRanges.{widened_fits_stream, new_fits_stream}
@@ -86,12 +86,15 @@ fits e h =
         limit_most = h.table_limit;
         next = h.awaited;
       };
-      all = λ i stream is. (λ zero. not_zero e i stream h.connection is zero, record {
-        send_most = (h.streams i stream is).send_most;
-        send_least = (h.streams i stream is).send_least;
-        recv_most = (h.streams i stream is).recv_most;
-        recv_least = (h.streams i stream is).recv_least;
-      });
+      all = λ i stream is. (
+        λ zero. not_zero e i stream h.connection is zero,
+        record {
+          send_most = (h.streams i stream is).send_most;
+          send_least = (h.streams i stream is).send_least;
+          recv_most = (h.streams i stream is).recv_most;
+          recv_least = (h.streams i stream is).recv_least;
+        },
+      );
       reading = record { few = h.begun; size = h.table; most = h.maximum };
     }
 

@@ -1,6 +1,6 @@
 -- The windows of streams are in their ranges: what an entry that is set, removed or shifted makes
 -- of that.
-use Rattle.std.proofs.Common.{◌≡◌, ◌≢◌, ℕ, ◌+◌, ◌-◌, ◌<◌, ◌≤◌, ◌==◌, nat_lt, ◌&&◌, ◌||◌, Bool, true}
+use Rattle.std.proofs.Common.{◌≡◌, ◌≢◌, ℕ, ◌+◌, ◌-◌, ◌≤◌, ◌==◌, nat_lt, ◌&&◌, ◌||◌, Bool, true}
 use Rattle.std.proofs.Common.{false, cond, if◌then◌else◌, ℤ, pos, negsuc, ◌+ℤ◌, ◌-ℤ◌, int_lt, List}
 use Rattle.std.proofs.Common.{[], ◌∷◌, Option, Some, None, refl, sym, ap, subst, ◌∙◌, arith}
 use Rattle.std.proofs.Common.{ltb-false, eqb-true}
@@ -159,15 +159,17 @@ send_by : (old new own q : ℕ) (x : Option Entry) (s : StreamView)
 send_by old new own q None s all most is = absurd (cc)
 send_by old new own q (Some reset_entry) s all most is = absurd (cc)
 send_by old new own q (Some (active_entry t)) s all most is =
-    let h = all t refl in
-    (h.0, same_fits new own
-    (record t { send_window = (t.send_window +ℤ pos new) -ℤ pos old }) s
-    (record {
-      send_most = shift_most greatest_window old new t.send_window (most t refl);
-      send_least = shift_least greatest_window old new t.send_window h.1.send_least;
-      recv_most = h.1.recv_most;
-      recv_least = h.1.recv_least;
-    }) is)
+    let h = all t refl in (
+      h.0,
+      same_fits new own
+          (record t { send_window = (t.send_window +ℤ pos new) -ℤ pos old }) s
+          (record {
+            send_most = shift_most greatest_window old new t.send_window (most t refl);
+            send_least = shift_least greatest_window old new t.send_window h.1.send_least;
+            recv_most = h.1.recv_most;
+            recv_least = h.1.recv_least;
+          }) is,
+    )
 
 -- Send windows are shifted to another initial window of the peer's.
 pub send_shifted_fits : (old new own : ℕ) (m : StreamMap) → NoneAbove old new m
@@ -184,15 +186,17 @@ recv_by : (peer old new q : ℕ) (x : Option Entry) (s : StreamView)
 recv_by peer old new q None s all is = absurd (cc)
 recv_by peer old new q (Some reset_entry) s all is = absurd (cc)
 recv_by peer old new q (Some (active_entry t)) s all is =
-    let h = all t refl in
-    (h.0, same_fits peer new
-    (record t { recv_window = (t.recv_window +ℤ pos new) -ℤ pos old }) s
-    (record {
-      send_most = h.1.send_most;
-      send_least = h.1.send_least;
-      recv_most = shift_owed old new t.owed t.recv_window h.1.recv_most;
-      recv_least = shift_least greatest_window old new t.recv_window h.1.recv_least;
-    }) is)
+    let h = all t refl in (
+      h.0,
+      same_fits peer new
+          (record t { recv_window = (t.recv_window +ℤ pos new) -ℤ pos old }) s
+          (record {
+            send_most = h.1.send_most;
+            send_least = h.1.send_least;
+            recv_most = shift_owed old new t.owed t.recv_window h.1.recv_most;
+            recv_least = shift_least greatest_window old new t.recv_window h.1.recv_least;
+          }) is,
+    )
 
 -- Receive windows are shifted to another initial window of this end's.
 pub recv_shifted_fits : (peer old new : ℕ) (m : StreamMap) → StreamsFit peer old m
@@ -207,8 +211,8 @@ data_least : (greatest own count : ℕ) (w : ℤ) (some : Bool) → nat_lt 0 cou
     → (some && int_lt w (pos count)) ≡ false → own ≤ greatest
     → int_lt (w +ℤ pos greatest) (pos own) ≡ false
     → int_lt ((w -ℤ pos count) +ℤ pos greatest) (pos own) ≡ false
-data_least greatest own count w true some fits most is = false_from_ne_true _ (λ less. omega
-    (arith, ints))
+data_least greatest own count w true some fits most is =
+    false_from_ne_true _ (λ less. omega (arith, ints))
 data_least greatest own count w false none fits most is =
     let zero : count ≤ 0 = ltb-false 0 count none in
     false_from_ne_true _ (λ less. omega (arith, ints, zero))
@@ -245,10 +249,10 @@ sent_most greatest count w is = false_from_ne_true _ (λ less. omega (arith, int
 sent_least : (greatest peer count : ℕ) (w : ℤ) → count ≤ at_least_none w → peer ≤ greatest
     → int_lt (w +ℤ pos greatest) (pos peer) ≡ false
     → int_lt ((w -ℤ pos count) +ℤ pos greatest) (pos peer) ≡ false
-sent_least greatest peer count (pos n) few most is = false_from_ne_true _ (λ less. omega
-    (arith, ints))
-sent_least greatest peer count (negsuc n) few most is = false_from_ne_true _ (λ less. omega
-    (arith, ints))
+sent_least greatest peer count (pos n) few most is =
+    false_from_ne_true _ (λ less. omega (arith, ints))
+sent_least greatest peer count (negsuc n) few most is =
+    false_from_ne_true _ (λ less. omega (arith, ints))
 
 -- A stream after octets that its window lets through.
 pub sent_fits_stream : (peer own : ℕ) (stream : StreamView) (count : ℕ) (ended : Bool)

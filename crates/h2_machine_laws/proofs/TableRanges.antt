@@ -1,5 +1,5 @@
 -- A field block leaves a table within its maximum, and that within the limit.
-use Rattle.std.proofs.Common.{◌≡◌, ℕ, ◌≤◌, List, [], ◌∷◌, refl, sym, ap, subst, ◌∙◌, arith}
+use Rattle.std.proofs.Common.{◌≡◌, ℕ, ◌≤◌, List, [], ◌∷◌, refl, sym, subst, arith}
 use Rattle.hpack.proofs.WrittenTables.{fit_within}
 use Rattle.hpack.specs.Blocks.{Step, by_index, by_literal, Fields, Updates, Block, after_literal}
 use Rattle.hpack.specs.Sizes.{table_size}

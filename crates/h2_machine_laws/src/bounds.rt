@@ -1,7 +1,7 @@
 //! What is bounded at one end, and that its connection's receive window is conserved: over the
 //! machine, whatever comes and whatever is asked of it.
 
-ghost use Rattle.std.specs.Prelude.{◌≡◌, ℕ, ◌≤◌, length, Option, None};
+ghost use Rattle.std.specs.Prelude.{◌≡◌, ◌≢◌, ℕ, ◌≤◌, length, Option, None};
 ghost use Rattle.std.specs.FinMap as map;
 ghost use Rattle.h2_frame.specs.Encoding.{stream_of};
 ghost use Rattle.h2_log.specs.States.{greatest_number};
@@ -11,7 +11,7 @@ ghost use Rattle.h2_machine.specs.End.{end_view, End};
 ghost use Rattle.h2_log.specs.Acts.{Values, AreInRange, Act, IsTypedAct};
 ghost use Rattle.h2_log.specs.ItemRules.{Decoded};
 ghost use Rattle.h2_machine.specs.Machine.{new_end, after_frame, after_call, fail};
-ghost use Rattle.h2_machine.specs.Machine.{close_unprocessed};
+ghost use Rattle.h2_machine.specs.Machine.{close_unprocessed, unprocessed_of_end};
 ghost use Rattle.h2_log.specs.CallRules.{refusal_of};
 ghost use Rattle.h2_log.specs.declared.role.Role.{Role};
 ghost use Rattle.h2_machine_laws.specs.Bounds.{IsBounded, KeepsConnectionWindow};
@@ -69,16 +69,17 @@ pub fn values_are_in_range()
 {}
 
 /// An end keeps as many entries of streams as are active and as were reset, by its counts, so at
-/// most 2,000 where these are bounded: at first, and after each frame, fault, stream that is
-/// reported as unprocessed, and call.
+/// most 2,000 where these are bounded: at first, and after each frame, fault, the stream that is
+/// next to be reported as unprocessed, and call.
 pub fn entries_are_counted()
     ensures begins { (role : Role) (values : Values) → CountsEntries (new_end role values) }
     ensures frame { (e : End) (decoded : Option Decoded) (frame : Frame) → e.failed ≡ None
         → CountsEntries e → CountsEntries (after_frame e decoded frame) }
     ensures fault { (e : End) (code : Code) → CountsEntries e
         → CountsEntries (fail code e.streams.last_processed e) }
-    ensures unprocessed { (e : End) (i : ℕ) → CountsEntries e
-        → CountsEntries (close_unprocessed e i) }
+    ensures unprocessed { (e : End) (i : ℕ)
+        → i ≡ unprocessed_of_end e.role e.streams.entries e.goaway.received → i ≢ 0
+        → CountsEntries e → CountsEntries (close_unprocessed e i) }
     ensures call { (e : End) (act : Act) → refusal_of (end_view e) act ≡ None → IsTypedAct act
         → CountsEntries e → CountsEntries (after_call e act) }
     ensures most { (e : End) → IsBounded e → CountsEntries e

@@ -5,6 +5,7 @@ use Rattle.h2_machine.specs.Machine.{new_end, after_frame, after_call}
 use Rattle.h2_machine_laws.proofs.CountedByCalls.{new_counts, call_counts}
 use Rattle.h2_machine_laws.proofs.CountedByFrames.{frame_counts}
 use Rattle.h2_machine_laws.proofs.CountedBySteps.{counted, is_counted}
+use Rattle.h2_machine_laws.proofs.CountedUnprocessed.{unprocessed_counts}
 use Rattle.h2_machine_laws.proofs.EntryCounts.{active_counted, reset_counted, all_counted}
 use Rattle.h2_machine_laws.proofs.bounds.entries_are_counted.Goals as goal
 
@@ -31,3 +32,6 @@ returns-clause-most c e bounded counted =
       reset_counted (map.entries e.streams.entries),
       all_counted (map.entries e.streams.entries),
     )
+
+pub returns-clause-unprocessed : goal.returns-clause-unprocessed
+returns-clause-unprocessed c e i is some h = unprocessed_counts e i is some h
