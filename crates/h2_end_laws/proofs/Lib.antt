@@ -1,5 +1,6 @@
 -- The lemmas of the laws.
 pub mod BareLogs
+pub mod ConservedWindows
 pub mod Failures
 pub mod Grouped
 pub mod GroupedPrefixes
