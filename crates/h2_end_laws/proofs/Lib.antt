@@ -32,3 +32,4 @@ pub mod TakeAnswers
 pub mod TakenFrames
 pub mod TurnsAdded
 pub mod Unread
+pub mod WrittenSteps
