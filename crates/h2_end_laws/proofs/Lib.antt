@@ -1,6 +1,7 @@
 -- The lemmas of the laws.
 pub mod BareLogs
 pub mod ConservedWindows
+pub mod DataWindows
 pub mod Failures
 pub mod Grouped
 pub mod GroupedPrefixes
