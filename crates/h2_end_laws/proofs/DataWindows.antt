@@ -1,12 +1,12 @@
 -- The send windows after DATA: none is negative.
-use Rattle.std.proofs.Common.{◌≡◌, ℕ, zero, suc, ◌+◌, ◌-◌, min, ◌≤◌, ◌<◌, ◌==◌, ◌&&◌, not, nat_lt}
+use Rattle.std.proofs.Common.{◌≡◌, ℕ, zero, suc, ◌+◌, ◌-◌, min, ◌≤◌, ◌<◌, ◌==◌, ◌&&◌, not}
 use Rattle.std.proofs.Common.{nat_le, Bool, true, false, if◌then◌else◌, List, [], ◌∷◌, ◌++◌, length}
-use Rattle.std.proofs.Common.{take, drop, None, pos, ◌-ℤ◌, refl, sym, ap, ◌∙◌, inl, inr, arith}
-use Rattle.std.proofs.Common.{length-drop, subst}
+use Rattle.std.proofs.Common.{take, drop, None, pos, ◌-ℤ◌, refl, sym, ◌∙◌, inl, inr, arith}
+use Rattle.std.proofs.Common.{length-drop}
 use Rattle.std.specs.Prelude.{int_lt}
 use Rattle.std.proofs.lemmas.Int.{ints}
 use Rattle.std.proofs.lemmas.List.{length-take-le}
-use Rattle.std.proofs.lemmas.Bool.{leb-true, leb-false, eq-eqb}
+use Rattle.std.proofs.lemmas.Bool.{leb-false}
 use Rattle.std.proofs.lemmas.Bool.Decides.{nat_tests}
 use Rattle.h2_frame.specs.Frames.{Data, WindowUpdate}
 use Rattle.h2_frame.specs.Encoding.{payload_of}
@@ -18,7 +18,7 @@ use Rattle.h2_log.specs.Windows.{given_on, given_on_connection, connection_send_
 use Rattle.h2_log.specs.Limits.{max_data}
 use Rattle.h2_log.specs.Log.{Log, active, max_payload_sent, send_window}
 use Rattle.h2_log.specs.LogView.{log_view}
-use Rattle.h2_log.specs.CallRules.{answer_of, data_count, data_frames, data_items, items_of}
+use Rattle.h2_log.specs.CallRules.{answer_of, data_frames, data_items, items_of}
 use Rattle.h2_log.specs.CallRules.{conditions, refusal_of}
 use Rattle.h2_log.specs.LogCalls.{called, with_items, with_call}
 use Rattle.h2_log.specs.Histories.{IsLog}
@@ -29,7 +29,7 @@ use Rattle.h2_end_laws.specs.Written.{IsCredit}
 use Rattle.h2_end_laws.proofs.ReceiveWindows.{total_none, total_one}
 use Rattle.h2_end_laws.proofs.WrittenSteps.{Puts, puts_items}
 
--- DATA without padding takes its octets of a stream at most.
+-- DATA without padding takes at most its octets of a stream.
 takes_on : (i id : ℕ) (end : Bool) (octets : List ℕ)
     → data_on i (alone (Data id end octets None)) ≤ length octets
 unfolding data_on payload_of
@@ -39,27 +39,27 @@ takes_on i id end octets = takes_by (id == i) (length octets)
     takes_by true n = omega arith
     takes_by false n = omega arith
 
--- It takes its octets of the connection.
+-- It takes at most its octets of the connection.
 takes_of : (id : ℕ) (end : Bool) (octets : List ℕ)
     → data_of (alone (Data id end octets None)) ≤ length octets
 unfolding data_of payload_of
 takes_of id end octets = omega arith
 
--- A total over one item and others.
-total_and : (f : Item → ℕ) (item : Item) → total f (item ∷ []) ≡ f item
+-- A total of one item is its number.
+total_single : (f : Item → ℕ) (item : Item) → total f (item ∷ []) ≡ f item
 unfolding total
-total_and f item = omega arith
+total_single f item = omega arith
 
 module _ (f : Item → ℕ)
     (takes : (id : ℕ) (end : Bool) (octets : List ℕ)
     → f (alone (Data id end octets None)) ≤ length octets) where
-  -- The DATA of octets takes them at most, by the test whether it is the last.
+  -- The DATA of octets takes at most them, by the test whether it is the last.
   frames_by : (most id : ℕ) (octets : List ℕ) (end : Bool) (after : List Item) (b : Bool)
       → nat_le (length octets) most ≡ b → total f after ≤ length (drop most octets)
       → total f (if b then alone (Data id end octets None) ∷ []
       else after ++ alone (Data id false (take most octets) None) ∷ []) ≤ length octets
   frames_by most id octets end after true test unparsed =
-      omega (arith, total_and f (alone (Data id end octets None)), takes id end octets)
+      omega (arith, total_single f (alone (Data id end octets None)), takes id end octets)
   frames_by most id octets end after false test unparsed =
       let more = leb-false (length octets) most test in
       omega (
@@ -69,11 +69,11 @@ module _ (f : Item → ℕ)
         length-drop most octets,
         length-take-le most octets (omega (arith, more)),
         total-append f after (alone (Data id false (take most octets) None) ∷ []),
-        total_and f (alone (Data id false (take most octets) None)),
+        total_single f (alone (Data id false (take most octets) None)),
         takes id false (take most octets),
       )
 
-  -- The DATA of octets takes them at most.
+  -- The DATA of octets takes at most them.
   frames_take : (count most id : ℕ) (octets : List ℕ) (end : Bool)
       → total f (data_frames count most id octets end) ≤ length octets
   unfolding data_frames
@@ -82,7 +82,7 @@ module _ (f : Item → ℕ)
       frames_by most id octets end (data_frames count most id (drop most octets) end)
       (nat_le (length octets) most) refl (frames_take count most id (drop most octets) end)
 
-  -- so does a call's, by the test whether there are any
+  -- the same of a call's, by the test whether there are any
   items_by : (items : List Item) (n : ℕ) (b : Bool) → total f items ≤ n
       → total f (if b then [] else items) ≤ n
   items_by items n true few = omega (arith, total_none f)
