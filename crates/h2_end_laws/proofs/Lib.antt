@@ -1,5 +1,7 @@
 -- The lemmas of the laws.
 pub mod BareLogs
+pub mod ConservedWindows
+pub mod DataWindows
 pub mod Failures
 pub mod Grouped
 pub mod GroupedPrefixes
@@ -31,3 +33,4 @@ pub mod TakeAnswers
 pub mod TakenFrames
 pub mod TurnsAdded
 pub mod Unread
+pub mod WrittenSteps

@@ -1,0 +1,296 @@
+-- What each step writes: what is owed, and credit.
+use Rattle.std.proofs.Common.{◌≡◌, ℕ, ◌+◌, nat_lt, ◌&&◌, Bool, true, false, if◌then◌else◌, List, []}
+use Rattle.std.proofs.Common.{◌∷◌, ◌++◌, Option, Some, None, refl, sym, ap, ◌∙◌, inl, inr}
+use Rattle.std.proofs.Common.{append_assoc, append-nil, subst}
+use Rattle.h2_frame.specs.declared.code.Code.{Code}
+use Rattle.h2_frame.specs.Frames.{WindowUpdate}
+use Rattle.h2_wire.proofs.ReadingLemmas.{none_some}
+use Rattle.h2_block.specs.Grouping.{Item, alone}
+use Rattle.h2_log.specs.Items.{encoding_of_item, encoding_of_items}
+use Rattle.h2_log.specs.Events.{Event}
+use Rattle.h2_log.specs.Acts.{Act, Answer, Open, SendFields, SendData, Release, ResetStream, Refuse}
+use Rattle.h2_log.specs.Acts.{SendPing, SendGoAway, PutOut, ChangeSettings, Count, Done}
+use Rattle.h2_log.specs.Log.{Log, waiting}
+use Rattle.h2_log.specs.LogView.{log_view}
+use Rattle.h2_log.specs.Limits.{full_output, max_frame_size_sent}
+use Rattle.h2_log.specs.Verdicts.{Verdict, ConnectionFault, StreamFault, NoEvent, Reported}
+use Rattle.h2_log.specs.ItemRules.{Decoded, replies_to, verdict_of}
+use Rattle.h2_log.specs.CallRules.{answer_of, items_of, refuse_fault, returns_before_put_out}
+use Rattle.h2_log.specs.LogSteps.{read, with_sent, with_reported, with_unreturned, with_item}
+use Rattle.h2_log.specs.LogSteps.{with_credit_returned, with_verdict}
+use Rattle.h2_log.specs.LogCalls.{called, with_items, refused_with, before_put_out, with_call}
+use Rattle.h2_log.proofs.SentPayloads.{most_is_limit}
+use Rattle.h2_end_laws.specs.Written.{IsCredit, Writes}
+
+-- The encoding of one list after another.
+encoding_append : (most : ℕ) (newer older : List Item)
+    → encoding_of_items most (newer ++ older)
+    ≡ encoding_of_items most older ++ encoding_of_items most newer
+unfolding encoding_of_items
+encoding_append most [] older = sym (append-nil (encoding_of_items most older))
+encoding_append most (item ∷ newer) older =
+    ap (λ (octets : List ℕ). octets ++ encoding_of_item most item)
+    (encoding_append most newer older)
+    ∙ append_assoc (encoding_of_items most older) (encoding_of_items most newer)
+    (encoding_of_item most item)
+
+-- These items were written, and nothing was read.
+pub record Puts (before after : Log) (items : List Item) : Type 0 where
+  pub received : after.received ≡ before.received
+  pub sent : after.sent ≡ items ++ before.sent
+  pub written : after.written ≡ before.written ++ encoding_of_items max_frame_size_sent items
+
+-- Nothing was.
+puts_none : (before after : Log) → after.received ≡ before.received → after.sent ≡ before.sent
+    → after.written ≡ before.written → Puts before after []
+unfolding encoding_of_items
+puts_none before after received sent written =
+    record {
+      received = received;
+      sent = sent;
+      written = written ∙ sym (append-nil before.written);
+    }
+
+-- One step after another.
+puts_twice : (one two three : Log) (older newer : List Item) → Puts one two older
+    → Puts two three newer → Puts one three (newer ++ older)
+puts_twice one two three older newer a b =
+    record {
+      received = b.received ∙ a.received;
+      sent = b.sent ∙ ap (λ (items : List Item). newer ++ items) a.sent
+          ∙ sym (append_assoc newer older one.sent);
+      written = b.written
+          ∙ ap (λ (octets : List ℕ). octets ++ encoding_of_items max_frame_size_sent newer)
+          a.written
+          ∙ append_assoc one.written (encoding_of_items max_frame_size_sent older)
+          (encoding_of_items max_frame_size_sent newer)
+          ∙ ap (λ (octets : List ℕ). one.written ++ octets)
+          (sym (encoding_append max_frame_size_sent newer older));
+    }
+
+-- Items are written.
+puts_sent : (log : Log) (items : List Item) → Puts log (with_sent log items) items
+unfolding with_sent
+puts_sent log [] = puts_none log log refl refl refl
+puts_sent log (item ∷ items) =
+    record {
+      received = refl;
+      sent = refl;
+      written = ap (λ (most : ℕ). log.written ++ encoding_of_items most (item ∷ items))
+          (most_is_limit log.received);
+    }
+
+-- Credit is returned, or nothing is written.
+pub record PutsCredit (before after : Log) : Type 0 where
+  pub items : List Item
+  pub is_credit : IsCredit items
+  pub puts : Puts before after items
+
+-- Nothing is.
+credit_none : (log next : Log) → next.received ≡ log.received → next.sent ≡ log.sent
+    → next.written ≡ log.written → PutsCredit log next
+credit_none log next received sent written =
+    record { items = []; is_credit = inl refl; puts = puts_none log next received sent written }
+
+-- What is unreturned is returned.
+credit_returned : (log other : Log) → other.received ≡ log.received → other.sent ≡ log.sent
+    → other.written ≡ log.written → PutsCredit log (with_credit_returned other)
+credit_returned log other received sent written =
+    record {
+      items = alone (WindowUpdate 0 other.unreturned) ∷ [];
+      is_credit = inr (other.unreturned, refl);
+      puts = puts_twice log (record other { unreturned = 0 }) (with_credit_returned other) []
+          (alone (WindowUpdate 0 other.unreturned) ∷ [])
+          (puts_none log (record other { unreturned = 0 }) received sent written)
+          (puts_sent (record other { unreturned = 0 }) (alone (WindowUpdate 0 other.unreturned)
+          ∷ []));
+    }
+
+-- What is unreturned is added, by the test whether it is returned.
+credit_by : (log : Log) (more : ℕ) (b : Bool)
+    → PutsCredit log (if b then with_credit_returned
+    (record log { unreturned = log.unreturned + more })
+    else record log { unreturned = log.unreturned + more })
+credit_by log more true =
+    credit_returned log (record log { unreturned = log.unreturned + more }) refl refl refl
+credit_by log more false =
+    credit_none log (record log { unreturned = log.unreturned + more }) refl refl refl
+
+-- What is unreturned is added.
+credit_of : (more : ℕ) (log : Log) → PutsCredit log (with_unreturned more log)
+unfolding with_unreturned
+credit_of more log = credit_by log more (nat_lt 0 more && nat_lt (waiting log) full_output)
+
+-- Items are written, and then credit.
+pub puts_items : (log base : Log) (items : List Item) (more : ℕ) → base.received ≡ log.received
+    → base.sent ≡ log.sent → base.written ≡ log.written
+    → (credit : PutsCredit (with_sent base items) (with_unreturned more (with_sent base items)))
+    × Puts log (with_unreturned more (with_sent base items)) (credit.items ++ items)
+puts_items log base items more received sent written =
+    let credit = credit_of more (with_sent base items) in (
+      credit,
+      puts_twice log (with_sent base items) (with_unreturned more (with_sent base items)) items
+          credit.items
+          (record {
+            received = (puts_sent base items).received ∙ received;
+            sent = (puts_sent base items).sent ∙ ap (λ (older : List Item). items ++ older) sent;
+            written = (puts_sent base items).written ∙ ap (λ (octets : List ℕ). octets
+                ++ encoding_of_items max_frame_size_sent items) written;
+          })
+          credit.puts,
+    )
+
+-- What was written is the items, and credit after them.
+writes_last : (before after : Log) (items : List Item) (credit : List Item) → IsCredit credit
+    → Puts before after (credit ++ items) → Writes before after items
+writes_last before after items credit is puts =
+    record {
+      first = [];
+      last = credit;
+      is_first = inl refl;
+      is_last = is;
+      sent = puts.sent ∙ append_assoc credit items before.sent;
+      written = puts.written ∙ ap (λ (older : List Item). before.written
+          ++ encoding_of_items max_frame_size_sent (credit ++ older)) (sym (append-nil items));
+    }
+
+-- It is credit alone.
+writes_credit : (before after : Log) → PutsCredit before after → Writes before after []
+writes_credit before after credit =
+    record {
+      first = [];
+      last = credit.items;
+      is_first = inl refl;
+      is_last = credit.is_credit;
+      sent = credit.puts.sent;
+      written = credit.puts.written ∙ ap (λ (items : List Item). before.written
+          ++ encoding_of_items max_frame_size_sent items) (sym (append-nil credit.items));
+    }
+
+-- The same from another log with the same output.
+writes_from : (log base after : Log) (items : List Item) → base.sent ≡ log.sent
+    → base.written ≡ log.written → Writes base after items → Writes log after items
+writes_from log base after items sent written writes =
+    record {
+      first = writes.first;
+      last = writes.last;
+      is_first = writes.is_first;
+      is_last = writes.is_last;
+      sent = writes.sent ∙ ap (λ (older : List Item). writes.last
+          ++ (items ++ (writes.first ++ older))) sent;
+      written = writes.written ∙ ap (λ (octets : List ℕ). octets
+          ++ encoding_of_items max_frame_size_sent (writes.last ++ (items ++ writes.first)))
+          written;
+    }
+
+-- Items are written, and then credit, whatever was read.
+writes_items : (log base : Log) (items : List Item) (more : ℕ) → base.sent ≡ log.sent
+    → base.written ≡ log.written → Writes log (with_unreturned more (with_sent base items)) items
+writes_items log base items more sent written =
+    let puts = puts_items base base items more refl refl refl in
+    writes_from log base _ items sent written
+    (writes_last base _ items puts.0.items puts.0.is_credit puts.1)
+
+-- What a call owes is written.
+call_items : (log : Log) (act : Act) (answer : Answer)
+    → Writes log (with_items log act answer) (items_of (log_view log) act answer)
+unfolding with_items
+call_items log act answer =
+    writes_items log (called log act answer) (items_of (log_view log) act answer) _ refl refl
+
+-- Before output is put out credit alone is, by the test whether it is.
+put_out_by : (log put : Log) (given : ℕ) (b : Bool) → put.received ≡ log.received
+    → put.sent ≡ log.sent → put.written ≡ log.written
+    → PutsCredit log (record (if b then with_credit_returned put else put) { given = given })
+put_out_by log put given true received sent written =
+    let credit = credit_returned log put received sent written in
+    record {
+      items = credit.items;
+      is_credit = credit.is_credit;
+      puts = record {
+        received = credit.puts.received;
+        sent = credit.puts.sent;
+        written = credit.puts.written;
+      };
+    }
+put_out_by log put given false received sent written =
+    credit_none log (record put { given = given }) received sent written
+
+-- A call that puts output out writes credit alone.
+put_out_writes : (log : Log) (count given : ℕ)
+    → Writes log (with_call log (PutOut count) (Count given)) []
+unfolding with_call before_put_out
+put_out_writes log count given =
+    let put = called log (PutOut count) (Count given) in
+    writes_credit log _ (put_out_by log put _ (returns_before_put_out (log_view put)) refl refl
+    refl)
+
+-- A stream that is refused, by what that makes of the connection.
+refused_writes : (log : Log) (act : Act) (answer : Answer) (fault : Option Code) → fault ≡ None
+    → Writes log (refused_with log act answer fault) (items_of (log_view log) act answer)
+unfolding refused_with
+refused_writes log act answer (Some code) none = none_some code (sym none)
+refused_writes log act answer None none = call_items log act answer
+
+-- A call with the answer of the rules.
+answered_writes : (log : Log) (act : Act)
+    → ((id code : ℕ) → act ≡ Refuse id code → refuse_fault (log_view log) code ≡ None)
+    → Writes log (with_call log act (answer_of (log_view log) act)) (items_of (log_view log) act
+    (answer_of (log_view log) act))
+unfolding with_call items_of
+answered_writes log (Open fields end) up = call_items log (Open fields end) _
+answered_writes log (SendFields id fields end) up = call_items log (SendFields id fields end) _
+answered_writes log (SendData id octets end) up = call_items log (SendData id octets end) _
+answered_writes log (Release id count) up = call_items log (Release id count) _
+answered_writes log (ResetStream id code) up = call_items log (ResetStream id code) _
+answered_writes log (Refuse id code) up =
+    refused_writes log (Refuse id code) Done (refuse_fault (log_view log) code) (up id code refl)
+answered_writes log (SendPing octets) up = call_items log (SendPing octets) _
+answered_writes log SendGoAway up = call_items log SendGoAway _
+answered_writes log (PutOut count) up = put_out_writes log count _
+answered_writes log (ChangeSettings values) up = call_items log (ChangeSettings values) _
+
+-- A call that is accepted writes what it owes, and credit.
+pub call_writes : (log : Log) (act : Act) (answer : Answer)
+    → answer ≡ answer_of (log_view log) act
+    → ((id code : ℕ) → act ≡ Refuse id code → refuse_fault (log_view log) code ≡ None)
+    → Writes log (with_call log act answer) (items_of (log_view log) act answer)
+call_writes log act answer is up =
+    subst (λ (a : Answer). Writes log (with_call log act a) (items_of (log_view log) act a))
+    (sym is) (answered_writes log act up)
+
+-- Events write nothing.
+reported_writes : (before log : Log) (events : List Event) (items : List Item)
+    → Writes before log items → Writes before (with_reported log events) items
+unfolding with_reported
+reported_writes before log [] items writes = writes
+reported_writes before log (event ∷ events) items writes =
+    record {
+      first = writes.first;
+      last = writes.last;
+      is_first = writes.is_first;
+      is_last = writes.is_last;
+      sent = writes.sent;
+      written = writes.written;
+    }
+
+-- What is replied to an item is written, by the verdict.
+verdict_writes : (log : Log) (decoded : Option Decoded) (item : Item) (verdict : Verdict)
+    → ((code : Code) → verdict ≡ ConnectionFault code → ⊥)
+    → Writes log (with_verdict log decoded item verdict) (replies_to verdict item)
+unfolding with_verdict
+verdict_writes log decoded item (ConnectionFault code) up = absurd (up code refl)
+verdict_writes log decoded item (StreamFault code) up =
+    reported_writes log _ _ _ (writes_items log (read log decoded item) _ _ refl refl)
+verdict_writes log decoded item NoEvent up =
+    reported_writes log _ _ _ (writes_items log (read log decoded item) _ _ refl refl)
+verdict_writes log decoded item Reported up =
+    reported_writes log _ _ _ (writes_items log (read log decoded item) _ _ refl refl)
+
+-- An item that is no fault of the connection writes what is replied to it, and credit.
+pub item_writes : (log : Log) (decoded : Option Decoded) (item : Item)
+    → ((code : Code) → verdict_of (log_view log) decoded item ≡ ConnectionFault code → ⊥)
+    → Writes log (with_item log decoded item)
+    (replies_to (verdict_of (log_view log) decoded item) item)
+item_writes log decoded item up =
+    verdict_writes log decoded item (verdict_of (log_view log) decoded item) up
