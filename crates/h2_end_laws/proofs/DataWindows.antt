@@ -11,9 +11,8 @@ use Rattle.std.proofs.lemmas.Bool.Decides.{nat_tests}
 use Rattle.h2_frame.specs.Frames.{Data, WindowUpdate}
 use Rattle.h2_frame.specs.Encoding.{payload_of}
 use Rattle.h2_block.specs.Grouping.{Item, alone}
-use Rattle.h2_log.specs.declared.role.Role.{Role}
 use Rattle.h2_log.specs.Items.{data_on, data_of, total}
-use Rattle.h2_log.specs.Acts.{Values, SendData, Count}
+use Rattle.h2_log.specs.Acts.{SendData, Count}
 use Rattle.h2_log.specs.Windows.{given_on, given_on_connection, connection_send_window}
 use Rattle.h2_log.specs.Limits.{max_data}
 use Rattle.h2_log.specs.Log.{Log, active, max_payload_sent, send_window}
@@ -21,7 +20,6 @@ use Rattle.h2_log.specs.LogView.{log_view}
 use Rattle.h2_log.specs.CallRules.{answer_of, data_frames, data_items, items_of}
 use Rattle.h2_log.specs.CallRules.{conditions, refusal_of}
 use Rattle.h2_log.specs.LogCalls.{called, with_items, with_call}
-use Rattle.h2_log.specs.Histories.{IsLog}
 use Rattle.h2_log_laws.proofs.CallConditions.{none_holds}
 use Rattle.h2_log_laws.proofs.LogViewLemmas.{count_by_sums, stream_is_active}
 use Rattle.h2_log_laws.proofs.WindowsOfTwoEnds.{total-append}
@@ -164,15 +162,14 @@ unfolding conditions
 data_active log id octets end none = stream_is_active log id (none_holds _ none).1.0
 
 -- After DATA with octets neither send window is negative.
-pub windows_hold : (role : Role) (values : Values) (log : Log) (id count : ℕ) (octets : List ℕ)
-    (end : Bool) → IsLog role values log
+pub windows_hold : (log : Log) (id count : ℕ) (octets : List ℕ) (end : Bool)
     → refusal_of (log_view log) (SendData id octets end) ≡ None
     → answer_of (log_view log) (SendData id octets end) ≡ Count count → 0 < count
     → (int_lt (send_window (with_call log (SendData id octets end) (Count count)) id) (pos 0)
     ≡ false)
     × (int_lt (connection_send_window log.received
     (with_call log (SendData id octets end) (Count count)).sent) (pos 0) ≡ false)
-windows_hold role values log id count octets end is none answer some =
+windows_hold log id count octets end none answer some =
     let alive = data_active log id octets end none in
     let fits = count_fits count (length octets) (given_on id log.received)
     (total (data_on id) log.sent) (given_on_connection log.received) (total data_of log.sent) some

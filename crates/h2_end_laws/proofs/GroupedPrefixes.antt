@@ -1,11 +1,11 @@
 -- A prefix of frames that group groups to the first of their items, and a block that has begun.
 use Rattle.std.proofs.Common.{◌≡◌, ℕ, ◌+◌, ◌≤◌, Bool, false, List, [], ◌∷◌, ◌++◌, length, Option}
 use Rattle.std.proofs.Common.{None, Some, refl, sym, ap, ◌∙◌, arith, inl, inr, append_assoc}
-use Rattle.std.proofs.Common.{append-nil, length-append}
-use Rattle.h2_frame.specs.Frames.{Frame, Headers, Continuation}
+use Rattle.std.proofs.Common.{length-append}
+use Rattle.h2_frame.specs.Frames.{Frame, Headers}
 use Rattle.h2_block.specs.Grouping.{Item, alone, block, Begun, max_block_octets, AreContinuations}
 use Rattle.h2_block.specs.Grouping.{IsBegun, IsItem, AreItems, IsLeft, Groups}
-use Rattle.h2_end_laws.proofs.Overlaps.{Overlaps, overlap}
+use Rattle.h2_end_laws.proofs.Overlaps.{overlap}
 
 -- A prefix of CONTINUATIONs.
 continued_prefix : (stream : ℕ) (frames more : List Frame) (octets : List ℕ)

@@ -1,5 +1,5 @@
 -- A prefix of what an end has written.
-use Rattle.std.proofs.Common.{◌≡◌, ℕ, ◌≤◌, not, List, [], ◌++◌, None, refl, sym, ap, ◌∙◌, arith}
+use Rattle.std.proofs.Common.{◌≡◌, ℕ, ◌≤◌, not, List, [], ◌++◌, None, arith}
 use Rattle.std.specs.List.{AllByRecursion}
 use Rattle.h2_frame.specs.Frames.{Frame}
 use Rattle.h2_wire.specs.Streams.{Limits, Frames, expected_preface}

@@ -145,23 +145,18 @@ writes_last : (before after : Log) (items : List Item) (credit : List Item) → 
     → Puts before after (credit ++ items) → Writes before after items
 writes_last before after items credit is puts =
     record {
-      first = [];
-      last = credit;
-      is_first = inl refl;
-      is_last = is;
+      credit = credit;
+      is_credit = is;
       sent = puts.sent ∙ append_assoc credit items before.sent;
-      written = puts.written ∙ ap (λ (older : List Item). before.written
-          ++ encoding_of_items max_frame_size_sent (credit ++ older)) (sym (append-nil items));
+      written = puts.written;
     }
 
 -- It is credit alone.
 writes_credit : (before after : Log) → PutsCredit before after → Writes before after []
 writes_credit before after credit =
     record {
-      first = [];
-      last = credit.items;
-      is_first = inl refl;
-      is_last = credit.is_credit;
+      credit = credit.items;
+      is_credit = credit.is_credit;
       sent = credit.puts.sent;
       written = credit.puts.written ∙ ap (λ (items : List Item). before.written
           ++ encoding_of_items max_frame_size_sent items) (sym (append-nil credit.items));
@@ -172,15 +167,11 @@ writes_from : (log base after : Log) (items : List Item) → base.sent ≡ log.s
     → base.written ≡ log.written → Writes base after items → Writes log after items
 writes_from log base after items sent written writes =
     record {
-      first = writes.first;
-      last = writes.last;
-      is_first = writes.is_first;
-      is_last = writes.is_last;
-      sent = writes.sent ∙ ap (λ (older : List Item). writes.last
-          ++ (items ++ (writes.first ++ older))) sent;
+      credit = writes.credit;
+      is_credit = writes.is_credit;
+      sent = writes.sent ∙ ap (λ (older : List Item). writes.credit ++ (items ++ older)) sent;
       written = writes.written ∙ ap (λ (octets : List ℕ). octets
-          ++ encoding_of_items max_frame_size_sent (writes.last ++ (items ++ writes.first)))
-          written;
+          ++ encoding_of_items max_frame_size_sent (writes.credit ++ items)) written;
     }
 
 -- Items are written, and then credit, whatever was read.
@@ -266,10 +257,8 @@ unfolding with_reported
 reported_writes before log [] items writes = writes
 reported_writes before log (event ∷ events) items writes =
     record {
-      first = writes.first;
-      last = writes.last;
-      is_first = writes.is_first;
-      is_last = writes.is_last;
+      credit = writes.credit;
+      is_credit = writes.is_credit;
       sent = writes.sent;
       written = writes.written;
     }

@@ -11,13 +11,10 @@ use Rattle.h2_log.specs.Log.{Log}
 abbrev pub IsCredit : List Item → Type 0
 IsCredit items = (items ≡ []) ⊎ ((count : ℕ) × (items ≡ alone (WindowUpdate 0 count) ∷ []))
 
--- These items were written, the newest first, with nothing in between, and credit before or after
--- them.
+-- These items were written, the newest first, with nothing in between, and then perhaps credit.
 pub record Writes (before after : Log) (items : List Item) : Type 0 where
-  pub first : List Item
-  pub last : List Item
-  pub is_first : IsCredit first
-  pub is_last : IsCredit last
-  pub sent : after.sent ≡ last ++ (items ++ (first ++ before.sent))
+  pub credit : List Item
+  pub is_credit : IsCredit credit
+  pub sent : after.sent ≡ credit ++ (items ++ before.sent)
   pub written : after.written ≡ before.written
-      ++ encoding_of_items max_frame_size_sent (last ++ (items ++ first))
+      ++ encoding_of_items max_frame_size_sent (credit ++ items)

@@ -70,8 +70,8 @@ pub fn receive_window_is_kept()
 /// the connection, what is replied to it; and credit. Nothing comes in between, so that field
 /// blocks are unbroken (section 4.3).
 pub fn each_step_writes_what_it_owes()
-    ensures call { (log : Log) (act : Act) (answer : Answer) → log.failed ≡ None
-        → refusal_of (log_view log) act ≡ None → answer ≡ answer_of (log_view log) act
+    ensures call { (log : Log) (act : Act) (answer : Answer)
+        → answer ≡ answer_of (log_view log) act
         → ((id code : ℕ) → act ≡ Refuse id code → refuse_fault (log_view log) code ≡ None)
         → Writes log (with_call log act answer) (items_of (log_view log) act answer) }
     ensures item { (log : Log) (decoded : Option Decoded) (item : Item)
@@ -82,8 +82,7 @@ pub fn each_step_writes_what_it_owes()
 
 /// Right after DATA with octets was written, neither send window is negative (section 6.9.1).
 pub fn windows_hold_data()
-    ensures { (role : Role) (values : Values) (log : Log) (id count : ℕ) (octets : List ℕ)
-        (end : Bool) → IsLog role values log
+    ensures { (log : Log) (id count : ℕ) (octets : List ℕ) (end : Bool)
         → refusal_of (log_view log) (SendData id octets end) ≡ None
         → answer_of (log_view log) (SendData id octets end) ≡ Count count → 0 < count
         → (int_lt (send_window (with_call log (SendData id octets end) (Count count)) id) (pos 0)
