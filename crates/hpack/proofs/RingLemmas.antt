@@ -1,5 +1,5 @@
 -- Rings of entries, the newest at the front.
-use Rattle.std.proofs.Common.{◌≡◌, ℕ, ◌+◌, ◌-◌, ◌*◌, ◌/◌, ◌<◌, ◌≤◌, max, List, [], ◌∷◌, ◌++◌}
+use Rattle.std.proofs.Common.{◌≡◌, ℕ, ◌+◌, ◌-◌, ◌/◌, ◌<◌, ◌≤◌, max, List, [], ◌∷◌, ◌++◌}
 use Rattle.std.proofs.Common.{length, take, get_or, Option, None, Some, sym, ap, ◌∙◌, arith}
 use Rattle.std.proofs.Common.{take_all, append_assoc, length-append, refl}
 use Rattle.std.specs.List.{slice_get}

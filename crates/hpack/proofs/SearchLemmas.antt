@@ -1,23 +1,18 @@
 -- The first entry that is looked for.
-use Rattle.std.proofs.Common.{◌≡◌, ◌≢◌, inl, inr, ◌⊎◌, ℕ, zero, suc, ◌+◌, ◌<◌, ◌≤◌, ◌==◌, ◌&&◌}
+use Rattle.std.proofs.Common.{◌≡◌, inl, inr, ℕ, suc, ◌+◌, ◌<◌, ◌≤◌, ◌==◌, ◌&&◌}
 use Rattle.std.proofs.Common.{nat_eq, if◌then◌else◌, not, nat_lt, Bool, true, false, List, [], ◌∷◌}
 use Rattle.std.proofs.Common.{◌++◌, length, get_or, drop, Option, Some, None, position, refl, sym}
-use Rattle.std.proofs.Common.{ap, ◌∙◌, subst, arith, ◌||◌}
+use Rattle.std.proofs.Common.{ap, ◌∙◌, arith}
 use Rattle.std.specs.Option.{option_map_or}
-use Rattle.std.specs.List.{slice_get, prefix_len}
+use Rattle.std.specs.List.{prefix_len}
 use Rattle.std.specs.Cmp.Lexicographic.{pointwise}
-use Rattle.std.proofs.lemmas.Bool.{cases_lt, ne_eqb, and_parts, cases_eq, eq-eqb, lt-ltb, le-ltb}
+use Rattle.std.proofs.lemmas.Bool.{cases_lt, ne_eqb, lt-ltb, le-ltb}
 use Rattle.std.proofs.lemmas.List.{drop_more}
 use Rattle.std.proofs.Math.ListN.{drop_of_length-le}
-use Rattle.std.specs.List.{list_all, list_any}
 use Rattle.hpack.specs.Entry.{Entry}
-use Rattle.hpack.specs.declared.types.field.Field.{Field}
-use Rattle.hpack.specs.declared.encode.search.Sought.{Sought}
-use Rattle.hpack.specs.declared.encode.search.Sought.TheVariants.{Exact, Name}
-use Rattle.hpack.specs.Static.{static_entries, entry}
+use Rattle.hpack.specs.Static.{static_entries}
 use Rattle.hpack.specs.Choice.{same_octets, least_index}
-use Rattle.hpack.specs.Sought.{is_sought, first_index}
-use Rattle.hpack.proofs.LookupLemmas.{entry-no_static, entry-no_dynamic}
+use Rattle.hpack.specs.Sought.{first_index}
 
 -- Two lists are the same octets just where they are so octet by octet.
 pub same_octets-pointwise : (xs ys : List ℕ) → pointwise nat_eq xs ys ≡ same_octets xs ys

@@ -1,7 +1,6 @@
 -- Chains through the entries of the static table.
 use Rattle.std.proofs.Common.{◌≡◌, ◌≢◌, ℕ, zero, suc, ◌+◌, ◌<◌, ◌==◌, ◌&&◌, not, Bool, true, false}
-use Rattle.std.proofs.Common.{List, [], ◌∷◌, length, get_or, drop, map, refl, sym, ap, ◌∙◌, subst}
-use Rattle.std.proofs.Common.{arith}
+use Rattle.std.proofs.Common.{List, [], ◌∷◌, length, get_or, map, refl, sym, ap, ◌∙◌, arith}
 use Rattle.std.proofs.Common.{eqb-true}
 use Rattle.std.proofs.lemmas.Bool.{and_parts, eq-eqb}
 use Rattle.hpack.specs.Entry.{Entry}
@@ -67,8 +66,7 @@ unfolding leads LeadsTo
 leads_to bucket sought [] place is = tt
 leads_to bucket sought (one ∷ entries) zero is = eqb-true (bucket one) sought is
 leads_to bucket sought (one ∷ entries) (suc place) is =
-    let both = and_parts (not (bucket one == sought)) (leads sought
-        (map bucket entries) place) is in
+    let both = and_parts (not (bucket one == sought)) (leads sought (map bucket entries) place) is in
     (differs (bucket one) sought both.0, leads_to bucket sought entries place both.1)
 
 -- one of the places

@@ -1,6 +1,6 @@
 -- Chains through the entries of a table: from a bucket to the newest entry in it, and from each
 -- entry to the next older one in its bucket.
-use Rattle.std.specs.Prelude.{◌≡◌, ◌≢◌, ℕ, zero, suc, ◌-◌, ◌<◌, ◌≤◌, List, [], ◌∷◌, length}
+use Rattle.std.specs.Prelude.{◌≡◌, ◌≢◌, ℕ, zero, suc, ◌-◌, ◌<◌, List, [], ◌∷◌, length}
 use Rattle.std.specs.Prelude.{get_or}
 use Rattle.hpack.specs.Entry.{Entry}
 use Rattle.hpack.specs.declared.encode.search.Sought.{Sought}

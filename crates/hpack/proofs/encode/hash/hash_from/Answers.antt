@@ -1,5 +1,5 @@
 use Rattle.std.proofs.Common.{◌∙◌, ℕ, sym, ap, arith}
-use Rattle.hpack.specs.Hashes.{mixed, hash_words}
+use Rattle.hpack.specs.Hashes.{mixed}
 use Rattle.hpack.proofs.HashLemmas.{hash_words_more, hash_words_none, hash_long, hash_short}
 use Rattle.hpack.proofs.encode.hash.hash_from.Goals as goal
 

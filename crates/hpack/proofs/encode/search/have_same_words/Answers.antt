@@ -1,4 +1,4 @@
-use Rattle.std.proofs.Common.{◌∙◌, ◌-◌, ℕ, List, length, drop, ap, sym, subst}
+use Rattle.std.proofs.Common.{◌∙◌, ℕ, List, length, ap, sym, subst}
 use Rattle.hpack.specs.Sought.{AreOctetsByPlace}
 use Rattle.hpack.specs.Choice.{same_octets}
 use Rattle.hpack.proofs.SearchLemmas.{same_octets-pointwise}

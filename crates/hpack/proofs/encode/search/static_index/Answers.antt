@@ -1,4 +1,4 @@
-use Rattle.std.proofs.Common.{◌≡◌, ◌∙◌, ◌<◌, ◌+◌, sym, ap, refl, length, arith}
+use Rattle.std.proofs.Common.{◌≡◌, ◌∙◌, ◌<◌, ◌+◌, sym, refl, length, arith}
 use Rattle.hpack.specs.Static.{static_entries}
 use Rattle.hpack.specs.Sought.{is_sought}
 use Rattle.hpack.specs.Hashes.{bucket_of}

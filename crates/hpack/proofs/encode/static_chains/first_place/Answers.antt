@@ -1,7 +1,5 @@
-use Rattle.std.proofs.Common.{ℕ, ◌≡◌, ◌∙◌, get_or, sym, ap, subst, arith}
-use Rattle.hpack.specs.declared.encode.static_chains.TheConstants.{FIRST_PLACES}
+use Rattle.std.proofs.Common.{ℕ, sym, subst}
 use Rattle.hpack.specs.Static.{static_entries}
-use Rattle.hpack.specs.Hashes.{bucket_of}
 use Rattle.hpack.specs.Chains.{LeadsTo, name_bucket}
 use Rattle.hpack.proofs.StaticChainLemmas.{place_leads}
 use Rattle.hpack.proofs.encode.static_chains.first_place.Goals as goal

@@ -1,5 +1,4 @@
-use Rattle.std.proofs.Common.{◌≡◌, ◌++◌, List, ap, sym, ◌∙◌, arith, append-nil, refl}
-use Rattle.circular_buffer.specs.Buffer.{Buffer}
+use Rattle.std.proofs.Common.{◌++◌, List, ap, sym, ◌∙◌, arith, append-nil, refl}
 use Rattle.hpack.specs.Entry.{Entry}
 use Rattle.hpack.proofs.RingLemmas.{moved_oldest, no_oldest}
 use Rattle.hpack.proofs.table.eviction.move_entries.Goals as goal

@@ -1,5 +1,4 @@
-use Rattle.std.proofs.Common.{◌≡◌, false, ◌∙◌, ◌++◌, ◌^◌, ◌<◌, sym, ap, refl, subst, arith}
-use Rattle.std.specs.Result.{is_err}
+use Rattle.std.proofs.Common.{◌∙◌, ◌++◌, ◌^◌, ◌<◌, sym, ap, refl, subst, arith}
 use Rattle.hpack.proofs.ResultLemmas.{on_ok}
 use Rattle.hpack.specs.Blocks.{Block}
 use Rattle.hpack.proofs.WrittenBlocks.{block_encodes}

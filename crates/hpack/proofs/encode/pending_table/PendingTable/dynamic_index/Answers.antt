@@ -1,14 +1,11 @@
-use Rattle.std.proofs.Common.{◌∙◌, ◌≡◌, ◌<◌, ◌+◌, sym, ap, refl, false, length, get_or, take, drop}
-use Rattle.std.proofs.Common.{arith}
-use Rattle.hpack.specs.Entry.{Entry}
-use Rattle.hpack.specs.Sought.{is_sought, first_index}
+use Rattle.std.proofs.Common.{◌∙◌, ◌<◌, ◌+◌, sym, refl, length, take, arith}
+use Rattle.hpack.specs.Sought.{is_sought}
 use Rattle.hpack.specs.PendingTable.{newest_first}
 use Rattle.hpack.specs.Chains.{bucket_by}
 use Rattle.hpack.specs.Hashes.{bucket_of}
 use Rattle.hpack.proofs.ChainLemmas.{reached_first, reached_next}
 use Rattle.hpack.proofs.IndexLemmas.{sought_bucket}
-use Rattle.hpack.proofs.PendingTableLemmas.{live_is_small, pending_end, pending_found}
-use Rattle.hpack.proofs.PendingTableLemmas.{pending_missed}
+use Rattle.hpack.proofs.PendingTableLemmas.{live_is_small, pending_end, pending_found, pending_missed}
 use Rattle.hpack.proofs.PendingTableLemmas.{live_length}
 use Rattle.hpack.proofs.encode.pending_table.PendingTable.dynamic_index.Goals as goal
 

@@ -1,6 +1,5 @@
-use Rattle.std.proofs.Common.{◌≡◌, ◌+◌, ◌-◌, ◌<◌, length, drop, take}
-use Rattle.hpack.specs.Entry.{Entry}
-use Rattle.hpack.specs.Sought.{is_sought, first_index}
+use Rattle.std.proofs.Common.{◌-◌, length, take}
+use Rattle.hpack.specs.Sought.{is_sought}
 use Rattle.hpack.specs.PendingTable.{newest_first}
 use Rattle.hpack.specs.Chains.{bucket_by}
 use Rattle.hpack.specs.Hashes.{bucket_of}

@@ -1,4 +1,4 @@
-use Rattle.std.proofs.Common.{◌^◌, sym, arith}
+use Rattle.std.proofs.Common.{◌^◌, arith}
 use Rattle.hpack.proofs.ChainLemmas.{heads_lowered}
 use Rattle.hpack.proofs.types.chains.Chains.keep_countable.Goals as goal
 
