@@ -5,7 +5,8 @@ use Rattle.hpack.specs.Chains.{bucket_by}
 use Rattle.hpack.specs.Hashes.{bucket_of}
 use Rattle.hpack.proofs.ChainLemmas.{reached_first, reached_next}
 use Rattle.hpack.proofs.IndexLemmas.{sought_bucket}
-use Rattle.hpack.proofs.PendingTableLemmas.{live_is_small, pending_end, pending_found, pending_missed}
+use Rattle.hpack.proofs.PendingTableLemmas.{live_is_small, pending_end, pending_found}
+use Rattle.hpack.proofs.PendingTableLemmas.{pending_missed}
 use Rattle.hpack.proofs.PendingTableLemmas.{live_length}
 use Rattle.hpack.proofs.encode.pending_table.PendingTable.dynamic_index.Goals as goal
 
