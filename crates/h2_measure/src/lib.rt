@@ -1,4 +1,4 @@
-//! The calls of `measure.h` over the crates, for a driver in C.
+//! The calls of `bench/measure.h` over the crates, for a driver in C (see `bench/README.md`).
 #![tactic(auto)]
 
 mod counts;
