@@ -1,5 +1,6 @@
 -- The lemmas of the laws.
 pub mod BareLogs
+pub mod BlockStreams
 pub mod ConservedWindows
 pub mod DataWindows
 pub mod Failures

@@ -32,7 +32,8 @@ pub fn each_is_replied_to()
         → replies_among log.sent ≡ replies_due log.received }
 {}
 
-/// An end that has failed has written GOAWAY with its code last, and no call makes it write more
+/// An end that has failed has written GOAWAY last, with its code and the last stream that was
+/// processed, which may be that of the frame with which it failed; and no call makes it write more
 /// (section 5.4.1).
 pub fn nothing_follows_a_failure()
     ensures last { (role : Role) (values : Values) (log : Log) (code : Code)
