@@ -4,6 +4,8 @@ pub mod BlockStreams
 pub mod ConservedWindows
 pub mod DataWindows
 pub mod Failures
+pub mod FaultCodes
+pub mod GoAwaysRead
 pub mod Grouped
 pub mod GroupedPrefixes
 pub mod OneTake
