@@ -30,8 +30,8 @@ pub mod RunsOfLogs
 pub mod Sendable
 pub mod SendableCalls
 pub mod SendableItems
-pub mod SendingLists
 pub mod Sendings
+pub mod SettingsApplied
 pub mod TakeAnswers
 pub mod TakenFrames
 pub mod TurnsAdded

@@ -22,7 +22,7 @@ ghost use Rattle.h2_log.specs.Histories.{IsLog};
 ghost use Rattle.h2_log_laws.specs.Sending.{IsSendable};
 ghost use Rattle.h2_end_laws.specs.Failures.{EndsInGoAway};
 ghost use Rattle.h2_end_laws.specs.Replies.{replies_due, replies_among};
-ghost use Rattle.h2_end_laws.specs.Sendings.{HasSendings};
+ghost use Rattle.h2_end_laws.specs.Sendings.{EncodesInOrder, settings_received, lists_accepted};
 ghost use Rattle.h2_end_laws.specs.Written.{Writes};
 
 /// Each SETTINGS that was read has been acknowledged once, and each PING answered once with its
@@ -52,10 +52,12 @@ pub fn written_items_can_be_sent()
 {}
 
 /// The field blocks that an end has written are what its encoder makes of the lists of the calls
-/// that were accepted, with the limits that were read in between, in order (section 4.3).
+/// that were accepted, in order, each with the limits that were acknowledged before it (section
+/// 4.3).
 pub fn blocks_are_of_the_lists()
     ensures { (role : Role) (values : Values) (log : Log) → IsLog role values log
-        → HasSendings log }
+        → EncodesInOrder log.sent (settings_received log.received) (lists_accepted log.calls)
+        log.encoder }
 {}
 
 /// On a stream that is active and that the peer hasn't ended, what the peer may send and what is
