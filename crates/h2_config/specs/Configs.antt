@@ -1,5 +1,5 @@
 -- The values of an end's own settings that are allowed (own).
-use Rattle.std.specs.Prelude.{ℕ, nat_lt, ◌||◌, if◌then◌else◌, Option, Some, None}
+use Rattle.std.specs.Prelude.{nat_lt, ◌||◌, if◌then◌else◌, Option, Some, None}
 use Rattle.h2_log.specs.Acts.{Values}
 use Rattle.h2_log.specs.Limits.{max_table_limit, least_max_streams, most_max_streams}
 use Rattle.h2_log.specs.Windows.{greatest_window}

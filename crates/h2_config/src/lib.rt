@@ -2,7 +2,9 @@
 #![tactic(auto)]
 
 mod config;
+mod ranges;
 #[cfg(test)]
 mod tests;
 
 pub use config::{BadConfig, Config};
+pub use ranges::values_in_range;

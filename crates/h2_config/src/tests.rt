@@ -1,6 +1,6 @@
 //! Values within their bounds, and the texts of those that aren't.
 
-use crate::{BadConfig, Config};
+use crate::{BadConfig, Config, values_in_range};
 use std::test::Fail;
 
 #[test]
@@ -48,4 +48,9 @@ fn bad_values_have_their_numbers(rt: HostRuntime) -> Result<(), Fail> {
         assert!(rt; text.starts_with(number));
     }
     Ok(())
+}
+
+#[test]
+fn laws_are_called() {
+    values_in_range();
 }

@@ -1,11 +1,12 @@
 -- What an end that has failed has written last: GOAWAY with its code, and nothing after it.
 use Rattle.std.proofs.Common.{◌≡◌, ◌≤◌, ℕ, ◌+◌, nat_lt, ◌&&◌, not, max, Bool, true, false}
 use Rattle.std.proofs.Common.{if◌then◌else◌, List, [], ◌∷◌, ◌++◌, Option, Some, None, is_some, refl}
-use Rattle.std.proofs.Common.{sym, ap, ◌∙◌, arith, subst}
+use Rattle.std.proofs.Common.{sym, ap, ◌∙◌, inl, inr, arith, subst}
 use Rattle.std.proofs.lemmas.Bool.{both_ways}
 use Rattle.h2_frame.specs.declared.code.Code.{Code}
 use Rattle.h2_frame.specs.declared.code.Code.TheVariants.{InternalError}
 use Rattle.h2_frame.specs.Frames.{Frame}
+use Rattle.h2_frame.specs.Encoding.{stream_of}
 use Rattle.h2_wire.specs.Faults.{wire_fault_code}
 use Rattle.h2_wire.proofs.ReadingLemmas.{none_some, one_code}
 use Rattle.h2_block.specs.Grouping.{Item}
@@ -22,6 +23,7 @@ use Rattle.h2_log.specs.Verdicts.{Verdict, ConnectionFault, StreamFault, NoEvent
 use Rattle.h2_log.specs.View.{View}
 use Rattle.h2_log.specs.LogView.{log_view}
 use Rattle.h2_log.specs.ItemRules.{Decoded, FrameStep, fails_with, begins_block, completes}
+use Rattle.h2_log.specs.ItemRules.{opened_by}
 use Rattle.h2_log.specs.ItemRules.{frame_step}
 use Rattle.h2_log.specs.CallRules.{conditions, refusal_of, has_failed, refuse_fault}
 use Rattle.h2_log.specs.CallRules.{may_lack_memory, returns_before_put_out}
@@ -33,7 +35,8 @@ use Rattle.h2_log.specs.LogCalls.{MayAnswer, accepts, refuses, lacks, fails, ope
 use Rattle.h2_log.specs.Histories.{IsLog, begins, took_some, took_one, met_fault, ran_out_of_memory}
 use Rattle.h2_log.specs.Histories.{reported_one, called_one}
 use Rattle.h2_log_laws.proofs.CallConditions.{none_holds}
-use Rattle.h2_end_laws.specs.Failures.{EndsInGoAway}
+use Rattle.h2_end_laws.specs.Failures.{EndsInGoAway, IsLastStream}
+use Rattle.h2_end_laws.proofs.BlockStreams.{IsItemOn, IsStepOn, step_on, opened_on, greater_is}
 
 -- What is written fails nothing.
 pub sent_failed : (log : Log) (items : List Item) → (with_sent log items).failed ≡ log.failed
@@ -95,11 +98,12 @@ at_most_max : (n m : ℕ) → n ≤ max n m
 at_most_max n m = omega arith
 
 -- A failure writes GOAWAY with its code last.
-fails_ends : (fault : Code) (last : ℕ) (log : Log) → last_processed log ≤ last → (code : Code)
+fails_ends : (fault : Code) (last : ℕ) (log : Log) → last_processed log ≤ last
+    → IsLastStream log last → (code : Code)
     → (with_failure fault last log).failed ≡ Some code
     → EndsInGoAway (with_failure fault last log) code
 unfolding with_sent encoding_of_items encoding_of_item last_processed
-fails_ends fault last log processed code is =
+fails_ends fault last log processed exact code is =
     subst (λ (c : Code). EndsInGoAway (with_failure fault last log) c) (one_code fault code is)
     (record {
       last = last;
@@ -107,6 +111,7 @@ fails_ends fault last log processed code is =
       front = log.written;
       newest = refl;
       processed = processed;
+      exact = exact;
       written = refl;
     })
 
@@ -115,31 +120,46 @@ still_up : {Goal : Type 0} (old new : Option Code) (code : Code) → old ≡ Non
     → new ≡ old → new ≡ Some code → Goal
 still_up old new code up same is = none_some code (sym up ∙ sym same ∙ is)
 
+-- The last stream after an item that its last frame completes.
+item_last : (log : Log) (decoded : Option Decoded) (item : Item) (front : List Frame)
+    (frame : Frame) → log.frames ≡ front ++ frame ∷ [] → IsItemOn frame item
+    → IsLastStream log (max (last_processed log) (opened_by (log_view log) decoded item))
+item_last log decoded item front frame frames on =
+    elim (greater_is (last_processed log) (opened_by (log_view log) decoded item)
+    (stream_of frame) (opened_on (log_view log) decoded item frame on)) [
+      | inl same ↦ inl same
+      | inr same ↦ inr (front, frame, frames, same)
+    ]
+
 -- After an item, by its verdict.
 verdict_ends : (log : Log) (decoded : Option Decoded) (item : Item) (verdict : Verdict)
-    → log.failed ≡ None → (code : Code)
+    → log.failed ≡ None → (front : List Frame) (frame : Frame) → log.frames ≡ front ++ frame ∷ []
+    → IsItemOn frame item → (code : Code)
     → (with_verdict log decoded item verdict).failed ≡ Some code
     → EndsInGoAway (with_verdict log decoded item verdict) code
 unfolding with_verdict
-verdict_ends log decoded item (ConnectionFault fault) up code is =
-    fails_ends fault _ log (at_most_max _ _) code is
-verdict_ends log decoded item (StreamFault fault) up code is =
+verdict_ends log decoded item (ConnectionFault fault) up front frame frames on code is =
+    fails_ends fault _ log (at_most_max _ _)
+    (item_last log decoded item front frame frames on) code is
+verdict_ends log decoded item (StreamFault fault) up front frame frames on code is =
     still_up log.failed _ code up (replied_failed log _ _ _ _ refl) is
-verdict_ends log decoded item NoEvent up code is =
+verdict_ends log decoded item NoEvent up front frame frames on code is =
     still_up log.failed _ code up (replied_failed log _ _ _ _ refl) is
-verdict_ends log decoded item Reported up code is =
+verdict_ends log decoded item Reported up front frame frames on code is =
     still_up log.failed _ code up (replied_failed log _ _ _ _ refl) is
 
 -- After what a frame makes of the block that has begun.
 step_ends : (log : Log) (decoded : Option Decoded) (step : FrameStep) → log.failed ≡ None
-    → (code : Code) → (with_step log decoded step).failed ≡ Some code
+    → (front : List Frame) (frame : Frame) → log.frames ≡ front ++ frame ∷ []
+    → IsStepOn frame step → (code : Code) → (with_step log decoded step).failed ≡ Some code
     → EndsInGoAway (with_step log decoded step) code
 unfolding with_step
-step_ends log decoded (fails_with fault) up code is =
-    fails_ends fault (last_processed log) log (at_most _) code is
-step_ends log decoded (begins_block begun) up code is = none_some code (sym up ∙ is)
-step_ends log decoded (completes item) up code is =
-    verdict_ends (record log { begun = None }) decoded item _ up code is
+step_ends log decoded (fails_with fault) up front frame frames on code is =
+    fails_ends fault (last_processed log) log (at_most _) (inl refl) code is
+step_ends log decoded (begins_block begun) up front frame frames on code is =
+    none_some code (sym up ∙ is)
+step_ends log decoded (completes item) up front frame frames on code is =
+    verdict_ends (record log { begun = None }) decoded item _ up front frame frames on code is
 
 -- After a frame.
 frame_ends : (log : Log) (decoded : Option Decoded) (frame : Frame) → log.failed ≡ None
@@ -148,7 +168,7 @@ frame_ends : (log : Log) (decoded : Option Decoded) (frame : Frame) → log.fail
 unfolding with_frame
 frame_ends log decoded frame up code is =
     step_ends (record log { frames = log.frames ++ frame ∷ [] }) decoded
-    (frame_step (log_view log) frame) up code is
+    (frame_step (log_view log) frame) up log.frames frame refl (step_on (log_view log) frame) code is
 
 -- After a stream that was refused, by the fault that this makes.
 refused_ends : (log : Log) (act : Act) (answer : Answer) (fault : Option Code)
@@ -157,7 +177,8 @@ refused_ends : (log : Log) (act : Act) (answer : Answer) (fault : Option Code)
     → EndsInGoAway (refused_with log act answer fault) code
 unfolding refused_with last_processed
 refused_ends log act answer (Some fault) up code is =
-    fails_ends fault (last_processed log) (called log act answer) (at_most _) code is
+    fails_ends fault (last_processed log) (called log act answer) (at_most _)
+    (inl refl) code is
 refused_ends log act answer None up code is =
     still_up log.failed _ code up (items_failed log act answer) is
 
@@ -168,16 +189,18 @@ call_ends : (log : Log) (act : Act) (answer : Answer) → log.failed ≡ None �
 unfolding with_call last_processed
 call_ends log act (Refused refusal) up code is = none_some code (sym up ∙ is)
 call_ends log act OutOfMemory up code is =
-    fails_ends InternalError (last_processed log) (called log act OutOfMemory) (at_most _) code is
+    fails_ends InternalError (last_processed log) (called log act OutOfMemory) (at_most _)
+    (inl refl) code is
 call_ends log (Refuse id number) answer up code is =
     refused_ends log (Refuse id number) answer (refuse_fault (log_view log) number) up code is
 call_ends log (PutOut count) (Count given) up code is =
     still_up log.failed _ code up (put_out_failed (called log (PutOut count) (Count given))) is
 call_ends log act answer up code is = still_up log.failed _ code up (items_failed log act answer) is
 
--- A log with the same output as another, and the same failure.
+-- A log with the same frames and output as another, and the same failure.
 pub record SameOutput (old new : Log) : Type 0 where
   pub role : new.role ≡ old.role
+  pub frames : new.frames ≡ old.frames
   pub sent : new.sent ≡ old.sent
   pub written : new.written ≡ old.written
   pub reported : new.reported ≡ old.reported
@@ -213,6 +236,7 @@ same_put_out_by log put given true not_set same = absurd (both_ways true not_set
 same_put_out_by log put given false not_set same =
     record {
       role = same.role;
+      frames = same.frames;
       sent = same.sent;
       written = same.written;
       reported = same.reported;
@@ -222,7 +246,7 @@ same_put_out_by log put given false not_set same =
 -- The output stays the same where a call is refused.
 same_called : (log : Log) (act : Act) (answer : Answer) → SameOutput log (called log act answer)
 same_called log act answer =
-    record { role = refl; sent = refl; written = refl; reported = refl; failed = refl }
+    record { role = refl; frames = refl; sent = refl; written = refl; reported = refl; failed = refl }
 
 -- what is no condition, where the first of two isn't
 no_return : (failed : Option Code) (code : Code) (b : Bool) → failed ≡ Some code
@@ -265,6 +289,7 @@ ends_still old new code same ends =
       front = ends.front;
       newest = same.sent ∙ ends.newest;
       processed = rw (same.role, same.reported) ends.processed;
+      exact = rw (same.role, same.reported, same.frames) ends.exact;
       written = same.written ∙ ends.written;
     }
 
@@ -296,6 +321,10 @@ used_processed : (log : Log) (octets : List ℕ) → last_processed (used log oc
 unfolding used last_processed
 used_processed log octets = at_most _
 
+used_same : (log : Log) (octets : List ℕ) → last_processed log ≡ last_processed (used log octets [])
+unfolding used last_processed
+used_same log octets = refl
+
 -- What an end that has failed has written last.
 pub failed_last : (role : Role) (values : Values) (log : Log) (code : Code)
     → IsLog role values log → log.failed ≡ Some code → EndsInGoAway log code
@@ -307,9 +336,11 @@ failed_last role values _ code (took_one {log = log} before takes octets frame d
     is =
     frame_ends (used log octets []) decoded frame (used_up log octets [] ∙ takes.up) code is
 failed_last role values _ code (met_fault {log = log} before takes octets fault at) is =
-    fails_ends (wire_fault_code fault) _ (used log octets []) (used_processed log octets) code is
+    fails_ends (wire_fault_code fault) _ (used log octets []) (used_processed log octets)
+    (inl (used_same log octets)) code is
 failed_last role values _ code (ran_out_of_memory {log = log} before up octets may) is =
-    fails_ends InternalError _ (used log octets []) (used_processed log octets) code is
+    fails_ends InternalError _ (used log octets []) (used_processed log octets)
+    (inl (used_same log octets)) code is
 failed_last role values _ code (reported_one {log = log} before up some) is =
     still_up log.failed _ code up (reported_failed _ _ ∙ unreturned_failed _ _) is
 failed_last role values _ code (called_one {log = log} before act answer typed may) is =

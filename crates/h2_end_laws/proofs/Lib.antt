@@ -1,8 +1,11 @@
 -- The lemmas of the laws.
 pub mod BareLogs
+pub mod BlockStreams
 pub mod ConservedWindows
 pub mod DataWindows
 pub mod Failures
+pub mod FaultCodes
+pub mod GoAwaysRead
 pub mod Grouped
 pub mod GroupedPrefixes
 pub mod OneTake
@@ -27,8 +30,8 @@ pub mod RunsOfLogs
 pub mod Sendable
 pub mod SendableCalls
 pub mod SendableItems
-pub mod SendingLists
 pub mod Sendings
+pub mod SettingsApplied
 pub mod TakeAnswers
 pub mod TakenFrames
 pub mod TurnsAdded

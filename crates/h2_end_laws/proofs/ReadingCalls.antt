@@ -33,6 +33,8 @@ use Rattle.h2_log.specs.LogCalls.{with_call, MayAnswer, accepts, refuses, lacks,
 use Rattle.h2_log.specs.Histories.{IsLog, begins, took_some, took_one, met_fault, ran_out_of_memory}
 use Rattle.h2_log.specs.Histories.{reported_one, called_one}
 use Rattle.h2_end_laws.specs.Readings.{items_read, events_read, events_of_items, HasReadings}
+use Rattle.h2_end_laws.proofs.Replies.{replies_of_logs}
+use Rattle.h2_end_laws.proofs.SendableItems.{taken_fit}
 use Rattle.h2_end_laws.proofs.Readings.{LogIsRead, wrote_goaway, named, wrote_keeps}
 use Rattle.h2_end_laws.proofs.Readings.{reports_keep, update_stays, unreturned_keeps}
 use Rattle.h2_end_laws.proofs.Readings.{failure_keeps, frame_keeps}
@@ -181,7 +183,9 @@ log_read role values _ (begins in_range) = begins_read role values
 log_read role values _ (took_some {log = log} is takes octets unparsed read) =
     log_read role values log is
 log_read role values _ (took_one {log = log} is takes octets frame decoded read sees) =
-    frame_keeps (used log octets []) decoded frame takes.up sees (log_read role values log is)
+    frame_keeps (used log octets []) decoded frame takes.up sees
+    (taken_fit (is_server role) _ _ log.frames frame [] read) (replies_of_logs role values log is)
+    (log_read role values log is)
 log_read role values _ (met_fault {log = log} is takes octets fault at) =
     failure_keeps (wire_fault_code fault) _ (used log octets []) (log_read role values log is)
 log_read role values _ (ran_out_of_memory {log = log} is up octets may) =

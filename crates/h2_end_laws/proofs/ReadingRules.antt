@@ -1,5 +1,5 @@
 -- What the verdict on an item says of what is reported of it.
-use Rattle.std.proofs.Common.{◌≡◌, ◌≢◌, ℕ, zero, suc, ◌≤◌, ◌<◌, ◌==◌, ◌%◌, nat_le, ◌&&◌}
+use Rattle.std.proofs.Common.{◌≡◌, ◌≢◌, ℕ, zero, suc, ◌<◌, ◌==◌, ◌%◌, nat_le, ◌&&◌}
 use Rattle.std.proofs.Common.{max, Bool, true, false, if◌then◌else◌, List, [], ◌∷◌}
 use Rattle.std.proofs.Common.{Option, Some, None, refl, inl, inr, arith}
 use Rattle.std.specs.List.{list_any}
@@ -28,14 +28,16 @@ use Rattle.h2_log.specs.Verdicts.{update_verdict, block_verdict, opening_verdict
 use Rattle.h2_log.specs.ItemRules.{is_awaited_ping, Decoded, peer_opens, verdict_of_fault}
 use Rattle.h2_log.specs.ItemRules.{verdict_by_rules}
 use Rattle.h2_log.specs.ItemRules.{settings_fault, completes}
-use Rattle.h2_log.specs.ItemEffects.{events_of, least_last}
+use Rattle.h2_log.specs.ItemEffects.{events_of}
 use Rattle.h2_log.specs.Histories.{IsDecodedIn}
 use Rattle.h2_log_laws.proofs.ReaderStates.{active_used, opens_here}
 use Rattle.h2_log_laws.proofs.ReaderStates.{state_is_active}
 use Rattle.h2_log_laws.proofs.ReplyInvariant.{used_more}
 use Rattle.h2_end_laws.specs.Readings.{Reading, its_fields, its_octets, its_reset}
 use Rattle.h2_end_laws.specs.Readings.{its_fault, its_goaway, its_acknowledgment, its_pong}
-use Rattle.h2_end_laws.specs.Readings.{MayBeSilent, AreEventsOf}
+use Rattle.h2_end_laws.specs.Readings.{MayBeSilent, AreEventsOf, fault_codes}
+use Rattle.h2_end_laws.proofs.FaultCodes.{HasCode}
+use Rattle.h2_end_laws.proofs.GoAwaysRead.{IsTypedGoAway, least_reported}
 use Rattle.h2_end_laws.proofs.ReadVerdicts.{Says, says_data, closed_by_us_is}
 
 -- At a server, a number above all that were used is above all that were processed, and above the
@@ -290,44 +292,40 @@ pub used_some : (role : Role) (i : ℕ) (received sent : List Item)
 unfolding is_used
 used_some role i received sent used = odd_some i (and_parts _ _ used).0
 
--- the least of a last stream and another is no greater
-least_less : (last : ℕ) (before : Option ℕ) → least_last last before ≤ last
-least_less last None = omega arith
-least_less last (Some before) = omega arith
-
 -- What is reported is what the item says.
 pub events_said : (log : Log) (decoded : Option Decoded) (item : Item) (verdict : Verdict)
     → ((code : Code) → verdict ≡ ConnectionFault code → ⊥)
     → IsDecodedIn log decoded (completes item) → IsSeen decoded item
+    → HasCode (fault_codes item) verdict → IsTypedGoAway item
     → Says (IsFaulty log item) (IsUnreported log item) (IsSaid log item) verdict
     → AreEventsOf log.role log.received (reading_of log decoded item verdict) (events_of
     (log_view log) decoded verdict item)
 unfolding events_of
-events_said log decoded item (ConnectionFault code) none sees seen says = absurd (none code refl)
-events_said log decoded item (StreamFault code) none sees seen says =
-    its_fault item decoded (code_number code) (used_some log.role (stream_of_item item)
-    (item ∷ log.received) log.sent says)
-events_said log decoded item NoEvent none sees seen says = says
-events_said log None (block stream end octets) Reported none sees seen says = absurd seen
-events_said log (Some decoded) (block stream end octets) Reported none sees seen says =
+events_said log decoded item (ConnectionFault code) none sees seen coded typed says = absurd (none code refl)
+events_said log decoded item (StreamFault code) none sees seen coded typed says =
+    its_fault item decoded code (used_some log.role (stream_of_item item)
+    (item ∷ log.received) log.sent says) coded
+events_said log decoded item NoEvent none sees seen coded typed says = says
+events_said log None (block stream end octets) Reported none sees seen coded typed says = absurd seen
+events_said log (Some decoded) (block stream end octets) Reported none sees seen coded typed says =
     its_fields stream end octets decoded
-events_said log decoded (alone (Data stream end octets pad)) Reported none sees seen says =
+events_said log decoded (alone (Data stream end octets pad)) Reported none sees seen coded typed says =
     rw sees (its_octets stream end octets pad)
 events_said log decoded (alone (Headers stream end last fragment pad priority)) Reported none sees
-    seen says = tt
-events_said log decoded (alone (Priority stream octets)) Reported none sees seen says = tt
-events_said log decoded (alone (Reset stream code)) Reported none sees seen says =
+    seen coded typed says = tt
+events_said log decoded (alone (Priority stream octets)) Reported none sees seen coded typed says = tt
+events_said log decoded (alone (Reset stream code)) Reported none sees seen coded typed says =
     rw sees (its_reset stream code)
-events_said log decoded (alone (Settings ack pairs)) Reported none sees seen says =
+events_said log decoded (alone (Settings ack pairs)) Reported none sees seen coded typed says =
     rw (sees, says) (its_acknowledgment pairs)
-events_said log decoded (alone (Ping ack octets)) Reported none sees seen says =
+events_said log decoded (alone (Ping ack octets)) Reported none sees seen coded typed says =
     rw (sees, says) (its_pong octets)
-events_said log decoded (alone (GoAway last code debug)) Reported none sees seen says =
-    rw sees (its_goaway last code _ debug (least_less last (log_view log).goaway_received))
-events_said log decoded (alone (WindowUpdate stream increment)) Reported none sees seen says = tt
-events_said log decoded (alone (Continuation stream last fragment)) Reported none sees seen says =
+events_said log decoded (alone (GoAway last code debug)) Reported none sees seen coded typed says =
+    rw (sees, least_reported log last code debug typed) (its_goaway last code debug)
+events_said log decoded (alone (WindowUpdate stream increment)) Reported none sees seen coded typed says = tt
+events_said log decoded (alone (Continuation stream last fragment)) Reported none sees seen coded typed says =
     tt
-events_said log decoded (alone (Unknown kind flags stream payload)) Reported none sees seen says =
+events_said log decoded (alone (Unknown kind flags stream payload)) Reported none sees seen coded typed says =
     tt
 
 -- Numbers from which a block opens are below those from which none does.

@@ -30,7 +30,11 @@ use Rattle.h2_log_laws.proofs.LogHistory.{any_either}
 use Rattle.h2_end_laws.specs.Readings.{Reading, IsEventOf, its_fields, its_octets, its_reset}
 use Rattle.h2_end_laws.specs.Readings.{its_fault, its_goaway, its_acknowledgment, its_pong}
 use Rattle.h2_end_laws.specs.Readings.{AreEventsOf, DecodesTo, AreDecoded, items_read, events_read}
-use Rattle.h2_end_laws.specs.Readings.{events_of_items, AreReadings}
+use Rattle.h2_end_laws.specs.Readings.{events_of_items, AreReadings, fault_codes}
+use Rattle.h2_end_laws.specs.Replies.{replies_due, replies_among}
+use Rattle.h2_end_laws.proofs.FaultCodes.{HasCode, verdict_coded}
+use Rattle.h2_end_laws.proofs.GoAwaysRead.{IsTypedGoAway, IsTypedStep, step_typed}
+use Rattle.h2_end_laws.proofs.SendableItems.{IsFit}
 use Rattle.h2_end_laws.proofs.ReadVerdicts.{Says, says_of}
 use Rattle.h2_end_laws.proofs.ReadingRules.{IsUnreported, IsLow, IsFaulty, IsSaid, IsSeen}
 use Rattle.h2_end_laws.proofs.ReadingRules.{rules_say}
@@ -56,19 +60,34 @@ PendingRead events log =
 abbrev pub LogIsRead : Log → Type 0
 LogIsRead log = PendingRead [] log
 
--- Readings still stand where more was written and reported.
+-- Nothing, or unprocessed streams, after unprocessed streams.
+none_later : events_of_items [] ≡ []
+unfolding events_of_items
+none_later = refl
+
+none_more : (events later : List Event) → events_of_items events ≡ [] → events_of_items later ≡ []
+    → events_of_items (events ++ later) ≡ []
+unfolding events_of_items
+none_more [] later none after = after
+none_more (UnprocessedEvent id ∷ events) later none after = none_more events later none after
+none_more (event ∷ events) later none after = cc
+
+-- Readings still stand where more was written, and unprocessed streams were reported.
 readings_more : (role : Role) (items sent : List Item) (events reported : List Event)
-    (readings : List Reading) → AreReadings role sent reported readings
+    (readings : List Reading) → events_of_items events ≡ []
+    → AreReadings role sent reported readings
     → AreReadings role (items ++ sent) (events ++ reported) readings
-readings_more role items sent events reported [] are = tt
-readings_more role items sent events reported (reading ∷ readings) are = (
+readings_more role items sent events reported [] none are = tt
+readings_more role items sent events reported (reading ∷ readings) none are = (
   items ++ are.0,
   events ++ are.1,
   ap (λ (line : List Item). items ++ line) are.2 ∙ sym (append_assoc items are.0 reading.sent),
   ap (λ (line : List Event). events ++ line) are.3
-      ∙ sym (append_assoc events are.1 reading.reported),
-  are.4,
+      ∙ sym (append_assoc events are.1 (reading.events ++ reading.reported)),
+  none_more events are.1 none are.4,
   are.5,
+  are.6,
+  are.7,
 )
 
 -- Items that are written keep this, if no GOAWAY is among them.
@@ -81,7 +100,7 @@ wrote role received items sent reported table failed none are =
       readings = are.readings;
       items = are.items;
       events = are.events;
-      each = readings_more role items sent [] reported are.readings are.each;
+      each = readings_more role items sent [] reported are.readings none_later are.each;
       decoded_in = are.decoded_in;
       low = λ up server i some unused.
           let old = are.low up server i some unused in (
@@ -103,7 +122,7 @@ wrote_failure role received items sent reported table failed code are =
       readings = are.readings;
       items = are.items;
       events = are.events;
-      each = readings_more role items sent [] reported are.readings are.each;
+      each = readings_more role items sent [] reported are.readings none_later are.each;
       decoded_in = are.decoded_in;
       low = λ up. absurd (cc);
     }
@@ -126,7 +145,7 @@ wrote_goaway role received sent reported table failed last is are =
       items = are.items;
       events = are.events;
       each = readings_more role (alone (GoAway last 0 []) ∷ []) sent [] reported are.readings
-          are.each;
+          none_later are.each;
       decoded_in = are.decoded_in;
       low = λ up server i some unused.
           let old = are.low up server i some unused in
@@ -143,31 +162,32 @@ named role received sent reported table failed id are =
       readings = are.readings;
       items = are.items;
       events = are.events;
-      each = readings_more role [] sent (UnprocessedEvent id ∷ []) reported are.readings are.each;
+      each = readings_more role [] sent (UnprocessedEvent id ∷ []) reported are.readings
+          refl are.each;
       decoded_in = are.decoded_in;
       low = λ up server i some unused.
           let old = are.low up server i some unused in (omega (arith, old.0), old.1);
     }
 
 -- An event of an item is none of those that follow a GOAWAY.
-event_stays : (item : Item) (decoded : Option Decoded) (event : Event) (reported : List Event)
-    → IsEventOf item decoded event
+event_stays : (received : List Item) (item : Item) (decoded : Option Decoded) (event : Event)
+    (reported : List Event) → IsEventOf received item decoded event
     → events_of_items (event ∷ reported) ≡ event ∷ events_of_items reported
 unfolding events_of_items
-event_stays _ _ _ reported (its_fields stream end octets decoded) = refl
-event_stays _ _ _ reported (its_octets stream end octets pad) = refl
-event_stays _ _ _ reported (its_reset stream code) = refl
-event_stays _ _ _ reported (its_fault item decoded code some) = refl
-event_stays _ _ _ reported (its_goaway last code least debug less) = refl
-event_stays _ _ _ reported (its_acknowledgment pairs) = refl
-event_stays _ _ _ reported (its_pong octets) = refl
+event_stays received _ _ _ reported (its_fields stream end octets decoded) = refl
+event_stays received _ _ _ reported (its_octets stream end octets pad) = refl
+event_stays received _ _ _ reported (its_reset stream code) = refl
+event_stays received _ _ _ reported (its_fault item decoded code some has) = refl
+event_stays received _ _ _ reported (its_goaway last code debug) = refl
+event_stays received _ _ _ reported (its_acknowledgment pairs) = refl
+event_stays received _ _ _ reported (its_pong octets) = refl
 
 events_stay : (role : Role) (received : List Item) (reading : Reading)
     (events reported : List Event) → AreEventsOf role received reading events
     → events_of_items (events ++ reported) ≡ events ++ events_of_items reported
 events_stay role received reading [] reported are = refl
 events_stay role received reading (event ∷ []) reported are =
-    event_stays reading.item reading.decoded event reported are
+    event_stays received reading.item reading.decoded event reported are
 events_stay role received reading (event ∷ (other ∷ events)) reported are = absurd are
 
 -- The greatest number of two lists of events.
@@ -201,14 +221,15 @@ events_next reading readings = refl
 -- An item that is read keeps it, by its verdict.
 item_read : (log : Log) (decoded : Option Decoded) (item : Item) (verdict : Verdict)
     → ((code : Code) → verdict ≡ ConnectionFault code → ⊥)
-    → IsDecodedIn log decoded (completes item)
+    → IsDecodedIn log decoded (completes item) → HasCode (fault_codes item) verdict
+    → IsTypedGoAway item → replies_among log.sent ≡ replies_due log.received
     → Says (IsSeen decoded item) (IsSeen decoded item) (IsSeen decoded item) verdict
     → Says (IsFaulty log item) (IsUnreported log item) (IsSaid log item) verdict
     → LogIsRead log
     → PendingRead (events_of (log_view log) decoded verdict item) (read log decoded item)
-item_read log decoded item verdict none sees seen says are =
+item_read log decoded item verdict none sees coded typed replied seen says are =
     let is_seen = seen_by decoded item verdict none seen in
-    let said = events_said log decoded item verdict none sees is_seen says in
+    let said = events_said log decoded item verdict none sees is_seen coded typed says in
     let reading = reading_of log decoded item verdict in
     record {
       readings = reading ∷ are.readings;
@@ -217,7 +238,16 @@ item_read log decoded item verdict none sees seen says are =
       events = events_next reading are.readings
           ∙ ap (λ (line : List Event). reading.events ++ line) are.events
           ∙ sym (events_stay log.role log.received reading reading.events log.reported said);
-      each = ([], reading.events, refl, refl, rw are.items said, are.each);
+      each = (
+        [],
+        [],
+        refl,
+        refl,
+        none_later,
+        replied ∙ ap replies_due (sym are.items),
+        rw are.items said,
+        are.each,
+      );
       decoded_in = (log.table, are.decoded_in, decodes log decoded item verdict sees is_seen);
       low = λ up server i some unused.
           let before = or_parts (opens_from i item) (list_any (opens_from i) log.received) unused in
@@ -305,41 +335,45 @@ replies_stay NoEvent (alone (Unknown kind flags stream payload)) = refl
 
 -- An item, by its verdict.
 verdict_keeps : (log : Log) (decoded : Option Decoded) (item : Item) (verdict : Verdict)
-    → IsDecodedIn log decoded (completes item)
+    → IsDecodedIn log decoded (completes item) → HasCode (fault_codes item) verdict
+    → IsTypedGoAway item → replies_among log.sent ≡ replies_due log.received
     → Says (IsSeen decoded item) (IsSeen decoded item) (IsSeen decoded item) verdict
     → Says (IsFaulty log item) (IsUnreported log item) (IsSaid log item) verdict
     → LogIsRead log → LogIsRead (with_verdict log decoded item verdict)
 unfolding with_verdict
-verdict_keeps log decoded item (ConnectionFault code) sees seen says are =
+verdict_keeps log decoded item (ConnectionFault code) sees coded typed replied seen says are =
     failure_keeps code _ log are
-verdict_keeps log decoded item (StreamFault code) sees seen says are =
+verdict_keeps log decoded item (StreamFault code) sees coded typed replied seen says are =
     reports_keep _ _ (unreturned_keeps _ _ _ (wrote_keeps _ _ _ (replies_stay (StreamFault code)
-    item) (item_read log decoded item (StreamFault code) (λ other is. cc) sees seen says are)))
-verdict_keeps log decoded item NoEvent sees seen says are =
+    item) (item_read log decoded item (StreamFault code) (λ other is. cc) sees coded typed replied seen says are)))
+verdict_keeps log decoded item NoEvent sees coded typed replied seen says are =
     reports_keep _ _ (unreturned_keeps _ _ _ (wrote_keeps _ _ _ (replies_stay NoEvent item)
-    (item_read log decoded item NoEvent (λ other is. cc) sees seen says are)))
-verdict_keeps log decoded item Reported sees seen says are =
+    (item_read log decoded item NoEvent (λ other is. cc) sees coded typed replied seen says are)))
+verdict_keeps log decoded item Reported sees coded typed replied seen says are =
     reports_keep _ _ (unreturned_keeps _ _ _ (wrote_keeps _ _ _ (replies_stay Reported item)
-    (item_read log decoded item Reported (λ other is. cc) sees seen says are)))
+    (item_read log decoded item Reported (λ other is. cc) sees coded typed replied seen says are)))
 
 -- What a frame makes of the block that has begun.
 step_keeps : (log : Log) (decoded : Option Decoded) (step : FrameStep) → log.failed ≡ None
-    → IsDecodedIn log decoded step → LogIsRead log → LogIsRead (with_step log decoded step)
+    → IsDecodedIn log decoded step → IsTypedStep step
+    → replies_among log.sent ≡ replies_due log.received → LogIsRead log
+    → LogIsRead (with_step log decoded step)
 unfolding with_step
-step_keeps log decoded (fails_with code) up sees are =
+step_keeps log decoded (fails_with code) up sees typed replied are =
     failure_keeps code (last_processed log) log are
-step_keeps log decoded (begins_block begun) up sees are = are
-step_keeps log decoded (completes item) up sees are =
+step_keeps log decoded (begins_block begun) up sees typed replied are = are
+step_keeps log decoded (completes item) up sees typed replied are =
     let here = record log { begun = None } in
-    verdict_keeps here decoded item _ sees
+    verdict_keeps here decoded item _ sees (verdict_coded (log_view here) decoded item) typed replied
     (says_of _ _ _ here decoded item (rules_see here decoded item))
     (says_of _ _ _ here decoded item (rules_say here decoded item (are.low up))) are
 
 -- A frame.
 pub frame_keeps : (log : Log) (decoded : Option Decoded) (frame : Frame) → log.failed ≡ None
-    → IsDecodedIn log decoded (frame_step (log_view log) frame) → LogIsRead log
+    → IsDecodedIn log decoded (frame_step (log_view log) frame) → IsFit frame
+    → replies_among log.sent ≡ replies_due log.received → LogIsRead log
     → LogIsRead (with_frame log decoded frame)
 unfolding with_frame
-frame_keeps log decoded frame up sees are =
+frame_keeps log decoded frame up sees fit replied are =
     step_keeps (record log { frames = log.frames ++ frame ∷ [] }) decoded
-    (frame_step (log_view log) frame) up sees are
+    (frame_step (log_view log) frame) up sees (step_typed (log_view log) frame fit) replied are

@@ -229,9 +229,11 @@ data_items_sendable most id octets end count some low short =
     (data_frames_sendable (suc count) most id (take count octets) (end && count == length octets)
     some low short)
 
--- What is known of a frame that was read: its stream has 31 bits, and a PING has eight octets.
+-- What is known of a frame that was read: its stream has 31 bits, and so has the last stream of
+-- GOAWAY; and a PING has eight octets.
 abbrev pub IsFit : Frame → Type 0
 IsFit (Ping ack octets) = length octets ≡ 8
+IsFit (GoAway last code debug) = last < 2 ^ 31
 IsFit frame = stream_of frame < 2 ^ 31
 
 -- the same of an item, and of a block that has begun
@@ -258,7 +260,7 @@ stream_low (alone (Priority stream octets)) fit = fit
 stream_low (alone (Reset stream code)) fit = fit
 stream_low (alone (Settings ack pairs)) fit = fit
 stream_low (alone (Ping ack octets)) fit = omega arith
-stream_low (alone (GoAway last code debug)) fit = fit
+stream_low (alone (GoAway last code debug)) fit = omega arith
 stream_low (alone (WindowUpdate stream increment)) fit = fit
 stream_low (alone (Continuation stream last fragment)) fit = fit
 stream_low (alone (Unknown kind flags stream payload)) fit = fit
@@ -284,7 +286,8 @@ frame_fit (Reset stream code) octets encodes = same_low octets stream (encodes.c
 frame_fit (Settings ack pairs) octets encodes = omega arith
 frame_fit (Ping ack payload) octets encodes =
     ap length (encodes.carried).4 ∙ (encodes.carried).3
-frame_fit (GoAway last code debug) octets encodes = omega arith
+frame_fit (GoAway last code debug) octets encodes =
+    let number = (encodes.carried).3 in omega (arith, number)
 frame_fit (WindowUpdate stream increment) octets encodes =
     same_low octets stream (encodes.carried).1
 frame_fit (Continuation stream last fragment) octets encodes =

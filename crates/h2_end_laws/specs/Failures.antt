@@ -1,18 +1,28 @@
 -- What an end that has failed has written last (RFC 9113, section 5.4.1).
-use Rattle.std.specs.Prelude.{◌≡◌, ◌≤◌, ℕ, List, [], ◌∷◌, ◌++◌}
+use Rattle.std.specs.Prelude.{◌≡◌, ◌≤◌, ◌⊎◌, ℕ, List, [], ◌∷◌, ◌++◌}
 use Rattle.h2_frame.specs.declared.code.Code.{Code}
 use Rattle.h2_frame.specs.Codes.{code_number}
-use Rattle.h2_frame.specs.Frames.{GoAway}
-use Rattle.h2_frame.specs.Encoding.{encoding_of}
+use Rattle.h2_frame.specs.Frames.{Frame, GoAway}
+use Rattle.h2_frame.specs.Encoding.{encoding_of, stream_of}
 use Rattle.h2_block.specs.Grouping.{Item, alone}
 use Rattle.h2_log.specs.Log.{Log, last_processed}
 
--- The newest item is GOAWAY with the code, whose last stream is none below the greatest that was
--- processed; and its octets are the last of the output.
+-- The last stream is the greatest that was processed, or that of the last frame, with which the
+-- connection failed.
+abbrev pub IsLastStream : Log → ℕ → Type 0
+IsLastStream log last =
+    (last ≡ last_processed log)
+    ⊎ ((front : List Frame) × (frame : Frame) × (log.frames ≡ front ++ frame ∷ [])
+    × (last ≡ stream_of frame))
+
+-- The newest item is GOAWAY with the code. Its last stream is the greatest that was processed, or a
+-- greater one, that of the frame with which the connection failed. And its octets are the last of
+-- the output.
 pub record EndsInGoAway (log : Log) (code : Code) : Type 0 where
   pub last : ℕ
   pub earlier : List Item
   pub front : List ℕ
   pub newest : log.sent ≡ alone (GoAway last (code_number code) []) ∷ earlier
   pub processed : last_processed log ≤ last
+  pub exact : IsLastStream log last
   pub written : log.written ≡ front ++ encoding_of (GoAway last (code_number code) [])

@@ -1,12 +1,18 @@
 -- What an end has made of the items that it read, one after another: what their blocks decode to,
 -- and which events were reported of them (RFC 9113, sections 4.3, 5.1, 6 and 8.1). Lists have the
 -- newest first.
-use Rattle.std.specs.Prelude.{◌≡◌, ◌≢◌, ◌≤◌, ℕ, Bool, true, false, List, [], ◌∷◌, ◌++◌, length}
+use Rattle.std.specs.Prelude.{◌≡◌, ◌≢◌, ℕ, Bool, true, false, List, [], ◌∷◌, ◌++◌, length}
 use Rattle.std.specs.Prelude.{nat_lt, Option, Some, None}
+use Rattle.std.specs.List.{Contains}
 use Rattle.hpack.specs.Blocks.{Block}
 use Rattle.hpack.specs.Tables.{Entries}
 use Rattle.hpack.specs.Lists.{empty_table}
-use Rattle.h2_frame.specs.Frames.{Data, Reset, Settings, Ping, GoAway}
+use Rattle.h2_frame.specs.declared.code.Code.{Code}
+use Rattle.h2_frame.specs.declared.code.Code.TheVariants.{ProtocolError, FlowControlError}
+use Rattle.h2_frame.specs.declared.code.Code.TheVariants.{StreamClosed, RefusedStream}
+use Rattle.h2_frame.specs.declared.code.Code.TheVariants.{EnhanceYourCalm}
+use Rattle.h2_frame.specs.Codes.{code_number}
+use Rattle.h2_frame.specs.Frames.{Data, Reset, Settings, Ping, GoAway, WindowUpdate}
 use Rattle.h2_frame.specs.Encoding.{payload_of}
 use Rattle.h2_block.specs.Grouping.{Item, alone, block}
 use Rattle.h2_log.specs.declared.role.Role.{Role}
@@ -17,7 +23,8 @@ use Rattle.h2_log.specs.Events.{reported_total}
 use Rattle.h2_log.specs.ItemRules.{Decoded, is_awaited_ping}
 use Rattle.h2_log.specs.Settings.{own_value, settings_count}
 use Rattle.h2_log.specs.States.{is_active, is_closed_by_us, when}
-use Rattle.h2_log.specs.Log.{Log, newest_ping}
+use Rattle.h2_log.specs.Log.{Log, newest_ping, least_goaway}
+use Rattle.h2_end_laws.specs.Replies.{replies_due, replies_among}
 
 -- an item that was read; what had been written and reported by then; what its block decodes to; and
 -- what was reported of it
@@ -28,22 +35,32 @@ pub record Reading : Type 0 where
   pub decoded : Option Decoded
   pub events : List Event
 
--- The event is what the item says. A stream's fault is an own reset of the item's stream.
-pub data IsEventOf : Item → Option Decoded → Event → Type 0 where
+-- the codes with which the stream of an item may be at fault (sections 5.1, 5.1.2, 6.9 and 10.5.1)
+unfoldable pub fault_codes : Item → List Code
+fault_codes (block stream end octets) = StreamClosed ∷ RefusedStream ∷ EnhanceYourCalm ∷ []
+fault_codes (alone (Data stream end octets pad)) = StreamClosed ∷ []
+fault_codes (alone (WindowUpdate stream increment)) = ProtocolError ∷ FlowControlError ∷ []
+fault_codes (alone _) = []
+
+-- The event is what the item says. A stream's fault is an own reset of the item's stream. GOAWAY is
+-- reported with the least last stream so far. `received`: the items that were read before this one.
+pub data IsEventOf (received : List Item) : Item → Option Decoded → Event → Type 0 where
   its_fields : (stream : ℕ) (end : Bool) (octets : List ℕ) (decoded : Decoded)
-      → IsEventOf (block stream end octets) (Some decoded) (FieldsEvent stream decoded.fields end)
+      → IsEventOf received (block stream end octets) (Some decoded) (FieldsEvent stream decoded.fields end)
   its_octets : (stream : ℕ) (end : Bool) (octets : List ℕ) (pad : Option ℕ)
-      → IsEventOf (alone (Data stream end octets pad)) None
+      → IsEventOf received (alone (Data stream end octets pad)) None
       (DataEvent stream octets (length (payload_of (Data stream end octets pad))) end)
   its_reset : (stream code : ℕ)
-      → IsEventOf (alone (Reset stream code)) None (ResetEvent stream code false)
-  its_fault : (item : Item) (decoded : Option Decoded) (code : ℕ) → stream_of_item item ≢ 0
-      → IsEventOf item decoded (ResetEvent (stream_of_item item) code true)
-  its_goaway : (last code least : ℕ) (debug : List ℕ) → least ≤ last
-      → IsEventOf (alone (GoAway last code debug)) None (GoAwayEvent least code)
+      → IsEventOf received (alone (Reset stream code)) None (ResetEvent stream code false)
+  its_fault : (item : Item) (decoded : Option Decoded) (code : Code) → stream_of_item item ≢ 0
+      → Contains (fault_codes item) code
+      → IsEventOf received item decoded (ResetEvent (stream_of_item item) (code_number code) true)
+  its_goaway : (last code : ℕ) (debug : List ℕ)
+      → IsEventOf received (alone (GoAway last code debug)) None
+      (GoAwayEvent (least_goaway (alone (GoAway last code debug) ∷ received)) code)
   its_acknowledgment : (pairs : List (ℕ × ℕ))
-      → IsEventOf (alone (Settings true pairs)) None AckedEvent
-  its_pong : (octets : List ℕ) → IsEventOf (alone (Ping true octets)) None (PongEvent octets)
+      → IsEventOf received (alone (Settings true pairs)) None AckedEvent
+  its_pong : (octets : List ℕ) → IsEventOf received (alone (Ping true octets)) None (PongEvent octets)
 
 -- Items of which nothing need be reported, by what had been read, written and reported by then:
 -- field blocks and DATA of a stream that this end has closed; RST_STREAM of a stream that isn't
@@ -68,7 +85,8 @@ MayBeSilent role received sent reported (alone frame) = Unit {0}
 abbrev pub AreEventsOf : Role → (received : List Item) → Reading → List Event → Type 0
 AreEventsOf role received reading [] =
     MayBeSilent role received reading.sent reading.reported reading.item
-AreEventsOf role received reading (event ∷ []) = IsEventOf reading.item reading.decoded event
+AreEventsOf role received reading (event ∷ []) =
+    IsEventOf received reading.item reading.decoded event
 AreEventsOf role received reading (event ∷ other ∷ events) = ⊥
 
 -- A block decodes at the table after all blocks before it, with the table limit that was in force;
@@ -102,12 +120,15 @@ events_of_items [] = []
 events_of_items (UnprocessedEvent id ∷ events) = events_of_items events
 events_of_items (event ∷ events) = event ∷ events_of_items events
 
--- Each reading stands in the log: what had been written and reported by then is the older part.
+-- Each reading stands in the log where it was made. What was reported after its events are but
+-- unprocessed streams, up to the next reading; and what had been written by then has the replies to
+-- the items before it, and no other.
 abbrev pub AreReadings : Role → (sent : List Item) → (reported : List Event) → List Reading → Type 0
 AreReadings role sent reported [] = Unit {0}
 AreReadings role sent reported (reading ∷ readings) =
     (newer : List Item) × (later : List Event) × (sent ≡ newer ++ reading.sent)
-    × (reported ≡ later ++ reading.reported)
+    × (reported ≡ later ++ (reading.events ++ reading.reported)) × (events_of_items later ≡ [])
+    × (replies_among reading.sent ≡ replies_due (items_read readings))
     × AreEventsOf role (items_read readings) reading reading.events
     × AreReadings role reading.sent reading.reported readings
 

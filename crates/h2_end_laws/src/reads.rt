@@ -16,7 +16,8 @@ pub fn items_are_frames_grouped()
 
 /// The events are those of the items, in order, at most one of each, and besides them the streams
 /// that the peer didn't process. Each field block is decoded at the table after all before it, and
-/// each is reported with its fields unless this end had closed its stream by then; so is DATA.
+/// each is reported with its fields unless this end had closed its stream by then, or it is a fault
+/// of the stream; so is DATA. GOAWAY is reported with the least last stream so far.
 pub fn events_are_of_the_items()
     ensures { (role : Role) (values : Values) (log : Log) → IsLog role values log
         → HasReadings log }

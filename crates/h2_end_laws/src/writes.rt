@@ -22,7 +22,7 @@ ghost use Rattle.h2_log.specs.Histories.{IsLog};
 ghost use Rattle.h2_log_laws.specs.Sending.{IsSendable};
 ghost use Rattle.h2_end_laws.specs.Failures.{EndsInGoAway};
 ghost use Rattle.h2_end_laws.specs.Replies.{replies_due, replies_among};
-ghost use Rattle.h2_end_laws.specs.Sendings.{HasSendings};
+ghost use Rattle.h2_end_laws.specs.Sendings.{EncodesInOrder, settings_received, lists_accepted};
 ghost use Rattle.h2_end_laws.specs.Written.{Writes};
 
 /// Each SETTINGS that was read has been acknowledged once, and each PING answered once with its
@@ -32,7 +32,8 @@ pub fn each_is_replied_to()
         → replies_among log.sent ≡ replies_due log.received }
 {}
 
-/// An end that has failed has written GOAWAY with its code last, and no call makes it write more
+/// An end that has failed has written GOAWAY last, with its code and the last stream that was
+/// processed, which may be that of the frame with which it failed; and no call makes it write more
 /// (section 5.4.1).
 pub fn nothing_follows_a_failure()
     ensures last { (role : Role) (values : Values) (log : Log) (code : Code)
@@ -51,10 +52,12 @@ pub fn written_items_can_be_sent()
 {}
 
 /// The field blocks that an end has written are what its encoder makes of the lists of the calls
-/// that were accepted, with the limits that were read in between, in order (section 4.3).
+/// that were accepted, in order, each with the limits that were acknowledged before it (section
+/// 4.3).
 pub fn blocks_are_of_the_lists()
     ensures { (role : Role) (values : Values) (log : Log) → IsLog role values log
-        → HasSendings log }
+        → EncodesInOrder log.sent (settings_received log.received) (lists_accepted log.calls)
+        log.encoder }
 {}
 
 /// On a stream that is active and that the peer hasn't ended, what the peer may send and what is
