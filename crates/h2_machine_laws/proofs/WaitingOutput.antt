@@ -98,7 +98,7 @@ pub fails_connection : (role : Role) (failed : Option Code) (waits : List ℕ) (
     → ConnectionFacts role failed waits log
     → ConnectionFacts role (Some code) (waits
     ++ encoding_of_items max_frame_size_sent (alone (GoAway last (code_number code) []) ∷ []))
-        (with_failure code other log)
+    (with_failure code other log)
 unfolding with_sent
 fails_connection role failed waits log code last other same s =
     let wrote = wrote_connection role failed waits log (alone (GoAway other (code_number code) []))
@@ -119,7 +119,7 @@ pub with_unreturned_connection_by : (role : Role) (failed : Option Code) (waits 
     → ConnectionFacts role failed waits log
     → ConnectionFacts role failed (if b then waits
     ++ encoding_of_items max_frame_size_sent (alone (WindowUpdate 0
-        (unreturned + more)) ∷ []) else waits)
+    (unreturned + more)) ∷ []) else waits)
     (if b then with_credit_returned (record log { unreturned = log.unreturned + more }) else record
     log { unreturned = log.unreturned + more })
 unfolding with_sent
