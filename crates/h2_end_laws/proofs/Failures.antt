@@ -168,7 +168,8 @@ frame_ends : (log : Log) (decoded : Option Decoded) (frame : Frame) → log.fail
 unfolding with_frame
 frame_ends log decoded frame up code is =
     step_ends (record log { frames = log.frames ++ frame ∷ [] }) decoded
-    (frame_step (log_view log) frame) up log.frames frame refl (step_on (log_view log) frame) code is
+    (frame_step (log_view log) frame) up log.frames frame refl (step_on (log_view log) frame) code
+    is
 
 -- After a stream that was refused, by the fault that this makes.
 refused_ends : (log : Log) (act : Act) (answer : Answer) (fault : Option Code)
@@ -246,7 +247,14 @@ same_put_out_by log put given false not_set same =
 -- The output stays the same where a call is refused.
 same_called : (log : Log) (act : Act) (answer : Answer) → SameOutput log (called log act answer)
 same_called log act answer =
-    record { role = refl; frames = refl; sent = refl; written = refl; reported = refl; failed = refl }
+    record {
+      role = refl;
+      frames = refl;
+      sent = refl;
+      written = refl;
+      reported = refl;
+      failed = refl;
+    }
 
 -- what is no condition, where the first of two isn't
 no_return : (failed : Option Code) (code : Code) (b : Bool) → failed ≡ Some code

@@ -146,8 +146,8 @@ rules_coded view decoded (alone (Ping true octets)) =
     reply_coded [] (is_awaited_ping octets view.ping)
 rules_coded view decoded (alone (GoAway last code debug)) = tt
 rules_coded view decoded (alone (WindowUpdate stream increment)) =
-    updates_coded (ProtocolError ∷ FlowControlError ∷ []) (stream == 0) (view.state stream) increment
-    _ _ (first_of ProtocolError (FlowControlError ∷ []))
+    updates_coded (ProtocolError ∷ FlowControlError ∷ []) (stream == 0) (view.state stream)
+    increment _ _ (first_of ProtocolError (FlowControlError ∷ []))
     (second_of ProtocolError FlowControlError [])
 rules_coded view decoded (alone (Continuation stream last fragment)) = tt
 rules_coded view decoded (alone (Unknown kind flags stream payload)) = tt

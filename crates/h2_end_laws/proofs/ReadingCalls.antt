@@ -158,7 +158,7 @@ begins_read role values =
       readings = [];
       items = refl;
       events = refl;
-      each = tt;
+      each = refl;
       decoded_in = refl;
       low = λ up server i some unused.
           (above i some, λ goaway. absurd (both_ways false refl goaway));

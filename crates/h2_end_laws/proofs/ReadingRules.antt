@@ -301,19 +301,23 @@ pub events_said : (log : Log) (decoded : Option Decoded) (item : Item) (verdict 
     → AreEventsOf log.role log.received (reading_of log decoded item verdict) (events_of
     (log_view log) decoded verdict item)
 unfolding events_of
-events_said log decoded item (ConnectionFault code) none sees seen coded typed says = absurd (none code refl)
+events_said log decoded item (ConnectionFault code) none sees seen coded typed says =
+    absurd (none code refl)
 events_said log decoded item (StreamFault code) none sees seen coded typed says =
     its_fault item decoded code (used_some log.role (stream_of_item item)
     (item ∷ log.received) log.sent says) coded
 events_said log decoded item NoEvent none sees seen coded typed says = says
-events_said log None (block stream end octets) Reported none sees seen coded typed says = absurd seen
+events_said log None (block stream end octets) Reported none sees seen coded typed says =
+    absurd seen
 events_said log (Some decoded) (block stream end octets) Reported none sees seen coded typed says =
     its_fields stream end octets decoded
-events_said log decoded (alone (Data stream end octets pad)) Reported none sees seen coded typed says =
+events_said log decoded (alone (Data stream end octets pad)) Reported none sees
+    seen coded typed says =
     rw sees (its_octets stream end octets pad)
 events_said log decoded (alone (Headers stream end last fragment pad priority)) Reported none sees
     seen coded typed says = tt
-events_said log decoded (alone (Priority stream octets)) Reported none sees seen coded typed says = tt
+events_said log decoded (alone (Priority stream octets)) Reported none sees seen coded typed says =
+    tt
 events_said log decoded (alone (Reset stream code)) Reported none sees seen coded typed says =
     rw sees (its_reset stream code)
 events_said log decoded (alone (Settings ack pairs)) Reported none sees seen coded typed says =
@@ -322,11 +326,12 @@ events_said log decoded (alone (Ping ack octets)) Reported none sees seen coded 
     rw (sees, says) (its_pong octets)
 events_said log decoded (alone (GoAway last code debug)) Reported none sees seen coded typed says =
     rw (sees, least_reported log last code debug typed) (its_goaway last code debug)
-events_said log decoded (alone (WindowUpdate stream increment)) Reported none sees seen coded typed says = tt
-events_said log decoded (alone (Continuation stream last fragment)) Reported none sees seen coded typed says =
-    tt
-events_said log decoded (alone (Unknown kind flags stream payload)) Reported none sees seen coded typed says =
-    tt
+events_said log decoded (alone (WindowUpdate stream increment)) Reported none sees
+    seen coded typed says = tt
+events_said log decoded (alone (Continuation stream last fragment)) Reported none sees
+    seen coded typed says = tt
+events_said log decoded (alone (Unknown kind flags stream payload)) Reported none sees
+    seen coded typed says = tt
 
 -- Numbers from which a block opens are below those from which none does.
 pub opens_less : (a b : ℕ) (items : List Item) → list_any (opens_from a) items ≡ true

@@ -77,7 +77,7 @@ readings_more : (role : Role) (items sent : List Item) (events reported : List E
     (readings : List Reading) → events_of_items events ≡ []
     → AreReadings role sent reported readings
     → AreReadings role (items ++ sent) (events ++ reported) readings
-readings_more role items sent events reported [] none are = tt
+readings_more role items sent events reported [] none are = none_more events reported none are
 readings_more role items sent events reported (reading ∷ readings) none are = (
   items ++ are.0,
   events ++ are.1,
@@ -345,7 +345,8 @@ verdict_keeps log decoded item (ConnectionFault code) sees coded typed replied s
     failure_keeps code _ log are
 verdict_keeps log decoded item (StreamFault code) sees coded typed replied seen says are =
     reports_keep _ _ (unreturned_keeps _ _ _ (wrote_keeps _ _ _ (replies_stay (StreamFault code)
-    item) (item_read log decoded item (StreamFault code) (λ other is. cc) sees coded typed replied seen says are)))
+    item) (item_read log decoded item (StreamFault code) (λ other is. cc) sees coded typed replied
+    seen says are)))
 verdict_keeps log decoded item NoEvent sees coded typed replied seen says are =
     reports_keep _ _ (unreturned_keeps _ _ _ (wrote_keeps _ _ _ (replies_stay NoEvent item)
     (item_read log decoded item NoEvent (λ other is. cc) sees coded typed replied seen says are)))
@@ -364,7 +365,8 @@ step_keeps log decoded (fails_with code) up sees typed replied are =
 step_keeps log decoded (begins_block begun) up sees typed replied are = are
 step_keeps log decoded (completes item) up sees typed replied are =
     let here = record log { begun = None } in
-    verdict_keeps here decoded item _ sees (verdict_coded (log_view here) decoded item) typed replied
+    verdict_keeps here decoded item _ sees (verdict_coded (log_view here) decoded item) typed
+    replied
     (says_of _ _ _ here decoded item (rules_see here decoded item))
     (says_of _ _ _ here decoded item (rules_say here decoded item (are.low up))) are
 

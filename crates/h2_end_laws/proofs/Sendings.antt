@@ -27,7 +27,8 @@ use Rattle.h2_log.specs.View.{ended_in}
 use Rattle.h2_log.specs.Verdicts.{Verdict, ConnectionFault, StreamFault, NoEvent, Reported}
 use Rattle.h2_log.specs.ItemRules.{Decoded, replies_to, FrameStep, fails_with, begins_block}
 use Rattle.h2_log.specs.ItemRules.{completes, frame_step}
-use Rattle.h2_log.specs.CallRules.{opening_pairs, items_of, answer_of, refuse_fault, encoder_after_call}
+use Rattle.h2_log.specs.CallRules.{opening_pairs, items_of, answer_of, refuse_fault}
+use Rattle.h2_log.specs.CallRules.{encoder_after_call}
 use Rattle.h2_log.specs.CallRules.{returns_before_put_out, data_items, data_frames}
 use Rattle.h2_log.specs.Limits.{full_output}
 use Rattle.h2_log.specs.LogSteps.{read, with_sent, with_reported, with_unreturned, with_failure}
@@ -138,7 +139,8 @@ silent_replied : (log : Log) (decoded : Option Decoded) (item : Item) → LogIsS
 silent_replied log decoded (alone (Data stream end octets pad)) is =
     other_replied log decoded (alone (Data stream end octets pad)) NoEvent refl is
 silent_replied log decoded (alone (Headers stream end last fragment pad priority)) is =
-    other_replied log decoded (alone (Headers stream end last fragment pad priority)) NoEvent refl is
+    other_replied log decoded (alone (Headers stream end last fragment pad priority)) NoEvent refl
+    is
 silent_replied log decoded (alone (Priority stream octets)) is =
     other_replied log decoded (alone (Priority stream octets)) NoEvent refl is
 silent_replied log decoded (alone (Reset stream code)) is =

@@ -1,5 +1,5 @@
--- SETTINGS that are read are at fault, or acknowledged; other items are replied to with nothing that
--- changes the encoder.
+-- SETTINGS that are read are at fault, or acknowledged; other items are replied to with nothing
+-- that changes the encoder.
 use Rattle.std.proofs.Common.{◌≡◌, Bool, true, false, if◌then◌else◌, Option}
 use Rattle.std.proofs.Common.{Some, None, refl}
 use Rattle.std.specs.List.{list_any}
@@ -65,7 +65,8 @@ rules_applied view decoded (alone (Data stream end octets pad)) =
     other_applied (verdict_by_rules view decoded (alone (Data stream end octets pad)))
     (alone (Data stream end octets pad)) refl
 rules_applied view decoded (alone (Headers stream end last fragment pad priority)) =
-    other_applied (verdict_by_rules view decoded (alone (Headers stream end last fragment pad priority)))
+    other_applied (verdict_by_rules view decoded
+    (alone (Headers stream end last fragment pad priority)))
     (alone (Headers stream end last fragment pad priority)) refl
 rules_applied view decoded (alone (Priority stream octets)) =
     other_applied (verdict_by_rules view decoded (alone (Priority stream octets)))

@@ -7,8 +7,8 @@ use Rattle.h2_frame.specs.Encoding.{encoding_of, stream_of}
 use Rattle.h2_block.specs.Grouping.{Item, alone}
 use Rattle.h2_log.specs.Log.{Log, last_processed}
 
--- The last stream is the greatest that was processed, or that of the last frame, with which the
--- connection failed.
+-- The last stream is the greatest that was processed, or that of the last frame: that frame's block
+-- may open a stream and be a fault of the connection at once.
 abbrev pub IsLastStream : Log → ℕ → Type 0
 IsLastStream log last =
     (last ≡ last_processed log)
@@ -16,8 +16,7 @@ IsLastStream log last =
     × (last ≡ stream_of frame))
 
 -- The newest item is GOAWAY with the code. Its last stream is the greatest that was processed, or a
--- greater one, that of the frame with which the connection failed. And its octets are the last of
--- the output.
+-- greater one, that of the last frame. And its octets are the last of the output.
 pub record EndsInGoAway (log : Log) (code : Code) : Type 0 where
   pub last : ℕ
   pub earlier : List Item

@@ -46,7 +46,8 @@ fault_codes (alone _) = []
 -- reported with the least last stream so far. `received`: the items that were read before this one.
 pub data IsEventOf (received : List Item) : Item → Option Decoded → Event → Type 0 where
   its_fields : (stream : ℕ) (end : Bool) (octets : List ℕ) (decoded : Decoded)
-      → IsEventOf received (block stream end octets) (Some decoded) (FieldsEvent stream decoded.fields end)
+      → IsEventOf received (block stream end octets) (Some decoded)
+      (FieldsEvent stream decoded.fields end)
   its_octets : (stream : ℕ) (end : Bool) (octets : List ℕ) (pad : Option ℕ)
       → IsEventOf received (alone (Data stream end octets pad)) None
       (DataEvent stream octets (length (payload_of (Data stream end octets pad))) end)
@@ -60,7 +61,8 @@ pub data IsEventOf (received : List Item) : Item → Option Decoded → Event �
       (GoAwayEvent (least_goaway (alone (GoAway last code debug) ∷ received)) code)
   its_acknowledgment : (pairs : List (ℕ × ℕ))
       → IsEventOf received (alone (Settings true pairs)) None AckedEvent
-  its_pong : (octets : List ℕ) → IsEventOf received (alone (Ping true octets)) None (PongEvent octets)
+  its_pong : (octets : List ℕ)
+      → IsEventOf received (alone (Ping true octets)) None (PongEvent octets)
 
 -- Items of which nothing need be reported, by what had been read, written and reported by then:
 -- field blocks and DATA of a stream that this end has closed; RST_STREAM of a stream that isn't
@@ -120,11 +122,11 @@ events_of_items [] = []
 events_of_items (UnprocessedEvent id ∷ events) = events_of_items events
 events_of_items (event ∷ events) = event ∷ events_of_items events
 
--- Each reading stands in the log where it was made. What was reported after its events are but
--- unprocessed streams, up to the next reading; and what had been written by then has the replies to
--- the items before it, and no other.
+-- Each reading stands in the log where it was made: after its events, and before those of the next
+-- one, only unprocessed streams were reported, and so before the first; and what had been written
+-- by then has the replies to the items before it, and no other.
 abbrev pub AreReadings : Role → (sent : List Item) → (reported : List Event) → List Reading → Type 0
-AreReadings role sent reported [] = Unit {0}
+AreReadings role sent reported [] = events_of_items reported ≡ []
 AreReadings role sent reported (reading ∷ readings) =
     (newer : List Item) × (later : List Event) × (sent ≡ newer ++ reading.sent)
     × (reported ≡ later ++ (reading.events ++ reading.reported)) × (events_of_items later ≡ [])

@@ -32,9 +32,9 @@ pub fn each_is_replied_to()
         → replies_among log.sent ≡ replies_due log.received }
 {}
 
-/// An end that has failed has written GOAWAY last, with its code and the last stream that was
-/// processed, which may be that of the frame with which it failed; and no call makes it write more
-/// (section 5.4.1).
+/// An end that has failed has written GOAWAY last, with its code, and with the greatest stream that
+/// was processed, or a greater one, that of the last frame; and no call makes it write more (section
+/// 5.4.1).
 pub fn nothing_follows_a_failure()
     ensures last { (role : Role) (values : Values) (log : Log) (code : Code)
         → IsLog role values log → log.failed ≡ Some code → EndsInGoAway log code }

@@ -2,7 +2,7 @@
 use Rattle.std.proofs.Common.{◌≡◌, ◌≢◌, ℕ, zero, suc, ◌+◌, ◌-◌, ◌≤◌, ◌<◌, ◌%◌, ◌||◌, Bool, true}
 use Rattle.std.proofs.Common.{false, List, [], ◌∷◌, pos, refl, sym, ap, subst, ◌∙◌, arith, zero-add}
 use Rattle.std.proofs.Common.{suc-add}
-use Rattle.std.proofs.lemmas.Bool.{false_from_ne_true, eq-eqb, ne_eqb, and_left}
+use Rattle.std.proofs.lemmas.Bool.{false_from_ne_true, eq-eqb, and_left}
 use Rattle.std.proofs.lemmas.Int.{ints}
 use Rattle.std.specs.List.{list_any}
 use Rattle.std.specs.FinMap as map

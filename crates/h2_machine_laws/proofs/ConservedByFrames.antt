@@ -22,7 +22,7 @@ use Rattle.h2_log.specs.Verdicts.{data_verdict, reset_verdict, connection_update
 use Rattle.h2_log.specs.Verdicts.{update_verdict, block_verdict}
 use Rattle.h2_log.specs.ItemRules.{Decoded, FrameStep, fails_with, begins_block, completes}
 use Rattle.h2_log.specs.ItemRules.{frame_step, exceeds, overflows_by, is_at_capacity}
-use Rattle.h2_log.specs.ItemRules.{is_stream_fault, verdict_of_fault, over_limits, replies_to}
+use Rattle.h2_log.specs.ItemRules.{is_stream_fault, over_limits, replies_to}
 use Rattle.h2_log.specs.ItemRules.{exceeds_stream, overflows_stream, verdict_by_rules, verdict_of}
 use Rattle.h2_log.specs.Limits.{max_list, max_resets, max_output}
 use Rattle.h2_log.specs.ItemEffects.{encoder_after_item}

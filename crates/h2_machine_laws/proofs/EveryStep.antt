@@ -40,16 +40,13 @@ pub steps_represent : (values : Values) (e : End) (log : Log) (step : Step)
     → Represents values (machine_after e step) (log_after log step)
 unfolding MayStep log_after machine_after
 steps_represent values e log (uses_part octets unparsed) s (takes, part) =
-    part_represents values e log octets unparsed s takes
-    (subst (λ (role : Role). TakesPart role log octets unparsed) (sym s.role) part)
+    part_represents values e log octets unparsed s takes part
 steps_represent values e log (ends_frame octets frame decoded) s (takes, read, sees) =
     frames_represent values e log octets frame decoded s takes read sees
 steps_represent values e log (meets_fault octets fault) s (takes, at) =
-    fault_represents values e log octets fault s takes
-    (subst (λ (role : Role). TakesFault role log octets fault) (sym s.role) at)
+    fault_represents values e log octets fault s takes at
 steps_represent values e log (runs_out_of_memory octets) s (up, may) =
-    out_of_memory_represents values e log octets s up
-    (subst (λ (role : Role). MayRunOutOfMemory role log octets) (sym s.role) may)
+    out_of_memory_represents values e log octets s up may
 steps_represent values e log reports_unprocessed s (up, some) =
     subst (λ (i : ℕ). Represents values (close_unprocessed e i) (took_none log))
     (sym (next_same values e log s up)) (unprocessed_represents values e log s up some)

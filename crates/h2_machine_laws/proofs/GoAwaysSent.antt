@@ -7,16 +7,15 @@ use Rattle.std.specs.List.{list_any}
 use Rattle.std.proofs.lemmas.Bool.{both_ways, or_left, or_right, lt-ltb, ltb-false, ltb-true}
 use Rattle.h2_frame.specs.declared.code.Code.{Code}
 use Rattle.h2_frame.specs.declared.code.Code.TheVariants.{InternalError}
-use Rattle.h2_frame.specs.Frames.{Frame, Data, Headers, Priority, Reset, Settings, Ping, GoAway}
-use Rattle.h2_frame.specs.Frames.{WindowUpdate, Continuation, Unknown}
-use Rattle.h2_wire.specs.Faults.{wire_fault_code}
-use Rattle.h2_block.specs.Grouping.{Item, alone, block}
+use Rattle.h2_frame.specs.Frames.{Data, Settings, Ping, GoAway}
+use Rattle.h2_frame.specs.Frames.{WindowUpdate}
+use Rattle.h2_block.specs.Grouping.{Item, alone}
 use Rattle.h2_log.specs.declared.role.Role.{Role}
 use Rattle.h2_log.specs.declared.role.Role.TheVariants.{Client, Server}
 use Rattle.h2_log.specs.Items.{is_goaway, is_goaway_below, total}
 use Rattle.h2_log.specs.Events.{Event, greatest_processed}
-use Rattle.h2_log.specs.Acts.{Values, Act, Answer, Open, SendFields, SendData, Release, ResetStream}
-use Rattle.h2_log.specs.Acts.{Refuse, SendPing, SendGoAway, PutOut, ChangeSettings, Done}
+use Rattle.h2_log.specs.Acts.{Values, Act, Answer, SendData, Release}
+use Rattle.h2_log.specs.Acts.{Refuse, SendGoAway, PutOut, Done}
 use Rattle.h2_log.specs.Acts.{OutOfMemory, Refused}
 use Rattle.h2_log.specs.Settings.{is_server}
 use Rattle.h2_log.specs.States.{is_above}
@@ -24,22 +23,20 @@ use Rattle.h2_log.specs.Limits.{full_output}
 use Rattle.h2_log.specs.Log.{Log, active, last_processed, waiting}
 use Rattle.h2_log.specs.LogView.{log_view}
 use Rattle.h2_log.specs.Verdicts.{Verdict, ConnectionFault, StreamFault, NoEvent, Reported}
-use Rattle.h2_log.specs.ItemRules.{Decoded, FrameStep, fails_with, begins_block, completes}
-use Rattle.h2_log.specs.ItemRules.{frame_step, replies_to}
+use Rattle.h2_log.specs.ItemRules.{Decoded}
+use Rattle.h2_log.specs.ItemRules.{replies_to}
 use Rattle.h2_log.specs.View.{ended_in}
 use Rattle.h2_log.specs.CallRules.{items_of, answer_of, returns_before_put_out}
 use Rattle.h2_log.specs.ItemEffects.{events_of}
 use Rattle.h2_log.specs.LogSteps.{read, used, with_sent, with_reported, with_credit_returned}
-use Rattle.h2_log.specs.LogSteps.{with_unreturned, with_verdict, with_step, with_frame, took_none}
+use Rattle.h2_log.specs.LogSteps.{with_unreturned, took_none}
 use Rattle.h2_log.specs.LogCalls.{opened, called, with_items, refused_with, before_put_out}
 use Rattle.h2_log.specs.LogCalls.{with_call, MayAnswer, accepts, refuses, lacks, fails}
-use Rattle.h2_log.specs.Histories.{IsLog, begins, took_some, took_one, met_fault, ran_out_of_memory}
-use Rattle.h2_log.specs.Histories.{reported_one, called_one}
+use Rattle.h2_log.specs.Histories.{IsLog}
 use Rattle.h2_log.specs.declared.refusal.Refusal.{Refusal}
 use Rattle.h2_log.specs.declared.refusal.Refusal.TheVariants.{Memory}
 use Rattle.h2_log_laws.proofs.ReaderStates.{active_parts}
 use Rattle.h2_log_laws.proofs.DataOfCalls.{none_of_items}
-use Rattle.h2_log_laws.proofs.LogGrowth.{grows_call}
 use Rattle.h2_machine_laws.proofs.EveryUpLog.{every_up_log}
 use Rattle.h2_machine_laws.proofs.UpInvariant.{IsUpLog, processed_after}
 use Rattle.h2_machine_laws.proofs.UpInvariantLogs.{up_log_of}

@@ -5,13 +5,13 @@ use Rattle.std.proofs.Common.{ap}
 use Rattle.std.proofs.Common.{sym, ◌∙◌, inl, inr, arith, zero-add}
 use Rattle.std.specs.List.{list_any}
 use Rattle.std.specs.FinMap as map
-use Rattle.std.proofs.lemmas.Bool.{both_ways, ne_eqb, eq-eqb, false_from_ne_true, cases_eq}
-use Rattle.std.proofs.lemmas.Bool.{and_left, or_cases, ltb-true, ltb-false}
+use Rattle.std.proofs.lemmas.Bool.{both_ways, eq-eqb, false_from_ne_true, cases_eq}
+use Rattle.std.proofs.lemmas.Bool.{or_cases, ltb-true, ltb-false}
 use Rattle.hpack.specs.declared.types.field.Field.{Field}
 use Rattle.h2_block.specs.Grouping.{Item, block}
 use Rattle.h2_log.specs.declared.role.Role.{Role}
 use Rattle.h2_log.specs.declared.role.Role.TheVariants.{Client, Server}
-use Rattle.h2_log.specs.Items.{stream_of_item, data_on, data_of, increment_on, is_block_on, ends}
+use Rattle.h2_log.specs.Items.{stream_of_item, data_on, data_of, increment_on, ends}
 use Rattle.h2_log.specs.Items.{resets, one_reset, is_goaway, total, greatest_block}
 use Rattle.h2_log.specs.Events.{Event, FieldsEvent, flow_on, one_acked, one_pong, reported_total}
 use Rattle.h2_log.specs.Events.{reports_unprocessed, processed_by, greatest_processed}
@@ -33,7 +33,7 @@ use Rattle.h2_machine_laws.proofs.LogCore.{StreamsOf, said, Core, core, CoreFact
 use Rattle.h2_machine_laws.proofs.LogCore.{Advances, Going, active_by_items, greatest_used}
 use Rattle.h2_machine_laws.proofs.LogCore.{processed}
 use Rattle.h2_machine_laws.proofs.OwedSums.{get_set_same}
-use Rattle.h2_machine_laws.proofs.RecvBeside.{Beside, beside_of, beside_table, beside_read}
+use Rattle.h2_machine_laws.proofs.RecvBeside.{beside_of, beside_table, beside_read}
 use Rattle.h2_machine_laws.proofs.RecvBeside.{beside_reported, advances_with}
 use Rattle.h2_machine_laws.proofs.OwedAtClose.{none_owing, dead_owing}
 use Rattle.h2_machine_laws.proofs.RecvData.{or_swapped, opened_more}

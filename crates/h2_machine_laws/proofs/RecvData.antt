@@ -9,7 +9,7 @@ use Rattle.std.proofs.lemmas.Bool.{both_ways, ne_eqb, eq-eqb, or_right, false_fr
 use Rattle.h2_frame.specs.Frames.{Data}
 use Rattle.h2_frame.specs.Encoding.{stream_of, payload_of}
 use Rattle.h2_block.specs.Grouping.{Item, alone}
-use Rattle.h2_log.specs.Items.{stream_of_item, data_on, increment_on, is_block_on, ends, resets}
+use Rattle.h2_log.specs.Items.{stream_of_item, data_on, is_block_on, ends, resets}
 use Rattle.h2_log.specs.Items.{total}
 use Rattle.h2_log.specs.Events.{Event, DataEvent, flow_on, one_acked, one_pong, reported_total}
 use Rattle.h2_log.specs.Events.{reports_unprocessed, processed_by}

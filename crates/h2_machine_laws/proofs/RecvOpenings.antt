@@ -1,6 +1,6 @@
 -- What a field block that opens a stream at a server makes of an end and of its log.
 use Rattle.std.proofs.Common.{◌≡◌, ◌≢◌, ℕ, ◌+◌, ◌≤◌, ◌<◌, ◌%◌, max, Bool, true, false}
-use Rattle.std.proofs.Common.{◌||◌, if◌then◌else◌, pos, List, [], ◌∷◌, Option, refl, ap}
+use Rattle.std.proofs.Common.{if◌then◌else◌, pos, List, [], ◌∷◌, Option, refl, ap}
 use Rattle.std.proofs.Common.{sym, ◌∙◌, arith, zero-add}
 use Rattle.std.specs.List.{list_any}
 use Rattle.std.specs.FinMap as map

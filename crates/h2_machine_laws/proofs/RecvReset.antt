@@ -1,15 +1,15 @@
 -- What RST_STREAM, and DATA that is ignored, make of an end and of its log.
-use Rattle.std.proofs.Common.{◌≡◌, ◌≢◌, ℕ, ◌≤◌, ◌+◌, ◌-◌, Bool, true, false, ◌==◌, List, [], ◌∷◌}
+use Rattle.std.proofs.Common.{◌≡◌, ◌≢◌, ℕ, ◌≤◌, ◌+◌, ◌-◌, Bool, true, false, List, [], ◌∷◌}
 use Rattle.std.proofs.Common.{length, Option, refl, ap, sym, ◌∙◌, inl, inr, arith, zero-add}
 use Rattle.std.specs.List.{list_any}
 use Rattle.std.specs.FinMap as map
-use Rattle.std.proofs.lemmas.Bool.{cases_eq, both_ways, and_left, ne_eqb, eq-eqb, or_left}
+use Rattle.std.proofs.lemmas.Bool.{cases_eq, both_ways, eq-eqb, or_left}
 use Rattle.std.proofs.lemmas.Bool.{false_from_ne_true}
 use Rattle.h2_frame.specs.Frames.{Data, Reset}
 use Rattle.h2_frame.specs.Encoding.{stream_of, payload_of}
 use Rattle.h2_block.specs.Grouping.{Item, alone}
 use Rattle.h2_log.specs.Log.{least_goaway, Log, active, unreleased, released}
-use Rattle.h2_log.specs.Items.{stream_of_item, data_on, data_of, increment_on, is_block_on, ends}
+use Rattle.h2_log.specs.Items.{stream_of_item, data_of, increment_on, is_block_on}
 use Rattle.h2_log.specs.Items.{resets, is_goaway, greatest_block}
 use Rattle.h2_log.specs.Events.{ResetEvent, flow_on, one_acked, one_pong, reported_total}
 use Rattle.h2_log.specs.Events.{reports_unprocessed, processed_by}

@@ -26,7 +26,7 @@ use Rattle.h2_machine.specs.Machine.{with_table_after, queue_output, reset_strea
 use Rattle.h2_machine.specs.Machine.{after_stream_fault, is_fresh, is_one}
 use Rattle.h2_machine_laws.proofs.CallReset.{others_same, reset_here}
 use Rattle.h2_machine_laws.proofs.LogCore.{StreamsOf, Core, core, CoreFacts, core_facts, Advances}
-use Rattle.h2_machine_laws.proofs.LogCore.{Going, active_by_items, kept_back, greatest_used, said}
+use Rattle.h2_machine_laws.proofs.LogCore.{Going, active_by_items, kept_back, greatest_used}
 use Rattle.h2_log_laws.proofs.ItemLists.{total_one}
 use Rattle.h2_machine_laws.proofs.RecvBeside.{beside_of, beside_table, beside_read, beside_reported}
 use Rattle.h2_machine_laws.proofs.RecvBeside.{beside_reset, advances_with}
@@ -44,7 +44,7 @@ use Rattle.h2_machine_laws.proofs.RecvStreamItems.{update_used}
 use Rattle.h2_machine_laws.proofs.ItemsApart.{update_apart}
 use Rattle.h2_machine_laws.proofs.OwedAtClose.{owes_all}
 use Rattle.h2_log_laws.proofs.ReleasedCredit.{gives_elsewhere}
-use Rattle.h2_machine_laws.proofs.RecvVerdict.{active_said, stream_said, none_said}
+use Rattle.h2_machine_laws.proofs.RecvVerdict.{active_said, stream_said}
 use Rattle.h2_machine_laws.proofs.SentConnectionItems.{computing}
 use Rattle.h2_machine_laws.proofs.SentQuietItems.{sends, used_wrote}
 use Rattle.h2_machine_laws.proofs.StreamsSame.{streams_closed, said_reset, same_both, SameAt}

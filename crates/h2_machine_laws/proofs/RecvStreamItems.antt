@@ -1,5 +1,5 @@
 -- What GOAWAY, WINDOW_UPDATE and RST_STREAM make of an end and of its log.
-use Rattle.std.proofs.Common.{◌≡◌, ◌≢◌, ℕ, ◌≤◌, ◌+◌, Bool, true, false, ◌==◌, min, if◌then◌else◌}
+use Rattle.std.proofs.Common.{◌≡◌, ℕ, ◌≤◌, ◌+◌, Bool, true, false, ◌==◌, min, if◌then◌else◌}
 use Rattle.std.proofs.Common.{pos, ◌+ℤ◌, ◌-ℤ◌, List, [], ◌∷◌, Option, Some, refl, ap, sym, ◌∙◌, inl}
 use Rattle.std.proofs.Common.{inr, arith, zero-add}
 use Rattle.std.specs.List.{list_any}
@@ -27,7 +27,7 @@ use Rattle.h2_machine.specs.End.{End, active_entry, stream_at}
 use Rattle.h2_machine.specs.Machine.{widen_send_window, set_stream, after_ignored, after_reported}
 use Rattle.h2_log_laws.proofs.StreamNumbers.{last_none}
 use Rattle.h2_log_laws.proofs.ReleasedCredit.{gives_elsewhere, gives_here}
-use Rattle.h2_machine_laws.proofs.ItemsApart.{update_apart, IsApart}
+use Rattle.h2_machine_laws.proofs.ItemsApart.{update_apart}
 use Rattle.h2_machine_laws.proofs.LogCore.{said, Core, core, CoreFacts, core_facts, Advances, Going}
 use Rattle.h2_machine_laws.proofs.LogCore.{active_by_items, greatest_used}
 use Rattle.h2_machine_laws.proofs.OwedAtClose.{none_owing, dead_owing, zero_dead}

@@ -1,10 +1,11 @@
 -- After octets that end no frame, or that make the connection fail, a machine represents the log
 -- with them.
-use Rattle.std.proofs.Common.{◌≡◌, ℕ, ◌≤◌, true, List, [], None}
+use Rattle.std.proofs.Common.{◌≡◌, ℕ, ◌≤◌, true, List, [], None, sym, subst}
 use Rattle.h2_frame.specs.declared.code.Code.{Code}
 use Rattle.h2_frame.specs.declared.code.Code.TheVariants.{InternalError}
 use Rattle.h2_wire.specs.declared.fault.WireFault.{WireFault}
 use Rattle.h2_wire.specs.Faults.{wire_fault_code}
+use Rattle.h2_log.specs.declared.role.Role.{Role}
 use Rattle.h2_log.specs.Acts.{Values}
 use Rattle.h2_log.specs.Settings.{is_server}
 use Rattle.h2_log.specs.Log.{Log, active, last_processed}
@@ -47,10 +48,11 @@ used_running e log octets unparsed streams r =
 -- A machine represents the log after octets that end no frame.
 pub part_represents : (values : Values) (e : End) (log : Log) (octets unparsed : List ℕ)
     → Represents values e log → TakesOctets log
-    → TakesPart e.role log octets unparsed → Represents values e (took_part log octets unparsed)
+    → TakesPart log.role log octets unparsed → Represents values e (took_part log octets unparsed)
 unfolding used
 part_represents values e log octets unparsed s takes part =
-    represents_by values e (used log octets unparsed) (took_some s.came takes octets unparsed part)
+    represents_by values e (used log octets unparsed) (took_some s.came takes octets unparsed
+    (subst (λ (role : Role). TakesPart role log octets unparsed) (sym s.role) part))
     (waits_of values e log s) s.streams
     (λ up. used_running e log octets unparsed s.streams (s.running up))
     (record { whole = s.whole; used = s.used })
@@ -79,25 +81,27 @@ processed_same s log are = are.last_processed
 -- A machine represents the log after octets that make a fault.
 pub fault_represents : (values : Values) (e : End) (log : Log) (octets : List ℕ) (fault : WireFault)
     → Represents values e log → TakesOctets log
-    → TakesFault e.role log octets fault → Represents values (fail (wire_fault_code fault)
+    → TakesFault log.role log octets fault → Represents values (fail (wire_fault_code fault)
     e.streams.last_processed e) (took_fault log octets fault)
 unfolding used
 fault_represents values e log octets fault s takes at =
     failing_represents values e (used log octets []) (wire_fault_code fault)
-    e.streams.last_processed (last_processed log) (met_fault s.came takes octets fault at)
+    e.streams.last_processed (last_processed log) (met_fault s.came takes octets fault
+    (subst (λ (role : Role). TakesFault role log octets fault) (sym s.role) at))
     (processed_same e.streams log s.streams) (waits_of values e log s)
     (active_processed e.role values log s.came takes.up) s.streams
     (record { whole = s.whole; used = s.used })
 
 -- A machine represents the log after octets at which memory runs out.
 pub out_of_memory_represents : (values : Values) (e : End) (log : Log) (octets : List ℕ)
-    → Represents values e log → log.failed ≡ None → MayRunOutOfMemory e.role log octets
+    → Represents values e log → log.failed ≡ None → MayRunOutOfMemory log.role log octets
     → Represents values (fail InternalError e.streams.last_processed e) (took_out_of_memory log
     octets)
 unfolding used
 out_of_memory_represents values e log octets s up may =
     failing_represents values e (used log octets []) InternalError e.streams.last_processed
-    (last_processed log) (ran_out_of_memory s.came up octets may)
+    (last_processed log) (ran_out_of_memory s.came up octets
+    (subst (λ (role : Role). MayRunOutOfMemory role log octets) (sym s.role) may))
     (processed_same e.streams log s.streams) (waits_of values e log s)
     (active_processed e.role values log s.came up) s.streams
     (record { whole = s.whole; used = s.used })

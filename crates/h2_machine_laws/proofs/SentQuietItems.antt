@@ -5,7 +5,7 @@ use Rattle.std.specs.List.{list_any}
 use Rattle.h2_block.specs.Grouping.{Item}
 use Rattle.h2_log.specs.declared.role.Role.{Role}
 use Rattle.h2_log.specs.declared.role.Role.TheVariants.{Client, Server}
-use Rattle.h2_log.specs.Items.{data_on, data_of, increment_on, is_block_on, ends, resets, one_reset}
+use Rattle.h2_log.specs.Items.{data_of, increment_on, is_block_on, ends, resets, one_reset}
 use Rattle.h2_log.specs.Items.{one_ping, is_goaway, is_goaway_below, total, greatest_block}
 use Rattle.h2_log.specs.Events.{Event}
 use Rattle.h2_log.specs.Settings.{one_settings, settings_count, own_value}

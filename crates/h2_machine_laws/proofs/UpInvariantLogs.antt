@@ -1,13 +1,11 @@
 -- Every log that hasn't failed has what is asked of it; and what each step keeps.
 use Rattle.std.proofs.Common.{◌≡◌, ◌≢◌, ℕ, ◌≤◌, ◌==◌, max, nat_lt, ◌&&◌, ◌||◌, Bool, true, false}
-use Rattle.std.proofs.Common.{if◌then◌else◌, List, [], ◌∷◌, ◌++◌, Option, Some, None, refl, sym, ap}
+use Rattle.std.proofs.Common.{if◌then◌else◌, List, [], ◌∷◌, ◌++◌, Option, None, refl, sym, ap}
 use Rattle.std.proofs.Common.{◌∙◌, arith}
 use Rattle.std.specs.List.{list_any}
 use Rattle.std.proofs.lemmas.Bool.{both_ways, or_left, eq-eqb, ne_eqb}
 use Rattle.h2_frame.specs.declared.code.Code.{Code}
-use Rattle.h2_frame.specs.declared.code.Code.TheVariants.{InternalError, EnhanceYourCalm}
-use Rattle.h2_frame.specs.Frames.{Frame}
-use Rattle.h2_wire.specs.Faults.{wire_fault_code}
+use Rattle.h2_frame.specs.declared.code.Code.TheVariants.{EnhanceYourCalm}
 use Rattle.h2_block.specs.Grouping.{Item, alone, block}
 use Rattle.h2_log.specs.LogView.{log_view}
 use Rattle.h2_log.specs.Items.{resets, stream_of_item, total, greatest_block, is_block_on}
@@ -18,15 +16,14 @@ use Rattle.h2_log.specs.Settings.{is_server, settings_count, value_read}
 use Rattle.h2_log.specs.States.{least_block}
 use Rattle.h2_log.specs.Log.{Log, next_unprocessed}
 use Rattle.h2_log.specs.Verdicts.{Verdict, ConnectionFault, StreamFault, NoEvent, Reported}
-use Rattle.h2_log.specs.ItemRules.{Decoded, FrameStep, fails_with, begins_block, completes}
-use Rattle.h2_log.specs.ItemRules.{frame_step, over_limits, replies_to, verdict_by_rules}
+use Rattle.h2_log.specs.ItemRules.{Decoded}
+use Rattle.h2_log.specs.ItemRules.{over_limits, replies_to, verdict_by_rules}
 use Rattle.h2_log.specs.ItemRules.{verdict_of}
 use Rattle.h2_log.specs.LogSteps.{read, with_sent, with_reported, with_unreturned, owed_at_close}
-use Rattle.h2_log.specs.LogSteps.{with_verdict, with_step, with_frame, used, took_none}
+use Rattle.h2_log.specs.LogSteps.{used, took_none}
 use Rattle.h2_log.specs.ItemEffects.{events_of}
 use Rattle.h2_log.specs.LogCalls.{opened, with_call}
-use Rattle.h2_log.specs.Histories.{IsLog, begins, took_some, took_one, met_fault, ran_out_of_memory}
-use Rattle.h2_log.specs.Histories.{reported_one, called_one}
+use Rattle.h2_log.specs.Histories.{IsLog}
 use Rattle.h2_log.specs.declared.role.Role.{Role}
 use Rattle.h2_log.specs.declared.role.Role.TheVariants.{Client, Server}
 use Rattle.h2_log_laws.proofs.ItemLists.{any_after}

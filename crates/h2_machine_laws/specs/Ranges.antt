@@ -1,6 +1,6 @@
 -- In which ranges the values of an end are, so that code can keep them in numbers of 32 and 64
 -- bits.
-use Rattle.std.specs.Prelude.{◌≡◌, ℕ, ◌+◌, ◌≤◌, Bool, true, false, if◌then◌else◌, pos, ◌+ℤ◌, int_lt}
+use Rattle.std.specs.Prelude.{◌≡◌, ℕ, ◌+◌, ◌≤◌, Bool, false, pos, ◌+ℤ◌, int_lt}
 use Rattle.std.specs.Prelude.{List, [], ◌∷◌, length, Option, Some, None}
 use Rattle.std.specs.FinMap as map
 use Rattle.hpack.specs.Sizes.{table_size}

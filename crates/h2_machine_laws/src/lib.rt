@@ -1,6 +1,6 @@
-//! Laws of the machine: what is bounded, that receive window is conserved, and that it represents
-//! the logs of the calls that are made. Each is
-//! the contract of a function that does nothing.
+//! Laws of the machine: it is bounded, the connection's receive window is conserved, and it
+//! represents the log after each call, each frame and each other step. Each is the contract of a
+//! function that does nothing.
 #![tactic(auto)]
 
 mod bounds;

@@ -40,20 +40,20 @@ pub fn calls_preserve_representation()
 {}
 
 /// After each step in which no frame ends a machine represents the log with it: octets that end
-/// none, octets that make a fault, being out of memory,
-/// and a stream that is reported as unprocessed, which is the one that the log says.
+/// none, octets that make a fault, being out of memory, and a stream that is reported as
+/// unprocessed, which is the one that the log says.
 pub fn steps_without_frames_preserve_representation()
     ensures part { (values : Values) (e : End) (log : Log) (octets unparsed : List ℕ)
         → Represents values e log → TakesOctets log
-        → TakesPart e.role log octets unparsed
+        → TakesPart log.role log octets unparsed
         → Represents values e (took_part log octets unparsed) }
     ensures fault { (values : Values) (e : End) (log : Log) (octets : List ℕ) (fault : WireFault)
         → Represents values e log → TakesOctets log
-        → TakesFault e.role log octets fault → Represents values (fail (wire_fault_code fault)
+        → TakesFault log.role log octets fault → Represents values (fail (wire_fault_code fault)
         e.streams.last_processed e) (took_fault log octets fault) }
     ensures out_of_memory { (values : Values) (e : End) (log : Log) (octets : List ℕ)
         → Represents values e log → log.failed ≡ None
-        → MayRunOutOfMemory e.role log octets
+        → MayRunOutOfMemory log.role log octets
         → Represents values (fail InternalError e.streams.last_processed e) (took_out_of_memory
         log octets) }
     ensures next { (values : Values) (e : End) (log : Log) → Represents values e log
