@@ -108,7 +108,7 @@ fails_ends fault last log processed exact code is =
     (record {
       last = last;
       earlier = log.sent;
-      front = log.written;
+      prefix = log.written;
       newest = refl;
       processed = processed;
       exact = exact;
@@ -121,45 +121,45 @@ still_up : {Goal : Type 0} (old new : Option Code) (code : Code) → old ≡ Non
 still_up old new code up same is = none_some code (sym up ∙ sym same ∙ is)
 
 -- The last stream after an item that its last frame completes.
-item_last : (log : Log) (decoded : Option Decoded) (item : Item) (front : List Frame)
-    (frame : Frame) → log.frames ≡ front ++ frame ∷ [] → IsItemOn frame item
+item_last : (log : Log) (decoded : Option Decoded) (item : Item) (prefix : List Frame)
+    (frame : Frame) → log.frames ≡ prefix ++ frame ∷ [] → IsItemOn frame item
     → IsLastStream log (max (last_processed log) (opened_by (log_view log) decoded item))
-item_last log decoded item front frame frames on =
+item_last log decoded item prefix frame frames on =
     elim (greater_is (last_processed log) (opened_by (log_view log) decoded item)
     (stream_of frame) (opened_on (log_view log) decoded item frame on)) [
       | inl same ↦ inl same
-      | inr same ↦ inr (front, frame, frames, same)
+      | inr same ↦ inr (prefix, frame, frames, same)
     ]
 
 -- After an item, by its verdict.
 verdict_ends : (log : Log) (decoded : Option Decoded) (item : Item) (verdict : Verdict)
-    → log.failed ≡ None → (front : List Frame) (frame : Frame) → log.frames ≡ front ++ frame ∷ []
+    → log.failed ≡ None → (prefix : List Frame) (frame : Frame) → log.frames ≡ prefix ++ frame ∷ []
     → IsItemOn frame item → (code : Code)
     → (with_verdict log decoded item verdict).failed ≡ Some code
     → EndsInGoAway (with_verdict log decoded item verdict) code
 unfolding with_verdict
-verdict_ends log decoded item (ConnectionFault fault) up front frame frames on code is =
+verdict_ends log decoded item (ConnectionFault fault) up prefix frame frames on code is =
     fails_ends fault _ log (at_most_max _ _)
-    (item_last log decoded item front frame frames on) code is
-verdict_ends log decoded item (StreamFault fault) up front frame frames on code is =
+    (item_last log decoded item prefix frame frames on) code is
+verdict_ends log decoded item (StreamFault fault) up prefix frame frames on code is =
     still_up log.failed _ code up (replied_failed log _ _ _ _ refl) is
-verdict_ends log decoded item NoEvent up front frame frames on code is =
+verdict_ends log decoded item NoEvent up prefix frame frames on code is =
     still_up log.failed _ code up (replied_failed log _ _ _ _ refl) is
-verdict_ends log decoded item Reported up front frame frames on code is =
+verdict_ends log decoded item Reported up prefix frame frames on code is =
     still_up log.failed _ code up (replied_failed log _ _ _ _ refl) is
 
 -- After what a frame makes of the block that has begun.
 step_ends : (log : Log) (decoded : Option Decoded) (step : FrameStep) → log.failed ≡ None
-    → (front : List Frame) (frame : Frame) → log.frames ≡ front ++ frame ∷ []
+    → (prefix : List Frame) (frame : Frame) → log.frames ≡ prefix ++ frame ∷ []
     → IsStepOn frame step → (code : Code) → (with_step log decoded step).failed ≡ Some code
     → EndsInGoAway (with_step log decoded step) code
 unfolding with_step
-step_ends log decoded (fails_with fault) up front frame frames on code is =
+step_ends log decoded (fails_with fault) up prefix frame frames on code is =
     fails_ends fault (last_processed log) log (at_most _) (inl refl) code is
-step_ends log decoded (begins_block begun) up front frame frames on code is =
+step_ends log decoded (begins_block begun) up prefix frame frames on code is =
     none_some code (sym up ∙ is)
-step_ends log decoded (completes item) up front frame frames on code is =
-    verdict_ends (record log { begun = None }) decoded item _ up front frame frames on code is
+step_ends log decoded (completes item) up prefix frame frames on code is =
+    verdict_ends (record log { begun = None }) decoded item _ up prefix frame frames on code is
 
 -- After a frame.
 frame_ends : (log : Log) (decoded : Option Decoded) (frame : Frame) → log.failed ≡ None
@@ -294,7 +294,7 @@ ends_still old new code same ends =
     record {
       last = ends.last;
       earlier = ends.earlier;
-      front = ends.front;
+      prefix = ends.prefix;
       newest = same.sent ∙ ends.newest;
       processed = rw (same.role, same.reported) ends.processed;
       exact = rw (same.role, same.reported, same.frames) ends.exact;

@@ -5,6 +5,7 @@ pub mod ConservedWindows
 pub mod DataWindows
 pub mod Failures
 pub mod FaultCodes
+pub mod FrameEnds
 pub mod GoAwaysRead
 pub mod Grouped
 pub mod GroupedPrefixes
@@ -33,7 +34,6 @@ pub mod SendableItems
 pub mod Sendings
 pub mod SettingsApplied
 pub mod TakeAnswers
-pub mod TakenFrames
 pub mod TurnsAdded
 pub mod Unread
 pub mod WrittenSteps

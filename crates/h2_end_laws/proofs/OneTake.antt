@@ -26,7 +26,7 @@ use Rattle.h2_log.specs.Histories.{IsDecodedFor}
 use Rattle.h2_end_laws.specs.Takes.{TakeAnswer, Took, Failed, events_answered, AnswersFrame}
 use Rattle.h2_end_laws.specs.Takes.{MayTake, has_failed, reports_unprocessed, ends_no_frame}
 use Rattle.h2_end_laws.specs.Takes.{ends_frame, meets_fault, runs_out_of_memory, HadMemory}
-use Rattle.h2_end_laws.proofs.TakenFrames.{same_piece, no_frame_in, no_frame_at_fault}
+use Rattle.h2_end_laws.proofs.FrameEnds.{same_piece, no_frame_in, no_frame_at_fault}
 
 -- What is decoded is made of its fields and the table after it.
 made_of : List Field → Entries → Decoded
@@ -50,7 +50,7 @@ decoded_one log (completes (alone frame)) decoded other is again = is ∙ sym ag
 decoded_one log (begins_block begun) decoded other is again = is ∙ sym again
 decoded_one log (fails_with code) decoded other is again = is ∙ sym again
 
--- no list is itself with one more in front
+-- no list is itself with one more in prefix
 no_longer : (event : Event) (events : List Event) → events ≡ event ∷ events → ⊥
 no_longer event events is = let counted : length events ≡ suc (length events) = ap length is in
     omega (arith, counted)
@@ -146,7 +146,7 @@ one_frame : (log after other : Log) (piece octets unused others left : List ℕ)
     → AnswersFrame log after (length octets) answer
     → AnswersFrame log other (length others) answered → IsSame answer answered after other
 one_frame log after other piece octets unused others left frame another decoded seen answer answered
-    joined again framed completed sees reads same is answers tells =
+    joined again framed completed sees reads same is answers says =
     let stream : log.input ++ octets ≡ log.input ++ others =
     same_piece (is_server log.role) (limits_from log) log.frames frame another _ _ unused left
     framed completed (one_line log.input piece octets unused others left joined again) in
@@ -167,7 +167,7 @@ one_frame log after other piece octets unused others left frame another decoded 
       one_answer log after (length octets) answer answered answers
           (subst (λ (log_after : Log). AnswersFrame log log_after (length octets) answered)
           (sym after_it) (subst (λ (o : List ℕ). AnswersFrame log other (length o) answered)
-          (sym used) tells)),
+          (sym used) says)),
       after_it,
     )
 
@@ -179,14 +179,14 @@ one_fault : (log after other : Log) (piece octets unused others left : List ℕ)
     → answered ≡ Failed (wire_fault_code another) → after ≡ took_fault log octets fault
     → other ≡ took_fault log others another → IsSame answer answered after other
 one_fault log after other piece octets unused others left fault another answer answered joined again
-    at by answers tells same is =
+    at by answers says same is =
     let in_line = one_line log.input piece octets unused others left joined again in
     let one = one_making (is_server log.role) (limits_from log) log.frames log.frames
     (log.input ++ octets) (log.input ++ others) unused left fault another
     (fault_made log octets fault at) (fault_made log others another by) in_line in
     let used : octets ≡ others = same_following log.input log.input octets others refl
     (same_prefix (log.input ++ octets) (log.input ++ others) unused left one.1 in_line) in (
-      answers ∙ ap (λ (f : WireFault). Failed (wire_fault_code f)) one.2 ∙ sym tells,
+      answers ∙ ap (λ (f : WireFault). Failed (wire_fault_code f)) one.2 ∙ sym says,
       same ∙ ap (λ (o : List ℕ). took_fault log o fault) used
           ∙ ap (λ (f : WireFault). took_fault log others f) one.2 ∙ sym is,
     )
@@ -196,20 +196,20 @@ after_failure : (log after other : Log) (piece : List ℕ) (answer answered : Ta
     (code : Code) → log.failed ≡ Some code → answer ≡ Failed code → after ≡ log
     → (b : MayTake log piece answered other) → HadMemory b → IsSame answer answered after other
 after_failure log after other piece answer answered code failed answers same
-    (has_failed again fails tells is) had =
-    (answers ∙ ap Failed (one_code code again (sym failed ∙ fails)) ∙ sym tells, same ∙ sym is)
+    (has_failed again fails says is) had =
+    (answers ∙ ap Failed (one_code code again (sym failed ∙ fails)) ∙ sym says, same ∙ sym is)
 after_failure log after other piece answer answered code failed answers same
-    (reports_unprocessed up some tells is) had = none_some code (sym up ∙ failed)
+    (reports_unprocessed up some says is) had = none_some code (sym up ∙ failed)
 after_failure log after other piece answer answered code failed answers same
-    (ends_no_frame takes unparsed part tells is) had = none_some code (sym takes.up ∙ failed)
+    (ends_no_frame takes unparsed part says is) had = none_some code (sym takes.up ∙ failed)
 after_failure log after other piece answer answered code failed answers same
-    (ends_frame takes octets unused joined frame decoded framed sees is tells) had =
+    (ends_frame takes octets unused joined frame decoded framed sees is says) had =
     none_some code (sym takes.up ∙ failed)
 after_failure log after other piece answer answered code failed answers same
-    (meets_fault takes octets unused joined fault at tells is) had =
+    (meets_fault takes octets unused joined fault at says is) had =
     none_some code (sym takes.up ∙ failed)
 after_failure log after other piece answer answered code failed answers same
-    (runs_out_of_memory up octets unused joined may tells is) had = absurd had
+    (runs_out_of_memory up octets unused joined may says is) had = absurd had
 
 -- So is a stream that the peer doesn't process.
 after_unprocessed : (log after other : Log) (piece : List ℕ) (answer answered : TakeAnswer)
@@ -217,19 +217,19 @@ after_unprocessed : (log after other : Log) (piece : List ℕ) (answer answered 
     → answer ≡ Took 0 (Some (UnprocessedEvent (next_unprocessed log))) → after ≡ took_none log
     → (b : MayTake log piece answered other) → HadMemory b → IsSame answer answered after other
 after_unprocessed log after other piece answer answered up some answers same
-    (has_failed code failed tells is) had = none_some code (sym up ∙ failed)
+    (has_failed code failed says is) had = none_some code (sym up ∙ failed)
 after_unprocessed log after other piece answer answered up some answers same
-    (reports_unprocessed still more tells is) had = (answers ∙ sym tells, same ∙ sym is)
+    (reports_unprocessed still more says is) had = (answers ∙ sym says, same ∙ sym is)
 after_unprocessed log after other piece answer answered up some answers same
-    (ends_no_frame takes unparsed part tells is) had = absurd (some takes.all_reported)
+    (ends_no_frame takes unparsed part says is) had = absurd (some takes.all_reported)
 after_unprocessed log after other piece answer answered up some answers same
-    (ends_frame takes octets unused joined frame decoded framed sees is tells) had =
+    (ends_frame takes octets unused joined frame decoded framed sees is says) had =
     absurd (some takes.all_reported)
 after_unprocessed log after other piece answer answered up some answers same
-    (meets_fault takes octets unused joined fault at tells is) had =
+    (meets_fault takes octets unused joined fault at says is) had =
     absurd (some takes.all_reported)
 after_unprocessed log after other piece answer answered up some answers same
-    (runs_out_of_memory still octets unused joined may tells is) had = absurd had
+    (runs_out_of_memory still octets unused joined may says is) had = absurd had
 
 -- And a piece in which no frame ends.
 after_part : (log after other : Log) (piece unparsed : List ℕ) (answer answered : TakeAnswer)
@@ -237,24 +237,24 @@ after_part : (log after other : Log) (piece unparsed : List ℕ) (answer answere
     → after ≡ took_part log piece unparsed
     → (b : MayTake log piece answered other) → HadMemory b → IsSame answer answered after other
 after_part log after other piece unparsed answer answered takes part answers same
-    (has_failed code failed tells is) had = none_some code (sym takes.up ∙ failed)
+    (has_failed code failed says is) had = none_some code (sym takes.up ∙ failed)
 after_part log after other piece unparsed answer answered takes part answers same
-    (reports_unprocessed up some tells is) had = absurd (some takes.all_reported)
+    (reports_unprocessed up some says is) had = absurd (some takes.all_reported)
 after_part log after other piece unparsed answer answered takes part answers same
-    (ends_no_frame again beyond read tells is) had =
+    (ends_no_frame again beyond read says is) had =
     let one = one_reading_lem (is_server log.role) (limits_from log) (log.input ++ piece) log.frames
     log.frames unparsed beyond part read in (
-      answers ∙ sym tells,
+      answers ∙ sym says,
       same ∙ ap (λ (octets : List ℕ). took_part log piece octets) one.1 ∙ sym is,
     )
 after_part log after other piece unparsed answer answered takes part answers same
-    (ends_frame again octets unused joined frame decoded framed sees is tells) had =
+    (ends_frame again octets unused joined frame decoded framed sees is says) had =
     absurd (part_frame log piece unparsed octets unused frame part framed joined)
 after_part log after other piece unparsed answer answered takes part answers same
-    (meets_fault again octets unused joined fault at tells is) had =
+    (meets_fault again octets unused joined fault at says is) had =
     absurd (part_fault log piece unparsed octets unused fault part at joined)
 after_part log after other piece unparsed answer answered takes part answers same
-    (runs_out_of_memory up octets unused joined may tells is) had = absurd had
+    (runs_out_of_memory up octets unused joined may says is) had = absurd had
 
 -- And one with which a frame ends.
 after_frame : (log after other : Log) (piece octets unused : List ℕ) (frame : Frame)
@@ -264,22 +264,22 @@ after_frame : (log after other : Log) (piece octets unused : List ℕ) (frame : 
     → AnswersFrame log after (length octets) answer
     → (b : MayTake log piece answered other) → HadMemory b → IsSame answer answered after other
 after_frame log after other piece octets unused frame decoded answer answered takes joined framed
-    sees same answers (has_failed code failed tells is) had = none_some code (sym takes.up ∙ failed)
+    sees same answers (has_failed code failed says is) had = none_some code (sym takes.up ∙ failed)
 after_frame log after other piece octets unused frame decoded answer answered takes joined framed
-    sees same answers (reports_unprocessed up some tells is) had = absurd (some takes.all_reported)
+    sees same answers (reports_unprocessed up some says is) had = absurd (some takes.all_reported)
 after_frame log after other piece octets unused frame decoded answer answered takes joined framed
-    sees same answers (ends_no_frame again unparsed part tells is) had =
+    sees same answers (ends_no_frame again unparsed part says is) had =
     absurd (part_frame log piece unparsed octets unused frame part framed joined)
 after_frame log after other piece octets unused frame decoded answer answered takes joined framed
     sees same answers
-    (ends_frame again others left parted another seen completed reads is tells) had =
+    (ends_frame again others left parted another seen completed reads is says) had =
     one_frame log after other piece octets unused others left frame another decoded seen answer
-    answered joined parted framed completed sees reads same is answers tells
+    answered joined parted framed completed sees reads same is answers says
 after_frame log after other piece octets unused frame decoded answer answered takes joined framed
-    sees same answers (meets_fault again others left parted fault at tells is) had =
+    sees same answers (meets_fault again others left parted fault at says is) had =
     absurd (frame_fault log piece octets unused others left frame fault framed at joined parted)
 after_frame log after other piece octets unused frame decoded answer answered takes joined framed
-    sees same answers (runs_out_of_memory up others left parted may tells is) had = absurd had
+    sees same answers (runs_out_of_memory up others left parted may says is) had = absurd had
 
 -- And one that makes a fault.
 after_fault : (log after other : Log) (piece octets unused : List ℕ) (fault : WireFault)
@@ -288,21 +288,21 @@ after_fault : (log after other : Log) (piece octets unused : List ℕ) (fault : 
     → after ≡ took_fault log octets fault
     → (b : MayTake log piece answered other) → HadMemory b → IsSame answer answered after other
 after_fault log after other piece octets unused fault answer answered takes joined at answers same
-    (has_failed code failed tells is) had = none_some code (sym takes.up ∙ failed)
+    (has_failed code failed says is) had = none_some code (sym takes.up ∙ failed)
 after_fault log after other piece octets unused fault answer answered takes joined at answers same
-    (reports_unprocessed up some tells is) had = absurd (some takes.all_reported)
+    (reports_unprocessed up some says is) had = absurd (some takes.all_reported)
 after_fault log after other piece octets unused fault answer answered takes joined at answers same
-    (ends_no_frame again unparsed part tells is) had =
+    (ends_no_frame again unparsed part says is) had =
     absurd (part_fault log piece unparsed octets unused fault part at joined)
 after_fault log after other piece octets unused fault answer answered takes joined at answers same
-    (ends_frame again others left parted frame decoded framed sees is tells) had =
+    (ends_frame again others left parted frame decoded framed sees is says) had =
     absurd (frame_fault log piece others left octets unused frame fault framed at parted joined)
 after_fault log after other piece octets unused fault answer answered takes joined at answers same
-    (meets_fault again others left parted another by tells is) had =
+    (meets_fault again others left parted another by says is) had =
     one_fault log after other piece octets unused others left fault another answer answered joined
-    parted at by answers tells same is
+    parted at by answers says same is
 after_fault log after other piece octets unused fault answer answered takes joined at answers same
-    (runs_out_of_memory up others left parted may tells is) had = absurd had
+    (runs_out_of_memory up others left parted may says is) had = absurd had
 
 -- There is one answer, and one log after it.
 pub one_take : (log after other : Log) (piece : List ℕ) (answer answered : TakeAnswer)

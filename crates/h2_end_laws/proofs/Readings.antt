@@ -31,7 +31,7 @@ use Rattle.h2_end_laws.specs.Readings.{Reading, IsEventOf, its_fields, its_octet
 use Rattle.h2_end_laws.specs.Readings.{its_fault, its_goaway, its_acknowledgment, its_pong}
 use Rattle.h2_end_laws.specs.Readings.{AreEventsOf, DecodesTo, AreDecoded, items_read, events_read}
 use Rattle.h2_end_laws.specs.Readings.{events_of_items, AreReadings, fault_codes}
-use Rattle.h2_end_laws.specs.Replies.{replies_due, replies_among}
+use Rattle.h2_end_laws.specs.Replies.{replies_owed, replies_among}
 use Rattle.h2_end_laws.proofs.FaultCodes.{HasCode, verdict_coded}
 use Rattle.h2_end_laws.proofs.GoAwaysRead.{IsTypedGoAway, IsTypedStep, step_typed}
 use Rattle.h2_end_laws.proofs.SendableItems.{IsFit}
@@ -222,7 +222,7 @@ events_next reading readings = refl
 item_read : (log : Log) (decoded : Option Decoded) (item : Item) (verdict : Verdict)
     → ((code : Code) → verdict ≡ ConnectionFault code → ⊥)
     → IsDecodedIn log decoded (completes item) → HasCode (fault_codes item) verdict
-    → IsTypedGoAway item → replies_among log.sent ≡ replies_due log.received
+    → IsTypedGoAway item → replies_among log.sent ≡ replies_owed log.received
     → Says (IsSeen decoded item) (IsSeen decoded item) (IsSeen decoded item) verdict
     → Says (IsFaulty log item) (IsUnreported log item) (IsSaid log item) verdict
     → LogIsRead log
@@ -244,7 +244,7 @@ item_read log decoded item verdict none sees coded typed replied seen says are =
         refl,
         refl,
         none_later,
-        replied ∙ ap replies_due (sym are.items),
+        replied ∙ ap replies_owed (sym are.items),
         rw are.items said,
         are.each,
       );
@@ -336,7 +336,7 @@ replies_stay NoEvent (alone (Unknown kind flags stream payload)) = refl
 -- An item, by its verdict.
 verdict_keeps : (log : Log) (decoded : Option Decoded) (item : Item) (verdict : Verdict)
     → IsDecodedIn log decoded (completes item) → HasCode (fault_codes item) verdict
-    → IsTypedGoAway item → replies_among log.sent ≡ replies_due log.received
+    → IsTypedGoAway item → replies_among log.sent ≡ replies_owed log.received
     → Says (IsSeen decoded item) (IsSeen decoded item) (IsSeen decoded item) verdict
     → Says (IsFaulty log item) (IsUnreported log item) (IsSaid log item) verdict
     → LogIsRead log → LogIsRead (with_verdict log decoded item verdict)
@@ -357,7 +357,7 @@ verdict_keeps log decoded item Reported sees coded typed replied seen says are =
 -- What a frame makes of the block that has begun.
 step_keeps : (log : Log) (decoded : Option Decoded) (step : FrameStep) → log.failed ≡ None
     → IsDecodedIn log decoded step → IsTypedStep step
-    → replies_among log.sent ≡ replies_due log.received → LogIsRead log
+    → replies_among log.sent ≡ replies_owed log.received → LogIsRead log
     → LogIsRead (with_step log decoded step)
 unfolding with_step
 step_keeps log decoded (fails_with code) up sees typed replied are =
@@ -373,7 +373,7 @@ step_keeps log decoded (completes item) up sees typed replied are =
 -- A frame.
 pub frame_keeps : (log : Log) (decoded : Option Decoded) (frame : Frame) → log.failed ≡ None
     → IsDecodedIn log decoded (frame_step (log_view log) frame) → IsFit frame
-    → replies_among log.sent ≡ replies_due log.received → LogIsRead log
+    → replies_among log.sent ≡ replies_owed log.received → LogIsRead log
     → LogIsRead (with_frame log decoded frame)
 unfolding with_frame
 frame_keeps log decoded frame up sees fit replied are =

@@ -11,7 +11,7 @@ use Rattle.h2_log.specs.Log.{Log}
 use Rattle.h2_log.specs.LogCalls.{with_call, opened}
 use Rattle.h2_log.specs.Histories.{IsLog, begins, called_one}
 use Rattle.h2_end_laws.specs.Replays.{ReplayAct, Take, Make, TakesAll, is_done, goes_on, has_fault}
-use Rattle.h2_end_laws.specs.Replays.{IsReplay, starts, takes, calls, acts_told, Between}
+use Rattle.h2_end_laws.specs.Replays.{IsReplay, starts, takes, calls, acts_of_turns, Between}
 use Rattle.h2_end_laws.specs.Replays.{InTake, next_phase, phase_after}
 use Rattle.h2_end_laws.proofs.TakeAnswers.{take_closed}
 use Rattle.h2_end_laws.proofs.TurnsAdded.{AllPass, Adds, is_output, is_of_take, adds_twice}
@@ -78,10 +78,10 @@ news_called log act answer news joined =
       pass = adds.pass;
     }
 
--- What happens inside of `take` tells of no act.
+-- What happens inside of `take` answer_after of no act.
 acts_of_take : (news turns : List Turn) → AllPass is_of_take news
-    → acts_told (news ++ turns) ≡ acts_told turns
-unfolding acts_told
+    → acts_of_turns (news ++ turns) ≡ acts_of_turns turns
+unfolding acts_of_turns
 acts_of_take [] turns pass = refl
 acts_of_take (In octets ∷ news) turns pass = acts_of_take news turns pass.1
 acts_of_take (Out octets ∷ news) turns pass = acts_of_take news turns pass.1
@@ -93,8 +93,8 @@ acts_of_take (TakeAnswered fault ∷ news) turns pass = absurd (both_ways false 
 
 -- Nor does output.
 acts_of_output : (news turns : List Turn) → AllPass is_output news
-    → acts_told (news ++ turns) ≡ acts_told turns
-unfolding acts_told
+    → acts_of_turns (news ++ turns) ≡ acts_of_turns turns
+unfolding acts_of_turns
 acts_of_output [] turns pass = refl
 acts_of_output (In octets ∷ news) turns pass = absurd (both_ways false refl pass.0)
 acts_of_output (Out octets ∷ news) turns pass = acts_of_output news turns pass.1
@@ -104,19 +104,19 @@ acts_of_output (Answered answer ∷ news) turns pass = absurd (both_ways false r
 acts_of_output (TakeCalled octets ∷ news) turns pass = absurd (both_ways false refl pass.0)
 acts_of_output (TakeAnswered fault ∷ news) turns pass = absurd (both_ways false refl pass.0)
 
--- A call tells of its act.
+-- A call answer_after of its act.
 acts_of_call : (act : Act) (answer : Answer) (news turns : List Turn) → HasCalled act answer news
-    → acts_told (news ++ turns) ≡ Make act ∷ acts_told turns
-unfolding acts_told
+    → acts_of_turns (news ++ turns) ≡ Make act ∷ acts_of_turns turns
+unfolding acts_of_turns
 acts_of_call act answer news turns call =
-    ap (λ (line : List Turn). acts_told (line ++ turns)) call.all
-    ∙ ap acts_told (append_assoc call.outs (Answered (shown answer) ∷ Called act ∷ []) turns)
+    ap (λ (line : List Turn). acts_of_turns (line ++ turns)) call.all
+    ∙ ap acts_of_turns (append_assoc call.outs (Answered (shown answer) ∷ Called act ∷ []) turns)
     ∙ acts_of_output call.outs (Answered (shown answer) ∷ Called act ∷ turns) call.pass
 
 -- The turns tell of the acts, in order.
 pub replay_acts : (role : Role) (values : Values) (acts : List ReplayAct) (log : Log)
-    (turns : List Turn) → IsReplay role values acts log turns → acts_told turns ≡ acts
-unfolding acts_told opened
+    (turns : List Turn) → IsReplay role values acts log turns → acts_of_turns turns ≡ acts
+unfolding acts_of_turns opened
 replay_acts role values _ _ _ (starts in_range) = refl
 replay_acts role values _ _ _
     (takes {acts = acts} {log = log} {after = after} {turns = turns} is octets fault all news

@@ -24,10 +24,10 @@ use Rattle.h2_end_laws.specs.Takes.{runs_out_of_memory}
 use Rattle.h2_end_laws.specs.Replays.{ReplayAct, Take, TakesAll, is_done, goes_on, has_fault}
 use Rattle.h2_end_laws.specs.Replays.{IsReplay, starts, takes, calls, octets_of_acts}
 use Rattle.h2_end_laws.proofs.ReplayedLogs.{replay_closed}
-use Rattle.h2_end_laws.proofs.TakeAnswers.{take_tells}
+use Rattle.h2_end_laws.proofs.TakeAnswers.{log_after_take}
 
 -- Two lists of turns that tell the same but of acts.
-record TellsSame (turns others : List Turn) : Type 0 where
+record FollowsAlike (turns others : List Turn) : Type 0 where
   pub input : octets_in turns ≡ octets_in others
   pub output : octets_out turns ≡ octets_out others
   pub events : events_in turns ≡ events_in others
@@ -60,9 +60,9 @@ more_events (Happened event ∷ news) turns others same =
 more_events (turn ∷ news) turns others same = more_events news turns others same
 
 -- The same turns after them, of all that is told.
-more_tells : (news turns others : List Turn) → TellsSame turns others
-    → TellsSame (news ++ turns) (news ++ others)
-more_tells news turns others same =
+more_after : (news turns others : List Turn) → FollowsAlike turns others
+    → FollowsAlike (news ++ turns) (news ++ others)
+more_after news turns others same =
     record {
       input = more_in news turns others same.input;
       output = more_out news turns others same.output;
@@ -70,41 +70,41 @@ more_tells news turns others same =
     }
 
 -- The turns around what happens inside of `take` tell of nothing else.
-around_tells : (octets : List ℕ) (fault : Option Code) (news turns others : List Turn)
-    → TellsSame turns others
-    → TellsSame (TakeAnswered fault ∷ news ++ TakeCalled octets ∷ turns) (news ++ others)
+around_recorded : (octets : List ℕ) (fault : Option Code) (news turns others : List Turn)
+    → FollowsAlike turns others
+    → FollowsAlike (TakeAnswered fault ∷ news ++ TakeCalled octets ∷ turns) (news ++ others)
 unfolding octets_in octets_out events_in
-around_tells octets fault news turns others same =
-    let inner : TellsSame (TakeCalled octets ∷ turns) others =
+around_recorded octets fault news turns others same =
+    let inner : FollowsAlike (TakeCalled octets ∷ turns) others =
     record { input = same.input; output = same.output; events = same.events } in
-    let more = more_tells news (TakeCalled octets ∷ turns) others inner in
+    let more = more_after news (TakeCalled octets ∷ turns) others inner in
     record { input = more.input; output = more.output; events = more.events }
 
 -- The turns of a replay tell what those of its log do.
 replay_same : (role : Role) (values : Values) (acts : List ReplayAct) (log : Log)
-    (turns : List Turn) → IsReplay role values acts log turns → TellsSame turns log.turns
+    (turns : List Turn) → IsReplay role values acts log turns → FollowsAlike turns log.turns
 replay_same role values _ _ _ (starts in_range) =
     record { input = refl; output = refl; events = refl }
 replay_same role values _ _ _
     (takes {acts = acts} {log = log} {after = after} {turns = turns} is octets fault all news
     joined) =
-    rw joined (around_tells octets fault news turns log.turns
+    rw joined (around_recorded octets fault news turns log.turns
     (replay_same role values acts log turns is))
 replay_same role values _ _ _
     (calls {acts = acts} {log = log} {turns = turns} is act answer typed may news joined) =
-    rw joined (more_tells news turns log.turns (replay_same role values acts log turns is))
+    rw joined (more_after news turns log.turns (replay_same role values acts log turns is))
 
 -- The turns tell of the octets used, of those written and of the events.
-pub replay_told : (role : Role) (values : Values) (acts : List ReplayAct) (log : Log)
+pub replay_recorded : (role : Role) (values : Values) (acts : List ReplayAct) (log : Log)
     (turns : List Turn) → IsReplay role values acts log turns
     → (octets_in turns ≡ log.input) × (octets_out turns ≡ log.written)
     × (events_in turns ≡ log.reported)
-replay_told role values acts log turns is =
+replay_recorded role values acts log turns is =
     let same = replay_same role values acts log turns is in
-    let tells = turns_report role values log (replay_closed role values acts log turns is) in (
-      same.input ∙ tells.input,
-      same.output ∙ tells.output,
-      same.events ∙ tells.events,
+    let recorded = turns_report role values log (replay_closed role values acts log turns is) in (
+      same.input ∙ recorded.input,
+      same.output ∙ recorded.output,
+      same.events ∙ recorded.events,
     )
 
 -- Octets of which so many were used as there are, are used.
@@ -116,52 +116,52 @@ all_of_them octets used (octet ∷ unused) joined much =
 
 -- Of octets that are handed to `take` some are used, and all unless the connection has failed.
 record Uses (before after : Log) (octets : List ℕ) : Type 0 where
-  pub front : List ℕ
+  pub prefix : List ℕ
   pub unused : List ℕ
-  pub joined : octets ≡ front ++ unused
-  pub input : after.input ≡ before.input ++ front
+  pub joined : octets ≡ prefix ++ unused
+  pub input : after.input ≡ before.input ++ prefix
   pub all : after.failed ≡ None → unused ≡ []
 
--- what is left of octets whose front was used
-after_front : (octets front unused : List ℕ) (count : ℕ) → octets ≡ front ++ unused
-    → length front ≡ count → drop count octets ≡ unused
-after_front octets front unused count joined much =
-    ap (λ (n : ℕ). drop n octets) (sym much) ∙ ap (drop (length front)) joined
-    ∙ drop-append_seam front unused
+-- what is left of octets whose prefix was used
+after_prefix : (octets prefix unused : List ℕ) (count : ℕ) → octets ≡ prefix ++ unused
+    → length prefix ≡ count → drop count octets ≡ unused
+after_prefix octets prefix unused count joined much =
+    ap (λ (n : ℕ). drop n octets) (sym much) ∙ ap (drop (length prefix)) joined
+    ∙ drop-append_seam prefix unused
 
 -- `take` is called until all are used.
 all_uses : (log after : Log) (octets : List ℕ) (fault : Option Code)
     → TakesAll log octets fault after → Uses log after octets
 all_uses log after _ _ (is_done octets may) =
-    let (front, unused, joined, much, input, reported, up) =
-    take_tells log after octets (Took (length octets) None) may in
+    let (prefix, unused, joined, much, input, reported, up) =
+    log_after_take log after octets (Took (length octets) None) may in
     record {
-      front = front;
+      prefix = prefix;
       unused = unused;
       joined = joined;
       input = input;
-      all = λ still. all_of_them octets front unused joined much;
+      all = λ still. all_of_them octets prefix unused joined much;
     }
 all_uses log after _ _ (goes_on {between = between} octets count event fault may more others) =
-    let (front, unused, joined, much, input, reported, up) =
-    take_tells log between octets (Took count event) may in
+    let (prefix, unused, joined, much, input, reported, up) =
+    log_after_take log between octets (Took count event) may in
     let next = all_uses between after (drop count octets) fault others in
     record {
-      front = front ++ next.front;
+      prefix = prefix ++ next.prefix;
       unused = next.unused;
       joined = joined
-          ∙ ap (λ (line : List ℕ). front ++ line)
-          (sym (after_front octets front unused count joined much) ∙ next.joined)
-          ∙ sym (append_assoc front next.front next.unused);
-      input = next.input ∙ ap (λ (line : List ℕ). line ++ next.front) input
-          ∙ append_assoc log.input front next.front;
+          ∙ ap (λ (line : List ℕ). prefix ++ line)
+          (sym (after_prefix octets prefix unused count joined much) ∙ next.joined)
+          ∙ sym (append_assoc prefix next.prefix next.unused);
+      input = next.input ∙ ap (λ (line : List ℕ). line ++ next.prefix) input
+          ∙ append_assoc log.input prefix next.prefix;
       all = next.all;
     }
 all_uses log after _ _ (has_fault octets code may) =
-    let (front, unused, joined, input, reported, failed) =
-    take_tells log after octets (Failed code) may in
+    let (prefix, unused, joined, input, reported, failed) =
+    log_after_take log after octets (Failed code) may in
     record {
-      front = front;
+      prefix = prefix;
       unused = unused;
       joined = joined;
       input = input;
@@ -227,7 +227,7 @@ take_uses acts log after octets fault None up all before =
       unused = now.unused;
       joined = ap (λ (line : List ℕ). line ++ octets) joined
           ∙ ap (λ (line : List ℕ). log.input ++ line) now.joined
-          ∙ sym (append_assoc log.input now.front now.unused)
+          ∙ sym (append_assoc log.input now.prefix now.unused)
           ∙ ap (λ (line : List ℕ). line ++ now.unused) (sym now.input);
       all = now.all;
     }
@@ -240,7 +240,7 @@ take_uses acts log after octets fault (Some code) down all before =
       all = λ up. none_some code (sym up ∙ ap (λ (log : Log). log.failed) same ∙ down);
     }
 
--- The octets used are those of the acts, or a part at their front.
+-- The octets used are those of the acts, or a part at their prefix.
 replay_uses : (role : Role) (values : Values) (acts : List ReplayAct) (log : Log)
     (turns : List Turn) → IsReplay role values acts log turns → UsesActs acts log
 unfolding octets_of_acts opened with_sent
@@ -262,7 +262,7 @@ replay_uses role values _ _ _
       all = λ up. before.all ((grows_call log act answer).up up);
     }
 
--- The octets used are those at the front of the acts' octets.
+-- The octets used are those at the prefix of the acts' octets.
 pub replay_used : (role : Role) (values : Values) (acts : List ReplayAct) (log : Log)
     (turns : List Turn) → IsReplay role values acts log turns
     → (unused : List ℕ) × (octets_of_acts acts ≡ log.input ++ unused)

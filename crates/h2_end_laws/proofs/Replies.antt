@@ -20,23 +20,23 @@ use Rattle.h2_log.specs.LogSteps.{used, read, with_sent, with_verdict, with_step
 use Rattle.h2_log.specs.LogCalls.{opened}
 use Rattle.h2_log.specs.Histories.{IsLog, begins, took_some, took_one, met_fault, ran_out_of_memory}
 use Rattle.h2_log.specs.Histories.{reported_one, called_one}
-use Rattle.h2_end_laws.specs.Replies.{replies_due, replies_among}
+use Rattle.h2_end_laws.specs.Replies.{replies_owed, replies_among}
 use Rattle.h2_end_laws.proofs.Unread.{ReadsNothing, wrote_reads, replies_append, reads_twice}
 use Rattle.h2_end_laws.proofs.Unread.{reads_reported}
 use Rattle.h2_end_laws.proofs.Unread.{reads_unreturned, reads_fails, reads_call, reads_unprocessed}
 
 -- The replies that a log has written are those that are due.
 abbrev Replies : Log → Type 0
-Replies log = replies_among log.sent ≡ replies_due log.received
+Replies log = replies_among log.sent ≡ replies_owed log.received
 
 -- They still are where nothing is read.
 replies_still : (old new : Log) → ReadsNothing old new → Replies old → Replies new
-replies_still old new none is = none.replies ∙ is ∙ ap replies_due (sym none.received)
+replies_still old new none is = none.replies ∙ is ∙ ap replies_owed (sym none.received)
 
 -- What is due for an item stands before what is due for the others.
-due_first : (item : Item) (items : List Item) → replies_due (item ∷ items)
-    ≡ replies_due (item ∷ []) ++ replies_due items
-unfolding replies_due
+due_first : (item : Item) (items : List Item) → replies_owed (item ∷ items)
+    ≡ replies_owed (item ∷ []) ++ replies_owed items
+unfolding replies_owed
 due_first (block stream end octets) items = refl
 due_first (alone (Settings true pairs)) items = refl
 due_first (alone (Settings false pairs)) items = refl
@@ -48,12 +48,12 @@ due_first (alone frame) items = refl
 abbrev IsRepliedTo : Verdict → Item → Type 0
 IsRepliedTo (ConnectionFault code) item = Unit {0}
 IsRepliedTo (StreamFault code) item =
-    replies_among (replies_to (StreamFault code) item) ≡ replies_due (item ∷ [])
-IsRepliedTo NoEvent item = replies_among (replies_to NoEvent item) ≡ replies_due (item ∷ [])
-IsRepliedTo Reported item = replies_among (replies_to Reported item) ≡ replies_due (item ∷ [])
+    replies_among (replies_to (StreamFault code) item) ≡ replies_owed (item ∷ [])
+IsRepliedTo NoEvent item = replies_among (replies_to NoEvent item) ≡ replies_owed (item ∷ [])
+IsRepliedTo Reported item = replies_among (replies_to Reported item) ≡ replies_owed (item ∷ [])
 
 -- An item to which no reply is due, whatever the verdict.
-none_due : (verdict : Verdict) (item : Item) → replies_due (item ∷ []) ≡ []
+none_due : (verdict : Verdict) (item : Item) → replies_owed (item ∷ []) ≡ []
     → replies_to NoEvent item ≡ [] → IsRepliedTo verdict item
 unfolding replies_to replies_among
 none_due (ConnectionFault code) item due none = tt
@@ -64,14 +64,14 @@ none_due Reported item due none = sym due
 -- SETTINGS, by their fault.
 settings_replied : (fault : Option Code) (pairs : List (ℕ × ℕ))
     → IsRepliedTo (verdict_of_fault fault) (alone (Settings false pairs))
-unfolding replies_to replies_among replies_due
+unfolding replies_to replies_among replies_owed
 settings_replied (Some code) pairs = tt
 settings_replied None pairs = refl
 
 -- By the rules an item is replied to as is due.
 replied_by_rules : (view : View) (decoded : Option Decoded) (item : Item)
     → IsRepliedTo (verdict_by_rules view decoded item) item
-unfolding verdict_by_rules replies_to replies_among replies_due
+unfolding verdict_by_rules replies_to replies_among replies_owed
 replied_by_rules view decoded (block stream end octets) =
     none_due (verdict_by_rules view decoded (block stream end octets)) (block stream end octets)
     refl refl
@@ -100,13 +100,13 @@ replied view decoded item = replied_if _ _ _ item (replied_by_rules view decoded
 
 -- After an item that is replied to as is due.
 reply_written : (log : Log) (decoded : Option Decoded) (item : Item) (replies : List Item)
-    → replies_among replies ≡ replies_due (item ∷ []) → Replies log
+    → replies_among replies ≡ replies_owed (item ∷ []) → Replies log
     → Replies (with_sent (read log decoded item) replies)
 reply_written log decoded item replies due is =
     let wrote = wrote_reads (read log decoded item) replies in
     ap replies_among wrote.3 ∙ replies_append replies log.sent
     ∙ rw (due, is) (sym (due_first item log.received))
-    ∙ ap replies_due (sym wrote.2)
+    ∙ ap replies_owed (sym wrote.2)
 
 -- After an item, by its verdict.
 verdict_replies : (log : Log) (decoded : Option Decoded) (item : Item) (verdict : Verdict)
@@ -148,12 +148,12 @@ used_replies log octets unparsed is = is
 
 -- A new end has none.
 opened_replies : (role : Role) (values : Values) → Replies (opened role values)
-unfolding opened with_sent replies_among replies_due
+unfolding opened with_sent replies_among replies_owed
 opened_replies role values = refl
 
 -- Every log.
 pub replies_of_logs : (role : Role) (values : Values) (log : Log) → IsLog role values log
-    → replies_among log.sent ≡ replies_due log.received
+    → replies_among log.sent ≡ replies_owed log.received
 replies_of_logs role values _ (begins in_range) = opened_replies role values
 replies_of_logs role values _ (took_some {log = log} is takes octets unparsed read) =
     used_replies log octets unparsed (replies_of_logs role values log is)

@@ -31,7 +31,7 @@ use Rattle.h2_log.proofs.StreamLemmas.{Keeps-frame, Keeps-none, stream_of_log}
 use Rattle.h2_end_laws.specs.Takes.{TakeAnswer, Took, Failed, events_answered}
 use Rattle.h2_end_laws.specs.Takes.{MayTake, has_failed, reports_unprocessed, ends_no_frame}
 use Rattle.h2_end_laws.specs.Takes.{ends_frame, meets_fault, runs_out_of_memory}
-use Rattle.h2_end_laws.specs.Takes.{TakeTells}
+use Rattle.h2_end_laws.specs.Takes.{AfterTake}
 use Rattle.h2_end_laws.proofs.Failures.{sent_failed, reported_failed, unreturned_failed}
 
 -- After each call there is a log that comes about.
@@ -210,11 +210,11 @@ unfolding used
 used_input log octets unparsed = (refl, refl, refl)
 
 -- What each answer says.
-pub take_tells : (log after : Log) (piece : List ℕ) (answer : TakeAnswer)
-    → MayTake log piece answer after → TakeTells log after piece answer
-take_tells log after piece answer (has_failed code failed answers same) =
+pub log_after_take : (log after : Log) (piece : List ℕ) (answer : TakeAnswer)
+    → MayTake log piece answer after → AfterTake log after piece answer
+log_after_take log after piece answer (has_failed code failed answers same) =
     rw (answers, same) ([], piece, refl, sym (append-nil log.input), refl, failed)
-take_tells log after piece answer (reports_unprocessed up some answers same) =
+log_after_take log after piece answer (reports_unprocessed up some answers same) =
     rw (answers, same) (
       [],
       piece,
@@ -224,7 +224,7 @@ take_tells log after piece answer (reports_unprocessed up some answers same) =
       unprocessed_reported log,
       reported_failed _ _ ∙ unreturned_failed _ log ∙ up,
     )
-take_tells log after piece answer (ends_no_frame takes unparsed part answers same) =
+log_after_take log after piece answer (ends_no_frame takes unparsed part answers same) =
     let after_it = used_input log piece unparsed in
     rw (answers, same) (
       piece,
@@ -235,7 +235,7 @@ take_tells log after piece answer (ends_no_frame takes unparsed part answers sam
       after_it.1,
       after_it.2 ∙ takes.up,
     )
-take_tells log after piece (Took count event)
+log_after_take log after piece (Took count event)
     (ends_frame takes octets unused joined frame decoded framed sees same answers) = (
       octets,
       unused,
@@ -245,7 +245,7 @@ take_tells log after piece (Took count event)
       answers.2,
       answers.1,
     )
-take_tells log after piece (Failed code)
+log_after_take log after piece (Failed code)
     (ends_frame takes octets unused joined frame decoded framed sees same answers) = (
       octets,
       unused,
@@ -255,7 +255,8 @@ take_tells log after piece (Failed code)
           (frame_answers log octets decoded frame takes.up)) answers,
       answers,
     )
-take_tells log after piece answer (meets_fault takes octets unused joined fault at answers same) =
+log_after_take log after piece answer
+    (meets_fault takes octets unused joined fault at answers same) =
     rw (answers, same) (
       octets,
       unused,
@@ -264,7 +265,7 @@ take_tells log after piece answer (meets_fault takes octets unused joined fault 
       used_reported log octets (wire_fault_code fault) _,
       refl,
     )
-take_tells log after piece answer
+log_after_take log after piece answer
     (runs_out_of_memory up octets unused joined may answers same) =
     rw (answers, same) (
       octets,

@@ -12,7 +12,7 @@ use Rattle.h2_log.specs.Log.{Log, last_processed}
 abbrev pub IsLastStream : Log → ℕ → Type 0
 IsLastStream log last =
     (last ≡ last_processed log)
-    ⊎ ((front : List Frame) × (frame : Frame) × (log.frames ≡ front ++ frame ∷ [])
+    ⊎ ((prefix : List Frame) × (frame : Frame) × (log.frames ≡ prefix ++ frame ∷ [])
     × (last ≡ stream_of frame))
 
 -- The newest item is GOAWAY with the code. Its last stream is the greatest that was processed, or a
@@ -20,8 +20,8 @@ IsLastStream log last =
 pub record EndsInGoAway (log : Log) (code : Code) : Type 0 where
   pub last : ℕ
   pub earlier : List Item
-  pub front : List ℕ
+  pub prefix : List ℕ
   pub newest : log.sent ≡ alone (GoAway last (code_number code) []) ∷ earlier
   pub processed : last_processed log ≤ last
   pub exact : IsLastStream log last
-  pub written : log.written ≡ front ++ encoding_of (GoAway last (code_number code) [])
+  pub written : log.written ≡ prefix ++ encoding_of (GoAway last (code_number code) [])

@@ -24,7 +24,7 @@ use Rattle.h2_log.specs.ItemRules.{Decoded, is_awaited_ping}
 use Rattle.h2_log.specs.Settings.{own_value, settings_count}
 use Rattle.h2_log.specs.States.{is_active, is_closed_by_us, when}
 use Rattle.h2_log.specs.Log.{Log, newest_ping, least_goaway}
-use Rattle.h2_end_laws.specs.Replies.{replies_due, replies_among}
+use Rattle.h2_end_laws.specs.Replies.{replies_owed, replies_among}
 
 -- an item that was read; what had been written and reported by then; what its block decodes to; and
 -- what was reported of it
@@ -130,7 +130,7 @@ AreReadings role sent reported [] = events_of_items reported ≡ []
 AreReadings role sent reported (reading ∷ readings) =
     (newer : List Item) × (later : List Event) × (sent ≡ newer ++ reading.sent)
     × (reported ≡ later ++ (reading.events ++ reading.reported)) × (events_of_items later ≡ [])
-    × (replies_among reading.sent ≡ replies_due (items_read readings))
+    × (replies_among reading.sent ≡ replies_owed (items_read readings))
     × AreEventsOf role (items_read readings) reading reading.events
     × AreReadings role reading.sent reading.reported readings
 

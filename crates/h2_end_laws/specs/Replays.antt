@@ -19,8 +19,8 @@ pub data ReplayAct : Type 0 where
   Make : (act : Act) → ReplayAct
 
 -- Octets remain, or something was reported: `take` is called again.
-abbrev pub GoesOn : (octets : List ℕ) (count : ℕ) → Option Event → Type 0
-GoesOn octets count event = (count < length octets) ⊎ (event ≢ None)
+abbrev pub IsCalledAgain : (octets : List ℕ) (count : ℕ) → Option Event → Type 0
+IsCalledAgain octets count event = (count < length octets) ⊎ (event ≢ None)
 
 -- `take` is called until the octets are used and nothing is reported, or the connection has failed.
 pub data TakesAll : Log → List ℕ → Option Code → Log → Type 0 where
@@ -28,7 +28,7 @@ pub data TakesAll : Log → List ℕ → Option Code → Log → Type 0 where
       → MayTake log octets (Took (length octets) None) after → TakesAll log octets None after
   goes_on : {log between after : Log} → (octets : List ℕ) (count : ℕ) (event : Option Event)
       (fault : Option Code) → MayTake log octets (Took count event) between
-      → GoesOn octets count event → TakesAll between (drop count octets) fault after
+      → IsCalledAgain octets count event → TakesAll between (drop count octets) fault after
       → TakesAll log octets fault after
   has_fault : {log after : Log} → (octets : List ℕ) (code : Code)
       → MayTake log octets (Failed code) after → TakesAll log octets (Some code) after
@@ -50,11 +50,11 @@ pub data IsReplay (role : Role) (values : Values) : List ReplayAct → Log → L
       → IsReplay role values (Make act ∷ acts) (with_call log act answer) (news ++ turns)
 
 -- the acts that turns tell of
-unfoldable pub acts_told : List Turn → List ReplayAct
-acts_told [] = []
-acts_told (TakeCalled octets ∷ turns) = Take octets ∷ acts_told turns
-acts_told (Called act ∷ turns) = Make act ∷ acts_told turns
-acts_told (_ ∷ turns) = acts_told turns
+unfoldable pub acts_of_turns : List Turn → List ReplayAct
+acts_of_turns [] = []
+acts_of_turns (TakeCalled octets ∷ turns) = Take octets ∷ acts_of_turns turns
+acts_of_turns (Called act ∷ turns) = Make act ∷ acts_of_turns turns
+acts_of_turns (_ ∷ turns) = acts_of_turns turns
 
 -- where a list of turns ends: between acts, inside of one, or it isn't as turns are
 pub data Phase : Type 0 where

@@ -5,11 +5,11 @@ use Rattle.h2_frame.specs.Frames.{Settings, Ping}
 use Rattle.h2_block.specs.Grouping.{Item, alone}
 
 -- the replies that items ask for, one for each SETTINGS and each PING that is no reply itself
-unfoldable pub replies_due : List Item → List Item
-replies_due [] = []
-replies_due (alone (Settings false pairs) ∷ items) = alone (Settings true []) ∷ replies_due items
-replies_due (alone (Ping false octets) ∷ items) = alone (Ping true octets) ∷ replies_due items
-replies_due (_ ∷ items) = replies_due items
+unfoldable pub replies_owed : List Item → List Item
+replies_owed [] = []
+replies_owed (alone (Settings false pairs) ∷ items) = alone (Settings true []) ∷ replies_owed items
+replies_owed (alone (Ping false octets) ∷ items) = alone (Ping true octets) ∷ replies_owed items
+replies_owed (_ ∷ items) = replies_owed items
 
 -- the replies among items
 unfoldable pub replies_among : List Item → List Item

@@ -64,12 +64,12 @@ HadMemory _ = Unit {0}
 
 -- What each answer says of the log after it: how far the octets were used, which events are new,
 -- and whether the connection has failed.
-abbrev pub TakeTells : (before after : Log) → List ℕ → TakeAnswer → Type 0
-TakeTells before after piece (Took count event) =
+abbrev pub AfterTake : (before after : Log) → List ℕ → TakeAnswer → Type 0
+AfterTake before after piece (Took count event) =
     (octets unused : List ℕ) × (piece ≡ octets ++ unused) × (length octets ≡ count)
     × (after.input ≡ before.input ++ octets)
     × (after.reported ≡ events_answered event ++ before.reported) × (after.failed ≡ None)
-TakeTells before after piece (Failed code) =
+AfterTake before after piece (Failed code) =
     (octets unused : List ℕ) × (piece ≡ octets ++ unused)
     × (after.input ≡ before.input ++ octets) × (after.reported ≡ before.reported)
     × (after.failed ≡ Some code)

@@ -8,7 +8,7 @@ ghost use Rattle.h2_log.specs.Log.{Log};
 ghost use Rattle.h2_log.specs.ItemRules.{Decoded};
 ghost use Rattle.h2_log.specs.LogSteps.{took_frame};
 ghost use Rattle.h2_log.specs.Histories.{IsLog, TakesOctets, TakesFrame, IsDecodedFor};
-ghost use Rattle.h2_end_laws.specs.Takes.{TakeAnswer, MayTake, HadMemory, TakeTells};
+ghost use Rattle.h2_end_laws.specs.Takes.{TakeAnswer, MayTake, HadMemory, AfterTake};
 
 /// After each call an end has a log that comes about. The octets used are a prefix of the piece,
 /// the event is the newest of the log, and there is none but that; a failed end answers its code.
@@ -18,8 +18,8 @@ pub fn take_answers()
     ensures closed { (role : Role) (values : Values) (log after : Log) (piece : List ℕ)
         (answer : TakeAnswer) → IsLog role values log → MayTake log piece answer after
         → IsLog role values after }
-    ensures tells { (log after : Log) (piece : List ℕ) (answer : TakeAnswer)
-        → MayTake log piece answer after → TakeTells log after piece answer }
+    ensures after { (log after : Log) (piece : List ℕ) (answer : TakeAnswer)
+        → MayTake log piece answer after → AfterTake log after piece answer }
     ensures some { (log : Log) (octets : List ℕ) (frame : Frame) (decoded : Option Decoded)
         → TakesOctets log → TakesFrame log.role log octets frame → IsDecodedFor log decoded frame
         → (answer : TakeAnswer)

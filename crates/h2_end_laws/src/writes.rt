@@ -21,7 +21,7 @@ ghost use Rattle.h2_log.specs.LogCalls.{MayAnswer, with_call};
 ghost use Rattle.h2_log.specs.Histories.{IsLog};
 ghost use Rattle.h2_log_laws.specs.Sending.{IsSendable};
 ghost use Rattle.h2_end_laws.specs.Failures.{EndsInGoAway};
-ghost use Rattle.h2_end_laws.specs.Replies.{replies_due, replies_among};
+ghost use Rattle.h2_end_laws.specs.Replies.{replies_owed, replies_among};
 ghost use Rattle.h2_end_laws.specs.Sendings.{EncodesInOrder, settings_received, lists_accepted};
 ghost use Rattle.h2_end_laws.specs.Written.{Writes};
 
@@ -29,12 +29,12 @@ ghost use Rattle.h2_end_laws.specs.Written.{Writes};
 /// octets, in order, and nothing else (RFC 9113, sections 6.5.3 and 6.7).
 pub fn each_is_replied_to()
     ensures { (role : Role) (values : Values) (log : Log) → IsLog role values log
-        → replies_among log.sent ≡ replies_due log.received }
+        → replies_among log.sent ≡ replies_owed log.received }
 {}
 
 /// An end that has failed has written GOAWAY last, with its code, and with the greatest stream that
-/// was processed, or a greater one, that of the last frame; and no call makes it write more (section
-/// 5.4.1).
+/// was processed, or a greater one, that of the last frame; and no call makes it write more
+/// (section 5.4.1).
 pub fn nothing_follows_a_failure()
     ensures last { (role : Role) (values : Values) (log : Log) (code : Code)
         → IsLog role values log → log.failed ≡ Some code → EndsInGoAway log code }

@@ -1,6 +1,6 @@
 -- By the lemmas on logs of a replay.
 use Rattle.h2_end_laws.proofs.ReplayedLogs.{replay_closed, replay_acts, replay_answers}
-use Rattle.h2_end_laws.proofs.ReplayedOctets.{replay_told, replay_used, replay_all_used}
+use Rattle.h2_end_laws.proofs.ReplayedOctets.{replay_recorded, replay_used, replay_all_used}
 use Rattle.h2_end_laws.proofs.replays.replays_are_logs.Goals as goal
 
 pub returns-clause-closed : goal.returns-clause-closed
@@ -12,8 +12,8 @@ returns-clause-acts c = replay_acts
 pub returns-clause-answers : goal.returns-clause-answers
 returns-clause-answers c = replay_answers
 
-pub returns-clause-told : goal.returns-clause-told
-returns-clause-told c = replay_told
+pub returns-clause-recorded : goal.returns-clause-recorded
+returns-clause-recorded c = replay_recorded
 
 pub returns-clause-used : goal.returns-clause-used
 returns-clause-used c = replay_used

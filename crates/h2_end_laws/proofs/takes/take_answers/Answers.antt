@@ -1,13 +1,13 @@
 -- By the lemmas on takes.
 use Rattle.h2_end_laws.proofs.OneTake.{one_take}
-use Rattle.h2_end_laws.proofs.TakeAnswers.{take_closed, take_tells, some_answer}
+use Rattle.h2_end_laws.proofs.TakeAnswers.{take_closed, log_after_take, some_answer}
 use Rattle.h2_end_laws.proofs.takes.take_answers.Goals as goal
 
 pub returns-clause-closed : goal.returns-clause-closed
 returns-clause-closed c = take_closed
 
-pub returns-clause-tells : goal.returns-clause-tells
-returns-clause-tells c = take_tells
+pub returns-clause-after : goal.returns-clause-after
+returns-clause-after c = log_after_take
 
 pub returns-clause-some : goal.returns-clause-some
 returns-clause-some c = some_answer
