@@ -159,7 +159,7 @@ linked_read bucket entries skips place skip other linked lt is =
     let same : get_or skips place 0 ≡ skip =
     get_or_from_slice_get skips place skip 0 is in
     subst (λ (n : ℕ). LeadsTo bucket (bucket (get_or entries place other)) (drop
-        (place + 1) entries)
+    (place + 1) entries)
     n) same
     (subst (λ (n : ℕ). LeadsTo bucket (bucket (get_or entries place other)) (drop n entries)
     (get_or skips place 0)) (let e : suc place ≡ place + 1 = omega arith in e)
@@ -186,7 +186,7 @@ pub record IsReached (bucket : Entry → ℕ) (sought : ℕ) (test : Entry → B
 -- The first place of a chain.
 pub reached_first : (bucket : Entry → ℕ) (sought : ℕ) (test : Entry → Bool)
     (start : ℕ) (entries : List Entry) (place : ℕ) → ((one : Entry) → test one ≡ true
-        → bucket one ≡ sought)
+    → bucket one ≡ sought)
     → LeadsTo bucket sought entries place → IsReached bucket sought test start entries place
 reached_first bucket sought test start entries place only leads =
     record {

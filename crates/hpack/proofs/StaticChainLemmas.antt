@@ -67,7 +67,7 @@ leads_to bucket sought [] place is = tt
 leads_to bucket sought (one ∷ entries) zero is = eqb-true (bucket one) sought is
 leads_to bucket sought (one ∷ entries) (suc place) is =
     let both = and_parts (not (bucket one == sought)) (leads sought
-        (map bucket entries) place) is in
+    (map bucket entries) place) is in
     (differs (bucket one) sought both.0, leads_to bucket sought entries place both.1)
 
 -- one of the places

@@ -11,7 +11,7 @@ returns-in_default c =
 pub returns-then-octets-eq8 : goal.returns-then-octets-eq8
 returns-then-octets-eq8 c =
     c.mixed-then-octets-eq8.ensures
-        ∙ (ap (λ (n : ℕ). mixed c.args.hash n) c.from_le_bytes-last.ensures
+    ∙ (ap (λ (n : ℕ). mixed c.args.hash n) c.from_le_bytes-last.ensures
     ∙ hash_long c.args.hash c.args.hash c.args.octets.now c.in-Some.last.now
     c.in-Some.ensures.cases.0
     (sym (hash_words_none c.args.hash c.args.octets.now (omega arith)))
@@ -41,7 +41,7 @@ loop-rest-preserved c =
 pub returns : goal.returns
 returns c =
     c.mixed-2.ensures
-        ∙ (ap (λ (n : ℕ). mixed c.loop-rest.before_last n) c.from_le_bytes-last.ensures
+    ∙ (ap (λ (n : ℕ). mixed c.loop-rest.before_last n) c.from_le_bytes-last.ensures
     ∙ hash_long c.args.hash c.loop-rest.before_last c.args.octets.now c.in-Some.last.now
     c.in-Some.ensures.cases.0
     (sym (hash_words_none c.loop-rest.before_last c.loop-rest.rest.now c.loop-rest-test.false)
