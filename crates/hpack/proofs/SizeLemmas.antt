@@ -5,7 +5,7 @@ use Rattle.std.proofs.Common.{arith, le-leb}
 use Rattle.std.proofs.lemmas.Bool.{cases_lt, lt-leb}
 use Rattle.std.proofs.lemmas.List.Sums.{sum_by-cons, sum_by_push}
 use Rattle.hpack.specs.Entry.{Entry}
-use Rattle.hpack.specs.Tables.{Entries}
+use Rattle.hpack.specs.Tables.{Entries, resized}
 use Rattle.hpack.specs.Sizes.{entry_size, table_size, fit, add}
 
 -- the size of a table with one more entry at the beginning
@@ -137,3 +137,41 @@ fit-longest (entry ∷ prefix) left bound within =
     let small : entry_size entry ≤ bound = omega (arith, sizes) in
     let rest = fit-longest prefix left (bound - entry_size entry) (omega (arith, sizes)) in
     rw (fit-first entry (prefix ++ left) bound small) (omega (arith, rest))
+
+-- What fits twice fits the lesser bound.
+pub fit-fit : (entries : List Entry) (first last : ℕ)
+    → fit (fit entries first) last ≡ fit entries (min first last)
+unfolding fit
+fit-fit [] first last = refl
+fit-fit (entry ∷ entries) first last =
+    let size : ℕ = entry_size entry in
+    elim (cases_lt first size) [
+      | inl large ↦ ap (λ (es : List Entry). fit es last) (fit-none entry entries first large)
+          ∙ sym (fit-none entry entries (min first last) (omega (arith, large)))
+      | inr small ↦ ap (λ (es : List Entry). fit es last) (fit-first entry entries first small)
+          ∙ (elim (cases_lt last size) [
+            | inl large ↦ fit-none entry (fit entries (first - size)) last large
+                ∙ sym (fit-none entry entries (min first last) (omega (arith, large)))
+            | inr fits ↦ fit-first entry (fit entries (first - size)) last fits
+                ∙ (ap (λ (es : List Entry). entry ∷ es)
+                (fit-fit entries (first - size) (last - size)
+                ∙ ap (λ (n : ℕ). fit entries n) (omega arith))
+                ∙ sym (fit-first entry entries (min first last) (omega (arith, small, fits))))
+          ])
+    ]
+
+-- Of maxima that are set one after another, those before the last amount to the least of them.
+pub resized_again : (table : Entries) (first last maximum : ℕ)
+    → resized (resized (resized table first) last) maximum
+    ≡ resized (resized table (min first last)) maximum
+resized_again table first last maximum =
+    ap (λ (es : List Entry). record { entries = fit es maximum; maximum = maximum })
+    (fit-fit table.entries first last)
+
+-- A maximum that is set twice is set once.
+pub resized_same : (table : Entries) (maximum : ℕ)
+    → resized (resized table maximum) maximum ≡ resized table maximum
+resized_same table maximum =
+    ap (λ (es : List Entry). record { entries = es; maximum = maximum })
+    (fit-fit table.entries maximum maximum
+    ∙ ap (λ (n : ℕ). fit table.entries n) (omega arith))

@@ -1,5 +1,5 @@
 -- A table as its entries, newest first, and its maximum.
-use Rattle.std.specs.Prelude.{ℕ, List}
+use Rattle.std.specs.Prelude.{ℕ, List, Option, None, Some}
 use Rattle.hpack.specs.Entry.{Entry}
 use Rattle.hpack.specs.Sizes.{fit}
 
@@ -10,3 +10,8 @@ pub record Entries : Type 0 where
 -- a table whose maximum is set: the oldest entries leave until the size is at most that
 abbrev pub resized : Entries → ℕ → Entries
 resized table maximum = record { entries = fit table.entries maximum; maximum = maximum }
+
+-- a table after updates: their least maximum but for the last, and then the last
+abbrev pub after_maxima : Entries → Option (ℕ × ℕ) → Entries
+after_maxima table None = table
+after_maxima table (Some (least, last)) = resized (resized table least) last

@@ -108,8 +108,8 @@ impl Decoder {
     /// list is emptied first, and its room is used again; it is empty where the answer is
     /// [`Decoded::TooLarge`]. Past the limit no further field is stored.
     ///
-    /// Memory is taken where the list lacks room, for an entry that is added to the table, and
-    /// where an update makes the table's maximum greater.
+    /// Memory is taken where the list lacks room, for an entry that is added to the table, and once
+    /// where the updates of the block change the capacity of the table's ring.
     ///
     /// # Errors
     ///

@@ -1,6 +1,7 @@
 //! The size updates at the beginning of a block (RFC 7541, sections 4.2 and 6.3).
 
-ghost use Rattle.std.specs.Prelude.{◌↔◌, IsTrue, IfOk, IfErr};
+ghost use Rattle.std.specs.Prelude.{◌≡◌, ◌↔◌, IsTrue, IfOk, IfErr, Some};
+ghost use Rattle.hpack.specs.Tables.{Entries, resized, after_maxima};
 ghost use Rattle.hpack.specs.Lists.{DecodeFault};
 ghost use Rattle.hpack.specs.Prefixes.{BeginsUpdate, UpdatesSoFar};
 
@@ -11,7 +12,8 @@ use crate::types::fault::Fault;
 /// How many bits of a new maximum are in its first octet.
 const MAXIMUM_PREFIX: u8 = 5;
 
-/// Applies the size updates at the beginning of `octets`, and answers the octets after them.
+/// Applies the size updates at the beginning of `octets`, and answers the octets after them. The
+/// table is changed once, after the last update.
 pub(crate) fn apply_updates<'a>(
     table: &mut Table,
     limit: u32,
@@ -23,15 +25,31 @@ pub(crate) fn apply_updates<'a>(
     ensures fault { IfErr result (DecodeFault table.old limit octets.now) }
 {
     let mut unparsed = octets;
+    let mut maxima = None;
     while begins_update(unparsed) {
         let (maximum, count) = int_at(MAXIMUM_PREFIX, unparsed)?;
         if maximum > u64::from(limit) {
             return Err(Fault::Compression);
         }
-        table.resize(maximum as u32)?;
+        maxima = Some(with_maximum(maxima, maximum as u32));
         unparsed = &unparsed[count..];
     }
+    if let Some((least, last)) = maxima {
+        table.resize_twice(least, last)?;
+    }
     Ok(unparsed)
+}
+
+/// The least maximum of those before the last update, and that of the last, after one more. Of the
+/// first update it is both.
+fn with_maximum(maxima: Option<(u32, u32)>, maximum: u32) -> (u32, u32)
+    ensures { (table : Entries) → after_maxima table (Some result)
+        ≡ resized (after_maxima table maxima) maximum }
+{
+    match maxima {
+        None => (maximum, maximum),
+        Some((least, last)) => (least.min(last), maximum),
+    }
 }
 
 /// Whether the first octet is that of an update.

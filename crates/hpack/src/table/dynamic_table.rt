@@ -1,7 +1,7 @@
 //! The dynamic table (RFC 7541, sections 2.3.2 and 4).
 
 ghost use Rattle.std.specs.Prelude.{◌≡◌, ◌⊎◌, ◌+◌, ◌-◌, ◌*◌, ◌/◌, ◌<◌, ◌≤◌, ◌==◌, [], length, max};
-ghost use Rattle.std.specs.Prelude.{slice_get, Some, IfOk, OnOk, OnErr, MatchOption};
+ghost use Rattle.std.specs.Prelude.{slice_get, Some, IfOk, IsOk, OnOk, OnErr, MatchOption};
 ghost use Rattle.circular_buffer.specs.Buffer.{buffer};
 ghost use Rattle.hpack.specs.Sizes.{table_size, add};
 ghost use Rattle.hpack.specs.Tables.{resized};
@@ -105,7 +105,8 @@ impl Table {
         &self.ring
     }
 
-    /// Sets the maximum; the oldest entries leave until the size is at most that (section 4.3).
+    /// Sets the maximum; the oldest entries leave until the size is at most that (section 4.3). It
+    /// takes memory only where the ring's capacity changes.
     ///
     /// # Errors
     ///
@@ -114,17 +115,13 @@ impl Table {
     pub(crate) fn resize(&mut self, maximum: u32) -> Result<(), AllocError>
         ensures ok { OnOk result (self.new ≡ resized self.old maximum) }
         ensures err { OnErr result (self.new ≡ self.old) }
+        ensures memory { max (maximum / 32) 1 ≡ max (self.old.maximum / 32) 1 → IsOk result }
     {
-        let mut ring = self.ring_for(maximum)?;
-        self.size = evict(&mut self.ring, self.size, maximum as usize);
-        move_entries(&mut self.ring, &mut ring);
-        self.ring = ring;
-        self.maximum = maximum;
-        Ok(())
+        self.resize_twice(maximum, maximum)
     }
 
     /// Sets the maximum to one and then to another; the oldest entries leave until the size is at
-    /// most either.
+    /// most either. It takes memory only where the ring's capacity changes.
     ///
     /// # Errors
     ///
@@ -133,21 +130,32 @@ impl Table {
     pub(crate) fn resize_twice(&mut self, first: u32, last: u32) -> Result<(), AllocError>
         ensures ok { OnOk result (self.new ≡ resized (resized self.old first) last) }
         ensures err { OnErr result (self.new ≡ self.old) }
+        ensures memory { max (last / 32) 1 ≡ max (self.old.maximum / 32) 1 → IsOk result }
     {
-        let mut ring = self.ring_for(last)?;
+        let ring = self.ring_for(last)?;
         let size = evict(&mut self.ring, self.size, first as usize);
         self.size = evict(&mut self.ring, size, last as usize);
-        move_entries(&mut self.ring, &mut ring);
-        self.ring = ring;
         self.maximum = last;
+        if let Some(mut ring) = ring {
+            move_entries(&mut self.ring, &mut ring);
+            self.ring = ring;
+        }
         Ok(())
     }
 
-    /// An empty ring with the capacity for a maximum.
-    fn ring_for(&self, maximum: u32) -> Result<HeapCircularBuffer<Entry>, AllocError>
-        ensures { IfOk result (λ ring. ring ≡ buffer [] (max (maximum / 32) 1)) }
+    /// An empty ring with the capacity for a maximum, where the ring now has another.
+    fn ring_for(&self, maximum: u32) -> Result<Option<HeapCircularBuffer<Entry>>, AllocError>
+        ensures ring { IfOk result (λ found. MatchOption found
+            (max (maximum / 32) 1 ≡ max (self.now.maximum / 32) 1)
+            (λ ring. ring ≡ buffer [] (max (maximum / 32) 1))) }
+        ensures memory { max (maximum / 32) 1 ≡ max (self.now.maximum / 32) 1 → IsOk result }
     {
-        HeapCircularBuffer::with_capacity(*self.ring.allocator(), capacity_for(maximum))
+        let capacity = capacity_for(maximum);
+        if capacity == self.ring.capacity() {
+            return Ok(None);
+        }
+        let ring = HeapCircularBuffer::with_capacity(*self.ring.allocator(), capacity)?;
+        Ok(Some(ring))
     }
 
     /// Lets all entries leave. It takes no memory.

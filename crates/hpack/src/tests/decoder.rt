@@ -300,6 +300,11 @@ fn update_after_a_field(rt: HostRuntime) -> Result<(), Fail> {
     ] {
         let mut decoder = Decoder::new(rt.alloc(), 4096)?;
         check_fault(&rt, &mut decoder, octets, Fault::Compression);
+        let mut other = Decoder::new(rt.alloc(), 4096)?;
+        let mut kept = FieldList::new(rt.alloc());
+        let decoded = other.decode_into(octets, NO_LIMIT, &mut kept);
+        assert!(rt; matches!(decoded, Err(Fault::Compression)));
+        assert!(rt; kept.is_empty());
     }
     Ok(())
 }

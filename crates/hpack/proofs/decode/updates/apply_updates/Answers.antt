@@ -1,6 +1,6 @@
 use Rattle.std.proofs.Common.{take, refl, subst, sym, arith}
 use Rattle.std.proofs.lemmas.Result.{err_from_is_err_and}
-use Rattle.hpack.specs.Tables.{Entries}
+use Rattle.hpack.specs.Tables.{Entries, after_maxima}
 use Rattle.hpack.specs.Prefixes.{UpdatesSoFar}
 use Rattle.hpack.proofs.PrefixLemmas.{octets_after, split_at_count}
 use Rattle.hpack.proofs.BlockLemmas.{updates_fault, updates_above, updates_more, update_read}
@@ -9,7 +9,8 @@ use Rattle.hpack.proofs.decode.updates.apply_updates.Goals as goal
 pub returns-in_err-maximum-clause-fault : goal.returns-in_err-maximum-clause-fault
 returns-in_err-maximum-clause-fault c =
     let p = err_from_is_err_and c.from_residual.result c.from_residual.ensures.1 in
-    rw (p.1, p.2) (updates_fault c.args.table.now c.loop-unparsed.table c.args.limit
+    rw (p.1, p.2) (updates_fault c.args.table.now
+    (after_maxima c.args.table.now c.loop-unparsed.maxima) c.args.limit
     c.args.octets.now c.loop-unparsed.unparsed.now _ (c.loop-unparsed-test.ensures.0 refl)
     c.loop-unparsed.invariant c.in_err-maximum.ensures.fault)
 
@@ -17,7 +18,8 @@ pub returns-then-maximum-from-clause-fault : goal.returns-then-maximum-from-clau
 returns-then-maximum-from-clause-fault c =
     let unparsed = c.loop-unparsed.unparsed.now in
     let count = c.in_ok-maximum.count in
-    updates_above c.args.table.now c.loop-unparsed.table c.args.limit c.in_ok-maximum.maximum
+    updates_above c.args.table.now (after_maxima c.args.table.now c.loop-unparsed.maxima)
+    c.args.limit c.in_ok-maximum.maximum
     c.args.octets.now unparsed (take count unparsed) (octets_after unparsed count)
     (split_at_count unparsed count)
     (update_read c.in_ok-maximum.maximum count unparsed (c.loop-unparsed-test.ensures.0 refl)
@@ -29,8 +31,9 @@ loop-unparsed-preserved c =
     let unparsed = c.loop-unparsed.unparsed.now in
     let count = c.in_ok-maximum.count in
     subst (λ (t : Entries). UpdatesSoFar c.args.table.now c.args.limit c.args.octets.now t
-    (octets_after unparsed count)) (sym c.in_ok-resize.ensures.ok)
-    (updates_more c.args.table.now c.loop-unparsed.table c.args.limit c.in_ok-maximum.maximum
+    (octets_after unparsed count)) (sym (c.with_maximum.ensures c.args.table.now))
+    (updates_more c.args.table.now (after_maxima c.args.table.now c.loop-unparsed.maxima)
+    c.args.limit c.in_ok-maximum.maximum
     c.args.octets.now unparsed (take count unparsed) (octets_after unparsed count)
     (split_at_count unparsed count)
     (update_read c.in_ok-maximum.maximum count unparsed (c.loop-unparsed-test.ensures.0 refl)

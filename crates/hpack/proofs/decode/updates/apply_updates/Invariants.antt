@@ -1,9 +1,11 @@
 use Rattle.std.proofs.Common.{length}
+use Rattle.hpack.specs.Tables.{after_maxima}
 use Rattle.hpack.specs.Prefixes.{UpdatesSoFar}
 use Rattle.hpack.proofs.decode.updates.apply_updates.Given as goal
 
 abbrev pub invariant-loop-unparsed : goal.invariant-loop-unparsed
-invariant-loop-unparsed l = UpdatesSoFar l.fn.table l.limit l.octets l.table l.unparsed
+invariant-loop-unparsed l =
+    UpdatesSoFar l.table l.limit l.octets (after_maxima l.table l.maxima) l.unparsed
 
 abbrev pub decreases-loop-unparsed : goal.decreases-loop-unparsed
 decreases-loop-unparsed l = length l.unparsed

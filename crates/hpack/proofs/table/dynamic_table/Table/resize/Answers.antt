@@ -1,11 +1,9 @@
-use Rattle.std.proofs.Common.{ap, arith}
-use Rattle.circular_buffer.specs.Buffer.{Buffer}
-use Rattle.hpack.specs.Entry.{Entry}
-use Rattle.hpack.proofs.RingLemmas.{entries_fit}
+use Rattle.std.proofs.Common.{◌≡◌, OnOk, subst}
+use Rattle.hpack.specs.Tables.{Entries}
+use Rattle.hpack.proofs.SizeLemmas.{resized_same}
 use Rattle.hpack.proofs.table.dynamic_table.Table.resize.Goals as goal
 
-pub move_entries-requires-clause-room : goal.move_entries-requires-clause-room
-move_entries-requires-clause-room c =
-    entries_fit c.evict-self-inside.new.ring.items c.args.maximum c.in_ok-ring.ring.capacity
-    (omega (arith, c.evict-self-inside.ensures.size, c.evict-self-inside.ensures.within))
-    (ap (λ (b : Buffer Entry). b.capacity) c.in_ok-ring.ensures)
+pub returns-clause-ok : goal.returns-clause-ok
+returns-clause-ok c =
+    subst (λ (table : Entries). OnOk c.resize_twice.result (c.resize_twice.new.self ≡ table))
+    (resized_same c.args.self.now c.args.maximum) c.resize_twice.ensures.ok
