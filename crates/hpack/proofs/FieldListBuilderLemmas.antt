@@ -12,7 +12,7 @@ use Rattle.hpack.specs.declared.types.field_place.FieldPlace.{FieldPlace}
 use Rattle.hpack.specs.declared.types.read_field.ReadField.{ReadField}
 use Rattle.hpack.specs.declared.decode.field_list_builder.FieldListBuilder.{FieldListBuilder}
 use Rattle.hpack.specs.FieldLists.{AreWithin, IsWithin, field_of, fields_of, octets_between}
-use Rattle.hpack.specs.FieldListBuilder.{Adds, AddsRead, ReadsInto, Represents}
+use Rattle.hpack.specs.FieldListBuilder.{Adds, AddsRead, ReadsInto, RepresentsList}
 use Rattle.hpack.specs.Lists.{HoldsList, list_size}
 use Rattle.hpack.proofs.FieldListLemmas.{are_between, fields_of-more, within-append}
 use Rattle.hpack.proofs.FieldListLemmas.{within-more}
@@ -33,7 +33,7 @@ none_is_some (Some m) n e f = cc
 
 -- In the beginning there is no field.
 pub represents_none : (builder : FieldListBuilder) (list_limit : ℕ) → builder.places.items ≡ []
-    → builder.remaining ≡ Some list_limit → Represents list_limit [] builder
+    → builder.remaining ≡ Some list_limit → RepresentsList list_limit [] builder
 represents_none builder list_limit places remaining = record {
   within = subst (AreWithin builder.octets.items) (sym places) tt;
   whole = λ n e. (
@@ -47,7 +47,7 @@ represents_none builder list_limit places remaining = record {
 -- A list that isn't kept is too large.
 pub represents_too_large : (builder : FieldListBuilder) (list_limit : ℕ) (fields : List Field)
     → builder.places.items ≡ [] → builder.remaining ≡ None → list_limit < list_size fields
-    → Represents list_limit fields builder
+    → RepresentsList list_limit fields builder
 represents_too_large builder list_limit fields places remaining above = record {
   within = subst (AreWithin builder.octets.items) (sym places) tt;
   whole = λ n e. absurd (none_is_some builder.remaining n remaining e);
@@ -208,7 +208,7 @@ read_within_limit builder new read start size remaining end computed remains fit
 holds_by : (left : Option ℕ) (decoded : Decoded) (builder : FieldListBuilder) (list_limit : ℕ)
     (fields : List Field) → builder.remaining ≡ left
     → ((remaining : ℕ) → left ≡ Some remaining → decoded ≡ answers.Whole)
-    → (left ≡ None → decoded ≡ answers.TooLarge) → Represents list_limit fields builder
+    → (left ≡ None → decoded ≡ answers.TooLarge) → RepresentsList list_limit fields builder
     → HoldsList list_limit fields decoded (fields_of builder.octets.items builder.places.items)
 holds_by None decoded builder list_limit fields remains is_whole is_large has =
     let (empty, above) = has.too_large remains in
@@ -222,7 +222,7 @@ pub holds_list : (decoded : Decoded) (builder : FieldListBuilder) (list_limit : 
     (fields : List Field)
     → ((remaining : ℕ) → builder.remaining ≡ Some remaining → decoded ≡ answers.Whole)
     → (builder.remaining ≡ None → decoded ≡ answers.TooLarge)
-    → Represents list_limit fields builder
+    → RepresentsList list_limit fields builder
     → HoldsList list_limit fields decoded (fields_of builder.octets.items builder.places.items)
 holds_list decoded builder list_limit fields is_whole is_large has =
     holds_by builder.remaining decoded builder list_limit fields refl is_whole is_large has

@@ -8,7 +8,7 @@ use Rattle.hpack.specs.Lists.{list_size}
 
 -- The builder has the fields, and so much remains of the limit; or their size is above it, and it
 -- has none. The octets may go on after those of the fields.
-pub record Represents (list_limit : ℕ) (fields : List Field) (builder : FieldListBuilder)
+pub record RepresentsList (list_limit : ℕ) (fields : List Field) (builder : FieldListBuilder)
     : Type 0 where
   pub within : AreWithin builder.octets.items builder.places.items
   pub whole : (remaining : ℕ) → builder.remaining ≡ Some remaining
@@ -19,13 +19,13 @@ pub record Represents (list_limit : ℕ) (fields : List Field) (builder : FieldL
 
 -- From an empty list the fields were built, whatever the limit.
 abbrev pub Builds : FieldListBuilder → List Field → FieldListBuilder → Type 0
-Builds old fields new = (list_limit : ℕ) → Represents list_limit [] old
-    → Represents list_limit fields new
+Builds old fields new = (list_limit : ℕ) → RepresentsList list_limit [] old
+    → RepresentsList list_limit fields new
 
 -- Whatever fields the builder represented for whatever limit, it represents those and one more.
 abbrev pub Adds : FieldListBuilder → Field → FieldListBuilder → Type 0
-Adds old field new = (list_limit : ℕ) (fields : List Field) → Represents list_limit fields old
-    → Represents list_limit (fields ++ field ∷ []) new
+Adds old field new = (list_limit : ℕ) (fields : List Field) → RepresentsList list_limit fields old
+    → RepresentsList list_limit (fields ++ field ∷ []) new
 
 -- The octets of the field, its name and then its value, were appended.
 pub record AppendsField (old new : List ℕ) (field : Field) (read : ReadField) : Type 0 where

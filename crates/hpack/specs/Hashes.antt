@@ -1,4 +1,5 @@
--- What octets are hashed to. Nothing but the encoder's speed depends on which numbers these are.
+-- What octets are hashed to. No public contract rests on it: nothing but the encoder's speed
+-- depends on which numbers these are.
 use Rattle.std.specs.Prelude.{ℕ, zero, suc, ◌+◌, ◌-◌, ◌*◌, ◌/◌, ◌%◌, ◌^◌, nat_lt, if◌then◌else◌}
 use Rattle.std.specs.Prelude.{List, length, take, drop, fold}
 use Rattle.std.specs.Prelude.{bit_xor}

@@ -1,7 +1,7 @@
 -- Lists of fields, and what a decoder or an encoder is between blocks.
 use Rattle.std.specs.Prelude.{◌≡◌, ◌<◌, ◌≤◌, ℕ, ◌+◌, Bool, false, List, [], length, sum_by}
 use Rattle.hpack.specs.declared.types.field.Field.{Field}
-use Rattle.hpack.specs.declared.types.field.List.{List as FieldList}
+use Rattle.hpack.specs.declared.types.field.List.{List as AnsweredList}
 use Rattle.hpack.specs.declared.types.field.List.TheVariants.{Whole, TooLarge}
 use Rattle.hpack.specs.declared.types.field.Decoded.{Decoded}
 use Rattle.hpack.specs.declared.types.field.Decoded.TheVariants as decoded
@@ -15,7 +15,7 @@ abbrev pub list_size : List Field → ℕ
 list_size fields = sum_by (λ field. length field.name + length field.value + 32) fields
 
 -- The list that is answered: the fields, or that their size is above the limit.
-abbrev pub IsList : ℕ → List Field → FieldList → Type 0
+abbrev pub IsList : ℕ → List Field → AnsweredList → Type 0
 IsList list_limit fields (Whole items) = (items.items ≡ fields) × (list_size fields ≤ list_limit)
 IsList list_limit fields TooLarge = list_limit < list_size fields
 
@@ -53,7 +53,7 @@ DecodeFault table limit octets faults.Memory = Unit {0}
 DecodeFault table limit octets faults.Failed = ⊥
 
 -- A block was decoded: its fields are answered, and its table is the decoder's.
-pub record Decodes (old : DecoderState) (octets : List ℕ) (list_limit : ℕ) (list : FieldList)
+pub record Decodes (old : DecoderState) (octets : List ℕ) (list_limit : ℕ) (list : AnsweredList)
     (new : DecoderState) : Type 0 where
   pub fields : List Field
   pub after : Entries

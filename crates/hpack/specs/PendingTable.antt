@@ -3,8 +3,8 @@ use Rattle.std.specs.Prelude.{◌≡◌, ℕ, ◌/◌, ◌^◌, ◌<◌, ◌≤�
 use Rattle.std.specs.Prelude.{fold}
 use Rattle.hpack.specs.Entry.{Entry}
 use Rattle.hpack.specs.declared.encode.pending_table.PendingTable.{PendingTable}
-use Rattle.hpack.specs.Sizes.{table_size, add}
-use Rattle.hpack.specs.Tables.{Entries}
+use Rattle.hpack.specs.Sizes.{table_size}
+use Rattle.hpack.specs.Tables.{Entries, added_to}
 use Rattle.hpack.specs.Chains.{IsIndexOf}
 
 -- all entries of a pending table, the newest first: those that were added, then the table's own
@@ -36,14 +36,6 @@ pub record IsReady (pending : PendingTable) (table : Entries) : Type 0 where
   pub none_added : pending.added.items ≡ []
   pub index : IsIndexOf pending.index table.entries
   pub room : table.maximum / 32 < capacity_of pending
-
--- a table to which an entry is added
-abbrev pub added_to : Entries → Entry → Entries
-added_to table one = record {
-  entries = add table.entries one table.maximum;
-  maximum =
-      table.maximum;
-}
 
 -- a table to which entries are added, one after another
 abbrev pub all_added : Entries → List Entry → Entries

@@ -1,7 +1,7 @@
 -- A table as its entries, newest first, and its maximum.
 use Rattle.std.specs.Prelude.{ℕ, List, Option, None, Some}
 use Rattle.hpack.specs.Entry.{Entry}
-use Rattle.hpack.specs.Sizes.{fit}
+use Rattle.hpack.specs.Sizes.{fit, add}
 
 pub record Entries : Type 0 where
   pub entries : List Entry
@@ -15,3 +15,11 @@ resized table maximum = record { entries = fit table.entries maximum; maximum = 
 abbrev pub after_maxima : Entries → Option (ℕ × ℕ) → Entries
 after_maxima table None = table
 after_maxima table (Some (least, last)) = resized (resized table least) last
+
+-- a table to which an entry is added
+abbrev pub added_to : Entries → Entry → Entries
+added_to table one = record {
+  entries = add table.entries one table.maximum;
+  maximum =
+      table.maximum;
+}

@@ -25,11 +25,11 @@ impl FieldListBuilder {
     ghost use Rattle.hpack.specs.declared.types.field.Field.{Field};
     ghost use Rattle.hpack.specs.Lists.{HoldsList};
     ghost use Rattle.hpack.specs.FieldLists.{AreWithin};
-    ghost use Rattle.hpack.specs.FieldListBuilder.{Builds, Represents, AddsRead};
+    ghost use Rattle.hpack.specs.FieldListBuilder.{Builds, RepresentsList, AddsRead};
 
     /// An empty list in the room of another one, for a limit in octets.
     pub(crate) fn in_room_of(list: FieldList, list_limit: u32) -> FieldListBuilder
-        ensures { Represents list_limit [] result }
+        ensures { RepresentsList list_limit [] result }
     {
         let (mut octets, mut places) = list.into_parts();
         octets.clear();
@@ -78,7 +78,7 @@ impl FieldListBuilder {
     /// The list, and what it holds.
     pub(crate) fn into_list(self) -> (FieldList, Decoded)
         requires { AreWithin self.octets.items self.places.items }
-        ensures { (list_limit : ℕ) (fields : List Field) → Represents list_limit fields self
+        ensures { (list_limit : ℕ) (fields : List Field) → RepresentsList list_limit fields self
             → HoldsList list_limit fields result.1 result.0 }
     {
         let FieldListBuilder {

@@ -3,7 +3,7 @@
 ghost use Rattle.std.specs.Prelude.{◌≡◌, ℕ, ◌≤◌, ◌++◌, length, take, OnOk, IfOk, IfErr};
 ghost use Rattle.std.specs.Prelude.{List as Items};
 ghost use Rattle.hpack.specs.Blocks.{LiteralName, after_literal, is_sensitive};
-ghost use Rattle.hpack.specs.PendingTable.{added_to};
+ghost use Rattle.hpack.specs.Tables.{added_to};
 ghost use Rattle.hpack.specs.Prefixes.{PrefixFault, IsName, IsLiteral, EncodesLiteral, IsIndex};
 ghost use Rattle.hpack.specs.Prefixes.{EncodesIndex, prefix_bits_of};
 

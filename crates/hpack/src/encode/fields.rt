@@ -8,7 +8,8 @@ ghost use Rattle.hpack.specs.Lists.{list_size};
 ghost use Rattle.hpack.specs.Written.{AreOctets};
 ghost use Rattle.hpack.specs.Choice.{choice, encoding_of_field, after_choice, encoding_of_fields};
 ghost use Rattle.hpack.specs.Choice.{after_fields};
-ghost use Rattle.hpack.specs.PendingTable.{represented, IsPendingTable, PreservesAdded, added_to};
+ghost use Rattle.hpack.specs.PendingTable.{represented, IsPendingTable, PreservesAdded};
+ghost use Rattle.hpack.specs.Tables.{added_to};
 ghost use Rattle.hpack.specs.PendingTable.{capacity_of};
 ghost use Rattle.hpack.specs.Chains.{AreHashes};
 

@@ -6,9 +6,9 @@ ghost use Rattle.std.specs.Prelude.{take, reverse, slice_get, slice_index_or, So
 ghost use Rattle.std.specs.Prelude.{MatchOption};
 ghost use Rattle.hpack.specs.Entry.{Entry};
 ghost use Rattle.hpack.specs.Sizes.{entry_size, table_size, fit};
-ghost use Rattle.hpack.specs.Tables.{resized};
+ghost use Rattle.hpack.specs.Tables.{resized, added_to};
 ghost use Rattle.hpack.specs.Sought.{is_sought, first_index};
-ghost use Rattle.hpack.specs.PendingTable.{newest_first, represented, IsPendingTable, added_to};
+ghost use Rattle.hpack.specs.PendingTable.{newest_first, represented, IsPendingTable};
 ghost use Rattle.hpack.specs.PendingTable.{all_added, capacity_of, IsReady};
 ghost use Rattle.hpack.specs.Chains.{AreHashes, sought_hash};
 ghost use Rattle.hpack.specs.Lists.{empty_table};

@@ -36,7 +36,7 @@ impl Entry {
     /// # Errors
     ///
     /// [`AllocError`] where the allocation was refused.
-    pub fn copy_of(alloc: Global, name: &[u8], value: &[u8]) -> Result<Entry, AllocError>
+    pub(crate) fn copy_of(alloc: Global, name: &[u8], value: &[u8]) -> Result<Entry, AllocError>
         ensures { IfOk result (λ entry. entry ≡ record { name = name.now; value = value.now }) }
     {
         let mut octets = Vec::with_capacity(alloc, name.len() + value.len())?;
