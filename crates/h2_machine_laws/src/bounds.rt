@@ -73,15 +73,15 @@ pub fn values_are_in_range()
 /// next to be reported as unprocessed, and call.
 pub fn entries_are_counted()
     ensures begins { (role : Role) (values : Values) → CountsEntries (new_end role values) }
-    ensures frame { (e : End) (decoded : Option Decoded) (frame : Frame) → e.failed ≡ None
-        → CountsEntries e → CountsEntries (after_frame e decoded frame) }
+    ensures frame { (e : End) (decoded : Option Decoded) (frame : Frame) → CountsEntries e
+        → CountsEntries (after_frame e decoded frame) }
     ensures fault { (e : End) (code : Code) → CountsEntries e
         → CountsEntries (fail code e.streams.last_processed e) }
     ensures unprocessed { (e : End) (i : ℕ)
         → i ≡ unprocessed_of_end e.role e.streams.entries e.goaway.received → i ≢ 0
         → CountsEntries e → CountsEntries (close_unprocessed e i) }
-    ensures call { (e : End) (act : Act) → refusal_of (end_view e) act ≡ None → IsTypedAct act
-        → CountsEntries e → CountsEntries (after_call e act) }
+    ensures call { (e : End) (act : Act) → refusal_of (end_view e) act ≡ None → CountsEntries e
+        → CountsEntries (after_call e act) }
     ensures most { (e : End) → IsBounded e → CountsEntries e
         → length (map.entries e.streams.entries) ≤ 2000 }
 {}

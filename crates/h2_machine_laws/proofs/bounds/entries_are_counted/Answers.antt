@@ -13,11 +13,11 @@ pub returns-clause-begins : goal.returns-clause-begins
 returns-clause-begins c role values = is_counted (new_end role values) (new_counts role values)
 
 pub returns-clause-frame : goal.returns-clause-frame
-returns-clause-frame c e decoded frame up h =
+returns-clause-frame c e decoded frame h =
     is_counted (after_frame e decoded frame) (frame_counts e decoded frame (counted e h))
 
 pub returns-clause-call : goal.returns-clause-call
-returns-clause-call c e act accepted typed h =
+returns-clause-call c e act accepted h =
     is_counted (after_call e act) (call_counts e act accepted (counted e h))
 
 pub returns-clause-most : goal.returns-clause-most
