@@ -1,0 +1,2 @@
+-- Facts of one end that its steps stand on.
+mod SoundFacts

@@ -1,0 +1,79 @@
+-- What steps make of a field block that is received.
+use Rattle.std.specs.Prelude.{◌≡◌, ◌⊎◌, ℕ, Bool, false, List, [], ◌∷◌, nat_le, nat_lt, ◌||◌}
+use Rattle.std.specs.Prelude.{length, true, Option, Some, None, Result, Ok, Err, ◌+◌}
+use Rattle.hpack.specs.declared.types.field.Field.{Field}
+use Rattle.hpack.specs.Blocks.{Block as BlockSays}
+use Rattle.hpack.specs.Lists.{NoBlock, list_size}
+use Rattle.h2_frame.specs.declared.code.Code.{Code}
+use Rattle.h2_frame.specs.declared.code.Code.TheVariants.{EnhanceYourCalm}
+use Rattle.h2_frame.specs.Codes.{code_number}
+use Rattle.h2_frame.specs.Frames.{Reset as ResetFrame}
+use Rattle.h2_block.specs.Grouping.{alone, block}
+use Rattle.h2_log.specs.ItemRules.{Decoded}
+use Rattle.h2_log.specs.Limits.{max_list, max_resets, max_output}
+use Rattle.h2_machine.specs.End.{End}
+use Rattle.h2_machine.specs.Machine.{after_item, reset_stream, queue_output}
+use Rattle.h2_core.specs.declared.endpoint.Endpoint.{Endpoint}
+use Rattle.h2_core.specs.declared.reader.Reported.{Reported}
+use Rattle.h2_core.specs.declared.reader.Reported.TheVariants.{Reset}
+use Rattle.h2_core.specs.declared.reader.Stop.{Stop}
+use Rattle.h2_core.specs.declared.reader.Stop.TheVariants.{Fault, OutOfMemory}
+use Rattle.h2_core.specs.Endpoint.{end_of}
+use Rattle.h2_core.specs.Failure.{FailsAlike}
+use Rattle.h2_core.specs.Items.{TakesItem, events_in, item_events}
+use Rattle.h2_core.specs.Frames.{FailsWithoutMemory}
+
+-- A block was decoded, and what it decodes to is the end's table and, unless it is too large, its
+-- list: whatever that is, the step takes the block so.
+abbrev pub TakesDecoded : Endpoint → ℕ → Bool → Bool → Result (Option Reported) Stop → Endpoint
+    → Type 0
+TakesDecoded one id end too_large result new =
+    (decoded : Decoded) (octets : List ℕ) → decoded.after ≡ one.decoder.table
+    → nat_lt max_list (list_size decoded.fields) ≡ too_large
+    → (too_large ≡ false → one.list ≡ decoded.fields)
+    → TakesItem (end_of one) (Some decoded) (block id end octets) new.list result (end_of new)
+
+-- A block resets its stream with the code; or that is one more RST_STREAM than this end sends, and
+-- nothing has changed; or memory was refused.
+abbrev pub ResetsForBlock : Endpoint → ℕ → Code → ℕ → Result (Option Reported) Stop → Endpoint
+    → Type 0
+ResetsForBlock one id code opened (Ok reported) new =
+    ((nat_le max_resets one.resets || nat_lt max_output (length one.output.waiting + 13)) ≡ false)
+    × (reported ≡ Some (Reset id (code_number code) true))
+    × (end_of new ≡ reset_stream (queue_output (end_of one) (alone (ResetFrame id
+    (code_number code)) ∷ [])) id 0)
+ResetsForBlock one id code opened (Err (Fault fault stream)) new =
+    ((nat_le max_resets one.resets || nat_lt max_output (length one.output.waiting + 13)) ≡ true)
+    × (fault ≡ EnhanceYourCalm) × (stream ≡ opened) × (end_of new ≡ end_of one)
+ResetsForBlock one id code opened (Err OutOfMemory) new = end_of new ≡ end_of one
+
+-- What was seen of the block is what it says at the end's table and limit, or nothing where it says
+-- nothing.
+abbrev pub IsDecodedOf : End → List ℕ → Option Decoded → Type 0
+IsDecodedOf e octets None = NoBlock e.reading.table e.own.in_force.table_limit octets
+IsDecodedOf e octets (Some decoded) =
+    BlockSays e.reading.table e.own.in_force.table_limit octets decoded.fields decoded.after
+
+-- The end is the machine after the block, and answers what is reported of it.
+pub record BlockTaken (e : End) (id : ℕ) (end : Bool) (octets : List ℕ) (list : List Field)
+    (reported : Option Reported) (new : End) : Type 0 where
+  pub decoded : Option Decoded
+  pub says : IsDecodedOf e octets decoded
+  pub after : new ≡ after_item e decoded (block id end octets)
+  pub up : new.failed ≡ None
+  pub events : events_in list reported ≡ item_events e decoded (block id end octets)
+
+-- The machine fails with the block, and so does the end, with the same code.
+pub record BlockFails (e : End) (id : ℕ) (end : Bool) (octets : List ℕ) (code : Code) (new : End)
+    : Type 0 where
+  pub decoded : Option Decoded
+  pub says : IsDecodedOf e octets decoded
+  pub fails : (after_item e decoded (block id end octets)).failed ≡ Some code
+  pub after : FailsAlike (after_item e decoded (block id end octets)) new
+
+-- what a complete block makes of an end
+abbrev pub TakesBlock : End → ℕ → Bool → List ℕ → List Field → Result (Option Reported) Code → End
+    → Type 0
+TakesBlock e id end octets list (Ok reported) new = BlockTaken e id end octets list reported new
+TakesBlock e id end octets list (Err code) new =
+    BlockFails e id end octets code new ⊎ FailsWithoutMemory e code new

@@ -1,0 +1,45 @@
+-- What a call makes of an end, and when it is refused.
+use Rattle.std.specs.Prelude.{◌≡◌, ◌⊎◌, ℕ, not, nat_le, is_some, [], ◌∷◌, length, None, Some}
+use Rattle.std.specs.Prelude.{Result, Ok, Err}
+use Rattle.h2_log.specs.declared.refusal.Refusal.{Refusal}
+use Rattle.h2_log.specs.declared.refusal.Refusal.TheVariants.{Memory, Closed, NoSuchStream, Ended, OutputFull}
+use Rattle.h2_log.specs.Acts.{Act, Refuse}
+use Rattle.h2_log.specs.CallRules.{refusal_of, first_of}
+use Rattle.h2_log.specs.Limits.{full_output}
+use Rattle.h2_log.specs.View.{ended_out}
+use Rattle.h2_machine.specs.End.{End, end_view, stream_at}
+use Rattle.h2_machine.specs.Machine.{after_call, fail}
+use Rattle.h2_frame.specs.declared.code.Code.TheVariants.{InternalError}
+use Rattle.h2_core.specs.declared.endpoint.Endpoint.{Endpoint}
+use Rattle.h2_core.specs.Endpoint.{end_of}
+
+-- A call was refused for the first condition that holds; or memory was, where none holds. Nothing
+-- has changed.
+pub record CallRefused (e : End) (act : Act) (refusal : Refusal) (new : End) : Type 0 where
+  pub why : (refusal_of (end_view e) act ≡ Some refusal)
+      ⊎ ((refusal ≡ Memory) × (refusal_of (end_view e) act ≡ None))
+  pub same : new ≡ e
+
+-- No condition holds, and the end is the machine after the call.
+pub record CallAccepted (e : End) (act : Act) (new : End) : Type 0 where
+  pub free : refusal_of (end_view e) act ≡ None
+  pub after : new ≡ after_call e act
+
+-- Why nothing may be sent on a stream: the connection has failed, the stream isn't active, this end
+-- has ended it, or too much output waits; the first of these.
+abbrev pub NotSendable : Endpoint → ℕ → Refusal → Type 0
+NotSendable one id refusal = first_of (
+  (is_some one.failed, Closed) ∷
+      (not (is_some (stream_at (end_of one) id)), NoSuchStream)
+      ∷ (ended_out (stream_at (end_of one) id), Ended)
+      ∷ (nat_le full_output (length one.output.waiting), OutputFull) ∷ []
+) ≡ Some refusal
+
+-- What `refuse` makes of an end: it is refused; or it is accepted; or an allocation was refused, and
+-- the connection fails.
+abbrev pub CallRefuses : End → ℕ → ℕ → Result Unit Refusal → End → Type 0
+CallRefuses e id code (Ok done) new = CallAccepted e (Refuse id code) new
+    ⊎ ((refusal_of (end_view e) (Refuse id code) ≡ None)
+    × (new ≡ fail InternalError e.streams.last_processed e))
+CallRefuses e id code (Err refusal) new =
+    (refusal_of (end_view e) (Refuse id code) ≡ Some refusal) × (new ≡ e)

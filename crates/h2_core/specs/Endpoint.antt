@@ -1,0 +1,62 @@
+-- An end's code as the machine: what it keeps is a machine's value.
+use Rattle.std.specs.Prelude.{ℕ, min, Bool, true, false, Option, Some, None}
+use Rattle.std.specs.Option.{option_map}
+use Rattle.h2_config.specs.ConfigValues.{values_of}
+use Rattle.h2_machine.specs.End.{End}
+use Rattle.h2_machine_laws.specs.Bounds.{IsBounded, KeepsConnectionWindow}
+use Rattle.h2_machine_laws.specs.Ranges.{ValuesAreInRange, CountsEntries}
+use Rattle.h2_core.specs.declared.endpoint.Endpoint.{Endpoint}
+
+-- how many streams a client may have active: 100 before the server's first SETTINGS, then the
+-- number that these name, and 1,000 where they name none; never above 1,000
+abbrev pub streams_allowed : Bool → Option ℕ → ℕ
+streams_allowed false named = 100
+streams_allowed true None = 1000
+streams_allowed true (Some count) = min 1000 count
+
+-- what an end keeps, as the machine's value
+abbrev pub end_of : Endpoint → End
+end_of one = record {
+  role = one.role;
+  failed = one.failed;
+  reading = record {
+    started = one.started;
+    begun = one.gather.begun;
+    table = one.decoder.table;
+  };
+  streams = record {
+    entries = one.streams.entries;
+    active_count = one.active_count;
+    highest = one.highest;
+    last_processed = one.last_processed;
+    resets = one.resets;
+  };
+  windows = record {
+    send = one.send_window;
+    recv = one.recv_window;
+    unreturned = one.unreturned;
+  };
+  peer = record {
+    initial_window = one.streams.send_initial;
+    max_streams = streams_allowed one.started one.peer.max_concurrent_streams;
+  };
+  own = record {
+    in_force = record {
+      table_limit = one.decoder.limit;
+      initial_window = one.streams.recv_initial;
+      max_streams = one.max_streams;
+    };
+    awaited = option_map values_of one.awaited;
+  };
+  goaway = record { sent = one.goaway_sent; received = one.goaway_received };
+  ping = one.ping;
+  output = record { encoder = one.encoder; waiting = one.output.waiting };
+}
+
+-- The values of an end are bounded, counted and in the ranges that the machine's laws give, so that
+-- they fit the numbers that the code keeps them in.
+pub record IsSound (e : End) : Type 0 where
+  pub bounded : IsBounded e
+  pub window : KeepsConnectionWindow e
+  pub ranges : ValuesAreInRange e
+  pub counts : CountsEntries e

@@ -1,0 +1,14 @@
+-- What stands after the connection has failed.
+use Rattle.std.specs.Prelude.{◌≡◌, ◌≢◌, None}
+use Rattle.h2_machine.specs.End.{End}
+
+-- The connection has failed, and of what counts then both ends have the same: the code, the output,
+-- the streams and the windows. What was read last, and the rest that no call looks at any more, may
+-- differ.
+pub record FailsAlike (e other : End) : Type 0 where
+  pub down : e.failed ≢ None
+  pub role : other.role ≡ e.role
+  pub failed : other.failed ≡ e.failed
+  pub streams : other.streams ≡ e.streams
+  pub windows : other.windows ≡ e.windows
+  pub waiting : other.output.waiting ≡ e.output.waiting

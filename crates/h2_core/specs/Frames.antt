@@ -1,0 +1,70 @@
+-- What a call that takes a frame makes of an end, and what it answers.
+use Rattle.std.specs.Prelude.{not, ◌&&◌, false}
+use Rattle.std.specs.Prelude.{◌≡◌, ◌⊎◌, ℕ, List, [], Option, Some, None, Result, Ok, Err}
+use Rattle.hpack.specs.Blocks.{Block}
+use Rattle.hpack.specs.Lists.{NoBlock}
+use Rattle.hpack.specs.declared.types.field.Field.{Field}
+use Rattle.h2_frame.specs.declared.code.Code.{Code}
+use Rattle.h2_frame.specs.declared.code.Code.TheVariants.{InternalError}
+use Rattle.h2_frame.specs.Frames.{Frame}
+use Rattle.h2_block.specs.Grouping.{Begun, alone, block}
+use Rattle.h2_log.specs.Events.{Event}
+use Rattle.h2_log.specs.ItemRules.{Decoded, FrameStep, fails_with, begins_block, completes}
+use Rattle.h2_log.specs.ItemRules.{frame_step, may_be_first}
+use Rattle.h2_machine.specs.End.{End, end_view}
+use Rattle.h2_machine.specs.Machine.{after_frame, with_begun, fail}
+use Rattle.h2_core.specs.declared.endpoint.Endpoint.{Endpoint}
+use Rattle.h2_core.specs.declared.reader.Reported.{Reported}
+use Rattle.h2_core.specs.Failure.{FailsAlike}
+use Rattle.h2_core.specs.Items.{events_in, item_events}
+
+-- What was seen of the field block that a frame completes is what it says at the end's table and
+-- limit; nothing was seen where it says nothing. Nothing is decoded of anything else.
+abbrev pub IsDecodedBy : End → Option Decoded → FrameStep → Type 0
+IsDecodedBy e None (completes (block stream end octets)) =
+    NoBlock e.reading.table e.own.in_force.table_limit octets
+IsDecodedBy e (Some decoded) (completes (block stream end octets)) =
+    Block e.reading.table e.own.in_force.table_limit octets decoded.fields decoded.after
+IsDecodedBy e decoded (completes (alone frame)) = decoded ≡ None
+IsDecodedBy e decoded (begins_block begun) = decoded ≡ None
+IsDecodedBy e decoded (fails_with code) = decoded ≡ None
+
+-- what is reported of a frame
+abbrev pub step_events : End → Option Decoded → FrameStep → List Event
+step_events e decoded (fails_with code) = []
+step_events e decoded (begins_block begun) = []
+step_events e decoded (completes item) = item_events (with_begun e None) decoded item
+
+abbrev pub frame_events : End → Option Decoded → Frame → List Event
+frame_events e decoded frame = step_events e decoded (frame_step (end_view e) frame)
+
+-- The end is the machine after the frame, hasn't failed, and answers what is reported of it.
+pub record FrameTaken (e : End) (frame : Frame) (list : List Field) (reported : Option Reported)
+    (new : End) : Type 0 where
+  pub decoded : Option Decoded
+  pub says : IsDecodedBy e decoded (frame_step (end_view e) frame)
+  pub after : new ≡ after_frame e decoded frame
+  pub up : new.failed ≡ None
+  pub events : events_in list reported ≡ frame_events e decoded frame
+
+-- The machine fails with the frame, and so does the end, with the same code.
+pub record FrameFails (e : End) (frame : Frame) (code : Code) (new : End) : Type 0 where
+  pub decoded : Option Decoded
+  pub says : IsDecodedBy e decoded (frame_step (end_view e) frame)
+  pub fails : (after_frame e decoded frame).failed ≡ Some code
+  pub after : FailsAlike (after_frame e decoded frame) new
+
+-- Memory was refused, and the connection failed for that.
+pub record FailsWithoutMemory (e : End) (code : Code) (new : End) : Type 0 where
+  pub lacks : code ≡ InternalError
+  pub after : FailsAlike (fail InternalError e.streams.last_processed e) new
+
+-- what a call that takes a frame makes of an end
+abbrev pub TakesFrame : End → Frame → List Field → Result (Option Reported) Code → End → Type 0
+TakesFrame e frame list (Ok reported) new = FrameTaken e frame list reported new
+TakesFrame e frame list (Err code) new =
+    FrameFails e frame code new ⊎ FailsWithoutMemory e code new
+
+-- The frame isn't the first one, or may be.
+abbrev pub IsStarted : Endpoint → Frame → Type 0
+IsStarted one frame = (not one.started && not (may_be_first frame)) ≡ false

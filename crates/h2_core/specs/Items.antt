@@ -1,0 +1,59 @@
+-- What a step makes of an item that is received, and what it answers.
+use Rattle.std.specs.Prelude.{◌≡◌, ◌≢◌, ℕ, List, [], ◌∷◌, Option, Some, None, Result, Ok, Err}
+use Rattle.hpack.specs.declared.types.field.Field.{Field}
+use Rattle.h2_frame.specs.declared.code.Code.{Code}
+use Rattle.h2_block.specs.Grouping.{Item}
+use Rattle.h2_log.specs.Events.{Event, FieldsEvent, DataEvent, ResetEvent, GoAwayEvent, AckedEvent}
+use Rattle.h2_log.specs.Events.{PongEvent}
+use Rattle.h2_log.specs.Verdicts.{Verdict, ConnectionFault}
+use Rattle.h2_log.specs.ItemRules.{Decoded, verdict_of, opened_by}
+use Rattle.h2_log.specs.ItemEffects.{events_of}
+use Rattle.h2_machine.specs.End.{End, end_view}
+use Rattle.h2_machine.specs.Machine.{after_item, add_unreturned, narrow_recv_window}
+use Rattle.h2_core.specs.declared.reader.Reported.{Reported}
+use Rattle.h2_core.specs.declared.reader.Reported.TheVariants.{Fields, Data, Reset, GoAway, Acked}
+use Rattle.h2_core.specs.declared.reader.Reported.TheVariants.{Pong}
+use Rattle.h2_core.specs.declared.reader.Stop.{Stop}
+use Rattle.h2_core.specs.declared.reader.Stop.TheVariants.{Fault, OutOfMemory}
+
+-- what is reported, as an event; the fields are those of the list that the end keeps
+abbrev pub event_of : List Field → Reported → Event
+event_of list (Fields id end) = FieldsEvent id list end
+event_of list (Data id octets flow end) = DataEvent id octets.now flow end
+event_of list (Reset id code ours) = ResetEvent id code ours
+event_of list (GoAway last code) = GoAwayEvent last code
+event_of list Acked = AckedEvent
+event_of list (Pong octets) = PongEvent octets
+
+abbrev pub events_in : List Field → Option Reported → List Event
+events_in list None = []
+events_in list (Some reported) = event_of list reported ∷ []
+
+-- what is reported of an item that comes next
+abbrev pub item_events : End → Option Decoded → Item → List Event
+item_events e decoded item = events_of (end_view e) decoded (verdict_of (end_view e) decoded item)
+    item
+
+-- The item's verdict isn't that the connection fails; the end is the machine after the item, and
+-- what is reported of the item is answered.
+pub record ItemTaken (e : End) (decoded : Option Decoded) (item : Item) (list : List Field)
+    (reported : Option Reported) (new : End) : Type 0 where
+  pub goes_on : (code : Code) → verdict_of (end_view e) decoded item ≢ ConnectionFault code
+  pub after : new ≡ after_item e decoded item
+  pub events : events_in list reported ≡ item_events e decoded item
+
+-- What a step makes of an item. One that is at fault, or out of memory, has changed nothing.
+abbrev pub TakesItem : End → Option Decoded → Item → List Field → Result (Option Reported) Stop
+    → End → Type 0
+TakesItem e decoded item list (Ok reported) new = ItemTaken e decoded item list reported new
+TakesItem e decoded item list (Err (Fault code opened)) new =
+    (verdict_of (end_view e) decoded item ≡ ConnectionFault code)
+    × (opened ≡ opened_by (end_view e) decoded item) × (new ≡ e)
+TakesItem e decoded item list (Err OutOfMemory) new = new ≡ e
+
+-- DATA of so many octets was discarded, on a stream that this end has closed; or memory was
+-- refused, and nothing has changed.
+abbrev pub DiscardsData : End → ℕ → Result (Option Reported) Stop → End → Type 0
+DiscardsData e flow (Ok reported) new =
+    (reported ≡ None) × (new ≡ add_unreturned flow (narrow_recv_window e flow))
+DiscardsData e flow (Err stop) new = (stop ≡ OutOfMemory) × (new ≡ e)

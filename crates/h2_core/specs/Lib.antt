@@ -1,0 +1,12 @@
+pub mod DataFrames
+pub mod Endpoint
+pub mod Failure
+pub mod Items
+pub mod Frames
+pub mod Blocks
+pub mod Calls
+pub mod Readers
+pub mod Settings
+pub mod Statuses
+pub mod Stops
+pub mod Streams

@@ -1,0 +1,23 @@
+-- SETTINGS that are checked before they are applied.
+use Rattle.std.specs.Prelude.{◌≡◌, ℕ, List, [], ◌∷◌, Option, Some, None, Result, Ok, Err}
+use Rattle.h2_flow.specs.declared.settings.Settings.{Settings}
+use Rattle.h2_flow.specs.Settings.{with_value}
+use Rattle.h2_log.specs.ItemRules.{settings_fault}
+use Rattle.h2_machine.specs.End.{end_view}
+use Rattle.h2_core.specs.declared.endpoint.Endpoint.{Endpoint}
+use Rattle.h2_core.specs.declared.reader.Stop.{Stop}
+use Rattle.h2_core.specs.declared.reader.Stop.TheVariants.{Fault, OutOfMemory}
+use Rattle.h2_core.specs.Endpoint.{end_of}
+
+-- settings with these values, in order
+unfoldable pub with_values : Settings → List (ℕ × ℕ) → Settings
+with_values settings [] = settings
+with_values settings (pair ∷ pairs) = with_values (with_value settings pair) pairs
+
+-- the settings after the pairs, or the first fault of one
+abbrev pub AppliesSettings : Endpoint → List (ℕ × ℕ) → Result Settings Stop → Type 0
+AppliesSettings one pairs (Ok settings) =
+    (settings_fault (end_view (end_of one)) pairs ≡ None) × (settings ≡ with_values one.peer pairs)
+AppliesSettings one pairs (Err (Fault code opened)) =
+    (settings_fault (end_view (end_of one)) pairs ≡ Some code) × (opened ≡ 0)
+AppliesSettings one pairs (Err OutOfMemory) = ⊥

@@ -1,0 +1,253 @@
+//! Calls that send messages: field blocks and DATA (RFC 9113, sections 6.1, 6.2 and 8.1).
+
+ghost use Rattle.std.specs.Prelude.{◌≡◌, ◌+◌, ◌*◌, ◌/◌, ◌≤◌, ◌<◌, ◌^◌, Bool, [], ◌∷◌, length, None};
+ghost use Rattle.std.specs.Prelude.{Some, false, IfOk, IfErr, OnOk, OnErr};
+ghost use Rattle.hpack.specs.Choice.{block_of, after_block};
+ghost use Rattle.hpack.specs.Lists.{list_size};
+ghost use Rattle.h2_block.specs.Grouping.{block};
+ghost use Rattle.h2_log.specs.Acts.{Open, SendFields, SendData};
+ghost use Rattle.h2_log.specs.Limits.{max_list};
+ghost use Rattle.h2_log.specs.CallRules.{refusal_of, data_frames, data_count};
+ghost use Rattle.h2_streams.specs.Streams.{stream_view, is_far};
+ghost use Rattle.h2_machine.specs.End.{end_view, stream_at, number_after};
+ghost use Rattle.h2_machine.specs.Machine.{queue_output, with_encoder};
+ghost use Rattle.h2_core.specs.Endpoint.{end_of, IsSound};
+ghost use Rattle.h2_core.specs.Calls.{CallRefused, CallAccepted, NotSendable};
+
+use crate::endpoint::Endpoint;
+use crate::limits::{
+    FIRST_ACTIVE, FULL_OUTPUT, GREATEST, HEAD, MAX_ACTIVE, MAX_DATA, MAX_LIST, MAX_PAYLOAD, SMALL_FRAME,
+};
+use h2_block::spread;
+use h2_flow::StreamState;
+use h2_log::{Refusal, Role};
+use h2_streams::Stream;
+use hpack::{Field, list_size};
+use std::alloc::AllocError;
+
+impl Endpoint {
+    /// Opens a stream with a field block; `end` says that nothing follows (END_STREAM). Answers its
+    /// number: 1, 3, 5 and so on.
+    ///
+    /// # Errors
+    ///
+    /// C1, C4, C5 (at a server always), C6, C7, C10, and C12 where an allocation was refused, in
+    /// this order. Nothing has changed.
+    pub fn open(&mut self, fields: &[Field], end: bool) -> Result<u32, Refusal>
+        requires sound { IsSound (end_of self.old) }
+        ensures ok { IfOk result (λ id. (id ≡ (end_view (end_of self.old)).next_number)
+            × CallAccepted (end_of self.old) (Open fields.now end) (end_of self.new)) }
+        ensures err { IfErr result (λ refusal. CallRefused (end_of self.old) (Open fields.now end)
+            refusal (end_of self.new)) }
+    {
+        if let Some(refusal) = self.refusal_of_open(fields) {
+            return Err(refusal);
+        }
+        let id = self.next_number();
+        let mut state = StreamState::open();
+        state.ended_out = end;
+        let stream = self.new_stream(state);
+        if self.streams.open(id, stream).is_err() {
+            return Err(Refusal::Memory);
+        }
+        if self.write_block(id, end, fields).is_err() {
+            self.streams.close(id);
+            return Err(Refusal::Memory);
+        }
+        self.active_count += 1;
+        self.highest = id;
+        Ok(id)
+    }
+
+    /// Sends a further field block on a stream: a response's, or trailers.
+    ///
+    /// # Errors
+    ///
+    /// C1, C2, C3, C7, C10 and C12, in this order. Nothing has changed.
+    pub fn send_fields(&mut self, id: u32, fields: &[Field], end: bool) -> Result<(), Refusal>
+        requires sound { IsSound (end_of self.old) }
+        ensures ok { OnOk result (CallAccepted (end_of self.old) (SendFields id fields.now end)
+            (end_of self.new)) }
+        ensures err { IfErr result (λ refusal. CallRefused (end_of self.old)
+            (SendFields id fields.now end) refusal (end_of self.new)) }
+    {
+        let mut stream = self.sendable(id)?;
+        if list_size(fields) > MAX_LIST as usize {
+            return Err(Refusal::ListTooLarge);
+        }
+        if self.write_block(id, end, fields).is_err() {
+            return Err(Refusal::Memory);
+        }
+        stream.state.ended_out = end;
+        self.update_stream(id, stream);
+        Ok(())
+    }
+
+    /// Sends as many octets of a body as both windows let through, and 65,536 at most; answers how
+    /// many. Where all went and `end` is set, the last DATA has END_STREAM; an empty slice with
+    /// `end` sends one empty DATA.
+    ///
+    /// # Errors
+    ///
+    /// C1, C2, C3, C7 and C12, in this order. Nothing has changed.
+    pub fn send_data(&mut self, id: u32, octets: &[u8], end: bool) -> Result<usize, Refusal>
+        requires sound { IsSound (end_of self.old) }
+        ensures ok { IfOk result (λ count. (count ≡ data_count (end_view (end_of self.old))
+            (stream_at (end_of self.old) id) (length octets.now))
+            × CallAccepted (end_of self.old) (SendData id octets.now end) (end_of self.new)) }
+        ensures err { IfErr result (λ refusal. CallRefused (end_of self.old)
+            (SendData id octets.now end) refusal (end_of self.new)) }
+    {
+        let mut stream = self.sendable(id)?;
+        let count = self.sendable_octets(&stream, octets.len());
+        if count == 0 && !(octets.is_empty() && end) {
+            return Ok(0);
+        }
+        let room = count + HEAD * (1 + count / MAX_PAYLOAD) + SMALL_FRAME;
+        if self.output.reserve(room).is_err() {
+            return Err(Refusal::Memory);
+        }
+        let ends = end && count == octets.len();
+        self.add_data(id, &octets[..count], ends);
+        self.send_window -= count as u32;
+        stream.send_window -= count as i64;
+        stream.state.ended_out = ends;
+        self.update_stream(id, stream);
+        Ok(count)
+    }
+
+    /// The stream, if something may be sent on it.
+    fn sendable(&self, id: u32) -> Result<Stream, Refusal>
+        ensures ok { IfOk result (λ stream. (self.now.failed ≡ None)
+            × (stream_at (end_of self.now) id ≡ Some (stream_view stream))
+            × (stream.state.ended_out ≡ false) × (length self.now.output.waiting < 65536)) }
+        ensures err { IfErr result (λ refusal. NotSendable self.now id refusal) }
+    {
+        if self.failed.is_some() {
+            return Err(Refusal::Closed);
+        }
+        let Some(stream) = self.streams.stream(id) else {
+            return Err(Refusal::NoSuchStream);
+        };
+        if stream.state.ended_out {
+            return Err(Refusal::Ended);
+        }
+        if self.output.len() >= FULL_OUTPUT {
+            return Err(Refusal::OutputFull);
+        }
+        Ok(stream)
+    }
+
+    /// How many octets of so many may be sent on a stream now.
+    fn sendable_octets(&self, stream: &Stream, count: usize) -> usize
+        requires { is_far stream.now.send_window ≡ false }
+        ensures { result ≡ data_count (end_view (end_of self.now)) (Some (stream_view stream.now))
+            count }
+    {
+        let window = stream.send_window.max(0) as usize;
+        count
+            .min(window)
+            .min(self.send_window as usize)
+            .min(MAX_DATA)
+    }
+
+    /// Adds the DATA frames of octets, for which there is room: each filled to 16,384 but the last,
+    /// which has END_STREAM where `end` is set.
+    fn add_data(&mut self, id: u32, octets: &[u8], end: bool)
+        requires up { self.old.failed ≡ None }
+        requires count { length octets.now ≤ 65536 }
+        requires room { length octets.now + 9 * (1 + length octets.now / 16384)
+            ≤ self.old.output.spare }
+        ensures after { end_of self.new ≡ queue_output (end_of self.old)
+            (data_frames (length octets.now + 1) 16384 id octets.now end) }
+        ensures spare { self.old.output.spare
+            ≤ self.new.output.spare + (length octets.now + 9 * (1 + length octets.now / 16384)) }
+    {
+        let mut rest = octets;
+        while rest.len() > MAX_PAYLOAD {
+            let (first, following) = rest.split_at(MAX_PAYLOAD);
+            self.output.add_data(id, first, false);
+            rest = following;
+        }
+        self.output.add_data(id, rest, end);
+    }
+
+    /// Encodes a field block and adds its frames, with room for a WINDOW_UPDATE after them.
+    ///
+    /// # Errors
+    ///
+    /// [`AllocError`] where an allocation was refused; nothing has changed.
+    fn write_block(&mut self, id: u32, end: bool, fields: &[Field]) -> Result<(), AllocError>
+        requires up { self.old.failed ≡ None }
+        requires number { (1 ≤ id) × (id < 2 ^ 31) }
+        requires size { list_size fields.now ≤ max_list }
+        ensures ok { OnOk result ((end_of self.new ≡ queue_output (with_encoder (end_of self.old)
+            (after_block self.old.encoder fields.now))
+            (block id end (block_of self.old.encoder fields.now) ∷ []))
+            × (13 ≤ self.new.output.spare)) }
+        ensures err { OnErr result (end_of self.new ≡ end_of self.old) }
+    {
+        let octets = list_size(fields) + 12;
+        let room = octets + HEAD * (1 + octets / MAX_PAYLOAD);
+        self.block.clear();
+        self.block_frames.clear();
+        self.block_frames.reserve(room)?;
+        self.output.reserve(room + SMALL_FRAME)?;
+        if self.encoder.encode(fields, &mut self.block).is_err() {
+            return Err(AllocError);
+        }
+        if spread(id, end, &self.block, &mut self.block_frames).is_err() {
+            return Err(AllocError);
+        }
+        self.output.add_octets(&self.block_frames);
+        Ok(())
+    }
+
+    /// Why a stream cannot be opened with these fields, out of memory put aside.
+    fn refusal_of_open(&self, fields: &[Field]) -> Option<Refusal>
+        requires { self.now.highest < 2 ^ 31 }
+        ensures { (end : Bool)
+            → result ≡ refusal_of (end_view (end_of self.now)) (Open fields.now end) }
+    {
+        if self.failed.is_some() {
+            Some(Refusal::Closed)
+        } else if self.role == Role::Client && self.active_count >= self.streams_allowed() {
+            Some(Refusal::TooManyStreams)
+        } else if self.role == Role::Server || self.next_number() > GREATEST {
+            Some(Refusal::StreamsExhausted)
+        } else if self.goaway_sent.is_some() || self.goaway_received.is_some() {
+            Some(Refusal::GoingAway)
+        } else if self.output.len() >= FULL_OUTPUT {
+            Some(Refusal::OutputFull)
+        } else if list_size(fields) > MAX_LIST as usize {
+            Some(Refusal::ListTooLarge)
+        } else {
+            None
+        }
+    }
+
+    /// How many streams of its own a client may have active (RFC 9113, section 5.1.2).
+    pub(crate) fn streams_allowed(&self) -> u32
+        ensures { result ≡ (end_of self.now).peer.max_streams }
+    {
+        if !self.started {
+            return FIRST_ACTIVE;
+        }
+        match self.peer.max_concurrent_streams {
+            Some(count) => count.min(MAX_ACTIVE),
+            None => MAX_ACTIVE,
+        }
+    }
+
+    /// The number for the next stream: 1, 3, 5 and so on (section 5.1.1).
+    fn next_number(&self) -> u32
+        requires { self.now.highest < 2 ^ 31 }
+        ensures { result ≡ number_after self.now.highest }
+    {
+        if self.highest == 0 {
+            1
+        } else {
+            self.highest + 2
+        }
+    }
+}

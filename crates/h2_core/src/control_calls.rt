@@ -1,0 +1,195 @@
+//! Calls that steer streams and the connection: credit, resets, PING, GOAWAY and SETTINGS (RFC 9113,
+//! sections 6.4, 6.5, 6.7, 6.8 and 6.9).
+
+ghost use Rattle.std.specs.Prelude.{◌≡◌, nat_le, length, is_some, None, true, false, OnOk};
+ghost use Rattle.std.specs.Prelude.{IfErr};
+ghost use Rattle.h2_log.specs.Limits.{full_output};
+ghost use Rattle.h2_log.specs.Acts.{Release, ResetStream, SendPing, SendGoAway};
+ghost use Rattle.h2_core.specs.Endpoint.{end_of, IsSound};
+ghost use Rattle.h2_core.specs.Calls.{CallRefused, CallAccepted, CallRefuses};
+
+use crate::endpoint::Endpoint;
+use crate::limits::{FULL_OUTPUT, MAX_RESETS, SMALL_FRAME};
+use crate::reader::Stop;
+use h2_frame::{Code, FrameRef};
+use h2_log::Refusal;
+
+/// The octets of PING, and of GOAWAY without debug octets.
+const LARGE_FRAME: usize = 17;
+
+impl Endpoint {
+    /// Gives the peer as many octets of a stream's window, and of the connection's, back: of those
+    /// that were reported and are owed.
+    ///
+    /// # Errors
+    ///
+    /// C1, C2, C7, C11 and C12, in this order. Nothing has changed.
+    pub fn release(&mut self, id: u32, count: u32) -> Result<(), Refusal>
+        requires sound { IsSound (end_of self.old) }
+        ensures ok { OnOk result (CallAccepted (end_of self.old) (Release id count)
+            (end_of self.new)) }
+        ensures err { IfErr result (λ refusal. CallRefused (end_of self.old) (Release id count)
+            refusal (end_of self.new)) }
+    {
+        self.check_up()?;
+        let Some(mut stream) = self.streams.stream(id) else {
+            return Err(Refusal::NoSuchStream);
+        };
+        self.check_room()?;
+        if count == 0 || count > stream.owed {
+            return Err(Refusal::NotOwed);
+        }
+        if self.output.reserve(2 * SMALL_FRAME).is_err() {
+            return Err(Refusal::Memory);
+        }
+        if !stream.state.ended_in {
+            self.output.add_frame(FrameRef::WindowUpdate {
+                stream: id,
+                increment: count,
+            });
+            stream.recv_window += i64::from(count);
+        }
+        self.output.add_frame(FrameRef::WindowUpdate {
+            stream: 0,
+            increment: count,
+        });
+        stream.owed -= count;
+        self.streams.set(id, stream);
+        self.recv_window += count;
+        Ok(())
+    }
+
+    /// Resets a stream with a code (section 6.4).
+    ///
+    /// # Errors
+    ///
+    /// C1, C2, C7, C9 and C12, in this order. Nothing has changed.
+    pub fn reset(&mut self, id: u32, code: u32) -> Result<(), Refusal>
+        requires sound { IsSound (end_of self.old) }
+        ensures ok { OnOk result (CallAccepted (end_of self.old) (ResetStream id code)
+            (end_of self.new)) }
+        ensures err { IfErr result (λ refusal. CallRefused (end_of self.old) (ResetStream id code)
+            refusal (end_of self.new)) }
+    {
+        self.check_up()?;
+        let Some(stream) = self.streams.stream(id) else {
+            return Err(Refusal::NoSuchStream);
+        };
+        self.check_room()?;
+        if self.resets >= MAX_RESETS {
+            return Err(Refusal::TooManyResets);
+        }
+        if self.reset_stream(id, Some(stream), code, 0).is_err() {
+            return Err(Refusal::Memory);
+        }
+        Ok(())
+    }
+
+    /// Resets a stream for a fault of the peer that the layer above found. With INTERNAL_ERROR (2)
+    /// that layer has no memory, and the connection fails with it; it fails with ENHANCE_YOUR_CALM
+    /// where 1,000 streams were reset, or RST_STREAM would bring the waiting output above 262,144
+    /// octets, and with INTERNAL_ERROR where an allocation was refused.
+    ///
+    /// # Errors
+    ///
+    /// C1 and, unless the code is 2, C2. Nothing has changed.
+    pub fn refuse(&mut self, id: u32, code: u32) -> Result<(), Refusal>
+        requires sound { IsSound (end_of self.old) }
+        ensures { CallRefuses (end_of self.old) id code result (end_of self.new) }
+    {
+        self.check_up()?;
+        let stream = self.streams.stream(id);
+        if code == Code::InternalError.number() {
+            self.fail_by(Stop::OutOfMemory);
+            return Ok(());
+        }
+        let Some(stream) = stream else {
+            return Err(Refusal::NoSuchStream);
+        };
+        if self.is_over_limits() {
+            self.fail_by(Stop::fault(Code::EnhanceYourCalm));
+            return Ok(());
+        }
+        if self.reset_stream(id, Some(stream), code, 0).is_err() {
+            self.fail_by(Stop::OutOfMemory);
+        }
+        Ok(())
+    }
+
+    /// Sends PING (section 6.7).
+    ///
+    /// # Errors
+    ///
+    /// C1, C7, C8 and C12, in this order. Nothing has changed.
+    pub fn ping(&mut self, octets: [u8; 8]) -> Result<(), Refusal>
+        ensures ok { OnOk result (CallAccepted (end_of self.old) (SendPing octets)
+            (end_of self.new)) }
+        ensures err { IfErr result (λ refusal. CallRefused (end_of self.old) (SendPing octets)
+            refusal (end_of self.new)) }
+    {
+        self.check_up()?;
+        self.check_room()?;
+        if self.ping.is_some() {
+            return Err(Refusal::PingWaits);
+        }
+        if self.output.reserve(LARGE_FRAME).is_err() {
+            return Err(Refusal::Memory);
+        }
+        self.output.add_frame(FrameRef::Ping { ack: false, octets });
+        self.ping = Some(octets);
+        Ok(())
+    }
+
+    /// Says that this end takes no further streams (section 6.8): GOAWAY with the greatest that it
+    /// has processed, and NO_ERROR.
+    ///
+    /// # Errors
+    ///
+    /// C1, C6, C7 and C12, in this order. Nothing has changed.
+    pub fn go_away(&mut self) -> Result<(), Refusal>
+        requires sound { IsSound (end_of self.old) }
+        ensures ok { OnOk result (CallAccepted (end_of self.old) SendGoAway (end_of self.new)) }
+        ensures err { IfErr result (λ refusal. CallRefused (end_of self.old) SendGoAway refusal
+            (end_of self.new)) }
+    {
+        self.check_up()?;
+        if self.goaway_sent.is_some() {
+            return Err(Refusal::GoingAway);
+        }
+        self.check_room()?;
+        if self.output.reserve(LARGE_FRAME).is_err() {
+            return Err(Refusal::Memory);
+        }
+        self.output.add_frame(FrameRef::GoAway {
+            last: self.last_processed,
+            code: Code::NoError.number(),
+            debug: &[],
+        });
+        self.goaway_sent = Some(self.last_processed);
+        Ok(())
+    }
+
+    /// C1: the connection has failed.
+    pub(crate) fn check_up(&self) -> Result<(), Refusal>
+        ensures ok { OnOk result (self.now.failed ≡ None) }
+        ensures err { IfErr result (λ refusal. (refusal ≡ Refusal.Closed)
+            × (is_some self.now.failed ≡ true)) }
+    {
+        if self.failed.is_some() {
+            return Err(Refusal::Closed);
+        }
+        Ok(())
+    }
+
+    /// C7: too much output waits.
+    pub(crate) fn check_room(&self) -> Result<(), Refusal>
+        ensures ok { OnOk result (nat_le full_output (length self.now.output.waiting) ≡ false) }
+        ensures err { IfErr result (λ refusal. (refusal ≡ Refusal.OutputFull)
+            × (nat_le full_output (length self.now.output.waiting) ≡ true)) }
+    {
+        if self.output.len() >= FULL_OUTPUT {
+            return Err(Refusal::OutputFull);
+        }
+        Ok(())
+    }
+}

@@ -1,0 +1,53 @@
+//! Credit that is returned to the peer (RFC 9113, section 6.9), and failing.
+
+ghost use Rattle.std.specs.Prelude.{◌≡◌, ◌+◌, ◌≤◌, ◌<◌, ◌^◌, Some, None, nat_lt};
+ghost use Rattle.h2_machine.specs.Machine.{return_credit, add_unreturned, fail};
+ghost use Rattle.h2_machine.specs.End.{End};
+ghost use Rattle.h2_core.specs.Endpoint.{end_of};
+ghost use Rattle.h2_core.specs.Failure.{FailsAlike};
+
+use crate::endpoint::Endpoint;
+use crate::limits::FULL_OUTPUT;
+use h2_frame::{Code, FrameRef};
+
+impl Endpoint {
+    /// Returns all that is unreturned, by WINDOW_UPDATE on stream 0, for which there is room.
+    pub(crate) fn return_credit(&mut self)
+        requires up { self.old.failed ≡ None }
+        requires room { 13 ≤ self.old.output.spare }
+        requires window { self.old.recv_window + self.old.unreturned < 2 ^ 31 }
+        ensures { end_of self.new ≡ return_credit (end_of self.old) }
+    {
+        self.output.add_frame(FrameRef::WindowUpdate {
+            stream: 0,
+            increment: self.unreturned,
+        });
+        self.recv_window += self.unreturned;
+        self.unreturned = 0;
+    }
+
+    /// So many octets more of the connection's window will not be released: they are returned, with
+    /// all that is unreturned, where there are some and less than the full output waits. There is
+    /// room for a WINDOW_UPDATE.
+    pub(crate) fn add_unreturned(&mut self, more: u32)
+        requires up { self.old.failed ≡ None }
+        requires room { 13 ≤ self.old.output.spare }
+        requires window { self.old.recv_window + (self.old.unreturned + more) < 2 ^ 31 }
+        ensures { end_of self.new ≡ add_unreturned more (end_of self.old) }
+    {
+        self.unreturned += more;
+        if more > 0 && self.output.len() < FULL_OUTPUT {
+            self.return_credit();
+        }
+    }
+
+    /// The connection fails: GOAWAY follows what waits. It takes no memory.
+    pub(crate) fn fail(&mut self, code: Code, last: u32)
+        requires up { self.old.failed ≡ None }
+        requires number { last < 2 ^ 31 }
+        ensures { end_of self.new ≡ fail code last (end_of self.old) }
+    {
+        self.failed = Some(code);
+        self.output.end_with_goaway(last, code.number());
+    }
+}

@@ -1,0 +1,137 @@
+//! Frames that are received: the first must be SETTINGS, then field blocks are gathered (RFC 9113,
+//! sections 3.4 and 6.10).
+
+ghost use Rattle.std.specs.Prelude.{◌≡◌, None, true};
+ghost use Rattle.h2_frame.specs.Frames.{frame_of};
+ghost use Rattle.h2_frame.specs.Encoding.{refusal};
+ghost use Rattle.h2_block.specs.Grouping.{alone, is_standalone};
+ghost use Rattle.h2_core.specs.Endpoint.{end_of, IsSound};
+ghost use Rattle.h2_core.specs.Frames.{TakesFrame, IsStarted};
+ghost use Rattle.h2_core.specs.Items.{TakesItem};
+ghost use Rattle.h2_core.specs.Stops.{FailsBy, IsSmall};
+
+use crate::endpoint::Endpoint;
+use crate::limits::MAX_BLOCK;
+use crate::reader::{Reported, Stop};
+use crate::receive::DataFrame;
+use h2_block::{BlockFault, Gathered};
+use h2_frame::{Code, FrameRef};
+
+impl Endpoint {
+    /// Takes the next frame, one that has come without a fault: the numbers of its stream, of a last
+    /// stream and of an increment have 31 bits, and its payload's length 24.
+    ///
+    /// # Errors
+    ///
+    /// The code with which the connection has failed; GOAWAY with it is the last frame of the
+    /// output. INTERNAL_ERROR says that an allocation was refused.
+    pub fn take_frame<'a>(&mut self, frame: FrameRef<'a>) -> Result<Option<Reported<'a>>, Code>
+        requires sound { IsSound (end_of self.old) }
+        requires up { self.old.failed ≡ None }
+        requires good { refusal (frame_of frame) ≡ None }
+        ensures { TakesFrame (end_of self.old) (frame_of frame.entry) self.new.list result
+            (end_of self.new) }
+    {
+        if !self.started && !matches!(frame, FrameRef::Settings { ack: false, .. }) {
+            return Err(self.fail_by(Stop::fault(Code::ProtocolError)));
+        }
+        match frame {
+            FrameRef::Headers {
+                stream,
+                end,
+                whole: true,
+                fragment,
+                ..
+            } if !self.gather.is_inside() && fragment.len() <= MAX_BLOCK => {
+                self.take_block(stream, end, fragment)
+            }
+            _ => self.gather_frame(frame),
+        }
+    }
+
+    /// A frame that is not a complete block by itself: it is gathered, or passes on.
+    fn gather_frame<'a>(&mut self, frame: FrameRef<'a>) -> Result<Option<Reported<'a>>, Code>
+        requires sound { IsSound (end_of self.old) }
+        requires up { self.old.failed ≡ None }
+        requires good { refusal (frame_of frame) ≡ None }
+        requires started { IsStarted self.old (frame_of frame) }
+        ensures { TakesFrame (end_of self.old) (frame_of frame.entry) self.new.list result
+            (end_of self.new) }
+    {
+        match self.gather.take(frame) {
+            Ok(Gathered::More) => Ok(None),
+            Ok(Gathered::Pass(frame)) => match self.take_alone(frame) {
+                Ok(reported) => Ok(reported),
+                Err(stop) => Err(self.fail_by(stop)),
+            },
+            Ok(Gathered::Block {
+                stream,
+                end,
+                octets,
+            }) => self.take_block(stream, end, &octets),
+            Err(fault) => {
+                let code = match fault {
+                    BlockFault::Interrupted | BlockFault::Stray => Code::ProtocolError,
+                    BlockFault::TooLong => Code::EnhanceYourCalm,
+                    BlockFault::Memory => Code::InternalError,
+                };
+                self.failed = Some(code);
+                self.output
+                    .end_with_goaway(self.last_processed, code.number());
+                Err(code)
+            }
+        }
+    }
+
+    /// A frame that is no part of a block, outside blocks.
+    fn take_alone<'a>(&mut self, frame: FrameRef<'a>) -> Result<Option<Reported<'a>>, Stop>
+        requires sound { IsSound (end_of self.old) }
+        requires up { self.old.failed ≡ None }
+        requires good { refusal (frame_of frame) ≡ None }
+        requires alone { is_standalone (frame_of frame) ≡ true }
+        ensures { TakesItem (end_of self.old) None (alone (frame_of frame.entry)) self.new.list
+            result (end_of self.new) }
+    {
+        match frame {
+            FrameRef::Data {
+                stream,
+                end,
+                octets,
+                ..
+            } => self.take_data(DataFrame {
+                stream,
+                end,
+                octets,
+                flow: frame.payload_len() as u32,
+            }),
+            FrameRef::Reset { stream, code } => self.take_reset(stream, code),
+            FrameRef::Settings { ack: false, pairs } => self.take_settings(pairs),
+            FrameRef::Settings { ack: true, .. } => self.take_acknowledgment(),
+            FrameRef::Ping { ack: false, octets } => self.take_ping(octets),
+            FrameRef::Ping { ack: true, octets } => self.take_pong(octets),
+            FrameRef::GoAway { last, code, .. } => self.take_goaway(last, code),
+            FrameRef::WindowUpdate { stream, increment } => {
+                self.take_window_update(stream, increment)
+            }
+            FrameRef::Headers { .. }
+            | FrameRef::Continuation { .. }
+            | FrameRef::Priority { .. }
+            | FrameRef::Unknown { .. } => Ok(None),
+        }
+    }
+
+    /// The connection fails for this cause, and its code is answered.
+    pub(crate) fn fail_by(&mut self, stop: Stop) -> Code
+        requires sound { IsSound (end_of self.old) }
+        requires up { self.old.failed ≡ None }
+        requires opened { IsSmall stop }
+        ensures { FailsBy (end_of self.old) stop result (end_of self.new) }
+    {
+        let (code, last) = match stop {
+            Stop::Fault { code, opened } => (code, opened.max(self.last_processed)),
+            Stop::OutOfMemory => (Code::InternalError, self.last_processed),
+        };
+        self.fail(code, last);
+        code
+    }
+}

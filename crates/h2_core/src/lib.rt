@@ -1,0 +1,25 @@
+//! One end of an HTTP/2 connection, but for cutting its octets into frames: each frame and each
+//! call as a step that does what the machine of `h2_machine` does.
+//!
+//! It knows nothing of logs: `h2_conn` says what an end does by its history.
+#![tactic(auto)]
+
+mod calls;
+mod control_calls;
+mod credit;
+mod endpoint;
+mod frames;
+mod limits;
+mod new;
+mod output_calls;
+mod reader;
+mod receive;
+mod receive_block;
+mod receive_settings;
+mod receive_update;
+mod settings_frame;
+mod status;
+mod stream_steps;
+
+pub use endpoint::Endpoint;
+pub use reader::Reported;

@@ -1,0 +1,94 @@
+//! A new end.
+
+ghost use Rattle.std.specs.Prelude.{◌≡◌, ◌++◌, not, false, IfOk, IfErr};
+ghost use Rattle.h2_frame.specs.Frames.{Settings as SettingsFrame};
+ghost use Rattle.h2_frame.specs.Encoding.{encoding_of};
+ghost use Rattle.h2_wire.specs.Streams.{expected_preface};
+ghost use Rattle.h2_log.specs.Settings.{is_server};
+ghost use Rattle.h2_log.specs.CallRules.{opening_pairs};
+ghost use Rattle.h2_config.specs.ConfigValues.{values_of};
+ghost use Rattle.h2_machine.specs.Machine.{new_end};
+ghost use Rattle.h2_core.specs.Endpoint.{end_of};
+
+use crate::endpoint::Endpoint;
+use crate::limits::FIRST_WINDOW;
+use crate::settings_frame::{opening_settings, settings_frame};
+use h2_block::Gather;
+use h2_config::Config;
+use h2_flow::Settings;
+use h2_log::{Refusal, Role};
+use h2_output::Output;
+use h2_streams::StreamTable;
+use hpack::{Decoder, Encoder, FieldList};
+use std::alloc::{AllocError, Global};
+
+/// The client's preface (RFC 9113, section 3.4).
+const PREFACE: [u8; 24] = *b"PRI * HTTP/2.0\r\n\r\nSM\r\n\r\n";
+
+/// The octets of a header table at first (RFC 9113, section 6.5.2).
+const FIRST_TABLE: u32 = 4_096;
+
+impl Endpoint {
+    /// A new end, whose opening waits: at a client the preface, and SETTINGS (RFC 9113, section
+    /// 3.4).
+    ///
+    /// # Errors
+    ///
+    /// C12 where an allocation was refused.
+    pub fn new(alloc: Global, role: Role, config: Config) -> Result<Endpoint, Refusal>
+        ensures ok { IfOk result (λ one. end_of one ≡ new_end role (values_of config)) }
+        ensures err { IfErr result (λ refusal. refusal ≡ Refusal.Memory) }
+    {
+        let Ok(output) = first_output(alloc, role, config) else {
+            return Err(Refusal::Memory);
+        };
+        let (Ok(decoder), Ok(encoder)) = (
+            Decoder::new(alloc, FIRST_TABLE),
+            Encoder::new(alloc, FIRST_TABLE),
+        ) else {
+            return Err(Refusal::Memory);
+        };
+        Ok(Endpoint {
+            role,
+            failed: None,
+            started: false,
+            gather: Gather::new(alloc),
+            decoder,
+            list: FieldList::new(alloc),
+            streams: StreamTable::new(alloc, FIRST_WINDOW, FIRST_WINDOW),
+            active_count: 0,
+            highest: 0,
+            last_processed: 0,
+            resets: 0,
+            send_window: FIRST_WINDOW,
+            recv_window: FIRST_WINDOW,
+            unreturned: 0,
+            peer: Settings::first(),
+            max_streams: config.max_streams(),
+            awaited: Some(config),
+            goaway_sent: None,
+            goaway_received: None,
+            ping: None,
+            encoder,
+            block: Vec::new(alloc),
+            block_frames: Vec::new(alloc),
+            output,
+        })
+    }
+}
+
+/// The output of a new end: its opening.
+fn first_output(alloc: Global, role: Role, config: Config) -> Result<Output, AllocError>
+    ensures { IfOk result (λ output. (output.ended ≡ false) × (output.waiting
+        ≡ expected_preface (not (is_server role)) ++ encoding_of (SettingsFrame false
+        (opening_pairs role (values_of config))))) }
+{
+    let mut output = Output::new(alloc)?;
+    let settings = settings_frame(alloc, &opening_settings(role, config))?;
+    output.reserve(PREFACE.len() + settings.len())?;
+    if role == Role::Client {
+        output.add_octets(&PREFACE);
+    }
+    output.add_octets(&settings);
+    Ok(output)
+}

@@ -1,0 +1,166 @@
+//! Giving output out, streams that the peer does not process, and what an end answers of itself.
+
+ghost use Rattle.std.specs.Prelude.{◌≡◌, ◌≢◌, length, is_some, if◌then◌else◌, None, IfOk, IfErr};
+ghost use Rattle.std.specs.Prelude.{OnOk};
+ghost use Rattle.std.specs.FinMap as map;
+ghost use Rattle.h2_streams.specs.Streams.{number_or_none};
+ghost use Rattle.h2_machine.specs.Machine.{fail, unprocessed_of_end};
+ghost use Rattle.h2_machine.specs.Machine.{close_unprocessed, first_active};
+ghost use Rattle.h2_core.specs.Endpoint.{end_of, IsSound};
+ghost use Rattle.h2_core.specs.Frames.{FailsWithoutMemory};
+ghost use Rattle.h2_core.specs.Readers.{PutsOut, room_of, owed_of};
+
+use crate::endpoint::Endpoint;
+use crate::limits::{FULL_OUTPUT, SMALL_FRAME};
+use crate::reader::Stop;
+use h2_frame::Code;
+use h2_log::{Refusal, Role};
+use hpack::FieldList;
+
+impl Endpoint {
+    /// Appends as many octets of the output as wait, and at most `count`, to `out`, and takes them
+    /// away. Where less than the full output waits, all that is unreturned is returned first. It
+    /// works after a failure too.
+    ///
+    /// # Errors
+    ///
+    /// C12 where an allocation was refused. Nothing has changed.
+    pub fn put_out(&mut self, count: usize, out: &mut Vec<u8>) -> Result<usize, Refusal>
+        requires sound { IsSound (end_of self.old) }
+        ensures ok { IfOk result (λ given. PutsOut (end_of self.old) count given out.old.items
+            out.new.items (end_of self.new)) }
+        ensures err { IfErr result (λ refusal. (refusal ≡ Refusal.Memory)
+            × (out.new.items ≡ out.old.items) × (end_of self.new ≡ end_of self.old)) }
+    {
+        let returns =
+            self.failed.is_none() && self.unreturned > 0 && self.output.len() < FULL_OUTPUT;
+        let update = if returns { SMALL_FRAME } else { 0 };
+        let given = count.min(self.output.len() + update);
+        if out.reserve(given).is_err() || self.output.reserve(update).is_err() {
+            return Err(Refusal::Memory);
+        }
+        if returns {
+            self.return_credit();
+        }
+        match self.output.put_out(count, out) {
+            Ok(given) => Ok(given),
+            Err(_) => Err(Refusal::Memory),
+        }
+    }
+
+    /// The next stream that the peer does not process (RFC 9113, section 6.8): the least active one
+    /// of a client above the last stream of the peer's GOAWAY. It takes no memory.
+    pub fn unprocessed(&self) -> Option<u32>
+        ensures { number_or_none result ≡ unprocessed_of_end self.now.role
+            self.now.streams.entries self.now.goaway_received }
+    {
+        match (self.role, self.goaway_received) {
+            (Role::Client, Some(last)) => self.streams.next_active(last),
+            _ => None,
+        }
+    }
+
+    /// The next stream that the peer does not process is reported, and over.
+    ///
+    /// # Errors
+    ///
+    /// INTERNAL_ERROR where an allocation was refused: the connection has failed with it.
+    pub fn close_unprocessed(&mut self, id: u32) -> Result<(), Code>
+        requires sound { IsSound (end_of self.old) }
+        requires up { self.old.failed ≡ None }
+        requires next { id ≡ unprocessed_of_end self.old.role self.old.streams.entries
+            self.old.goaway_received }
+        requires some { id ≢ 0 }
+        ensures ok { OnOk result (end_of self.new ≡ close_unprocessed (end_of self.old) id) }
+        ensures err { IfErr result (λ code. FailsWithoutMemory (end_of self.old) code
+            (end_of self.new)) }
+    {
+        if self.output.reserve(SMALL_FRAME).is_err() {
+            return Err(self.fail_by(Stop::OutOfMemory));
+        }
+        if let Some(stream) = self.streams.stream(id) {
+            self.close_stream(id, stream, 0);
+        }
+        Ok(())
+    }
+
+    /// The cutter has met a fault, or memory was refused to it: the connection fails with the code.
+    pub fn fail_with(&mut self, code: Code)
+        requires sound { IsSound (end_of self.old) }
+        requires up { self.old.failed ≡ None }
+        ensures { end_of self.new ≡ fail code self.old.last_processed (end_of self.old) }
+    {
+        self.fail(code, self.last_processed);
+    }
+
+    /// The code with which the connection has failed. It takes no memory.
+    pub fn failed(&self) -> Option<Code>
+        ensures { result ≡ self.now.failed }
+    {
+        self.failed
+    }
+
+    /// The fields of the block that was reported last. It takes no memory.
+    pub fn fields(&self) -> &FieldList
+        ensures { result.now ≡ self.now.list }
+    {
+        &self.list
+    }
+
+    /// How many octets of output wait. It takes no memory.
+    pub fn waiting(&self) -> usize
+        ensures { result ≡ length self.now.output.waiting }
+    {
+        self.output.len()
+    }
+
+    /// How many octets this end may send: on the connection where `id` is 0, else on a stream, if it
+    /// is active; below zero where settings have shifted its window so. None once the connection has
+    /// failed. It takes no memory.
+    pub fn room(&self, id: u32) -> Option<i64>
+        ensures { result ≡ room_of (end_of self.now) id }
+    {
+        if self.failed.is_some() {
+            return None;
+        }
+        if id == 0 {
+            return Some(i64::from(self.send_window));
+        }
+        let stream = self.streams.stream(id)?;
+        Some(stream.send_window)
+    }
+
+    /// How many octets of a stream were reported and are not released; 0 where it is not active, and
+    /// once the connection has failed. It takes no memory.
+    pub fn owed(&self, id: u32) -> u32
+        ensures { result ≡ owed_of (end_of self.now) id }
+    {
+        if self.failed.is_some() {
+            return 0;
+        }
+        match self.streams.stream(id) {
+            Some(stream) => stream.owed,
+            None => 0,
+        }
+    }
+
+    /// How many octets of the connection's window are still to be returned; 0 once the connection
+    /// has failed. It takes no memory.
+    pub fn due(&self) -> u32
+        ensures { result ≡ (if is_some self.now.failed then 0 else self.now.unreturned) }
+    {
+        if self.failed.is_some() { 0 } else { self.unreturned }
+    }
+
+    /// The least active stream above a number; none once the connection has failed. It takes no
+    /// memory.
+    pub fn next_live(&self, above: u32) -> Option<u32>
+        ensures { number_or_none result ≡ (if is_some self.now.failed then 0
+            else first_active above (map.entries self.now.streams.entries)) }
+    {
+        if self.failed.is_some() {
+            return None;
+        }
+        self.streams.next_active(above)
+    }
+}

@@ -1,0 +1,237 @@
+//! DATA, RST_STREAM, PING and GOAWAY that are received (RFC 9113, sections 6.1, 6.4, 6.7 and 6.8).
+
+ghost use Rattle.std.specs.Prelude.{◌≡◌, ◌≤◌, ◌<◌, ◌^◌, ℕ, List, length, Option, None, Some};
+ghost use Rattle.std.specs.Prelude.{true, false};
+ghost use Rattle.std.specs.Option.{option_map};
+ghost use Rattle.h2_block.specs.Grouping.{alone};
+ghost use Rattle.h2_frame.specs.Frames.{Reset as ResetFrame, Ping, GoAway as GoAwayFrame};
+ghost use Rattle.h2_frame.specs.Encoding.{payload_of};
+ghost use Rattle.h2_log.specs.ItemRules.{exceeds};
+ghost use Rattle.h2_streams.specs.Streams.{stream_view};
+ghost use Rattle.h2_machine.specs.End.{stream_at};
+ghost use Rattle.h2_core.specs.Endpoint.{end_of, IsSound};
+ghost use Rattle.h2_core.specs.Items.{TakesItem, DiscardsData};
+ghost use Rattle.h2_core.specs.DataFrames.{data_of};
+
+use crate::endpoint::Endpoint;
+use crate::limits::{MAX_OUTPUT, SMALL_FRAME};
+use crate::reader::{Reported, Stop};
+use crate::status::Status;
+use h2_frame::{Code, FrameRef};
+use h2_streams::Stream;
+
+/// The octets of PING.
+const PING: usize = 17;
+
+/// DATA that comes: its stream, END_STREAM, its octets, and its payload's length, padding included.
+#[derive(Clone, Copy)]
+pub(crate) struct DataFrame<'a> {
+    pub(crate) stream: u32,
+    pub(crate) end: bool,
+    pub(crate) octets: &'a [u8],
+    pub(crate) flow: u32,
+}
+
+impl Endpoint {
+    /// DATA (section 6.1): it takes of both windows; on a stream that this end has closed it is
+    /// discarded, and after the peer's end it is a fault of the stream.
+    pub(crate) fn take_data<'a>(
+        &mut self,
+        frame: DataFrame<'a>,
+    ) -> Result<Option<Reported<'a>>, Stop>
+        requires sound { IsSound (end_of self.old) }
+        requires up { self.old.failed ≡ None }
+        requires number { (1 ≤ frame.stream) × (frame.stream < 2 ^ 31) }
+        ensures { (pad : Option ℕ)
+            → frame.entry.flow ≡ length (payload_of (data_of frame.entry pad))
+            → TakesItem (end_of self.old) None (alone (data_of frame.entry pad)) self.new.list
+            result (end_of self.new) }
+    {
+        let stream = match self.status(frame.stream) {
+            Status::Idle => return Err(Stop::fault(Code::ProtocolError)),
+            Status::Closed => return Err(Stop::fault(Code::StreamClosed)),
+            Status::ClosedByUs => None,
+            Status::Active(stream) => Some(stream),
+        };
+        if frame.flow > self.recv_window {
+            return Err(Stop::fault(Code::FlowControlError));
+        }
+        let Some(stream) = stream else {
+            return self.discard_data(frame.flow);
+        };
+        if stream.state.ended_in {
+            return self.data_after_end(frame, stream);
+        }
+        if exceeds(frame.flow, stream.recv_window) {
+            return Err(Stop::fault(Code::FlowControlError));
+        }
+        self.accept_data(frame, stream)
+    }
+
+    /// DATA within both windows on an active stream that the peer has not ended.
+    fn accept_data<'a>(
+        &mut self,
+        frame: DataFrame<'a>,
+        stream: Stream,
+    ) -> Result<Option<Reported<'a>>, Stop>
+        requires sound { IsSound (end_of self.old) }
+        requires up { self.old.failed ≡ None }
+        requires active { stream_at (end_of self.old) frame.stream ≡ Some (stream_view stream) }
+        requires open { stream.state.ended_in ≡ false }
+        requires connection { frame.flow ≤ self.old.recv_window }
+        requires within { exceeds frame.flow stream.recv_window ≡ false }
+        ensures { (pad : Option ℕ)
+            → frame.entry.flow ≡ length (payload_of (data_of frame.entry pad))
+            → TakesItem (end_of self.old) None (alone (data_of frame.entry pad)) self.new.list
+            result (end_of self.new) }
+    {
+        if self.output.reserve(SMALL_FRAME).is_err() {
+            return Err(Stop::OutOfMemory);
+        }
+        let mut changed = stream;
+        changed.recv_window -= i64::from(frame.flow);
+        changed.owed += frame.flow;
+        changed.state.ended_in = frame.end;
+        self.recv_window -= frame.flow;
+        self.update_stream(frame.stream, changed);
+        Ok(Some(Reported::Data {
+            id: frame.stream,
+            octets: frame.octets,
+            flow: frame.flow,
+            end: frame.end,
+        }))
+    }
+
+    /// DATA on a stream that this end has closed: it is discarded, and its flow is unreturned.
+    fn discard_data<'a>(&mut self, flow: u32) -> Result<Option<Reported<'a>>, Stop>
+        requires sound { IsSound (end_of self.old) }
+        requires up { self.old.failed ≡ None }
+        requires connection { flow ≤ self.old.recv_window }
+        ensures { DiscardsData (end_of self.old) flow result (end_of self.new) }
+    {
+        if self.output.reserve(SMALL_FRAME).is_err() {
+            return Err(Stop::OutOfMemory);
+        }
+        self.recv_window -= flow;
+        self.add_unreturned(flow);
+        Ok(None)
+    }
+
+    /// DATA on an active stream that the peer has ended: a fault of the stream (section 5.1).
+    fn data_after_end<'a>(
+        &mut self,
+        frame: DataFrame<'a>,
+        stream: Stream,
+    ) -> Result<Option<Reported<'a>>, Stop>
+        requires sound { IsSound (end_of self.old) }
+        requires up { self.old.failed ≡ None }
+        requires number { (1 ≤ frame.stream) × (frame.stream < 2 ^ 31) }
+        requires active { stream_at (end_of self.old) frame.stream ≡ Some (stream_view stream) }
+        requires ended { stream.state.ended_in ≡ true }
+        requires connection { frame.flow ≤ self.old.recv_window }
+        ensures { (pad : Option ℕ)
+            → frame.entry.flow ≡ length (payload_of (data_of frame.entry pad))
+            → TakesItem (end_of self.old) None (alone (data_of frame.entry pad)) self.new.list
+            result (end_of self.new) }
+    {
+        if self.is_over_limits() {
+            return Err(Stop::fault(Code::EnhanceYourCalm));
+        }
+        let code = Code::StreamClosed.number();
+        self.recv_window -= frame.flow;
+        if self
+            .reset_stream(frame.stream, Some(stream), code, frame.flow)
+            .is_err()
+        {
+            self.recv_window += frame.flow;
+            return Err(Stop::OutOfMemory);
+        }
+        Ok(Some(Reported::Reset {
+            id: frame.stream,
+            code,
+            ours: true,
+        }))
+    }
+
+    /// RST_STREAM (section 6.4): it closes an active stream, and is ignored on a closed one.
+    pub(crate) fn take_reset<'a>(
+        &mut self,
+        id: u32,
+        code: u32,
+    ) -> Result<Option<Reported<'a>>, Stop>
+        requires sound { IsSound (end_of self.old) }
+        requires up { self.old.failed ≡ None }
+        ensures { TakesItem (end_of self.old) None (alone (ResetFrame id code)) self.new.list
+            result (end_of self.new) }
+    {
+        match self.status(id) {
+            Status::Idle => Err(Stop::fault(Code::ProtocolError)),
+            Status::ClosedByUs | Status::Closed => Ok(None),
+            Status::Active(stream) => {
+                if self.output.reserve(SMALL_FRAME).is_err() {
+                    return Err(Stop::OutOfMemory);
+                }
+                self.close_stream(id, stream, 0);
+                Ok(Some(Reported::Reset {
+                    id,
+                    code,
+                    ours: false,
+                }))
+            }
+        }
+    }
+
+    /// PING (section 6.7): it is answered.
+    pub(crate) fn take_ping<'a>(&mut self, octets: [u8; 8]) -> Result<Option<Reported<'a>>, Stop>
+        requires up { self.old.failed ≡ None }
+        ensures { TakesItem (end_of self.old) None (alone (Ping false octets)) self.new.list result
+            (end_of self.new) }
+    {
+        if self.output.len() + PING > MAX_OUTPUT {
+            return Err(Stop::fault(Code::EnhanceYourCalm));
+        }
+        if self.output.reserve(PING).is_err() {
+            return Err(Stop::OutOfMemory);
+        }
+        self.output.add_frame(FrameRef::Ping { ack: true, octets });
+        Ok(None)
+    }
+
+    /// The answer to a PING: it is reported if it has the octets that are awaited.
+    pub(crate) fn take_pong<'a>(&mut self, octets: [u8; 8]) -> Result<Option<Reported<'a>>, Stop>
+        requires up { self.old.failed ≡ None }
+        ensures { TakesItem (end_of self.old) None (alone (Ping true octets)) self.new.list result
+            (end_of self.new) }
+    {
+        if self.ping != Some(octets) {
+            return Ok(None);
+        }
+        self.ping = None;
+        Ok(Some(Reported::Pong { octets }))
+    }
+
+    /// GOAWAY (section 6.8): the least of the last streams that it named holds.
+    pub(crate) fn take_goaway<'a>(
+        &mut self,
+        last: u32,
+        code: u32,
+    ) -> Result<Option<Reported<'a>>, Stop>
+        requires up { self.old.failed ≡ None }
+        ensures { (debug : List ℕ) → TakesItem (end_of self.old) None
+            (alone (GoAwayFrame last code debug)) self.new.list result (end_of self.new) }
+    {
+        let least = match self.goaway_received {
+            Some(before) => last.min(before),
+            None => last,
+        };
+        self.goaway_received = Some(least);
+        Ok(Some(Reported::GoAway { last: least, code }))
+    }
+}
+
+/// Whether DATA of so many octets exceeds a window; of none it exceeds none (section 6.9.1).
+fn exceeds(flow: u32, window: i64) -> bool
+    ensures { result ≡ exceeds flow window }
+{
+    flow > 0 && window < i64::from(flow)
+}

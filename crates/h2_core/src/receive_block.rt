@@ -1,0 +1,198 @@
+//! Field blocks that are received (RFC 9113, sections 4.3, 5.1 and 6.2).
+
+ghost use Rattle.std.specs.Prelude.{◌≡◌, ◌≤◌, ◌<◌, ◌^◌, None, Some};
+ghost use Rattle.std.specs.Prelude.{true};
+ghost use Rattle.h2_streams.specs.Streams.{stream_view};
+ghost use Rattle.h2_machine.specs.End.{stream_at};
+ghost use Rattle.h2_machine.specs.Machine.{is_fresh, new_stream};
+ghost use Rattle.std.specs.Option.{option_map};
+ghost use Rattle.h2_core.specs.Endpoint.{end_of, IsSound};
+ghost use Rattle.h2_core.specs.Blocks.{TakesBlock, TakesDecoded, ResetsForBlock};
+
+use crate::endpoint::Endpoint;
+use crate::limits::{MAX_LIST, SMALL_FRAME};
+use crate::reader::{Reported, Stop};
+use crate::status::Status;
+use h2_flow::StreamState;
+use h2_frame::Code;
+use h2_streams::Stream;
+use hpack::{Decoded, Fault};
+
+impl Endpoint {
+    /// A complete field block: it is decoded, whatever becomes of its stream, and then taken by the
+    /// state of the stream.
+    ///
+    /// # Errors
+    ///
+    /// The code with which the connection has failed.
+    pub(crate) fn take_block<'a>(
+        &mut self,
+        id: u32,
+        end: bool,
+        octets: &[u8],
+    ) -> Result<Option<Reported<'a>>, Code>
+        requires sound { IsSound (end_of self.old) }
+        requires up { self.old.failed ≡ None }
+        requires outside { self.old.gather.begun ≡ None }
+        requires number { (1 ≤ id) × (id < 2 ^ 31) }
+        ensures { TakesBlock (end_of self.old) id end octets.now self.new.list result
+            (end_of self.new) }
+    {
+        let decoded = match self
+            .decoder
+            .decode_into(octets, MAX_LIST, &mut self.list)
+        {
+            Ok(decoded) => decoded,
+            Err(fault) => {
+                let code = match fault {
+                    Fault::Compression => Code::CompressionError,
+                    Fault::Memory | Fault::Failed => Code::InternalError,
+                };
+                self.failed = Some(code);
+                self.output
+                    .end_with_goaway(self.last_processed, code.number());
+                return Err(code);
+            }
+        };
+        let too_large = decoded == Decoded::TooLarge;
+        match self.take_decoded(id, end, too_large) {
+            Ok(reported) => Ok(reported),
+            Err(stop) => Err(self.fail_by(stop)),
+        }
+    }
+
+    /// A block that was decoded, whose list is above the limit or else kept.
+    fn take_decoded<'a>(
+        &mut self,
+        id: u32,
+        end: bool,
+        too_large: bool,
+    ) -> Result<Option<Reported<'a>>, Stop>
+        requires sound { IsSound (end_of self.old) }
+        requires up { self.old.failed ≡ None }
+        requires number { (1 ≤ id) × (id < 2 ^ 31) }
+        ensures { TakesDecoded self.old id end too_large result self.new }
+    {
+        match self.status(id) {
+            Status::Idle if self.is_fresh(id) => self.take_opening(id, end, too_large),
+            Status::Idle | Status::Closed => Err(Stop::fault(Code::ProtocolError)),
+            Status::ClosedByUs => Ok(None),
+            Status::Active(stream) => self.take_further(id, end, too_large, stream),
+        }
+    }
+
+    /// A block on an active stream.
+    fn take_further<'a>(
+        &mut self,
+        id: u32,
+        end: bool,
+        too_large: bool,
+        stream: Stream,
+    ) -> Result<Option<Reported<'a>>, Stop>
+        requires sound { IsSound (end_of self.old) }
+        requires up { self.old.failed ≡ None }
+        requires number { (1 ≤ id) × (id < 2 ^ 31) }
+        requires active { stream_at (end_of self.old) id ≡ Some (stream_view stream) }
+        ensures { TakesDecoded self.old id end too_large result self.new }
+    {
+        if stream.state.ended_in || too_large {
+            let code = if stream.state.ended_in {
+                Code::StreamClosed
+            } else {
+                Code::EnhanceYourCalm
+            };
+            return self.reset_for_block(id, Some(stream), code, 0);
+        }
+        if self.output.reserve(SMALL_FRAME).is_err() {
+            return Err(Stop::OutOfMemory);
+        }
+        let mut changed = stream;
+        changed.state.ended_in = end;
+        self.update_stream(id, changed);
+        Ok(Some(Reported::Fields { id, end }))
+    }
+
+    /// A block on an idle number that the peer may open (sections 5.1.1, 5.1.2 and 6.8).
+    fn take_opening<'a>(
+        &mut self,
+        id: u32,
+        end: bool,
+        too_large: bool,
+    ) -> Result<Option<Reported<'a>>, Stop>
+        requires sound { IsSound (end_of self.old) }
+        requires up { self.old.failed ≡ None }
+        requires number { (1 ≤ id) × (id < 2 ^ 31) }
+        requires fresh { is_fresh (end_of self.old) id ≡ true }
+        ensures { TakesDecoded self.old id end too_large result self.new }
+    {
+        if self.goaway_sent.is_some() {
+            self.highest = id;
+            return Ok(None);
+        }
+        if self.is_at_capacity() {
+            let reported = self.reset_for_block(id, None, Code::RefusedStream, 0)?;
+            self.highest = id;
+            return Ok(reported);
+        }
+        if too_large {
+            let reported = self.reset_for_block(id, None, Code::EnhanceYourCalm, id)?;
+            self.highest = id;
+            self.last_processed = id;
+            return Ok(reported);
+        }
+        let mut state = StreamState::open();
+        state.ended_in = end;
+        let stream = self.new_stream(state);
+        if self.streams.open(id, stream).is_err() {
+            return Err(Stop::OutOfMemory);
+        }
+        self.active_count += 1;
+        self.highest = id;
+        self.last_processed = id;
+        Ok(Some(Reported::Fields { id, end }))
+    }
+
+    /// A block is a fault of its stream; it opens the stream `opened`, or none (0).
+    fn reset_for_block<'a>(
+        &mut self,
+        id: u32,
+        stream: Option<Stream>,
+        code: Code,
+        opened: u32,
+    ) -> Result<Option<Reported<'a>>, Stop>
+        requires sound { IsSound (end_of self.old) }
+        requires up { self.old.failed ≡ None }
+        requires number { (1 ≤ id) × (id < 2 ^ 31) }
+        requires active { stream_at (end_of self.old) id ≡ option_map stream_view stream }
+        ensures { ResetsForBlock self.old id code opened result self.new }
+    {
+        if self.is_over_limits() {
+            return Err(Stop::Fault {
+                code: Code::EnhanceYourCalm,
+                opened,
+            });
+        }
+        let code = code.number();
+        if self.reset_stream(id, stream, code, 0).is_err() {
+            return Err(Stop::OutOfMemory);
+        }
+        Ok(Some(Reported::Reset {
+            id,
+            code,
+            ours: true,
+        }))
+    }
+
+    /// A stream that is opened now, with these sides.
+    pub(crate) fn new_stream(&self, state: StreamState) -> Stream
+        ensures { stream_view result
+            ≡ new_stream (end_of self.now) state.ended_in state.ended_out }
+    {
+        Stream {
+            send_window: i64::from(self.peer.initial_window_size),
+            recv_window: i64::from(self.streams.recv_initial()),
+            owed: 0,
+            state,
+        }
+    }
+}

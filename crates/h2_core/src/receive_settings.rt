@@ -1,0 +1,112 @@
+//! SETTINGS that are received (RFC 9113, section 6.5).
+
+ghost use Rattle.std.specs.Prelude.{◌≡◌, ℕ, List, None, true, false};
+ghost use Rattle.h2_block.specs.Grouping.{alone};
+ghost use Rattle.h2_frame.specs.Frames.{Settings as SettingsFrame};
+ghost use Rattle.h2_frame.specs.Pairs.{lent_pairs};
+ghost use Rattle.h2_core.specs.Endpoint.{end_of, IsSound};
+ghost use Rattle.h2_core.specs.Items.{TakesItem};
+ghost use Rattle.h2_core.specs.Settings.{AppliesSettings};
+
+use crate::endpoint::Endpoint;
+use crate::limits::{GREATEST, HEAD, MAX_OUTPUT};
+use crate::reader::{Reported, Stop};
+use h2_flow::Settings;
+use h2_frame::{Code, FrameRef, Pairs};
+use h2_log::Role;
+
+/// The most octets of header table that this end's encoder takes (own).
+const MAX_ENCODER_TABLE: u32 = 4_096;
+
+impl Endpoint {
+    /// SETTINGS: all pairs are checked in order, then applied, and acknowledged.
+    pub(crate) fn take_settings<'a>(
+        &mut self,
+        pairs: Pairs<'_>,
+    ) -> Result<Option<Reported<'a>>, Stop>
+        requires sound { IsSound (end_of self.old) }
+        requires up { self.old.failed ≡ None }
+        ensures { TakesItem (end_of self.old) None (alone (SettingsFrame false (lent_pairs pairs.entry)))
+            self.new.list result (end_of self.new) }
+    {
+        let settings = self.settings_after(pairs)?;
+        if self.output.len() + HEAD > MAX_OUTPUT {
+            return Err(Stop::fault(Code::EnhanceYourCalm));
+        }
+        if self.output.reserve(HEAD).is_err() {
+            return Err(Stop::OutOfMemory);
+        }
+        for (id, value) in pairs.iter() {
+            if id == 1 {
+                self.encoder.set_limit(value.min(MAX_ENCODER_TABLE));
+            }
+        }
+        self.output.add_octets(&ACKNOWLEDGMENT);
+        self.streams.set_send_initial(settings.initial_window_size);
+        self.peer = settings;
+        self.started = true;
+        Ok(None)
+    }
+
+    /// The settings after all pairs, or the fault of the first that has one: a value's own, or an
+    /// initial window that would bring a stream's send window above 2<sup>31</sup> - 1 (section
+    /// 6.9.2). It goes over the active streams once at most.
+    fn settings_after(&self, pairs: Pairs<'_>) -> Result<Settings, Stop>
+        ensures { AppliesSettings self.now (lent_pairs pairs.entry) result }
+    {
+        let from = match self.role {
+            Role::Client => Role::Server,
+            Role::Server => Role::Client,
+        };
+        let mut settings = self.peer;
+        let mut greatest = None;
+        for (id, value) in pairs.iter() {
+            if let Err(bad) = settings.apply(from, id, value) {
+                return Err(Stop::fault(bad.0));
+            }
+            if id == 4 {
+                let window = match greatest {
+                    Some(window) => window,
+                    None => self.streams.greatest_send_window(),
+                };
+                greatest = Some(window);
+                if self.overflows(window, value) {
+                    return Err(Stop::fault(Code::FlowControlError));
+                }
+            }
+        }
+        Ok(settings)
+    }
+
+    /// Whether this initial window brings the greatest of the send windows above 2<sup>31</sup> -
+    /// 1.
+    fn overflows(&self, greatest: Option<i64>, initial: u32) -> bool {
+        match greatest {
+            Some(window) => {
+                window - i64::from(self.peer.initial_window_size) + i64::from(initial)
+                    > i64::from(GREATEST)
+            }
+            None => false,
+        }
+    }
+
+    /// The acknowledgment of own SETTINGS: those that await it come into force (section 6.5.3).
+    pub(crate) fn take_acknowledgment<'a>(&mut self) -> Result<Option<Reported<'a>>, Stop>
+        requires sound { IsSound (end_of self.old) }
+        requires up { self.old.failed ≡ None }
+        ensures { (pairs : List (ℕ × ℕ)) → TakesItem (end_of self.old) None
+            (alone (SettingsFrame true pairs)) self.new.list result (end_of self.new) }
+    {
+        let Some(config) = self.awaited else {
+            return Ok(None);
+        };
+        self.decoder.set_limit(config.table_limit());
+        self.streams.set_recv_initial(config.initial_window());
+        self.max_streams = config.max_streams();
+        self.awaited = None;
+        Ok(Some(Reported::Acked))
+    }
+}
+
+/// The acknowledgment of SETTINGS (section 6.5).
+const ACKNOWLEDGMENT: [u8; HEAD] = [0, 0, 0, 4, 1, 0, 0, 0, 0];

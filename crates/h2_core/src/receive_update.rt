@@ -1,0 +1,110 @@
+//! WINDOW_UPDATE that is received (RFC 9113, section 6.9), and the faults that reset a stream.
+
+ghost use Rattle.std.specs.Prelude.{◌≡◌, ◌||◌, ◌+◌, ◌<◌, ◌^◌, nat_le, nat_lt, None, Some};
+ghost use Rattle.std.specs.Prelude.{◌≤◌};
+ghost use Rattle.std.specs.Prelude.{length};
+ghost use Rattle.h2_block.specs.Grouping.{alone};
+ghost use Rattle.h2_frame.specs.Frames.{WindowUpdate};
+ghost use Rattle.h2_log.specs.Limits.{max_resets, max_output};
+ghost use Rattle.h2_streams.specs.Streams.{stream_view};
+ghost use Rattle.h2_machine.specs.End.{stream_at};
+ghost use Rattle.h2_core.specs.Endpoint.{end_of, IsSound};
+ghost use Rattle.h2_core.specs.Items.{TakesItem};
+
+use crate::endpoint::Endpoint;
+use crate::limits::{GREATEST, MAX_OUTPUT, MAX_RESETS, SMALL_FRAME};
+use crate::reader::{Reported, Stop};
+use crate::status::Status;
+use h2_frame::Code;
+use h2_streams::Stream;
+
+impl Endpoint {
+    /// WINDOW_UPDATE: of the connection on stream 0, else of a stream.
+    pub(crate) fn take_window_update<'a>(
+        &mut self,
+        id: u32,
+        increment: u32,
+    ) -> Result<Option<Reported<'a>>, Stop>
+        requires sound { IsSound (end_of self.old) }
+        requires up { self.old.failed ≡ None }
+        requires number { id < 2 ^ 31 }
+        requires increment { increment < 2 ^ 31 }
+        ensures { TakesItem (end_of self.old) None (alone (WindowUpdate id increment))
+            self.new.list result (end_of self.new) }
+    {
+        if id == 0 {
+            return self.widen_connection(increment);
+        }
+        match self.status(id) {
+            Status::Idle => Err(Stop::fault(Code::ProtocolError)),
+            Status::ClosedByUs | Status::Closed => Ok(None),
+            Status::Active(stream) => self.widen_stream(id, increment, stream),
+        }
+    }
+
+    /// No octets are a fault, and so is a window above 2<sup>31</sup> - 1.
+    fn widen_connection<'a>(&mut self, increment: u32) -> Result<Option<Reported<'a>>, Stop>
+        requires sound { IsSound (end_of self.old) }
+        requires up { self.old.failed ≡ None }
+        requires increment { increment < 2 ^ 31 }
+        ensures { TakesItem (end_of self.old) None (alone (WindowUpdate 0 increment))
+            self.new.list result (end_of self.new) }
+    {
+        if increment == 0 {
+            return Err(Stop::fault(Code::ProtocolError));
+        }
+        if increment > GREATEST - self.send_window {
+            return Err(Stop::fault(Code::FlowControlError));
+        }
+        self.send_window += increment;
+        Ok(None)
+    }
+
+    /// On an active stream both are faults of the stream.
+    fn widen_stream<'a>(
+        &mut self,
+        id: u32,
+        increment: u32,
+        stream: Stream,
+    ) -> Result<Option<Reported<'a>>, Stop>
+        requires sound { IsSound (end_of self.old) }
+        requires up { self.old.failed ≡ None }
+        requires number { (1 ≤ id) × (id < 2 ^ 31) }
+        requires increment { increment < 2 ^ 31 }
+        requires active { stream_at (end_of self.old) id ≡ Some (stream_view stream) }
+        ensures { TakesItem (end_of self.old) None (alone (WindowUpdate id increment))
+            self.new.list result (end_of self.new) }
+    {
+        let code = if increment == 0 {
+            Code::ProtocolError
+        } else if stream.send_window + i64::from(increment) > i64::from(GREATEST) {
+            Code::FlowControlError
+        } else {
+            let mut changed = stream;
+            changed.send_window += i64::from(increment);
+            self.streams.set(id, changed);
+            return Ok(None);
+        };
+        if self.is_over_limits() {
+            return Err(Stop::fault(Code::EnhanceYourCalm));
+        }
+        let code = code.number();
+        if self.reset_stream(id, Some(stream), code, 0).is_err() {
+            return Err(Stop::OutOfMemory);
+        }
+        Ok(Some(Reported::Reset {
+            id,
+            code,
+            ours: true,
+        }))
+    }
+
+    /// Whether a further RST_STREAM is more than this end sends: the 1,001st reset, or octets that
+    /// would bring the waiting output above its limit (own; section 10.5).
+    pub(crate) fn is_over_limits(&self) -> bool
+        ensures { result ≡ (nat_le max_resets self.now.resets
+            || nat_lt max_output (length self.now.output.waiting + 13)) }
+    {
+        self.resets >= MAX_RESETS || self.output.len() + SMALL_FRAME > MAX_OUTPUT
+    }
+}

@@ -1,0 +1,62 @@
+//! What an end knows of a stream's number.
+
+ghost use Rattle.std.specs.Prelude.{◌≡◌, true};
+ghost use Rattle.h2_log.specs.Settings.{is_server};
+ghost use Rattle.h2_machine.specs.End.{state_at, stream_at, end_view};
+ghost use Rattle.h2_machine.specs.Machine.{is_fresh};
+ghost use Rattle.h2_log.specs.ItemRules.{is_at_capacity};
+ghost use Rattle.h2_core.specs.Endpoint.{end_of};
+ghost use Rattle.h2_core.specs.Statuses.{state_of_status, stream_of_status};
+
+use crate::endpoint::Endpoint;
+use h2_log::Role;
+use h2_streams::{Entry, Stream};
+
+/// The state of a number (RFC 9113, section 5.1), with the stream where it is active.
+#[derive(Clone, Copy, Debug)]
+pub(crate) enum Status {
+    Idle,
+    Active(Stream),
+    ClosedByUs,
+    Closed,
+}
+
+impl Endpoint {
+    /// What is known of a number.
+    pub(crate) fn status(&self, id: u32) -> Status
+        ensures state { state_of_status result ≡ state_at (end_of self.now) id }
+        ensures stream { stream_of_status result ≡ stream_at (end_of self.now) id }
+    {
+        match self.streams.get(id) {
+            Some(Entry::Active(stream)) => Status::Active(stream),
+            Some(Entry::Reset) => Status::ClosedByUs,
+            None if id % 2 == 0 || id > self.highest => Status::Idle,
+            None if self.is_above_goaway(id) => Status::ClosedByUs,
+            None => Status::Closed,
+        }
+    }
+
+    /// Whether a number of the peer's is above the last stream of this end's GOAWAY.
+    fn is_above_goaway(&self, id: u32) -> bool {
+        match self.goaway_sent {
+            Some(last) => self.role == Role::Server && id > last,
+            None => false,
+        }
+    }
+
+    /// Whether a number is idle, and the peer may open it: at a server, odd and above all that were
+    /// used (section 5.1.1).
+    pub(crate) fn is_fresh(&self, id: u32) -> bool
+        ensures { result ≡ is_fresh (end_of self.now) id }
+    {
+        self.role == Role::Server && id % 2 == 1 && id > self.highest
+    }
+
+    /// Whether as many streams are active as this end allows (section 5.1.2).
+    pub(crate) fn is_at_capacity(&self) -> bool
+        ensures { is_server self.now.role ≡ true
+            → result ≡ is_at_capacity (end_view (end_of self.now)) }
+    {
+        self.active_count >= self.max_streams
+    }
+}

@@ -1,0 +1,92 @@
+//! What becomes of a stream: it is changed, over, or reset (RFC 9113, section 5.1).
+
+ghost use Rattle.std.specs.Prelude.{◌≡◌, ◌≢◌, ◌+◌, ◌≤◌, ◌<◌, ◌^◌, [], ◌∷◌};
+ghost use Rattle.std.specs.Prelude.{None, Some, OnOk, OnErr};
+ghost use Rattle.std.specs.Option.{option_map};
+ghost use Rattle.h2_block.specs.Grouping.{alone};
+ghost use Rattle.h2_frame.specs.Frames.{Reset as ResetFrame};
+ghost use Rattle.h2_streams.specs.Streams.{stream_view};
+ghost use Rattle.h2_machine.specs.End.{stream_at};
+ghost use Rattle.h2_machine.specs.Machine.{close_stream, reset_stream, update_stream};
+ghost use Rattle.h2_machine.specs.Machine.{queue_output};
+ghost use Rattle.h2_core.specs.Endpoint.{end_of};
+ghost use Rattle.h2_core.specs.Streams.{IsNear, WindowHolds, owed_by};
+
+use crate::endpoint::Endpoint;
+use crate::limits::SMALL_FRAME;
+use h2_frame::FrameRef;
+use h2_streams::Stream;
+use std::alloc::AllocError;
+
+impl Endpoint {
+    /// An active stream is over, and nothing is kept of it; what it owes, and so much more, is
+    /// unreturned. There is room for a WINDOW_UPDATE.
+    pub(crate) fn close_stream(&mut self, id: u32, stream: Stream, more: u32)
+        requires up { self.old.failed ≡ None }
+        requires active { stream_at (end_of self.old) id ≡ Some (stream_view stream) }
+        requires counted { 1 ≤ self.old.active_count }
+        requires room { 13 ≤ self.old.output.spare }
+        requires window { WindowHolds self.old (more + stream.owed) }
+        ensures { end_of self.new ≡ close_stream (end_of self.old) id more }
+    {
+        self.streams.close(id);
+        self.active_count -= 1;
+        self.add_unreturned(more + stream.owed);
+    }
+
+    /// An active stream is changed to this one: it is over once both sides have ended it. There is
+    /// room for a WINDOW_UPDATE.
+    pub(crate) fn update_stream(&mut self, id: u32, stream: Stream)
+        requires up { self.old.failed ≡ None }
+        requires active { stream_at (end_of self.old) id ≢ None }
+        requires near { IsNear stream }
+        requires counted { 1 ≤ self.old.active_count }
+        requires room { 13 ≤ self.old.output.spare }
+        requires window { WindowHolds self.old stream.owed }
+        ensures { end_of self.new ≡ update_stream (end_of self.old) id (stream_view stream) }
+    {
+        if stream.state.closed() {
+            self.streams.close(id);
+            self.active_count -= 1;
+            self.add_unreturned(stream.owed);
+        } else {
+            self.streams.set(id, stream);
+        }
+    }
+
+    /// A number is reset: RST_STREAM joins the output, what an active stream with it owes, and so
+    /// much more, is unreturned.
+    ///
+    /// # Errors
+    ///
+    /// [`AllocError`] where an allocation was refused; nothing has changed.
+    pub(crate) fn reset_stream(
+        &mut self,
+        id: u32,
+        stream: Option<Stream>,
+        code: u32,
+        more: u32,
+    ) -> Result<(), AllocError>
+        requires up { self.old.failed ≡ None }
+        requires number { (1 ≤ id) × (id < 2 ^ 31) }
+        requires active { stream_at (end_of self.old) id ≡ option_map stream_view stream }
+        requires counted { stream ≢ None → 1 ≤ self.old.active_count }
+        requires few { self.old.resets < 1000 }
+        requires window { WindowHolds self.old (more + owed_by stream) }
+        ensures ok { OnOk result (end_of self.new ≡ reset_stream (queue_output (end_of self.old)
+            (alone (ResetFrame id code) ∷ [])) id more) }
+        ensures err { OnErr result (end_of self.new ≡ end_of self.old) }
+    {
+        self.output.reserve(2 * SMALL_FRAME)?;
+        self.streams.reset(id)?;
+        self.output.add_frame(FrameRef::Reset { stream: id, code });
+        self.resets += 1;
+        let mut owed = 0;
+        if let Some(stream) = stream {
+            self.active_count -= 1;
+            owed = stream.owed;
+        }
+        self.add_unreturned(more + owed);
+        Ok(())
+    }
+}

@@ -1,0 +1,2 @@
+-- The lemmas of settings and windows.
+pub mod Rules

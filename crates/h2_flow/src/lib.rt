@@ -1,0 +1,15 @@
+//! The peer's settings, flow-control windows and the two sides of a stream (RFC 9113, sections 5.1,
+//! 6.5 and 6.9): small values that take no memory, each step with its refusal.
+#![tactic(auto)]
+
+mod fault;
+mod settings;
+mod stream_state;
+#[cfg(test)]
+mod tests;
+mod window;
+
+pub use fault::{BadSetting, Closed, Exceeded, Overflow};
+pub use settings::Settings;
+pub use stream_state::StreamState;
+pub use window::Window;

@@ -1,0 +1,95 @@
+//! A flow-control window.
+
+ghost use Rattle.std.specs.Prelude.{◌≡◌, ◌≤◌, ◌<◌, pos, ◌+ℤ◌, ◌-ℤ◌, int_lt, true, false, OnOk};
+ghost use Rattle.std.specs.Prelude.{OnErr};
+ghost use Rattle.h2_log.specs.Windows.{greatest_window};
+ghost use Rattle.h2_log.specs.ItemRules.{exceeds, overflows_by};
+ghost use Rattle.h2_flow.specs.Window.{is_out_of_range};
+
+use crate::fault::{Exceeded, Overflow};
+
+/// How many octets may be sent (RFC 9113, section 6.9): from -2<sup>31</sup> to 2<sup>31</sup> - 1,
+/// since settings can lower a stream's window below zero (section 6.9.2).
+#[derive(Clone, Copy, Debug, PartialEq, Eq, Hash)]
+pub struct Window {
+    value: i64,
+    ghost in_range: { is_out_of_range value ≡ false },
+}
+
+impl Window {
+    /// A window of so many octets, at most 2<sup>31</sup> - 1.
+    pub fn new(octets: u32) -> Window
+        requires { octets ≤ greatest_window }
+        ensures { result.value ≡ pos octets }
+    {
+        Window {
+            value: i64::from(octets),
+        }
+    }
+
+    /// The octets that may be sent; below zero none may.
+    pub fn value(&self) -> i64
+        ensures { result ≡ self.now.value }
+    {
+        self.value
+    }
+
+    /// Octets are sent.
+    ///
+    /// # Errors
+    ///
+    /// L2 [`Exceeded`] where they are more than none and more than the window has (RFC 9113,
+    /// section 6.9.1); it is as before.
+    pub fn take(&mut self, octets: u32) -> Result<(), Exceeded>
+        ensures ok { OnOk result ((exceeds octets self.old.value ≡ false)
+            × (self.new.value ≡ self.old.value -ℤ pos octets)) }
+        ensures err { OnErr result ((exceeds octets self.old.value ≡ true)
+            × (self.new ≡ self.old)) }
+    {
+        if octets > 0 && self.value < i64::from(octets) {
+            return Err(Exceeded);
+        }
+        self.value -= i64::from(octets);
+        Ok(())
+    }
+
+    /// The window is widened, by WINDOW_UPDATE.
+    ///
+    /// # Errors
+    ///
+    /// L1 [`Overflow`] where it would be above 2<sup>31</sup> - 1 (section 6.9.1); it is as before.
+    pub fn give(&mut self, octets: u32) -> Result<(), Overflow>
+        ensures ok { OnOk result ((overflows_by octets self.old.value ≡ false)
+            × (self.new.value ≡ self.old.value +ℤ pos octets)) }
+        ensures err { OnErr result ((overflows_by octets self.old.value ≡ true)
+            × (self.new ≡ self.old)) }
+    {
+        let value = self.value + i64::from(octets);
+        if value > 0x7fff_ffff {
+            return Err(Overflow);
+        }
+        self.value = value;
+        Ok(())
+    }
+
+    /// The window is shifted by the difference of two initial windows (section 6.9.2).
+    ///
+    /// # Errors
+    ///
+    /// L1 [`Overflow`] where it would be above 2<sup>31</sup> - 1 or below -2<sup>31</sup>; it is
+    /// as before.
+    pub fn shift(&mut self, difference: i64) -> Result<(), Overflow>
+        ensures ok { OnOk result ((is_out_of_range (self.old.value +ℤ difference) ≡ false)
+            × (self.new.value ≡ self.old.value +ℤ difference)) }
+        ensures err { OnErr result ((is_out_of_range (self.old.value +ℤ difference) ≡ true)
+            × (self.new ≡ self.old)) }
+    {
+        match self.value.checked_add(difference) {
+            Some(value) if value >= -0x8000_0000 && value <= 0x7fff_ffff => {
+                self.value = value;
+                Ok(())
+            }
+            _ => Err(Overflow),
+        }
+    }
+}

@@ -1,0 +1,29 @@
+-- The encodings of the frames that are written here without `write_ref`, or without a check.
+use Rattle.std.proofs.Common.{◌≡◌, ℕ, ◌<◌, ◌^◌, Bool, true, false, List, [], ◌∷◌, ◌++◌, length}
+use Rattle.std.proofs.Common.{None, refl, nat_lt, arith}
+use Rattle.std.proofs.lemmas.Bool.Decides.{nat_tests}
+use Rattle.std.specs.Int.{from_bool}
+use Rattle.byteorder.specs.Endian.{big_bytes}
+use Rattle.h2_frame.specs.Frames.{Data, GoAway}
+use Rattle.h2_frame.specs.Heads.{fits_stream}
+use Rattle.h2_frame.specs.Encoding.{encoding_of, kind_of_frame, flags_of, stream_of, payload_of}
+use Rattle.h2_frame.specs.Encoding.{has_good_values, refusal}
+
+-- GOAWAY without debug octets has 17 octets.
+pub length-goaway : (last code : ℕ) → length (encoding_of (GoAway last code [])) ≡ 17
+unfolding encoding_of kind_of_frame flags_of stream_of payload_of
+length-goaway last code = refl
+
+-- GOAWAY can be written where its stream's number has 31 bits.
+pub goaway-written : (last code : ℕ) → last < 2 ^ 31 → refusal (GoAway last code []) ≡ None
+unfolding refusal kind_of_frame flags_of stream_of payload_of has_good_values fits_stream
+goaway-written last code number =
+    let test : nat_lt last (2 ^ 31) ≡ true = grind (arith, nat_tests) in rw test refl
+
+-- DATA without padding is its head, and then its octets.
+pub data-head : (stream count : ℕ) (end : Bool) (octets : List ℕ) → length octets ≡ count
+    → (big_bytes 3 count ++ (0 ∷ from_bool end ∷ big_bytes 4 stream)) ++ octets
+    ≡ encoding_of (Data stream end octets None)
+unfolding encoding_of kind_of_frame flags_of stream_of payload_of
+data-head stream count true octets same = rw (← same) refl
+data-head stream count false octets same = rw (← same) refl

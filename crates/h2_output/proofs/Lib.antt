@@ -1,0 +1,4 @@
+-- The lemmas of the output.
+pub mod EncodingLemmas
+pub mod PieceLemmas
+pub mod Rules

@@ -1,0 +1,21 @@
+-- The output that waits, as a value.
+use Rattle.std.specs.Prelude.{ℕ, Bool, List, [], drop, Option, Some, None}
+use Rattle.h2_output.specs.declared.last_frame.LastFrame.{LastFrame}
+
+pub record OutputState : Type 0 where
+  -- the octets that wait, the first one first
+  pub waiting : List ℕ
+  -- for how many octets there is room without taking memory
+  pub spare : ℕ
+  -- whether the GOAWAY of a failed connection was added, after which nothing is
+  pub ended : Bool
+
+-- what waits of the last frame
+abbrev pub waiting_of_last : Option LastFrame → List ℕ
+waiting_of_last None = []
+waiting_of_last (Some last) = drop last.given last.octets
+
+-- the most octets of a frame in its encoding that is written without DATA or a field block: SETTINGS
+-- with five pairs have 39
+abbrev pub max_control_octets : ℕ
+max_control_octets = 64

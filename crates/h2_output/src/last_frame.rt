@@ -1,0 +1,40 @@
+//! The GOAWAY of a failed connection.
+
+ghost use Rattle.std.specs.Prelude.{◌≡◌, ◌+◌, ◌≤◌, ◌++◌, length, take, drop, vec_len};
+ghost use Rattle.std.specs.Vec.{vec_capacity};
+
+/// The octets of a GOAWAY without debug octets (RFC 9113, section 6.8).
+pub(crate) const GOAWAY: usize = 17;
+
+/// The GOAWAY of a failed connection, which needs no memory: its octets, and how many of them were
+/// given out.
+#[derive(Clone, Copy, Debug)]
+pub(crate) struct LastFrame {
+    pub(crate) octets: [u8; GOAWAY],
+    pub(crate) given: usize,
+    ghost within: { given ≤ 17 },
+}
+
+impl LastFrame {
+    /// How many of its octets wait.
+    pub(crate) fn len(&self) -> usize
+        ensures value { result ≡ length (drop self.now.given self.now.octets) }
+        ensures small { result ≤ 17 }
+    {
+        GOAWAY - self.given
+    }
+
+    /// Appends so many of its octets to `out`, which has capacity for them, and takes them away.
+    pub(crate) fn put_out(&mut self, count: usize, out: &mut Vec<u8>)
+        requires within { count ≤ length (drop self.old.given self.old.octets) }
+        requires room { vec_len out.old + count ≤ vec_capacity out.old }
+        ensures given { out.new.items
+            ≡ out.old.items ++ take count (drop self.old.given self.old.octets) }
+        ensures waiting { drop self.new.given self.new.octets
+            ≡ drop count (drop self.old.given self.old.octets) }
+    {
+        let end = self.given + count;
+        out.extend_from_slice(&self.octets[self.given..end]).unwrap();
+        self.given = end;
+    }
+}

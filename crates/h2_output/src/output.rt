@@ -1,0 +1,199 @@
+//! The output that waits.
+
+ghost use Rattle.std.specs.Prelude.{◌≡◌, ◌+◌, ◌==◌, ◌^◌, ◌<◌, ◌≤◌, ◌++◌, [], length, min, take, drop};
+ghost use Rattle.std.specs.Prelude.{true, false, None, Some, OnOk, IfOk, OnErr, vec_len};
+ghost use Rattle.std.specs.Vec.{vec_capacity};
+ghost use Rattle.h2_frame.specs.Frames.{frame_of, Data, GoAway};
+ghost use Rattle.h2_frame.specs.Encoding.{encoding_of, refusal};
+ghost use Rattle.h2_output.specs.Output.{max_control_octets};
+
+use crate::data_head::data_head;
+use crate::last_frame::{GOAWAY, LastFrame};
+use bytes::BytesMut;
+use h2_frame::{FrameRef, write_ref};
+use std::alloc::{AllocError, Global};
+use std::marker::Model;
+
+/// The most octets of a frame that is neither DATA nor a part of a field block.
+const CONTROL: usize = 64;
+
+/// The output that waits to be given out. Room is had first (`reserve`), and then frames are added
+/// without taking memory.
+#[derive(Drop)]
+pub struct Output {
+    /// What waits, but for the last frame.
+    queue: BytesMut<Global>,
+    /// What follows it, once the connection has failed.
+    last: Option<LastFrame>,
+    /// A frame as it is encoded, with capacity for any but DATA and those of field blocks.
+    frame: Vec<u8>,
+}
+
+impl Model for Output {
+    ghost use Rattle.std.specs.Prelude.{◌++◌, ◌≤◌, is_some};
+    ghost use Rattle.std.specs.Vec.{vec_capacity};
+    ghost use Rattle.h2_output.specs.Output.{OutputState, waiting_of_last, max_control_octets};
+
+    ghost Value = { OutputState };
+
+    ghost view = { λ output. record {
+      waiting = output.queue.items ++ waiting_of_last output.last;
+      spare = output.queue.spare;
+      ended = is_some output.last;
+    } };
+
+    ghost invariant = { λ output. max_control_octets ≤ vec_capacity output.frame };
+}
+
+impl Output {
+    /// Nothing waits.
+    ///
+    /// # Errors
+    ///
+    /// [`AllocError`] where the allocation for a frame was refused.
+    pub fn new(alloc: Global) -> Result<Output, AllocError>
+        ensures { IfOk result (λ output. (output.waiting ≡ []) × (output.ended ≡ false)) }
+    {
+        Ok(Output {
+            queue: BytesMut::new(alloc),
+            last: None,
+            frame: Vec::with_capacity(alloc, CONTROL)?,
+        })
+    }
+
+    /// How many octets wait. It takes no memory.
+    pub fn len(&self) -> usize
+        ensures { result ≡ length self.now.waiting }
+    {
+        let last = match &self.last {
+            Some(last) => last.len(),
+            None => 0,
+        };
+        self.queue.len() + last
+    }
+
+    /// Whether nothing waits. It takes no memory.
+    pub fn is_empty(&self) -> bool
+        ensures { result ≡ (length self.now.waiting == 0) }
+    {
+        self.len() == 0
+    }
+
+    /// Makes room for so many octets more.
+    ///
+    /// # Errors
+    ///
+    /// [`AllocError`] where there is less room and an allocation was refused.
+    pub fn reserve(&mut self, additional: usize) -> Result<(), AllocError>
+        ensures waiting { self.new.waiting ≡ self.old.waiting }
+        ensures ended { self.new.ended ≡ self.old.ended }
+        ensures ok { OnOk result (additional ≤ self.new.spare) }
+        ensures err { OnErr result (self.old.spare < additional) }
+    {
+        self.queue.reserve(additional)
+    }
+
+    /// Adds a frame, of 64 octets at most, for which there is room. It takes no memory.
+    pub fn add_frame(&mut self, frame: FrameRef<'_>)
+        requires up { self.old.ended ≡ false }
+        requires writable { refusal (frame_of frame) ≡ None }
+        requires short { length (encoding_of (frame_of frame)) ≤ max_control_octets }
+        requires room { length (encoding_of (frame_of frame)) ≤ self.old.spare }
+        ensures waiting { self.new.waiting
+            ≡ self.old.waiting ++ encoding_of (frame_of frame.entry) }
+        ensures spare { self.new.spare + length (encoding_of (frame_of frame.entry))
+            ≡ self.old.spare }
+        ensures ended { self.new.ended ≡ false }
+    {
+        self.frame.clear();
+        write_ref(frame, &mut self.frame).unwrap();
+        self.queue.extend_reserved(&self.frame);
+    }
+
+    /// Adds a DATA frame without padding, for which there is room: its octets are copied once. It
+    /// takes no memory.
+    pub fn add_data(&mut self, stream: u32, octets: &[u8], end: bool)
+        requires up { self.old.ended ≡ false }
+        requires short { length octets.now < 2 ^ 24 }
+        requires room { 9 + length octets.now ≤ self.old.spare }
+        ensures waiting { self.new.waiting
+            ≡ self.old.waiting ++ encoding_of (Data stream end octets.now None) }
+        ensures spare { self.new.spare + (9 + length octets.now) ≡ self.old.spare }
+        ensures ended { self.new.ended ≡ false }
+    {
+        self.queue.extend_reserved(&data_head(stream, octets.len() as u32, end));
+        self.queue.extend_reserved(octets);
+    }
+
+    /// Adds octets for which there is room: the frames of a field block. It takes no memory.
+    pub fn add_octets(&mut self, octets: &[u8])
+        requires up { self.old.ended ≡ false }
+        requires room { length octets.now ≤ self.old.spare }
+        ensures waiting { self.new.waiting ≡ self.old.waiting ++ octets.now }
+        ensures spare { self.new.spare + length octets.now ≡ self.old.spare }
+        ensures ended { self.new.ended ≡ false }
+    {
+        self.queue.extend_reserved(octets);
+    }
+
+    /// Adds the GOAWAY of a connection that fails, after which nothing is added (RFC 9113, section
+    /// 6.8). It takes no memory and needs no room.
+    pub fn end_with_goaway(&mut self, last: u32, code: u32)
+        requires up { self.old.ended ≡ false }
+        requires number { last < 2 ^ 31 }
+        ensures waiting { self.new.waiting ≡ self.old.waiting ++ encoding_of (GoAway last code []) }
+        ensures ended { self.new.ended ≡ true }
+    {
+        let frame = FrameRef::GoAway {
+            last,
+            code,
+            debug: &[],
+        };
+        self.frame.clear();
+        write_ref(frame, &mut self.frame).unwrap();
+        let mut octets = [0; GOAWAY];
+        octets.copy_from_slice(&self.frame);
+        self.last = Some(LastFrame { octets, given: 0 });
+    }
+
+    /// Appends as many octets as wait, and at most `count`, to `out`, and takes them away.
+    ///
+    /// # Errors
+    ///
+    /// [`AllocError`] where `out` lacks the capacity and an allocation was refused. Neither has
+    /// changed.
+    pub fn put_out(&mut self, count: usize, out: &mut Vec<u8>) -> Result<usize, AllocError>
+        ensures ok { IfOk result (λ given. (given ≡ min count (length self.old.waiting))
+            × (out.new.items ≡ out.old.items ++ take given self.old.waiting)
+            × (self.new.waiting ≡ drop given self.old.waiting)) }
+        ensures err { OnErr result ((out.new.items ≡ out.old.items)
+            × (self.new.waiting ≡ self.old.waiting)) }
+        ensures ended { self.new.ended ≡ self.old.ended }
+        ensures spare { self.old.spare ≤ self.new.spare }
+    {
+        let given = count.min(self.len());
+        out.reserve(given)?;
+        let queued = given.min(self.queue.len());
+        put_out_queued(&mut self.queue, queued, out);
+        if let Some(last) = &mut self.last {
+            last.put_out(given - queued, out);
+        }
+        Ok(given)
+    }
+}
+
+// Appends so many octets of a queue to `out`, which has capacity for them, and takes them away.
+fn put_out_queued(queue: &mut BytesMut<Global>, count: usize, out: &mut Vec<u8>)
+    requires within { count ≤ length queue.old.items }
+    requires room { vec_len out.old + count ≤ vec_capacity out.old }
+    ensures given { out.new.items ≡ out.old.items ++ take count queue.old.items }
+    ensures waiting { queue.new.items ≡ drop count queue.old.items }
+    ensures spare { queue.old.spare ≤ queue.new.spare }
+    ensures capacity { vec_capacity out.old ≤ vec_capacity out.new }
+{
+    out.extend_from_slice(&queue.as_slice()[..count]).unwrap();
+    queue.advance(count);
+    if queue.is_empty() {
+        queue.clear();
+    }
+}

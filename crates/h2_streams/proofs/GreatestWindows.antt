@@ -1,0 +1,225 @@
+-- The greatest send window of the active streams, and what it tells of all of them.
+use Rattle.std.proofs.Common.{◌≡◌, ℕ, zero, suc, ◌+◌, ◌<◌, Bool, true, false, cond, ℤ, pos, ◌+ℤ◌}
+use Rattle.std.proofs.Common.{int_lt, ◌≤ℤ◌, List, [], ◌∷◌, length, Option, Some, None, IfSome, refl}
+use Rattle.std.proofs.Common.{sym, ap, ◌∙◌, nat_lt, arith}
+use Rattle.std.specs.Int.{int_max}
+use Rattle.std.specs.List.{slice_get}
+use Rattle.std.specs.Map.{lookup, values_of}
+use Rattle.std.specs.Option.{option_map, is_some}
+use Rattle.std.specs.BTreeMap.{BTreeMap, IsOrdered, is_at}
+use Rattle.std.specs.Ordering.{nat_cmp}
+use Rattle.std.specs.Cmp.{nat_cmp_total}
+use Rattle.std.specs.FinMap as map
+use Rattle.std.proofs.lemmas.Int.{ints}
+use Rattle.std.proofs.lemmas.Bool.{both_ways, ltb-true, ltb-false}
+use Rattle.std.proofs.lemmas.Map.Entries.{place_from_lookup, btree_map_get_place}
+use Rattle.h2_log.specs.Windows.{greatest_window}
+use Rattle.h2_machine.specs.End.{Entry, active_entry, reset_entry, StreamMap, any_above}
+use Rattle.h2_machine.specs.End.{above_by_shift}
+use Rattle.h2_streams.specs.Streams.{is_above_by_shift}
+use Rattle.h2_streams.specs.Table.{view_of_kept, kept_at, is_reset, IsKeptWell, greater_of}
+use Rattle.h2_streams.specs.Table.{IsGreatestOf, IsGreatestOffset}
+use Rattle.h2_streams.specs.declared.table.Kept.{Kept}
+use Rattle.h2_streams.proofs.KeptEntries.{entry_at, get_kept}
+use Rattle.h2_streams.proofs.SortedEntries.{Above, above_found, any_found}
+use Rattle.h2_streams.proofs.TableSteps.{streams}
+
+-- the greatest difference among the first of what is kept
+pub record GreatestBefore (n : ℕ) (values : List Kept) (offset : ℤ) : Type 0 where
+  pub most : (i : ℕ) (kept : Kept) → i < n → slice_get values i ≡ Some kept
+      → kept.send_offset ≤ℤ offset
+  pub place : ℕ
+  pub kept : Kept
+  pub found : slice_get values place ≡ Some kept
+  pub same : kept.send_offset ≡ offset
+
+abbrev pub IsGreatestBefore : ℕ → List Kept → Option ℤ → Type 0
+IsGreatestBefore n values None = n ≡ 0
+IsGreatestBefore n values (Some offset) = GreatestBefore n values offset
+
+-- A number below the next one is below this one, or it is this one.
+below_or_here : (n i : ℕ) (values : List Kept) (offset : ℤ) (kept k : Kept)
+    → ((j : ℕ) (other : Kept) → j < n → slice_get values j ≡ Some other
+    → other.send_offset ≤ℤ offset)
+    → slice_get values n ≡ Some kept → kept.send_offset ≤ℤ offset
+    → i < n + 1 → slice_get values i ≡ Some k → k.send_offset ≤ℤ offset
+below_or_here n i values offset kept k below here low less at = go (nat_lt i n) refl
+  where
+    go : (b : Bool) → nat_lt i n ≡ b → k.send_offset ≤ℤ offset
+    go true is = below i k (ltb-true i n is) at
+    go false is =
+        let same : i ≡ n = omega (arith, ltb-false i n is, less) in
+        let one : kept ≡ k = cc in
+        rw (← one) low
+
+-- One more is the greatest, or the one before is, by which is greater.
+more_by : (n : ℕ) (values : List Kept) (other : ℤ) (kept : Kept) (b : Bool)
+    → int_lt kept.send_offset other ≡ b → GreatestBefore n values other
+    → slice_get values n ≡ Some kept
+    → GreatestBefore (n + 1) values (cond b other kept.send_offset)
+more_by n values other kept true is before here = record {
+  most = λ i k less at. below_or_here n i values other kept k before.most here (grind (arith, ints)) less at;
+  place = before.place;
+  kept = before.kept;
+  found = before.found;
+  same = before.same;
+}
+more_by n values other kept false is before here =
+    let over : other ≤ℤ kept.send_offset = grind (arith, ints) in
+    record {
+      most = λ i k less at. below_or_here n i values kept.send_offset kept k
+          (λ j m below found. let low = before.most j m below found in omega (arith, ints)) here
+          (omega (arith, ints)) less at;
+      place = n;
+      kept = kept;
+      found = here;
+      same = refl;
+    }
+
+-- One more among what is kept.
+pub greatest_more : (n : ℕ) (values : List Kept) (greatest : Option ℤ) (kept : Kept)
+    → IsGreatestBefore n values greatest → slice_get values n ≡ Some kept
+    → GreatestBefore (n + 1) values (greater_of greatest kept.send_offset)
+greatest_more n values None kept before here = record {
+  most = λ i k less at. below_or_here n i values kept.send_offset kept k
+      (λ j m below found. absurd (omega (arith, before, below))) here (omega (arith, ints)) less at;
+  place = n;
+  kept = kept;
+  found = here;
+  same = refl;
+}
+greatest_more n values (Some other) kept before here =
+    more_by n values other kept (int_lt kept.send_offset other) refl before here
+
+-- A place among entries is one among their values.
+value_at : (entries : List (ℕ × Kept)) (i : ℕ)
+    → slice_get (values_of entries) i ≡ option_map (λ (e : ℕ × Kept). e.1) (slice_get entries i)
+value_at [] i = refl
+value_at (e ∷ es) zero = refl
+value_at (e ∷ es) (suc i) = value_at es i
+
+-- A place at which something stands is below the length.
+within : (values : List Kept) (i : ℕ) (kept : Kept) → slice_get values i ≡ Some kept
+    → i < length values
+within [] i kept is = absurd (cc)
+within (v ∷ vs) zero kept is = omega arith
+within (v ∷ vs) (suc i) kept is = let rest = within vs i kept is in omega arith
+
+-- What is at a place among entries, by what is at that place among their values.
+entry_from : (x : Option (ℕ × Kept)) (kept : Kept)
+    → option_map (λ (e : ℕ × Kept). e.1) x ≡ Some kept
+    → (number : ℕ) × (x ≡ Some (number, kept))
+entry_from None kept is = absurd (cc)
+entry_from (Some e) kept is =
+    let same : e.1 ≡ kept = cc in
+    (e.0, ap (λ (k : Kept). Some (e.0, k)) same)
+
+-- What holds of each that a look-up may find holds of the one that it finds.
+if_found : (P : Kept → Type 0) (x : Option Kept) → ((kept : Kept) → x ≡ Some kept → P kept)
+    → IfSome x P
+if_found P None each = tt
+if_found P (Some kept) each = each kept refl
+
+-- A list without values has no entries.
+no_entries : (entries : List (ℕ × Kept)) → length (values_of entries) ≡ 0 → entries ≡ []
+no_entries [] none = refl
+no_entries (e ∷ es) none = absurd (omega (arith, none))
+
+-- The greatest difference among all that is kept.
+pub greatest_of_all : (tree : BTreeMap ℕ Kept) (n : ℕ) (greatest : Option ℤ)
+    → IsOrdered nat_cmp tree → n ≡ length (values_of tree.entries)
+    → IsGreatestBefore n (values_of tree.entries) greatest
+    → IsGreatestOffset tree.entries greatest
+greatest_of_all tree n None ordered all before = no_entries tree.entries (sym all ∙ before)
+greatest_of_all tree n (Some offset) ordered all before =
+    let last = entry_from (slice_get tree.entries before.place) before.kept
+    (sym (value_at tree.entries before.place) ∙ before.found) in
+    record {
+      most = λ q. if_found (λ kept. kept.send_offset ≤ℤ offset) (kept_at q tree.entries)
+          (λ kept is.
+          let place = place_from_lookup (is_at (nat_cmp q)) tree.entries kept is in
+          let at : slice_get (values_of tree.entries) place.0 ≡ Some kept =
+          value_at tree.entries place.0 ∙ ap (option_map (λ (e : ℕ × Kept). e.1)) place.2 in
+          before.most place.0 kept
+          (omega (arith, all, within (values_of tree.entries) place.0 kept at)) at);
+      number = last.0;
+      kept = before.kept;
+      found = btree_map_get_place nat_cmp_total tree before.place last.0 before.kept ordered last.1;
+      same = before.same;
+    }
+
+-- An active stream is brought above the greatest window, by its difference.
+above_kept : (send recv new : ℕ) (kept : Kept)
+    → above_by_shift send new (active_entry (view_of_kept send recv kept))
+    ≡ is_above_by_shift send new (Some (kept.send_offset +ℤ pos send))
+above_kept send recv new kept = refl
+
+-- An entry that is brought above the greatest window is an active stream's.
+above_by : (send recv new : ℕ) (b : Bool) (kept : Option Kept) (x : Entry)
+    → entry_at send recv b kept ≡ Some x → above_by_shift send new x ≡ true
+    → (k : Kept) × (kept ≡ Some k)
+    × (is_above_by_shift send new (Some (k.send_offset +ℤ pos send)) ≡ true)
+above_by send recv new true kept x is above =
+    let same : reset_entry ≡ x = cc in absurd (both_ways false refl (rw (← same) at above))
+above_by send recv new false None x is above = absurd (cc)
+above_by send recv new false (Some k) x is above =
+    let same : active_entry (view_of_kept send recv k) ≡ x = cc in
+    (k, refl, rw (← same) at above)
+
+-- A greater difference is above where a lesser one is.
+greater_above : (send new : ℕ) (low high : ℤ) → low ≤ℤ high
+    → is_above_by_shift send new (Some (low +ℤ pos send)) ≡ true
+    → is_above_by_shift send new (Some (high +ℤ pos send)) ≡ true
+greater_above send new low high order above = grind (arith, ints)
+
+-- Two tests that hold where the other does are the same.
+both_same : (a b : Bool) → (a ≡ true → b ≡ true) → (b ≡ true → a ≡ true) → a ≡ b
+both_same true b there back = sym (there refl)
+both_same false true there back = back refl
+both_same false false there back = refl
+
+-- A difference that is found is at most the greatest.
+found_low : (offset : ℤ) (x : Option Kept) (k : Kept) → x ≡ Some k
+    → IfSome x (λ kept. kept.send_offset ≤ℤ offset) → k.send_offset ≤ℤ offset
+found_low offset x k is low = rw (is) at low
+
+-- A stream that is kept and wasn't reset is an entry.
+entry_kept : (send recv : ℕ) (b : Bool) (kept : Kept) → b ≡ false
+    → entry_at send recv b (Some kept) ≡ Some (active_entry (view_of_kept send recv kept))
+entry_kept send recv true kept apart = absurd (both_ways true apart refl)
+entry_kept send recv false kept apart = refl
+
+-- Whether a window is brought above the greatest is told by the greatest difference alone.
+pub above_same : (send recv new : ℕ) (entries : List (ℕ × Kept)) (numbers : List ℕ)
+    (greatest : Option ℤ) → IsKeptWell entries numbers → IsGreatestOffset entries greatest
+    → any_above send new (map.entries (streams send recv entries numbers))
+    ≡ is_above_by_shift send new (option_map (λ (o : ℤ). o +ℤ pos send) greatest)
+above_same send recv new entries numbers None well none =
+    let m : StreamMap = streams send recv entries numbers in
+    both_same (any_above send new (map.entries m)) false
+    (λ some.
+    let f = above_found send new (map.entries m) (map.entries_sorted m) some in
+    let k = above_by send recv new (is_reset f.i numbers) (kept_at f.i entries) f.x
+    (sym (get_kept send recv f.i entries numbers) ∙ map.get-entries m f.i ∙ f.found) f.above in
+    let nothing : kept_at f.i entries ≡ None = ap (kept_at f.i) none in
+    let two : None ≡ Some k.0 = sym nothing ∙ k.1 in
+    absurd (cc))
+    (λ some. absurd (both_ways false refl some))
+above_same send recv new entries numbers (Some offset) well is =
+    let m : StreamMap = streams send recv entries numbers in
+    both_same (any_above send new (map.entries m))
+    (is_above_by_shift send new (Some (offset +ℤ pos send)))
+    (λ some.
+    let f = above_found send new (map.entries m) (map.entries_sorted m) some in
+    let k = above_by send recv new (is_reset f.i numbers) (kept_at f.i entries) f.x
+    (sym (get_kept send recv f.i entries numbers) ∙ map.get-entries m f.i ∙ f.found) f.above in
+    greater_above send new k.0.send_offset offset (found_low offset (kept_at f.i entries) k.0 k.1
+    (is.most f.i)) k.2)
+    (λ high.
+    let apart = well.apart is.number (ap is_some is.found) in
+    any_found send new is.number (map.entries m)
+    (active_entry (view_of_kept send recv is.kept))
+    (sym (map.get-entries m is.number) ∙ get_kept send recv is.number entries numbers
+    ∙ ap (entry_at send recv (is_reset is.number numbers)) is.found
+    ∙ entry_kept send recv (is_reset is.number numbers) is.kept apart)
+    (rw (← is.same) at high))

@@ -1,0 +1,24 @@
+use Rattle.std.proofs.Common.{ap, ◌∙◌}
+use Rattle.h2_streams.specs.Streams.{stream_view}
+use Rattle.h2_streams.proofs.TableSteps.{table_with, absent, streams_set, well_set}
+use Rattle.h2_streams.proofs.table.StreamTable.open.Goals as goal
+
+pub invariant_of-self-2 : goal.invariant_of-self-2
+invariant_of-self-2 c =
+    let t = c.self.inside in
+    let none = absent t.send_initial t.recv_initial c.args.id t.active.entries t.resets.keys
+    (rw (← c.self.view_is) at c.requires.absent) in
+    well_set c.args.id c.kept-kept.result t.active.entries c.insert.new.self.entries t.resets.keys
+    c.self.invariant c.in_ok-insert.ensures.updates.0 none.0 c.kept-kept.ensures.near
+
+pub returns-clause-ok : goal.returns-clause-ok
+returns-clause-ok c =
+    let t = c.self.inside in
+    let none = absent t.send_initial t.recv_initial c.args.id t.active.entries t.resets.keys
+    (rw (← c.self.view_is) at c.requires.absent) in
+    rw (← c.self.view_is)
+    (ap (table_with t.send_initial t.recv_initial)
+    (streams_set t.send_initial t.recv_initial c.args.id c.kept-kept.result
+    (stream_view c.args.stream) t.active.entries
+    c.insert.new.self.entries t.resets.keys c.in_ok-insert.ensures.updates.0 none.0
+    (rw (← c.self.view_is) at c.kept-kept.ensures.view)))

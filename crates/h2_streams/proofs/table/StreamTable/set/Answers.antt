@@ -1,0 +1,26 @@
+use Rattle.std.proofs.Common.{ap, false, refl, ◌∙◌}
+use Rattle.std.specs.Option.{is_some}
+use Rattle.std.proofs.lemmas.Bool.{both_ways}
+use Rattle.h2_streams.specs.Streams.{stream_view}
+use Rattle.h2_streams.proofs.TableSteps.{table_with, active, streams_set, well_set}
+use Rattle.h2_streams.proofs.table.StreamTable.set.Goals as goal
+use Rattle.h2_streams.proofs.table.StreamTable.set.Goals.{in-Some, in_default}
+
+pub returns : goal.returns
+returns c = 
+    let t = c.self.inside in
+    let here = active t.send_initial t.recv_initial c.args.id t.active.entries t.resets.keys
+    (rw (← c.self.view_is) at c.requires.active) in
+    elim c.match-get_mut.branch [
+      | in-Some w ↦
+          let holds = c.get_mut.follows.holds c.kept-kept.result in
+          rw (w.self-inside-is, ← c.self.view_is)
+          (ap (table_with t.send_initial t.recv_initial)
+          (streams_set t.send_initial t.recv_initial c.args.id c.kept-kept.result
+          (stream_view c.args.stream) t.active.entries
+          (c.get_mut.follows.lender c.kept-kept.result).entries t.resets.keys
+          ((holds.3 here.1).0) here.0
+          (rw (← c.self.view_is) at c.kept-kept.ensures.view)))
+      | in_default w ↦
+          absurd (both_ways false refl (ap is_some w.in_default.ensures.value ∙ here.1))
+    ]

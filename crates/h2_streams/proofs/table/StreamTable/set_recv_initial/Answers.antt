@@ -1,0 +1,11 @@
+use Rattle.std.proofs.Common.{ap}
+use Rattle.h2_streams.proofs.Shifts.{recv_shifted}
+use Rattle.h2_streams.proofs.TableSteps.{table_with}
+use Rattle.h2_streams.proofs.table.StreamTable.set_recv_initial.Goals as goal
+
+pub returns : goal.returns
+returns c =
+    let t = c.self.inside in
+    rw (← c.self.view_is)
+    (ap (table_with t.send_initial c.args.initial) (recv_shifted t.send_initial t.recv_initial
+    c.args.initial t.active.entries t.resets.keys))

@@ -1,0 +1,8 @@
+use Rattle.std.proofs.Common.{length}
+use Rattle.std.specs.Map.{values_of}
+use Rattle.h2_streams.proofs.GreatestWindows.{IsGreatestBefore}
+use Rattle.h2_streams.proofs.table.greatest_send_offset.Given as goal
+
+abbrev pub invariant-loop-kept : goal.invariant-loop-kept
+invariant-loop-kept l =
+    IsGreatestBefore (length l.yielded) (values_of l.active.entries) l.greatest

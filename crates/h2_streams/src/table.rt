@@ -1,0 +1,269 @@
+//! The table of streams.
+
+ghost use Rattle.std.specs.Prelude.{◌≡◌, ◌^◌, ◌<◌, ℕ, pos, ◌+ℤ◌, ◌-ℤ◌, false, None, Some, IsSome};
+ghost use Rattle.std.specs.Prelude.{OnOk, OnErr};
+ghost use Rattle.std.specs.Option.{option_map};
+ghost use Rattle.std.specs.FinMap as map;
+ghost use Rattle.h2_machine.specs.End.{stream_in, active_entry, reset_entry, any_above};
+ghost use Rattle.h2_machine.specs.Machine.{each_entry, shifted_entry, recv_shifted_entry};
+ghost use Rattle.h2_machine.specs.Machine.{first_active};
+ghost use Rattle.h2_streams.specs.Streams.{stream_view, entry_value, is_far, is_above_by_shift};
+ghost use Rattle.h2_streams.specs.Streams.{number_or_none};
+ghost use Rattle.h2_streams.specs.Table.{view_of_kept, is_far_offset, IsNearKept};
+ghost use Rattle.h2_streams.specs.Table.{greater_of, IsGreatestOffset};
+
+use crate::entry::{Entry, Stream};
+use h2_flow::StreamState;
+use std::alloc::{AllocError, Global};
+use std::collections::{BTreeMap, BTreeSet};
+use std::marker::Model;
+use std::ops::Bound;
+
+/// What is kept of an active stream. Windows are kept as their difference from the initial window
+/// in force, so that SETTINGS, which shift all of them (RFC 9113, section 6.9.2), change none.
+#[derive(Clone, Copy, Debug)]
+pub(crate) struct Kept {
+    pub(crate) send_offset: i64,
+    pub(crate) recv_offset: i64,
+    pub(crate) owed: u32,
+    pub(crate) state: StreamState,
+}
+
+/// The streams of one end. Numbers are looked up in a tree, so that a call costs about the same for
+/// a thousand streams as for one.
+#[derive(Drop)]
+pub struct StreamTable {
+    /// The active streams, by number.
+    active: BTreeMap<u32, Kept>,
+    /// The numbers that this end has reset.
+    resets: BTreeSet<u32>,
+    /// The initial window of this end's sending side: the peer's value.
+    send_initial: u32,
+    /// That of the receiving side: the own value in force.
+    recv_initial: u32,
+}
+
+impl Model for StreamTable {
+    ghost use Rattle.h2_streams.specs.Table.{TableState, active_map, with_resets, IsKeptWell};
+    ghost use Rattle.h2_streams.specs.Codes.{table_code};
+
+    ghost Value = { TableState };
+
+    ghost coded = { table_code };
+
+    ghost view = { λ table. record {
+      entries = with_resets (active_map table.send_initial table.recv_initial
+          table.active.entries) table.resets.keys;
+      send_initial = table.send_initial;
+      recv_initial = table.recv_initial;
+    } };
+
+    ghost invariant = { λ table. IsKeptWell table.active.entries table.resets.keys };
+}
+
+impl StreamTable {
+    /// A table without streams, with the initial windows of both directions.
+    pub fn new(alloc: Global, send_initial: u32, recv_initial: u32) -> StreamTable
+        ensures { result ≡ record {
+          entries = map.empty;
+          send_initial = send_initial;
+          recv_initial = recv_initial;
+        } }
+    {
+        StreamTable {
+            active: BTreeMap::new(alloc),
+            resets: BTreeSet::new(alloc),
+            send_initial,
+            recv_initial,
+        }
+    }
+
+    /// What is kept of a number. It takes no memory.
+    pub fn get(&self, id: u32) -> Option<Entry>
+        ensures { option_map entry_value result ≡ map.get self.now.entries id }
+    {
+        match self.stream(id) {
+            Some(stream) => Some(Entry::Active(stream)),
+            None if self.resets.contains(&id) => Some(Entry::Reset),
+            None => None,
+        }
+    }
+
+    /// The stream with this number, if it is active. It takes no memory.
+    pub fn stream(&self, id: u32) -> Option<Stream>
+        ensures { option_map stream_view result ≡ stream_in (map.get self.now.entries id) }
+    {
+        let kept = self.active.get(&id)?;
+        Some(Stream {
+            send_window: window_of(kept.send_offset, self.send_initial),
+            recv_window: window_of(kept.recv_offset, self.recv_initial),
+            owed: kept.owed,
+            state: kept.state,
+        })
+    }
+
+    /// Adds an active stream with a number of which nothing is kept. Its windows are no further
+    /// than 2<sup>32</sup> from zero.
+    ///
+    /// # Errors
+    ///
+    /// [`AllocError`] where an allocation was refused; the table is as before.
+    pub fn open(&mut self, id: u32, stream: Stream) -> Result<(), AllocError>
+        requires absent { map.get self.old.entries id ≡ None }
+        requires send { is_far stream.send_window ≡ false }
+        requires recv { is_far stream.recv_window ≡ false }
+        ensures ok { OnOk result (self.new ≡ record self.old {
+          entries = map.insert self.old.entries id (active_entry (stream_view stream));
+        }) }
+        ensures err { OnErr result (self.new ≡ self.old) }
+    {
+        let kept = self.kept(stream);
+        self.active.insert(id, kept)?;
+        Ok(())
+    }
+
+    /// Changes an active stream. Its windows are no further than 2<sup>32</sup> from zero. It takes
+    /// no memory.
+    pub fn set(&mut self, id: u32, stream: Stream)
+        requires active { IsSome (stream_in (map.get self.old.entries id)) }
+        requires send { is_far stream.send_window ≡ false }
+        requires recv { is_far stream.recv_window ≡ false }
+        ensures { self.new ≡ record self.old {
+          entries = map.insert self.old.entries id (active_entry (stream_view stream));
+        } }
+    {
+        let kept = self.kept(stream);
+        if let Some(old) = self.active.get_mut(&id) {
+            *old = kept;
+        }
+    }
+
+    /// Forgets an active stream, since both sides have ended it, or the peer has reset it, or will
+    /// not process it. It takes no memory.
+    pub fn close(&mut self, id: u32)
+        requires { IsSome (stream_in (map.get self.old.entries id)) }
+        ensures { self.new ≡ record self.old { entries = map.remove self.old.entries id } }
+    {
+        self.active.remove(&id);
+    }
+
+    /// Keeps of a number, whether a stream was active with it or not, that this end has reset it.
+    ///
+    /// # Errors
+    ///
+    /// [`AllocError`] where an allocation was refused; the table is as before.
+    pub fn reset(&mut self, id: u32) -> Result<(), AllocError>
+        ensures ok { OnOk result (self.new ≡ record self.old {
+          entries = map.insert self.old.entries id reset_entry;
+        }) }
+        ensures err { OnErr result (self.new ≡ self.old) }
+    {
+        self.resets.insert(id)?;
+        self.active.remove(&id);
+        Ok(())
+    }
+
+    /// The own initial window in force: that of the receiving side. It takes no memory.
+    pub fn recv_initial(&self) -> u32
+        ensures { result ≡ self.now.recv_initial }
+    {
+        self.recv_initial
+    }
+
+    /// Puts another initial window of the peer's in force: the send windows of all active streams
+    /// are shifted by the difference (RFC 9113, section 6.9.2), in one step whatever their number.
+    /// It takes no memory.
+    pub fn set_send_initial(&mut self, initial: u32)
+        ensures { self.new ≡ record self.old {
+          entries = each_entry (shifted_entry self.old.send_initial initial) self.old.entries;
+          send_initial = initial;
+        } }
+    {
+        self.send_initial = initial;
+    }
+
+    /// Puts another own initial window in force: the receive windows of all active streams are
+    /// shifted. It takes no memory.
+    pub fn set_recv_initial(&mut self, initial: u32)
+        ensures { self.new ≡ record self.old {
+          entries = each_entry (recv_shifted_entry self.old.recv_initial initial) self.old.entries;
+          recv_initial = initial;
+        } }
+    {
+        self.recv_initial = initial;
+    }
+
+    /// The greatest send window of the active streams, if there are any: by it alone it can be told
+    /// whether an initial window would bring one of them above 2<sup>31</sup> - 1. It goes over all
+    /// active streams, and takes no memory.
+    pub fn greatest_send_window(&self) -> Option<i64>
+        ensures { (initial : ℕ) → any_above self.now.send_initial initial
+            (map.entries self.now.entries)
+            ≡ is_above_by_shift self.now.send_initial initial result }
+    {
+        let offset = greatest_send_offset(&self.active)?;
+        Some(window_of(offset, self.send_initial))
+    }
+
+    /// The least active number above another. It takes no memory.
+    pub fn next_active(&self, above: u32) -> Option<u32>
+        ensures { number_or_none result ≡ first_active above (map.entries self.now.entries) }
+    {
+        let above = (Bound::Excluded(above), Bound::Unbounded);
+        let (number, _) = self.active.range(above).next()?;
+        Some(*number)
+    }
+
+    /// How a stream is kept.
+    fn kept(&self, stream: Stream) -> Kept
+        requires send { is_far stream.send_window ≡ false }
+        requires recv { is_far stream.recv_window ≡ false }
+        ensures view { view_of_kept self.now.send_initial self.now.recv_initial result
+            ≡ stream_view stream }
+        ensures near { IsNearKept result }
+    {
+        Kept {
+            send_offset: offset_of(stream.send_window, self.send_initial),
+            recv_offset: offset_of(stream.recv_window, self.recv_initial),
+            owed: stream.owed,
+            state: stream.state,
+        }
+    }
+}
+
+/// The difference of a window from an initial window.
+fn offset_of(window: i64, initial: u32) -> i64
+    requires { is_far window ≡ false }
+    ensures { result ≡ window -ℤ pos initial }
+{
+    window - i64::from(initial)
+}
+
+/// The window with a difference from an initial window.
+fn window_of(offset: i64, initial: u32) -> i64
+    requires { is_far_offset offset ≡ false }
+    ensures { result ≡ offset +ℤ pos initial }
+{
+    offset + i64::from(initial)
+}
+
+/// The greatest difference of the send windows from the initial window, if there are any.
+fn greatest_send_offset(active: &BTreeMap<u32, Kept>) -> Option<i64>
+    ensures { IsGreatestOffset active.now.entries result }
+{
+    let mut greatest = None;
+    for kept in active.values() {
+        greatest = Some(greater_of(greatest, kept.send_offset));
+    }
+    greatest
+}
+
+/// The greater of two differences, of which there may be but one.
+fn greater_of(greatest: Option<i64>, offset: i64) -> i64
+    ensures { result ≡ greater_of greatest offset }
+{
+    match greatest {
+        Some(other) => other.max(offset),
+        None => offset,
+    }
+}
