@@ -1,6 +1,7 @@
 -- The least active number above another, in the table of streams.
 use Rattle.std.proofs.Common.{◌≡◌, ◌≢◌, ℕ, zero, suc, ◌≤◌, ◌<◌, Bool, true, false, List, Option}
-use Rattle.std.proofs.Common.{[], ◌∷◌, Some, None, IsSome, Ordering, Less, Equal, Greater, refl, sym, ap, ◌∙◌, arith}
+use Rattle.std.proofs.Common.{[], ◌∷◌, Some, None, IsSome, Ordering, Less, Equal, Greater, refl}
+use Rattle.std.proofs.Common.{sym, ap, ◌∙◌, arith}
 use Rattle.std.specs.FinMap as map
 use Rattle.std.specs.Ordering.{nat_cmp, is_gt}
 use Rattle.std.specs.Cmp.{ranked}
@@ -14,7 +15,7 @@ use Rattle.h2_machine.specs.Machine.{first_active, is_active_entry}
 use Rattle.h2_streams.specs.Table.{view_of_kept, kept_at, is_reset, IsKeptWell}
 use Rattle.h2_streams.specs.declared.table.Kept.{Kept}
 use Rattle.h2_streams.proofs.KeptEntries.{entry_at, get_kept}
-use Rattle.h2_streams.proofs.SortedEntries.{Found, first_found, first_least}
+use Rattle.h2_streams.proofs.SortedEntries.{first_found, first_least}
 use Rattle.h2_streams.proofs.TableSteps.{streams}
 
 -- Two numbers that are there just where the other is and no greater are the same.
@@ -45,10 +46,11 @@ first_kept : (send recv above : ℕ) (entries : List (ℕ × Kept)) (numbers : L
 first_kept send recv above entries numbers some =
     let m : StreamMap = streams send recv entries numbers in
     let n : ℕ = first_active above (map.entries m) in
-    let f = first_found above (map.entries m) (map.entries_sorted m) some in
-    (kept_by send recv (is_reset n numbers) (kept_at n entries) f.x
-    (sym (get_kept send recv n entries numbers) ∙ map.get-entries m n ∙ f.found) f.active,
-    ltb-true above n f.higher)
+    let f = first_found above (map.entries m) (map.entries_sorted m) some in (
+      kept_by send recv (is_reset n numbers) (kept_at n entries) f.x
+          (sym (get_kept send recv n entries numbers) ∙ map.get-entries m n ∙ f.found) f.active,
+      ltb-true above n f.higher,
+    )
 
 -- An active stream is found.
 found_by : (send recv : ℕ) (b : Bool) (kept : Option Kept) → (IsSome kept → b ≡ false)
@@ -70,9 +72,11 @@ least_is_first send recv above n entries numbers well higher some least =
     two_least n (first_active above (map.entries m))
     (λ _. first_least above n (map.entries m) f.0 (map.entries_sorted m)
     (sym (map.get-entries m n) ∙ get_kept send recv n entries numbers ∙ f.1) f.2 higher)
-    (λ there. let k = first_kept send recv above entries numbers there in
-    ((λ is. absurd (omega (arith, is, higher))), least (first_active above (map.entries m)) k.1
-    k.0))
+    (λ there. let k = first_kept send recv above entries numbers there in (
+      (λ is. absurd (omega (arith, is, higher))),
+      least (first_active above (map.entries m)) k.1
+          k.0,
+    ))
 
 -- Where no stream above a number is active, there is no first one.
 pub none_is_first : (send recv above : ℕ) (entries : List (ℕ × Kept)) (numbers : List ℕ)

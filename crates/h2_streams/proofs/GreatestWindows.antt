@@ -2,9 +2,8 @@
 use Rattle.std.proofs.Common.{◌≡◌, ℕ, zero, suc, ◌+◌, ◌<◌, Bool, true, false, cond, ℤ, pos, ◌+ℤ◌}
 use Rattle.std.proofs.Common.{int_lt, ◌≤ℤ◌, List, [], ◌∷◌, length, Option, Some, None, IfSome, refl}
 use Rattle.std.proofs.Common.{sym, ap, ◌∙◌, nat_lt, arith}
-use Rattle.std.specs.Int.{int_max}
 use Rattle.std.specs.List.{slice_get}
-use Rattle.std.specs.Map.{lookup, values_of}
+use Rattle.std.specs.Map.{values_of}
 use Rattle.std.specs.Option.{option_map, is_some}
 use Rattle.std.specs.BTreeMap.{BTreeMap, IsOrdered, is_at}
 use Rattle.std.specs.Ordering.{nat_cmp}
@@ -13,15 +12,14 @@ use Rattle.std.specs.FinMap as map
 use Rattle.std.proofs.lemmas.Int.{ints}
 use Rattle.std.proofs.lemmas.Bool.{both_ways, ltb-true, ltb-false}
 use Rattle.std.proofs.lemmas.Map.Entries.{place_from_lookup, btree_map_get_place}
-use Rattle.h2_log.specs.Windows.{greatest_window}
 use Rattle.h2_machine.specs.End.{Entry, active_entry, reset_entry, StreamMap, any_above}
 use Rattle.h2_machine.specs.End.{above_by_shift}
 use Rattle.h2_streams.specs.Streams.{is_above_by_shift}
 use Rattle.h2_streams.specs.Table.{view_of_kept, kept_at, is_reset, IsKeptWell, greater_of}
-use Rattle.h2_streams.specs.Table.{IsGreatestOf, IsGreatestOffset}
+use Rattle.h2_streams.specs.Table.{IsGreatestOffset}
 use Rattle.h2_streams.specs.declared.table.Kept.{Kept}
 use Rattle.h2_streams.proofs.KeptEntries.{entry_at, get_kept}
-use Rattle.h2_streams.proofs.SortedEntries.{Above, above_found, any_found}
+use Rattle.h2_streams.proofs.SortedEntries.{above_found, any_found}
 use Rattle.h2_streams.proofs.TableSteps.{streams}
 
 -- the greatest difference among the first of what is kept
@@ -58,7 +56,8 @@ more_by : (n : ℕ) (values : List Kept) (other : ℤ) (kept : Kept) (b : Bool)
     → slice_get values n ≡ Some kept
     → GreatestBefore (n + 1) values (cond b other kept.send_offset)
 more_by n values other kept true is before here = record {
-  most = λ i k less at. below_or_here n i values other kept k before.most here (grind (arith, ints)) less at;
+  most = λ i k less at. below_or_here n i values other kept k before.most here
+      (grind (arith, ints)) less at;
   place = before.place;
   kept = before.kept;
   found = before.found;

@@ -1,14 +1,18 @@
 -- What the table of streams answers of each number, and when two tables are the same.
 use Rattle.std.proofs.Common.{◌≡◌, ℕ, Bool, true, false, cond, List, [], ◌∷◌, Option, Some, None}
 use Rattle.std.proofs.Common.{map as each, ◌||◌, IsSome, refl, ap, ◌∙◌}
+use Rattle.std.proofs.Common.{ℤ, pos, ◌+ℤ◌, ◌-ℤ◌, arith}
 use Rattle.std.specs.Ordering.{nat_cmp, is_eq}
-use Rattle.std.specs.Cmp.{nat_cmp_total, unsigned_tied}
+use Rattle.std.specs.Cmp.{nat_cmp_total}
 use Rattle.std.specs.FinMap as map
 use Rattle.std.specs.Option.{option_map}
 use Rattle.std.proofs.lemmas.Bool.{both_ways}
+use Rattle.std.proofs.lemmas.Int.{ints}
 use Rattle.h2_machine.specs.End.{Entry, active_entry, reset_entry, StreamMap, stream_in}
+use Rattle.h2_streams.specs.Streams.{stream_view}
 use Rattle.h2_streams.specs.Table.{view_of_kept, active_map, with_resets, kept_at, is_reset}
 use Rattle.h2_streams.specs.Table.{IsKeptWell}
+use Rattle.h2_streams.specs.declared.entry.Stream.{Stream}
 use Rattle.h2_streams.specs.declared.table.Kept.{Kept}
 
 -- what the table answers of a number, by whether it was reset, and what is kept of it
@@ -19,8 +23,11 @@ entry_at send recv false (Some kept) = Some (active_entry (view_of_kept send rec
 
 -- an entry as it is kept
 abbrev entries_of : (send recv : ℕ) → List (ℕ × Kept) → List (ℕ × Entry)
-entries_of send recv entries = each (λ entry. (entry.0, active_entry (view_of_kept send recv
-    entry.1))) entries
+entries_of send recv entries = each (λ entry. (
+  entry.0,
+  active_entry (view_of_kept send recv
+      entry.1),
+)) entries
 
 -- What is found among entries, by the test whether it is the first.
 found_by : (send recv : ℕ) (b : Bool) (kept : Kept) (x : Option Entry) (y : Option Kept)
@@ -103,3 +110,20 @@ pub nothing_kept : (send recv q : ℕ) (entries : List (ℕ × Kept)) (numbers :
 nothing_kept send recv q entries numbers apart none =
     let is = get_kept send recv q entries numbers in
     is ∙ nothing_by send recv (is_reset q numbers) (kept_at q entries) apart (rw (is) at none)
+
+-- A window is its difference from an initial window, and that.
+window_back : (window : ℤ) (initial : ℕ) → (window -ℤ pos initial) +ℤ pos initial ≡ window
+window_back window initial = omega (arith, ints)
+
+-- A stream that is kept by the differences of its windows is that stream.
+pub stream_back : (send recv : ℕ) (stream : Stream) (send_offset recv_offset : ℤ)
+    → send_offset ≡ stream.send_window -ℤ pos send
+    → recv_offset ≡ stream.recv_window -ℤ pos recv
+    → view_of_kept send recv (record {
+      send_offset = send_offset;
+      recv_offset = recv_offset;
+      owed = stream.owed;
+      state = stream.state;
+    }) ≡ stream_view stream
+stream_back send recv stream send_offset recv_offset send_is recv_is =
+    rw (send_is, recv_is, window_back stream.send_window send, window_back stream.recv_window recv)

@@ -1,7 +1,6 @@
 pub mod ActiveNumbers
 pub mod GreatestWindows
 pub mod KeptEntries
-pub mod NearWindows
 pub mod Shifts
 pub mod SortedEntries
 pub mod TableSteps

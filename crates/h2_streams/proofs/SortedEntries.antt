@@ -1,7 +1,7 @@
 -- What is found in a list of entries in the order of their numbers: the least active number above
 -- another, and whether a send window is brought above the greatest.
-use Rattle.std.proofs.Common.{◌≡◌, ◌≢◌, ℕ, zero, suc, ◌≤◌, ◌<◌, Bool, true, false, nat_lt, ◌&&◌}
-use Rattle.std.proofs.Common.{◌||◌, cond, T, if◌then◌else◌, List, [], ◌∷◌, Option, Some, None, Less}
+use Rattle.std.proofs.Common.{◌≡◌, ◌≢◌, ℕ, ◌≤◌, ◌<◌, Bool, true, false, nat_lt, ◌&&◌}
+use Rattle.std.proofs.Common.{◌||◌, cond, T, if◌then◌else◌, List, [], ◌∷◌, Some, None, Less}
 use Rattle.std.proofs.Common.{Equal, Greater, Ordering, inl, inr, refl, sym, ap, ◌∙◌, arith}
 use Rattle.std.specs.FinMap as map
 use Rattle.std.specs.FinMap.Entries.{below_all}
@@ -9,7 +9,7 @@ use Rattle.std.specs.Ordering.{nat_cmp, is_lt, is_eq}
 use Rattle.std.specs.Cmp.{nat_cmp_total, ranked, unsigned_tied}
 use Rattle.std.proofs.lemmas.Bool.{and_parts, or_cases, or_left, or_right, both_ways}
 use Rattle.std.proofs.lemmas.Bool.{ltb-true, lt-ltb, eq-eqb}
-use Rattle.h2_machine.specs.End.{Entry, active_entry, reset_entry, any_above, above_by_shift}
+use Rattle.h2_machine.specs.End.{Entry, any_above, above_by_shift}
 use Rattle.h2_machine.specs.Machine.{first_active, is_active_entry}
 
 -- The first part of a test that holds, holds.

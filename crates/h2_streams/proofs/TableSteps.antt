@@ -1,13 +1,13 @@
 -- What becomes of the table of streams where one is opened, changed, closed or reset, and where
 -- windows are shifted.
-use Rattle.std.proofs.Common.{◌≡◌, ℕ, Bool, true, false, cond, List, [], ◌∷◌, Option, Some, None}
+use Rattle.std.proofs.Common.{◌≡◌, ℕ, Bool, true, false, cond, List, [], Option, Some, None}
 use Rattle.std.proofs.Common.{IsSome, IfSome, refl, sym, ap, ◌∙◌, ◌==◌, eqb-true}
 use Rattle.std.proofs.lemmas.Bool.{both_ways}
 use Rattle.std.specs.Ordering.{nat_cmp, is_eq}
 use Rattle.std.specs.Cmp.{nat_cmp_total, unsigned_tied, eq_by_cmp_equiv}
 use Rattle.std.specs.FinMap as map
 use Rattle.h2_log.specs.View.{StreamView}
-use Rattle.h2_machine.specs.End.{Entry, active_entry, reset_entry, StreamMap, stream_in}
+use Rattle.h2_machine.specs.End.{active_entry, reset_entry, StreamMap, stream_in}
 use Rattle.h2_streams.specs.Table.{view_of_kept, active_map, with_resets, kept_at, is_reset}
 use Rattle.h2_streams.specs.Table.{TableState, IsKeptWell, IsNearKept}
 use Rattle.h2_streams.specs.declared.table.Kept.{Kept}
@@ -172,12 +172,6 @@ left_near : (b : Bool) (old : Option Kept) → IfSome old IsNearKept
 left_near true old all = tt
 left_near false old all = all
 
--- What is left without a number that was reset is apart from those that were.
-left_apart : (b c : Bool) (old : Option Kept) → (IsSome old → c ≡ false)
-    → IsSome (cond b None old) → cond b true c ≡ false
-left_apart true c old all some = absurd (both_ways false refl some)
-left_apart false c old all some = all some
-
 -- What is left without a number is apart from those that were reset.
 left_as_it_was : (b c : Bool) (old : Option Kept) → (IsSome old → c ≡ false)
     → IsSome (cond b None old) → c ≡ false
@@ -192,18 +186,6 @@ well_closed id old new numbers well changes =
       near = λ q. rw (changes q) (left_near (is_eq (nat_cmp id q)) (kept_at q old) (well.near q));
       apart = λ q some. left_as_it_was (is_eq (nat_cmp id q)) (is_reset q numbers) (kept_at q old)
           (well.apart q) (rw (changes q) at some);
-    }
-
--- Entries are kept well where one is reset.
-pub well_reset : (id : ℕ) (old new : List (ℕ × Kept)) (numbers more : List ℕ)
-    → IsKeptWell old numbers → ChangesAt id None old new
-    → ((q : ℕ) → is_reset q more ≡ cond (is_eq (nat_cmp id q)) true (is_reset q numbers))
-    → IsKeptWell new more
-well_reset id old new numbers more well changes resets =
-    record {
-      near = λ q. rw (changes q) (left_near (is_eq (nat_cmp id q)) (kept_at q old) (well.near q));
-      apart = λ q some. resets q ∙ left_apart (is_eq (nat_cmp id q)) (is_reset q numbers) (kept_at q
-          old) (well.apart q) (rw (changes q) at some);
     }
 
 -- a table with streams
@@ -223,3 +205,23 @@ new_streams send recv entries numbers no_entries no_numbers =
     ∙ ap (λ (ks : List ℕ). entry_at send recv (is_reset q ks) (kept_at q entries)) no_numbers
     ∙ ap (λ (es : List (ℕ × Kept)). entry_at send recv false (kept_at q es)) no_entries
     ∙ sym (map.get-empty nat_cmp q))
+
+-- What is found without a number that isn't among the active ones is what was found.
+gone_by : (b : Bool) (old : Option Kept) → (b ≡ true → old ≡ None) → old ≡ cond b None old
+gone_by true old none = none refl
+gone_by false old none = refl
+
+-- What isn't apart from those that were reset isn't kept.
+none_kept : (c : Bool) (kept : Option Kept) → c ≡ true → (IsSome kept → c ≡ false) → kept ≡ None
+none_kept c None reset apart = refl
+none_kept c (Some kept) reset apart = absurd (both_ways c (apart refl) reset)
+
+-- A number that was reset already isn't among the active ones: they stay.
+pub gone_already : (id : ℕ) (entries : List (ℕ × Kept)) (numbers : List ℕ)
+    → IsKeptWell entries numbers → is_reset id numbers ≡ true → ChangesAt id None entries entries
+gone_already id entries numbers well reset = λ q.
+    let none : kept_at id entries ≡ None =
+    none_kept (is_reset id numbers) (kept_at id entries) reset (well.apart id) in
+    gone_by (is_eq (nat_cmp id q)) (kept_at q entries)
+    (λ same. ap (λ (i : ℕ). kept_at i entries) (sym (eqb-true id q (test_from id q true same)))
+    ∙ none)

@@ -11,8 +11,13 @@ Parts = Option ((ℤ × ℤ) × (ℕ × (Bool × Bool)))
 
 abbrev pub parts_of : Entry → Parts
 parts_of reset_entry = None
-parts_of (active_entry stream) = Some ((stream.send_window, stream.recv_window), (stream.owed,
-    (stream.ended_in, stream.ended_out)))
+parts_of (active_entry stream) = Some (
+  (stream.send_window, stream.recv_window),
+  (
+    stream.owed,
+    (stream.ended_in, stream.ended_out),
+  ),
+)
 
 abbrev pub entry_of_parts : Parts → Entry
 entry_of_parts None = reset_entry

@@ -1,6 +1,6 @@
 -- Entries of the table as values of the machine.
-use Rattle.std.specs.Prelude.{ℕ, ◌^◌, ◌+◌, ◌||◌, Bool, false, ℤ, pos, ◌+ℤ◌, ◌-ℤ◌, int_lt, Option, Some}
-use Rattle.std.specs.Prelude.{None}
+use Rattle.std.specs.Prelude.{ℕ, ◌^◌, ◌+◌, ◌||◌, Bool, false, ℤ, pos, ◌+ℤ◌, ◌-ℤ◌, int_lt, Option}
+use Rattle.std.specs.Prelude.{Some, None}
 use Rattle.h2_log.specs.View.{StreamView}
 use Rattle.h2_log.specs.Windows.{greatest_window}
 use Rattle.h2_machine.specs.End.{Entry as MachineEntry, active_entry, reset_entry}

@@ -1,6 +1,6 @@
 -- The table of streams as a value, and how its parts make it.
-use Rattle.std.specs.Prelude.{ℕ, ◌^◌, ◌||◌, ◌≡◌, Bool, false, ℤ, pos, ◌+ℤ◌, ◌-ℤ◌, int_lt, List, [], ◌∷◌}
-use Rattle.std.specs.Prelude.{map as each, Option, Some, None, IsSome, IfSome, ◌≤ℤ◌}
+use Rattle.std.specs.Prelude.{ℕ, ◌^◌, ◌||◌, ◌≡◌, Bool, false, ℤ, pos, ◌+ℤ◌, ◌-ℤ◌, int_lt, List, []}
+use Rattle.std.specs.Prelude.{◌∷◌, map as each, Option, Some, None, IsSome, IfSome, ◌≤ℤ◌}
 use Rattle.std.specs.Int.{int_max}
 use Rattle.std.specs.List.{list_any}
 use Rattle.std.specs.Map.{lookup}
@@ -8,7 +8,7 @@ use Rattle.std.specs.BTreeMap.{is_at}
 use Rattle.std.specs.Ordering.{nat_cmp}
 use Rattle.std.specs.FinMap as map
 use Rattle.h2_log.specs.View.{StreamView}
-use Rattle.h2_machine.specs.End.{Entry, active_entry, reset_entry, StreamMap}
+use Rattle.h2_machine.specs.End.{active_entry, reset_entry, StreamMap}
 use Rattle.h2_streams.specs.declared.table.Kept.{Kept}
 
 -- what is kept of numbers, with windows as they are now, and the initial windows in force

@@ -1,7 +1,7 @@
 //! The table of streams.
 
 ghost use Rattle.std.specs.Prelude.{◌≡◌, ◌^◌, ◌<◌, ℕ, pos, ◌+ℤ◌, ◌-ℤ◌, false, None, Some, IsSome};
-ghost use Rattle.std.specs.Prelude.{OnOk, OnErr};
+ghost use Rattle.std.specs.Prelude.{IfSome, OnOk, OnErr};
 ghost use Rattle.std.specs.Option.{option_map};
 ghost use Rattle.std.specs.FinMap as map;
 ghost use Rattle.h2_machine.specs.End.{stream_in, active_entry, reset_entry, any_above};
@@ -158,8 +158,10 @@ impl StreamTable {
         }) }
         ensures err { OnErr result (self.new ≡ self.old) }
     {
-        self.resets.insert(id)?;
-        self.active.remove(&id);
+        let is_new = self.resets.insert(id)?;
+        if is_new {
+            self.active.remove(&id);
+        }
         Ok(())
     }
 
@@ -207,7 +209,9 @@ impl StreamTable {
 
     /// The least active number above another. It takes no memory.
     pub fn next_active(&self, above: u32) -> Option<u32>
-        ensures { number_or_none result ≡ first_active above (map.entries self.now.entries) }
+        ensures number { number_or_none result
+            ≡ first_active above (map.entries self.now.entries) }
+        ensures above { IfSome result (λ number. above < number) }
     {
         let above = (Bound::Excluded(above), Bound::Unbounded);
         let (number, _) = self.active.range(above).next()?;

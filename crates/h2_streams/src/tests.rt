@@ -213,19 +213,28 @@ fn active_numbers_in_their_order(rt: HostRuntime) -> Result<(), Fail> {
     Ok(())
 }
 
+/// What is kept of the streams at some place of a thousand, once some are reset and some closed.
+fn kept_at(place: u32) -> Option<Entry> {
+    match place % 3 {
+        0 => Some(Entry::Reset),
+        1 => None,
+        _ => Some(Entry::Active(stream_of(i64::from(place) + 1, 0, place))),
+    }
+}
+
 /// A thousand streams: each is found, shifted, reset or closed, and no other with it.
 #[test]
 fn a_thousand_streams(rt: HostRuntime) -> Result<(), Fail> {
     let mut table = StreamTable::new(rt.alloc(), INITIAL, INITIAL);
     for place in 0..1000_u32 {
-        let send_window = i64::from(place);
-        open(&rt, &mut table, 2 * place + 1, stream_of(send_window, 0, place))?;
+        let stream = stream_of(i64::from(place), 0, place);
+        open(&rt, &mut table, 2 * place + 1, stream)?;
     }
     table.set_send_initial(INITIAL + 1);
     for place in 0..1000_u32 {
         let id = 2 * place + 1;
-        let send_window = i64::from(place) + 1;
-        assert_eq!(rt; table.stream(id), Some(stream_of(send_window, 0, place)), "{id}");
+        let stream = stream_of(i64::from(place) + 1, 0, place);
+        assert_eq!(rt; table.stream(id), Some(stream), "{id}");
         assert_eq!(rt; table.next_active(2 * place), Some(id), "{id}");
         if place % 3 == 0 {
             table.reset(id)?;
@@ -234,13 +243,7 @@ fn a_thousand_streams(rt: HostRuntime) -> Result<(), Fail> {
         }
     }
     for place in 0..1000_u32 {
-        let id = 2 * place + 1;
-        let kept = match place % 3 {
-            0 => Some(Entry::Reset),
-            1 => None,
-            _ => Some(Entry::Active(stream_of(i64::from(place) + 1, 0, place))),
-        };
-        assert_eq!(rt; table.get(id), kept, "{id}");
+        assert_eq!(rt; table.get(2 * place + 1), kept_at(place), "{place}");
     }
     assert_eq!(rt; table.greatest_send_window(), Some(999));
     assert_eq!(rt; table.next_active(0), Some(5));

@@ -1,5 +1,5 @@
-use Rattle.std.proofs.Common.{◌≡◌, ◌+◌, length, []}
-use Rattle.std.proofs.Common.{◌∷◌, ◌++◌, ◌∙◌, rules}
+use Rattle.std.proofs.Common.{◌≡◌, length}
+use Rattle.std.proofs.Common.{◌∙◌, rules}
 use mir.Syntax.{w64}
 use mir.Val.{SFits}
 use Rattle.std.specs.Map.{values_of}

@@ -1,7 +1,7 @@
-use Rattle.std.proofs.Common.{◌≡◌, pos, ◌+ℤ◌, None, Some, arith, rules}
+use Rattle.std.proofs.Common.{◌≡◌, pos, ◌+ℤ◌, None, Some, rules}
 use mir.Syntax.{w64}
 use mir.Val.{SFits}
-use Rattle.std.proofs.lemmas.Int.{ints, to_z-of_z}
+use Rattle.std.proofs.lemmas.Int.{to_z-of_z}
 use Rattle.h2_streams.proofs.GreatestWindows.{above_same}
 use Rattle.h2_streams.proofs.table.StreamTable.greatest_send_window.Goals as goal
 

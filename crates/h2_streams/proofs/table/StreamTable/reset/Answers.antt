@@ -1,12 +1,26 @@
-use Rattle.std.proofs.Common.{ap}
-use Rattle.h2_streams.proofs.TableSteps.{table_with, streams_reset}
+use Rattle.std.proofs.Common.{ap, sym, ◌∙◌}
+use Rattle.std.proofs.lemmas.Bool.{not-false}
+use Rattle.h2_streams.specs.Table.{is_reset}
+use Rattle.h2_streams.proofs.TableSteps.{table_with, streams_reset, gone_already}
 use Rattle.h2_streams.proofs.table.StreamTable.reset.Goals as goal
 
-pub returns-clause-ok : goal.returns-clause-ok
-returns-clause-ok c =
+pub returns-then-is_new-clause-ok : goal.returns-then-is_new-clause-ok
+returns-then-is_new-clause-ok c =
     let t = c.self.inside in
     rw (← c.self.view_is)
     (ap (table_with t.send_initial t.recv_initial)
     (streams_reset t.send_initial t.recv_initial c.args.id t.active.entries
     c.remove.new.self.entries t.resets.keys c.insert.new.self.keys c.remove.ensures.updates.0
-    c.in_ok-insert.ensures.updates.0))
+    c.in_ok-is_new.ensures.updates.0))
+
+pub returns-else-is_new-clause-ok : goal.returns-else-is_new-clause-ok
+returns-else-is_new-clause-ok c =
+    let t = c.self.inside in
+    let already = not-false (is_reset c.args.id t.resets.keys)
+    (sym c.in_ok-is_new.ensures.added ∙ c.if-is_new.false) in
+    rw (← c.self.view_is)
+    (ap (table_with t.send_initial t.recv_initial)
+    (streams_reset t.send_initial t.recv_initial c.args.id t.active.entries t.active.entries
+    t.resets.keys c.insert.new.self.keys
+    (gone_already c.args.id t.active.entries t.resets.keys c.self.invariant already)
+    c.in_ok-is_new.ensures.updates.0))

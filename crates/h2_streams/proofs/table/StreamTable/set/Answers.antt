@@ -2,12 +2,12 @@ use Rattle.std.proofs.Common.{ap, false, refl, ◌∙◌}
 use Rattle.std.specs.Option.{is_some}
 use Rattle.std.proofs.lemmas.Bool.{both_ways}
 use Rattle.h2_streams.specs.Streams.{stream_view}
-use Rattle.h2_streams.proofs.TableSteps.{table_with, active, streams_set, well_set}
+use Rattle.h2_streams.proofs.TableSteps.{table_with, active, streams_set}
 use Rattle.h2_streams.proofs.table.StreamTable.set.Goals as goal
 use Rattle.h2_streams.proofs.table.StreamTable.set.Goals.{in-Some, in_default}
 
 pub returns : goal.returns
-returns c = 
+returns c =
     let t = c.self.inside in
     let here = active t.send_initial t.recv_initial c.args.id t.active.entries t.resets.keys
     (rw (← c.self.view_is) at c.requires.active) in

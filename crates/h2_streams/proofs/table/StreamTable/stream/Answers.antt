@@ -18,8 +18,12 @@ returns c =
     let e = stream_kept t.send_initial t.recv_initial c.args.id t.active.entries t.resets.keys
     c.self.invariant in
     let kept = c.in_ok-kept.kept.now in
-    let send : c.window_of.result ≡ kept.send_offset +ℤ pos t.send_initial = omega (arith, ints, c.window_of.ensures) in
-    let recv : c.window_of-2.result ≡ kept.recv_offset +ℤ pos t.recv_initial = omega (arith, ints, c.window_of-2.ensures) in
+    let send : c.window_of.result ≡ kept.send_offset +ℤ pos t.send_initial =
+    omega (arith, ints, c.window_of.ensures) in
+    let recv : c.window_of-2.result ≡ kept.recv_offset +ℤ pos t.recv_initial =
+    omega (arith, ints, c.window_of-2.ensures) in
     let send_fits : SFits w64 c.window_of.result = search rules in
     let recv_fits : SFits w64 c.window_of-2.result = search rules in
-    rw (← c.self.view_is, e, ← c.in_ok-kept.ensures.value, to_z-of_z w64 c.window_of.result send_fits, to_z-of_z w64 c.window_of-2.result recv_fits, send, recv)
+    let send_kept = to_z-of_z w64 c.window_of.result send_fits in
+    let recv_kept = to_z-of_z w64 c.window_of-2.result recv_fits in
+    rw (← c.self.view_is, e, ← c.in_ok-kept.ensures.value, send_kept, recv_kept, send, recv)
