@@ -1,44 +1,125 @@
 -- What is known of an end whose values are sound.
-use Rattle.std.specs.Prelude.{◌≡◌, ◌<◌, ◌≤◌, ◌^◌, ◌+◌, ℕ, false, Some, None, length}
+use Rattle.std.proofs.Common.{◌≡◌, ◌<◌, ◌≤◌, ◌^◌, ◌+◌, ℕ, Bool, true, false, cond, List, [], ◌∷◌}
+use Rattle.std.proofs.Common.{Option, Some, None, length, refl, sym, ap, ◌∙◌, arith}
+use Rattle.std.proofs.lemmas.Int.{ints}
 use Rattle.std.specs.FinMap as map
+use Rattle.std.specs.Ordering.{nat_cmp, is_eq}
 use Rattle.h2_log.specs.View.{StreamView}
-use Rattle.h2_machine.specs.End.{End, stream_at}
+use Rattle.h2_machine.specs.End.{Entry, active_entry, reset_entry, End, stream_in, stream_at}
+use Rattle.h2_machine.specs.End.{owed_entry, owed_sum}
+use Rattle.h2_machine_laws.specs.Ranges.{count_active, StreamIsInRange}
 use Rattle.h2_streams.specs.Streams.{is_far}
 use Rattle.h2_core.specs.Endpoint.{IsSound}
+
+-- one for a stream
+abbrev one_of : Option StreamView → ℕ
+one_of None = 0
+one_of (Some stream) = 1
+
+-- what a stream owes, where there is one
+abbrev owed_of : Option StreamView → ℕ
+owed_of None = 0
+owed_of (Some stream) = stream.owed
+
+-- An entry that is found by a test is counted, or one after it is.
+counted_by : (test : Bool) (i : ℕ) (entry : Entry) (found : Option Entry)
+    (entries : List (ℕ × Entry)) → one_of (stream_in found) ≤ count_active entries
+    → one_of (stream_in (cond test (Some entry) found)) ≤ count_active ((i, entry) ∷ entries)
+unfolding count_active
+counted_by true i (active_entry stream) found entries h = omega arith
+counted_by true i reset_entry found entries h = omega arith
+counted_by false i (active_entry stream) found entries h = omega arith
+counted_by false i reset_entry found entries h = h
+
+-- An active entry that is found is counted.
+found_is_counted : (i : ℕ) (entries : List (ℕ × Entry))
+    → one_of (stream_in (map.find nat_cmp i entries)) ≤ count_active entries
+unfolding count_active
+found_is_counted i [] = omega arith
+found_is_counted i (entry ∷ entries) =
+    counted_by (is_eq (nat_cmp i entry.0)) entry.0 entry.1 (map.find nat_cmp i entries) entries
+    (found_is_counted i entries)
+
+-- What an entry owes that is found by a test is in the sum.
+owed_by : (test : Bool) (i : ℕ) (entry : Entry) (found : Option Entry) (entries : List (ℕ × Entry))
+    → owed_of (stream_in found) ≤ owed_sum entries
+    → owed_of (stream_in (cond test (Some entry) found)) ≤ owed_sum ((i, entry) ∷ entries)
+unfolding owed_sum
+owed_by true i (active_entry stream) found entries h = omega arith
+owed_by true i reset_entry found entries h = omega arith
+owed_by false i entry found entries h = omega arith
+
+-- What an entry owes that is found is in the sum.
+found_owes : (i : ℕ) (entries : List (ℕ × Entry))
+    → owed_of (stream_in (map.find nat_cmp i entries)) ≤ owed_sum entries
+unfolding owed_sum
+found_owes i [] = omega arith
+found_owes i (entry ∷ entries) =
+    owed_by (is_eq (nat_cmp i entry.0)) entry.0 entry.1 (map.find nat_cmp i entries) entries
+    (found_owes i entries)
+
+-- A stream is the one that is found in the list of entries.
+found_in : (e : End) (i : ℕ) (stream : StreamView) → stream_at e i ≡ Some stream
+    → stream_in (map.find nat_cmp i (map.entries e.streams.entries)) ≡ Some stream
+found_in e i stream active = ap stream_in (sym (map.get-entries e.streams.entries i)) ∙ active
 
 -- Where a stream is active, one at least is counted.
 pub counted : (e : End) (i : ℕ) (stream : StreamView) → IsSound e → stream_at e i ≡ Some stream
     → 1 ≤ e.streams.active_count
-counted e i stream sound active = ?
+counted e i stream sound active =
+    omega (
+      arith,
+      found_is_counted i (map.entries e.streams.entries),
+      ap one_of (found_in e i stream active),
+      sound.counts.active,
+    )
 
 -- The connection's receive window, what is unreturned and what one stream owes are 65,535 at most.
 pub owed_fits : (e : End) (i : ℕ) (stream : StreamView) → IsSound e → stream_at e i ≡ Some stream
     → e.windows.recv + (e.windows.unreturned + stream.owed) ≤ 65535
-owed_fits e i stream sound active = ?
+owed_fits e i stream sound active =
+    omega (
+      arith,
+      found_owes i (map.entries e.streams.entries),
+      ap owed_of (found_in e i stream active),
+      sound.window.whole,
+    )
 
 pub connection_fits : (e : End) → IsSound e → e.windows.recv + e.windows.unreturned ≤ 65535
-connection_fits e sound = ?
+connection_fits e sound = omega (arith, sound.window.whole)
+
+-- The windows of a stream in range are near zero.
+near_send : (e : End) (stream : StreamView) → StreamIsInRange e stream
+    → is_far stream.send_window ≡ false
+near_send e stream range = grind (arith, ints)
+
+near_recv : (e : End) (stream : StreamView) → StreamIsInRange e stream
+    → e.own.in_force.initial_window < 2 ^ 31
+    → is_far stream.recv_window ≡ false
+near_recv e stream range small = grind (arith, ints)
 
 -- The windows of an active stream are near zero.
 pub send_near : (e : End) (i : ℕ) (stream : StreamView) → IsSound e → stream_at e i ≡ Some stream
     → is_far stream.send_window ≡ false
-send_near e i stream sound active = ?
+send_near e i stream sound active = near_send e stream (sound.ranges.streams i stream active)
 
 pub recv_near : (e : End) (i : ℕ) (stream : StreamView) → IsSound e → stream_at e i ≡ Some stream
     → is_far stream.recv_window ≡ false
-recv_near e i stream sound active = ?
+recv_near e i stream sound active =
+    near_recv e stream (sound.ranges.streams i stream active)
+    (omega (arith, sound.ranges.own_window))
 
 -- Nothing is kept of a number that was not used.
 pub absent_above : (e : End) (i : ℕ) → IsSound e → e.streams.highest < i
     → map.get e.streams.entries i ≡ None
-absent_above e i sound above = ?
+absent_above e i sound above = sound.window.used i above
 
 -- Numbers of streams have 31 bits.
 pub highest_small : (e : End) → IsSound e → e.streams.highest < 2 ^ 31
-highest_small e sound = ?
+highest_small e sound = omega (arith, sound.ranges.highest)
 
 pub last_small : (e : End) → IsSound e → e.streams.last_processed < 2 ^ 31
-last_small e sound = ?
+last_small e sound = omega (arith, sound.ranges.highest, sound.ranges.last_processed)
 
 pub waiting_small : (e : End) → IsSound e → length e.output.waiting ≤ 262161
-waiting_small e sound = ?
+waiting_small e sound = omega (arith, sound.bounded.output)

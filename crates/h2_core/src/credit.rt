@@ -16,7 +16,8 @@ impl Endpoint {
         requires up { self.old.failed ≡ None }
         requires room { 13 ≤ self.old.output.spare }
         requires window { self.old.recv_window + self.old.unreturned < 2 ^ 31 }
-        ensures { end_of self.new ≡ return_credit (end_of self.old) }
+        ensures after { end_of self.new ≡ return_credit (end_of self.old) }
+        ensures list { self.new.list ≡ self.old.list }
     {
         self.output.add_frame(FrameRef::WindowUpdate {
             stream: 0,
@@ -33,7 +34,8 @@ impl Endpoint {
         requires up { self.old.failed ≡ None }
         requires room { 13 ≤ self.old.output.spare }
         requires window { self.old.recv_window + (self.old.unreturned + more) < 2 ^ 31 }
-        ensures { end_of self.new ≡ add_unreturned more (end_of self.old) }
+        ensures after { end_of self.new ≡ add_unreturned more (end_of self.old) }
+        ensures list { self.new.list ≡ self.old.list }
     {
         self.unreturned += more;
         if more > 0 && self.output.len() < FULL_OUTPUT {

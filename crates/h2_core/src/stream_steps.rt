@@ -43,7 +43,9 @@ impl Endpoint {
         requires counted { 1 ≤ self.old.active_count }
         requires room { 13 ≤ self.old.output.spare }
         requires window { WindowHolds self.old stream.owed }
-        ensures { end_of self.new ≡ update_stream (end_of self.old) id (stream_view stream) }
+        ensures after { end_of self.new
+            ≡ update_stream (end_of self.old) id (stream_view stream) }
+        ensures list { self.new.list ≡ self.old.list }
     {
         if stream.state.closed() {
             self.streams.close(id);

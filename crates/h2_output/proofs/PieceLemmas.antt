@@ -18,8 +18,7 @@ take-parts count queued queue last is = elim (cases_lt (length queue) count) [
   | inr few ↦
       let same : queued ≡ count = omega (arith, is, few) in
       let none : count - queued ≡ 0 = omega (arith, same) in
-      let first : take count (queue ++ last) ≡ take count queue = take-append-le count queue last few in
-      rw (none, same, append-nil) first
+      rw (none, same, append-nil) (take-append-le count queue last few)
 ]
 
 -- What still waits.
@@ -35,6 +34,5 @@ drop-parts count queued queue last is = elim (cases_lt (length queue) count) [
   | inr few ↦
       let same : queued ≡ count = omega (arith, is, few) in
       let none : count - queued ≡ 0 = omega (arith, same) in
-      let first : drop count (queue ++ last) ≡ drop count queue ++ last = drop-append-le count queue last few in
-      rw (none, same) first
+      rw (none, same) (drop-append-le count queue last few)
 ]

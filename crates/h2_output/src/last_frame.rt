@@ -34,7 +34,8 @@ impl LastFrame {
             ≡ drop count (drop self.old.given self.old.octets) }
     {
         let end = self.given + count;
-        out.extend_from_slice(&self.octets[self.given..end]).unwrap();
+        let part = &self.octets[self.given..end];
+        out.extend_from_slice(part).unwrap();
         self.given = end;
     }
 }

@@ -1,7 +1,7 @@
 //! The output that waits.
 
-ghost use Rattle.std.specs.Prelude.{◌≡◌, ◌+◌, ◌==◌, ◌^◌, ◌<◌, ◌≤◌, ◌++◌, [], length, min, take, drop};
-ghost use Rattle.std.specs.Prelude.{true, false, None, Some, OnOk, IfOk, OnErr, vec_len};
+ghost use Rattle.std.specs.Prelude.{◌≡◌, ◌+◌, ◌==◌, ◌^◌, ◌<◌, ◌≤◌, ◌++◌, [], length, min};
+ghost use Rattle.std.specs.Prelude.{take, drop, true, false, None, Some, OnOk, IfOk, OnErr, IsOk, vec_len};
 ghost use Rattle.std.specs.Vec.{vec_capacity};
 ghost use Rattle.h2_frame.specs.Frames.{frame_of, Data, GoAway};
 ghost use Rattle.h2_frame.specs.Encoding.{encoding_of, refusal};
@@ -87,6 +87,7 @@ impl Output {
     pub fn reserve(&mut self, additional: usize) -> Result<(), AllocError>
         ensures waiting { self.new.waiting ≡ self.old.waiting }
         ensures ended { self.new.ended ≡ self.old.ended }
+        ensures spare { self.old.spare ≤ self.new.spare }
         ensures ok { OnOk result (additional ≤ self.new.spare) }
         ensures err { OnErr result (self.old.spare < additional) }
     {
@@ -105,8 +106,7 @@ impl Output {
             ≡ self.old.spare }
         ensures ended { self.new.ended ≡ false }
     {
-        self.frame.clear();
-        write_ref(frame, &mut self.frame).unwrap();
+        encode(frame, &mut self.frame);
         self.queue.extend_reserved(&self.frame);
     }
 
@@ -121,8 +121,9 @@ impl Output {
         ensures spare { self.new.spare + (9 + length octets.now) ≡ self.old.spare }
         ensures ended { self.new.ended ≡ false }
     {
-        self.queue.extend_reserved(&data_head(stream, octets.len() as u32, end));
-        self.queue.extend_reserved(octets);
+        let head = data_head(stream, octets.len() as u32, end);
+        self.queue.extend_reserved(&head);
+        self.add_octets(octets);
     }
 
     /// Adds octets for which there is room: the frames of a field block. It takes no memory.
@@ -144,13 +145,12 @@ impl Output {
         ensures waiting { self.new.waiting ≡ self.old.waiting ++ encoding_of (GoAway last code []) }
         ensures ended { self.new.ended ≡ true }
     {
-        let frame = FrameRef::GoAway {
+        let goaway = FrameRef::GoAway {
             last,
             code,
             debug: &[],
         };
-        self.frame.clear();
-        write_ref(frame, &mut self.frame).unwrap();
+        encode(goaway, &mut self.frame);
         let mut octets = [0; GOAWAY];
         octets.copy_from_slice(&self.frame);
         self.last = Some(LastFrame { octets, given: 0 });
@@ -168,6 +168,10 @@ impl Output {
             × (self.new.waiting ≡ drop given self.old.waiting)) }
         ensures err { OnErr result ((out.new.items ≡ out.old.items)
             × (self.new.waiting ≡ self.old.waiting)) }
+
+        // Capacity is enough.
+        ensures room { vec_len out.old + min count (length self.old.waiting)
+            ≤ vec_capacity out.old → IsOk result }
         ensures ended { self.new.ended ≡ self.old.ended }
         ensures spare { self.old.spare ≤ self.new.spare }
     {
@@ -180,6 +184,17 @@ impl Output {
         }
         Ok(given)
     }
+}
+
+// Puts the encoding of a frame in the place of the octets, whose capacity suffices.
+fn encode(frame: FrameRef<'_>, octets: &mut Vec<u8>)
+    requires writable { refusal (frame_of frame) ≡ None }
+    requires room { length (encoding_of (frame_of frame)) ≤ vec_capacity octets.old }
+    ensures items { octets.new.items ≡ encoding_of (frame_of frame.entry) }
+    ensures capacity { vec_capacity octets.old ≤ vec_capacity octets.new }
+{
+    octets.clear();
+    write_ref(frame, octets).unwrap();
 }
 
 // Appends so many octets of a queue to `out`, which has capacity for them, and takes them away.

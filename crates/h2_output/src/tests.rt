@@ -5,7 +5,7 @@ ghost use Rattle.h2_frame.specs.Frames.{frame_of};
 ghost use Rattle.h2_frame.specs.Encoding.{encoding_of, refusal};
 
 use crate::Output;
-use h2_frame::{FrameRef, Kind, head, payload_fault, payload_frame};
+use h2_frame::{FrameRef, head, head_fault, read_payload};
 use std::alloc::{AllocError, Global};
 use std::process::Abort;
 use std::test::Fail;
@@ -37,12 +37,7 @@ fn add_data(output: &mut Output, octets: &[u8], end: bool) -> Result<(), AllocEr
 }
 
 // These octets wait, and are given out once.
-fn check(
-    rt: &impl Abort,
-    alloc: Global,
-    output: &mut Output,
-    octets: &[u8],
-) -> Result<(), Fail>
+fn check(rt: &impl Abort, alloc: Global, output: &mut Output, octets: &[u8]) -> Result<(), Fail>
     ensures { output.new.ended ≡ output.old.ended }
 {
     assert_eq!(rt; output.len(), octets.len());
@@ -103,9 +98,9 @@ fn an_acknowledgment_of_settings(rt: HostRuntime) -> Result<(), Fail> {
     let mut output = Output::new(rt.alloc())?;
     let octets = b"\x00\x00\x00\x04\x01\x00\x00\x00\x00";
     let read = head(octets);
-    assert!(rt; read.kind == Kind::Settings);
-    assert!(rt; payload_fault(&read, &[]).is_none());
-    let FrameRef::Settings { ack: true, pairs } = payload_frame(&read, &[]) else {
+    assert!(rt; head_fault(&read, 16_384).is_none());
+    assert_eq!(rt; read.length, 0);
+    let Ok(FrameRef::Settings { ack: true, pairs }) = read_payload(&read, &[]) else {
         return Err(Fail::from("no SETTINGS with ACK"));
     };
     assert!(rt; pairs.is_empty());
@@ -118,11 +113,14 @@ fn data_waits_in_its_encoding(rt: HostRuntime) -> Result<(), Fail> {
     let alloc = rt.alloc();
     let mut output = Output::new(alloc)?;
     add_data(&mut output, b"abc", false)?;
-    check(&rt, alloc, &mut output, b"\x00\x00\x03\x00\x00\x00\x00\x00\x01abc")?;
+    let octets = b"\x00\x00\x03\x00\x00\x00\x00\x00\x01abc";
+    check(&rt, alloc, &mut output, octets)?;
     add_data(&mut output, b"defgh", true)?;
-    check(&rt, alloc, &mut output, b"\x00\x00\x05\x00\x01\x00\x00\x00\x01defgh")?;
+    let octets = b"\x00\x00\x05\x00\x01\x00\x00\x00\x01defgh";
+    check(&rt, alloc, &mut output, octets)?;
     add_data(&mut output, b"", true)?;
-    check(&rt, alloc, &mut output, b"\x00\x00\x00\x00\x01\x00\x00\x00\x01")?;
+    let octets = b"\x00\x00\x00\x00\x01\x00\x00\x00\x01";
+    check(&rt, alloc, &mut output, octets)?;
     // A stream and a length that fill their fields.
     let mut octets = Vec::new(alloc);
     octets.resize(0x01_02_03, b'x')?;
@@ -130,7 +128,10 @@ fn data_waits_in_its_encoding(rt: HostRuntime) -> Result<(), Fail> {
     output.add_data(0x7f_fe_fd_fc, &octets, false);
     let mut out = Vec::new(alloc);
     assert_eq!(rt; output.put_out(9, &mut out)?, 9);
-    assert_eq!(rt; out.as_slice(), b"\x01\x02\x03\x00\x00\x7f\xfe\xfd\xfc".as_slice());
+    assert_eq!(rt;
+        out.as_slice(),
+        b"\x01\x02\x03\x00\x00\x7f\xfe\xfd\xfc".as_slice()
+    );
     check(&rt, alloc, &mut output, &octets)
 }
 
@@ -174,7 +175,8 @@ fn output_goes_out_in_pieces(rt: HostRuntime) -> Result<(), Fail> {
             let given = output.put_out(size, &mut out)?;
             assert_eq!(rt; given, wait.min(size), "pieces of {size}");
             assert_eq!(rt; output.len(), wait - given, "pieces of {size}");
-            assert_eq!(rt; out.len() + output.len(), octets.len(), "pieces of {size}");
+            let left = octets.len().checked_sub(out.len());
+            assert_eq!(rt; Some(output.len()), left, "pieces of {size}");
         }
         assert_eq!(rt; out.as_slice(), octets.as_slice(), "pieces of {size}");
         assert!(rt; output.is_empty());
@@ -192,31 +194,31 @@ fn a_refused_allocation_loses_nothing(rt: HostRuntime) -> Result<(), Fail> {
         Ok(output) => output,
         Err(AllocError) => Output::new(alloc)?,
     };
-    let mut refused = 0;
+    let mut refused = false;
     for round in 0..3 {
         if output.reserve(100).is_err() {
             assert_eq!(rt; output.len(), 100 * round);
-            refused += 1;
+            assert!(rt; !refused);
+            refused = true;
             output.reserve(100)?;
         }
         output.add_octets(&[7; 100]);
     }
     output.end_with_goaway(5, 1);
     let mut out = Vec::new(alloc);
-    for given in [150, 250, 317] {
-        let count = given - out.len();
-        let before = out.len();
+    for (count, given) in [(150, 150), (100, 250), (67, 317)] {
+        let (wait, before) = (output.len(), out.len());
         if output.put_out(count, &mut out).is_err() {
+            assert_eq!(rt; output.len(), wait);
             assert_eq!(rt; out.len(), before);
-            assert_eq!(rt; output.len(), 317 - before);
-            refused += 1;
+            assert!(rt; !refused);
+            refused = true;
             assert_eq!(rt; output.put_out(count, &mut out)?, count);
         }
         assert_eq!(rt; out.len(), given);
-        assert_eq!(rt; output.len(), 317 - given);
     }
-    assert!(rt; refused <= 1);
-    assert!(rt; out[..300].iter().all(|octet| *octet == 7));
+    assert!(rt; output.is_empty());
+    assert_eq!(rt; out.get(..300), Some([7; 300].as_slice()));
     assert_eq!(rt; out.get(300..), Some(GOAWAY));
     Ok(())
 }

@@ -24,16 +24,14 @@ returns-clause-ok c =
       | in-Some w ↦
           let part : last ≡ drop w.in-Some.last.given w.in-Some.last.octets =
           rw w.in-Some.is refl in
-          let second = w.put_out.ensures in
-          (
+          let second = w.put_out.ensures in (
             count,
             rw (w.out-is, second.given, first.given, append_assoc, reserved, waiting, taken, part)
                 refl,
             rw (w.self-inside-is, second.waiting, first.waiting, waiting, left, part) refl,
           )
       | in_default w ↦
-          let none : last ≡ [] = rw w.in_default.is refl in
-          (
+          let none : last ≡ [] = rw w.in_default.is refl in (
             count,
             rw (w.out-is, first.given, reserved, waiting, taken, none, take-nil, append-nil) refl,
             rw (w.self-inside-is, first.waiting, waiting, left, none, drop-nil) refl,

@@ -1,0 +1,63 @@
+-- Why calls are refused, and what accepted calls make of an end, by the tests that the code makes.
+use Rattle.std.proofs.Common.{◌≡◌, ℕ, Bool, true, false, if◌then◌else◌, List, [], ◌∷◌, Option, Some}
+use Rattle.std.proofs.Common.{None, Result, Ok, Err, inl, inr, refl, ap}
+use Rattle.std.specs.Result.{OnOk, is_err}
+use Rattle.h2_frame.specs.Frames.{Ping, GoAway}
+use Rattle.h2_block.specs.Grouping.{alone}
+use Rattle.h2_log.specs.declared.refusal.Refusal.{Refusal}
+use Rattle.h2_log.specs.declared.refusal.Refusal.TheVariants.{Memory}
+use Rattle.h2_log.specs.Acts.{Act, SendPing, SendGoAway}
+use Rattle.h2_log.specs.CallRules.{refusal_of, first_of, items_of, encoder_after_call}
+use Rattle.h2_machine.specs.End.{End, end_view}
+use Rattle.h2_machine.specs.Machine.{after_call, queue_output}
+use Rattle.h2_core.specs.Calls.{CallRefused}
+
+-- The first condition holds.
+pub first-here : (refusal : Refusal) (others : List (Bool × Refusal)) (test : Bool) → test ≡ true
+    → first_of ((test, refusal) ∷ others) ≡ Some refusal
+unfolding first_of
+first-here refusal others test holds =
+    ap (λ (b : Bool). if b then Some refusal else first_of others) holds
+
+-- It doesn't.
+pub first-later : (refusal : Refusal) (others : List (Bool × Refusal)) (test : Bool)
+    → test ≡ false → first_of ((test, refusal) ∷ others) ≡ first_of others
+unfolding first_of
+first-later refusal others test fails =
+    ap (λ (b : Bool). if b then Some refusal else first_of others) fails
+
+-- No condition is left.
+pub first-none : first_of [] ≡ None
+unfolding first_of
+first-none = refl
+
+-- What holds of an answer holds where it isn't an error.
+pub at_ok : {T E : Type 0} {P : Type 0} (answer : Result T E) → is_err answer ≡ false
+    → OnOk answer P → P
+at_ok (Ok value) is h = h
+at_ok (Err error) is h = cc
+
+-- A call is refused by a condition, or for want of memory.
+pub refused : (e : End) (act : Act) (refusal : Refusal) (new : End)
+    → refusal_of (end_view e) act ≡ Some refusal → new ≡ e → CallRefused e act refusal new
+refused e act refusal new why same = record { why = inl why; same = same }
+
+pub without_memory : (e : End) (act : Act) (new : End) → refusal_of (end_view e) act ≡ None
+    → new ≡ e → CallRefused e act Memory new
+without_memory e act new free same = record { why = inr (refl, free); same = same }
+
+-- What PING makes of an end.
+pub after-ping : (e : End) (octets : List ℕ)
+    → after_call e (SendPing octets)
+    ≡ record (queue_output e (alone (Ping false octets) ∷ [])) { ping = Some octets }
+unfolding after_call items_of encoder_after_call
+after-ping e octets = refl
+
+-- What GOAWAY makes of an end.
+pub after-goaway : (e : End)
+    → after_call e SendGoAway
+    ≡ record (queue_output e (alone (GoAway e.streams.last_processed 0 []) ∷ [])) {
+      goaway = record e.goaway { sent = Some e.streams.last_processed };
+    }
+unfolding after_call items_of encoder_after_call
+after-goaway e = refl

@@ -1,0 +1,65 @@
+-- Short frames that an end writes: they can be written, how long they are, and their octets as
+-- those of an item.
+use Rattle.std.proofs.Common.{◌≡◌, ℕ, ◌<◌, ◌≤◌, ◌^◌, List, [], ◌∷◌, length, None, refl, nat_lt}
+use Rattle.std.proofs.Common.{Bool, true, arith, rules}
+use Rattle.std.proofs.lemmas.Bool.Decides.{nat_tests}
+use Rattle.h2_frame.specs.Frames.{Frame, Reset, Ping, GoAway, WindowUpdate}
+use Rattle.h2_frame.specs.Heads.{fits_stream}
+use Rattle.h2_frame.specs.Encoding.{encoding_of, kind_of_frame, flags_of, stream_of, payload_of}
+use Rattle.h2_frame.specs.Encoding.{has_good_values, refusal}
+use Rattle.h2_block.specs.Grouping.{alone}
+use Rattle.h2_log.specs.Items.{encoding_of_item, encoding_of_items}
+
+-- A frame as the one item has its octets.
+pub one-item : (most : ℕ) (frame : Frame)
+    → encoding_of_items most (alone frame ∷ []) ≡ encoding_of frame
+unfolding encoding_of_items encoding_of_item
+one-item most frame = refl
+
+-- WINDOW_UPDATE.
+pub update-written : (stream increment : ℕ) → stream < 2 ^ 31 → increment < 2 ^ 31
+    → refusal (WindowUpdate stream increment) ≡ None
+unfolding refusal kind_of_frame flags_of stream_of payload_of has_good_values fits_stream
+update-written stream increment number small =
+    let first : nat_lt stream (2 ^ 31) ≡ true = grind (arith, nat_tests) in
+    let second : nat_lt increment (2 ^ 31) ≡ true = grind (arith, nat_tests) in
+    rw (first, second) refl
+
+pub length-update : (stream increment : ℕ)
+    → length (encoding_of (WindowUpdate stream increment)) ≡ 13
+unfolding encoding_of kind_of_frame flags_of stream_of payload_of
+length-update stream increment = refl
+
+-- RST_STREAM.
+pub reset-written : (stream code : ℕ) → 1 ≤ stream → stream < 2 ^ 31
+    → refusal (Reset stream code) ≡ None
+unfolding refusal kind_of_frame flags_of stream_of payload_of has_good_values fits_stream
+reset-written stream code positive number =
+    let first : nat_lt stream (2 ^ 31) ≡ true = grind (arith, nat_tests) in
+    let second : nat_lt 0 stream ≡ true = grind (arith, nat_tests) in
+    rw first (search rules)
+
+pub length-reset : (stream code : ℕ) → length (encoding_of (Reset stream code)) ≡ 13
+unfolding encoding_of kind_of_frame flags_of stream_of payload_of
+length-reset stream code = refl
+
+-- PING.
+pub ping-written : (ack : Bool) (octets : List ℕ) → length octets ≡ 8
+    → refusal (Ping ack octets) ≡ None
+unfolding refusal kind_of_frame flags_of stream_of payload_of has_good_values fits_stream
+ping-written ack octets eight = rw eight refl
+
+pub length-ping : (ack : Bool) (octets : List ℕ) → length octets ≡ 8
+    → length (encoding_of (Ping ack octets)) ≡ 17
+unfolding encoding_of kind_of_frame flags_of stream_of payload_of
+length-ping ack octets eight = omega (arith, eight)
+
+-- GOAWAY without debug octets.
+pub goaway-written : (last code : ℕ) → last < 2 ^ 31 → refusal (GoAway last code []) ≡ None
+unfolding refusal kind_of_frame flags_of stream_of payload_of has_good_values fits_stream
+goaway-written last code number =
+    let test : nat_lt last (2 ^ 31) ≡ true = grind (arith, nat_tests) in rw test refl
+
+pub length-goaway : (last code : ℕ) → length (encoding_of (GoAway last code [])) ≡ 17
+unfolding encoding_of kind_of_frame flags_of stream_of payload_of
+length-goaway last code = refl

@@ -1,0 +1,130 @@
+-- What the steps on a stream make of an end, by the stream that is active.
+use Rattle.std.proofs.Common.{◌≡◌, ◌≢◌, ℕ, ◌+◌, ◌-◌, ◌==◌, Bool, true, false, ◌&&◌, if◌then◌else◌}
+use Rattle.std.proofs.Common.{Option, Some, None, is_some, eq-eqb, refl, sym, ap, ap₂, ◌∙◌, arith}
+use Rattle.std.specs.Cmp.{nat_cmp_total, unsigned_tied}
+use Rattle.std.specs.FinMap as map
+use Rattle.h2_log.specs.View.{StreamView}
+use Rattle.h2_machine.specs.End.{Entry, active_entry, reset_entry, StreamMap, End}
+use Rattle.h2_machine.specs.End.{stream_in, stream_at, owed_entry}
+use Rattle.h2_machine.specs.Machine.{add_unreturned, close_stream, reset_stream, update_stream}
+use Rattle.h2_machine.specs.Machine.{set_stream, is_one}
+
+-- what a stream owes, where there is one
+abbrev owed_of : Option StreamView → ℕ
+owed_of None = 0
+owed_of (Some stream) = stream.owed
+
+-- Nothing more, and nothing less.
+none_more : (n : ℕ) → 0 + n ≡ n
+none_more n = omega arith
+
+none_less : (n : ℕ) → n - 0 ≡ n
+none_less n = omega arith
+
+-- What an entry owes is what its stream owes.
+owed_in : (entry : Option Entry) → owed_entry entry ≡ owed_of (stream_in entry)
+owed_in None = refl
+owed_in (Some reset_entry) = refl
+owed_in (Some (active_entry stream)) = refl
+
+-- what is kept after an entry that is set
+get_set : (m : StreamMap) (k : ℕ) (v : Entry) (q : ℕ)
+    → map.get (map.insert m k v) q ≡ (if q == k then Some v else map.get m q)
+get_set m k v q =
+    map.get-insert nat_cmp_total m k v q
+    ∙ ap (λ (b : Bool). if b then Some v else map.get m q) (unsigned_tied q k)
+
+-- what is kept after an entry that is removed
+get_removed : (m : StreamMap) (k q : ℕ)
+    → map.get (map.remove m k) q ≡ (if q == k then None else map.get m q)
+get_removed m k q =
+    map.get-remove nat_cmp_total m k q
+    ∙ ap (λ (b : Bool). if b then None else map.get m q) (unsigned_tied q k)
+
+-- At the number itself, the entry is the one that was set.
+pub get_set_same : (m : StreamMap) (k : ℕ) (v : Entry) → map.get (map.insert m k v) k ≡ Some v
+get_set_same m k v =
+    get_set m k v k ∙ ap (λ (b : Bool). if b then Some v else map.get m k) (eq-eqb k k refl)
+
+-- An entry that is set and removed again, at each number.
+removed_again_by : (b : Bool) (v : Entry) (x : Option Entry)
+    → (if b then None else (if b then Some v else x)) ≡ (if b then None else x)
+removed_again_by true v x = refl
+removed_again_by false v x = refl
+
+-- What is set doesn't count where it is removed.
+removed_again : (m : StreamMap) (k : ℕ) (v : Entry)
+    → map.remove (map.insert m k v) k ≡ map.remove m k
+removed_again m k v =
+    map.same_map nat_cmp_total map.nat_cmp-IsAntisymmetric (map.remove (map.insert m k v) k)
+    (map.remove m k)
+    (λ q. get_removed (map.insert m k v) k q
+    ∙ ap (λ (x : Option Entry). if q == k then None else x) (get_set m k v q)
+    ∙ removed_again_by (q == k) v (map.get m q) ∙ sym (get_removed m k q))
+
+-- an end without a stream that was active
+abbrev pub without_stream : End → ℕ → End
+without_stream e i =
+    record e {
+      streams = record e.streams {
+        entries = map.remove e.streams.entries i;
+        active_count = e.streams.active_count - 1;
+      };
+    }
+
+-- An active stream that is over.
+pub closed-stream : (e : End) (i more : ℕ) (stream : StreamView) → stream_at e i ≡ Some stream
+    → close_stream e i more ≡ add_unreturned (more + stream.owed) (without_stream e i)
+closed-stream e i more stream active =
+    ap (λ (owing : ℕ). add_unreturned (more + owing) (without_stream e i))
+    (owed_in (map.get e.streams.entries i) ∙ ap owed_of active)
+
+-- A stream that both sides have ended.
+pub updated-over : (e : End) (i : ℕ) (stream : StreamView)
+    → (stream.ended_in && stream.ended_out) ≡ true
+    → update_stream e i stream ≡ add_unreturned stream.owed (without_stream e i)
+updated-over e i stream over =
+    ap (λ (b : Bool). if b then close_stream (set_stream e i stream) i 0 else set_stream e i stream)
+    over
+    ∙ ap₂ (λ (entry : Option Entry) (entries : StreamMap). add_unreturned (0 + owed_entry entry)
+    (record e {
+      streams = record e.streams {
+        entries = entries;
+        active_count = e.streams.active_count - 1;
+      };
+    })) (get_set_same e.streams.entries i (active_entry stream))
+    (removed_again e.streams.entries i (active_entry stream))
+    ∙ ap (λ (owing : ℕ). add_unreturned owing (without_stream e i)) (none_more stream.owed)
+
+-- an end with a number that was reset
+abbrev pub with_reset : End → ℕ → ℕ → End
+with_reset e i count =
+    record e {
+      streams = record e.streams {
+        entries = map.insert e.streams.entries i reset_entry;
+        active_count = count;
+        resets = e.streams.resets + 1;
+      };
+    }
+
+-- An active stream that is reset.
+pub reset-active : (e : End) (i more : ℕ) (stream : StreamView) → stream_at e i ≡ Some stream
+    → reset_stream e i more
+    ≡ add_unreturned (more + stream.owed) (with_reset e i (e.streams.active_count - 1))
+reset-active e i more stream active =
+    ap₂ (λ (owing count : ℕ). add_unreturned (more + owing)
+    (with_reset e i (e.streams.active_count - count)))
+    (owed_in (map.get e.streams.entries i) ∙ ap owed_of active)
+    (ap (λ (found : Option StreamView). is_one (is_some found)) active)
+
+-- A number that is reset without being active.
+pub reset-inactive : (e : End) (i more : ℕ) → stream_at e i ≡ None
+    → reset_stream e i more
+    ≡ add_unreturned (more + 0) (with_reset e i e.streams.active_count)
+reset-inactive e i more inactive =
+    ap₂ (λ (owing count : ℕ). add_unreturned (more + owing)
+    (with_reset e i (e.streams.active_count - count)))
+    (owed_in (map.get e.streams.entries i) ∙ ap owed_of inactive)
+    (ap (λ (found : Option StreamView). is_one (is_some found)) inactive)
+    ∙ ap (λ (count : ℕ). add_unreturned (more + 0) (with_reset e i count))
+    (none_less e.streams.active_count)

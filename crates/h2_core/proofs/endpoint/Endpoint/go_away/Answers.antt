@@ -1,0 +1,99 @@
+-- The code's tests are the conditions of GOAWAY in their order; the frame and its stream are kept.
+use Rattle.std.proofs.Common.{◌≡◌, ℕ, ◌<◌, ◌^◌, List, [], ◌∷◌, ◌++◌, Some, is_some, refl, sym, ap, arith, ◌∙◌}
+use Rattle.std.proofs.lemmas.Result.{err_from_is_err_and}
+use Rattle.h2_frame.specs.Codes.{code_number}
+use Rattle.h2_frame.specs.Frames.{GoAway}
+use Rattle.h2_block.specs.Grouping.{alone}
+use Rattle.h2_log.specs.Items.{encoding_of_items}
+use Rattle.h2_log.specs.Acts.{SendGoAway}
+use Rattle.h2_log.specs.CallRules.{conditions}
+use Rattle.h2_log.specs.Limits.{max_frame_size_sent}
+use Rattle.h2_machine.specs.End.{End}
+use Rattle.h2_core.specs.Endpoint.{end_of}
+use Rattle.h2_core.proofs.SoundFacts.{last_small}
+use Rattle.h2_core.proofs.StepCalls.{first-here, first-later, first-none, refused, without_memory}
+use Rattle.h2_core.proofs.StepCalls.{after-goaway, at_ok}
+use Rattle.h2_core.proofs.StepEnds.{with_waiting, item-added}
+use Rattle.h2_core.proofs.StepFrames.{goaway-written, length-goaway}
+use Rattle.h2_core.proofs.endpoint.Endpoint.go_away.Goals as goal
+
+pub returns-in_err-check_up-clause-err : goal.returns-in_err-check_up-clause-err
+unfolding conditions
+returns-in_err-check_up-clause-err c =
+    let e = end_of c.args.self.now in
+    let p = err_from_is_err_and c.from_residual.result c.from_residual.ensures.1 in
+    rw (p.1, p.2, c.in_err-check_up.ensures.err.0)
+    (refused e SendGoAway _ e (first-here _ _ _ c.in_err-check_up.ensures.err.1) refl)
+
+pub returns-then-is_some-clause-err : goal.returns-then-is_some-clause-err
+unfolding conditions
+returns-then-is_some-clause-err c =
+    let e = end_of c.args.self.now in
+    refused e SendGoAway _ e
+    (first-later _ _ _ (ap is_some c.in_ok-check_up.ensures.ok)
+    ∙ first-here _ _ _ (sym c.if-is_some.ensures)) refl
+
+pub returns-in_err-check_room-clause-err : goal.returns-in_err-check_room-clause-err
+unfolding conditions
+returns-in_err-check_room-clause-err c =
+    let e = end_of c.args.self.now in
+    let r = c.from_residual-in_err-check_room in
+    let p = err_from_is_err_and r.result r.ensures.1 in
+    rw (p.1, p.2, c.in_err-check_room.ensures.err.0)
+    (refused e SendGoAway _ e
+    (first-later _ _ _ (ap is_some c.in_ok-check_up.ensures.ok)
+    ∙ first-later _ _ _ (sym c.if-is_some.ensures)
+    ∙ first-here _ _ _ c.in_err-check_room.ensures.err.1) refl)
+
+pub returns-then-is_err-clause-err : goal.returns-then-is_err-clause-err
+unfolding conditions
+returns-then-is_err-clause-err c =
+    let e = end_of c.args.self.now in
+    without_memory e SendGoAway _
+    (first-later _ _ _ (ap is_some c.in_ok-check_up.ensures.ok)
+    ∙ first-later _ _ _ (sym c.if-is_some.ensures)
+    ∙ first-later _ _ _ c.in_ok-check_room.ensures.ok ∙ first-none)
+    (ap (λ (waiting : List ℕ). with_waiting e waiting) c.reserve.ensures.waiting)
+
+pub add_frame-requires-clause-writable : goal.add_frame-requires-clause-writable
+add_frame-requires-clause-writable c =
+    let last = c.args.self.now.last_processed in
+    let small : last < 2 ^ 31 = last_small (end_of c.args.self.now) c.requires.sound in
+    goaway-written last c.number.result small
+
+pub add_frame-requires-clause-short : goal.add_frame-requires-clause-short
+add_frame-requires-clause-short c =
+    omega (arith, length-goaway c.args.self.now.last_processed c.number.result)
+
+pub add_frame-requires-clause-room : goal.add_frame-requires-clause-room
+add_frame-requires-clause-room c =
+    omega (
+      arith,
+      length-goaway c.args.self.now.last_processed c.number.result,
+      at_ok c.reserve.result (sym c.if-is_err.ensures.value) c.reserve.ensures.ok,
+    )
+
+-- an end that has sent GOAWAY
+abbrev with_goaway : End → End
+with_goaway e = record e { goaway = record e.goaway { sent = Some e.streams.last_processed } }
+
+pub returns-clause-ok : goal.returns-clause-ok
+unfolding conditions code_number
+returns-clause-ok c =
+    let e = end_of c.args.self.now in
+    let last = e.streams.last_processed in
+    let waiting =
+    item-added max_frame_size_sent (GoAway last c.number.result []) e.output.waiting
+    c.reserve.new.self.waiting c.add_frame.new.self.waiting c.reserve.ensures.waiting
+    c.add_frame.ensures.waiting
+    ∙ ap (λ (code : ℕ). e.output.waiting
+    ++ encoding_of_items max_frame_size_sent (alone (GoAway last code []) ∷ [])) c.number.ensures in
+    record {
+      free =
+          first-later _ _ _ (ap is_some c.in_ok-check_up.ensures.ok)
+          ∙ first-later _ _ _ (sym c.if-is_some.ensures)
+          ∙ first-later _ _ _ c.in_ok-check_room.ensures.ok ∙ first-none;
+      after =
+          ap (λ (octets : List ℕ). with_goaway (with_waiting e octets)) waiting
+          ∙ sym (after-goaway e);
+    }

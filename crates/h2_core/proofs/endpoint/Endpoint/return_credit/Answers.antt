@@ -1,0 +1,21 @@
+-- A WINDOW_UPDATE without stream has 13 octets, and those wait then.
+use Rattle.std.proofs.Common.{arith, refl, sym, ◌∙◌}
+use Rattle.h2_log.specs.Limits.{max_frame_size_sent}
+use Rattle.h2_frame.specs.Frames.{WindowUpdate}
+use Rattle.h2_core.proofs.StepFrames.{update-written, length-update, one-item}
+use Rattle.h2_core.proofs.endpoint.Endpoint.return_credit.Goals as goal
+
+pub add_frame-requires-clause-writable : goal.add_frame-requires-clause-writable
+add_frame-requires-clause-writable c =
+    update-written 0 c.args.self.now.unreturned (omega arith) (omega arith)
+
+pub add_frame-requires-clause-short : goal.add_frame-requires-clause-short
+add_frame-requires-clause-short c = omega (arith, length-update 0 c.args.self.now.unreturned)
+
+pub add_frame-requires-clause-room : goal.add_frame-requires-clause-room
+add_frame-requires-clause-room c = omega (arith, length-update 0 c.args.self.now.unreturned)
+
+pub returns : goal.returns
+returns c =
+    let item = one-item max_frame_size_sent (WindowUpdate 0 c.args.self.now.unreturned) in
+    record { after = (cc); list = refl }

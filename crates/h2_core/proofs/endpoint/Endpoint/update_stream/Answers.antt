@@ -1,0 +1,28 @@
+-- A stream that is over is removed; what was set of it before doesn't count.
+use Rattle.std.proofs.Common.{◌-◌, sym, ap, ◌∙◌}
+use Rattle.h2_machine.specs.End.{End}
+use Rattle.h2_machine.specs.Machine.{add_unreturned}
+use Rattle.h2_streams.specs.Streams.{stream_view}
+use Rattle.h2_streams.specs.Table.{TableState}
+use Rattle.h2_core.specs.Endpoint.{end_of}
+use Rattle.h2_core.proofs.StepEnds.{with_table}
+use Rattle.h2_core.proofs.StepStreams.{updated-over}
+use Rattle.h2_core.proofs.endpoint.Endpoint.update_stream.Goals as goal
+
+-- an end with one stream less
+abbrev with_one_less : End → End
+with_one_less e = record e {
+  streams = record e.streams { active_count = e.streams.active_count - 1 };
+}
+
+pub returns-then-closed : goal.returns-then-closed
+returns-then-closed c =
+    let e = end_of c.args.self.now in
+    record {
+      after =
+          c.add_unreturned.ensures.after
+          ∙ ap (λ (table : TableState). add_unreturned c.args.stream.owed
+          (with_table (with_one_less e) table)) c.close.ensures
+          ∙ sym (updated-over e c.args.id (stream_view c.args.stream) (sym c.if-closed.ensures));
+      list = c.add_unreturned.ensures.list;
+    }
