@@ -1,4 +1,6 @@
 -- The lemmas of the laws.
+mod AlikeAnswers
+mod AlikeFrames
 mod BlocksBegun
 mod BoundsOfCalls
 mod BoundsOfFrames

@@ -1,34 +1,32 @@
 -- The next stream that is to be reported as unprocessed is the same at an end as at its log: the
--- least active number above the last one.
+-- least active number above the last one. So is the next active stream.
 use Rattle.std.proofs.Common.{◌≡◌, ◌≢◌, ℕ, zero, suc, ◌≤◌, ◌<◌, Bool, true, false, nat_lt, ◌&&◌}
 use Rattle.std.proofs.Common.{cond, T, if◌then◌else◌, List, [], ◌∷◌, Some, None, Less, Equal}
-use Rattle.std.proofs.Common.{Greater, Ordering, refl, sym, ◌∙◌, arith}
+use Rattle.std.proofs.Common.{Greater, Ordering, refl, sym, ap, ◌∙◌, arith}
 use Rattle.std.specs.List.{list_any}
 use Rattle.std.specs.FinMap as map
 use Rattle.std.specs.FinMap.Entries.{below_all}
 use Rattle.std.specs.Ordering.{nat_cmp, is_eq}
 use Rattle.std.specs.Cmp.{ranked}
-use Rattle.std.proofs.lemmas.Bool.{both_ways, and_parts, and_from, and_right, ltb-true, lt-ltb}
+use Rattle.std.proofs.lemmas.Bool.{both_ways, and_parts, and_right, ltb-true, lt-ltb}
 use Rattle.std.proofs.lemmas.Bool.{le-ltb}
-use Rattle.h2_block.specs.Grouping.{Item}
-use Rattle.h2_log.specs.Log.{least_goaway, Log, active, next_unprocessed}
+use Rattle.h2_log.specs.Log.{least_goaway, Log, active, next_active, next_unprocessed}
 use Rattle.h2_log.specs.Acts.{Values}
-use Rattle.h2_log.specs.Items.{resets, is_goaway, is_block_on}
+use Rattle.h2_log.specs.Items.{resets, is_goaway}
 use Rattle.h2_log.specs.Settings.{is_server}
 use Rattle.h2_log.specs.States.{openings, least_block, when}
 use Rattle.h2_log.specs.Allowed.{AllowedHistory}
-use Rattle.h2_machine.specs.End.{End, Entry, active_entry, reset_entry}
+use Rattle.h2_machine.specs.End.{End, Entry, active_entry, reset_entry, Streams}
 use Rattle.h2_log.specs.View.{StreamView}
 use Rattle.h2_machine.specs.Machine.{first_active, is_active_entry, unprocessed_of_end}
 use Rattle.h2_machine.specs.Represents.{Represents, entry_by}
 use Rattle.h2_log.specs.declared.role.Role.{Role}
 use Rattle.h2_log.specs.declared.role.Role.TheVariants.{Client, Server}
-use Rattle.h2_machine_laws.proofs.LogCore.{said, core, Going, going}
+use Rattle.h2_machine_laws.proofs.LogCore.{said, core, Going, going, StreamsOf}
 use Rattle.h2_machine_laws.proofs.OwedSums.{first, second, not_found}
-use Rattle.h2_machine_laws.proofs.RecvVerdict.{active_said}
+use Rattle.h2_machine_laws.proofs.RecvVerdict.{entry_said}
 use Rattle.h2_machine_laws.proofs.RecvVerdictLimits.{found_after, found_first}
-use Rattle.h2_log_laws.proofs.ReaderStates.{active_parts}
-use Rattle.h2_log_laws.proofs.NextStreams.{least_passes, least_found}
+use Rattle.h2_log_laws.proofs.NextStreams.{next_passes, next_found}
 use Rattle.h2_log_laws.proofs.StreamNumbers.{client_low, last_none, least_none}
 use Rattle.h2_log_laws.proofs.InvariantLogs.{written_is_allowed}
 
@@ -130,51 +128,36 @@ two_least (suc m) (suc n) one two = omega (
   (two (λ is. absurd (omega (arith, is)))).1,
 )
 
--- an active stream's block is among those that a client wrote
-client_block_of : (role : Role) (n : ℕ) (received sent : List Item) → role ≡ Client
-    → list_any (is_block_on n) (openings role received sent) ≡ true
-    → list_any (is_block_on n) sent ≡ true
-client_block_of Client n received sent client here = here
-client_block_of Server n received sent client here = absurd (cc)
+-- The first active number above another is the next active stream of the log.
+pub next_active_same : (streams : Streams) (log : Log) (id : ℕ) → StreamsOf streams (core log)
+    → first_active id (map.entries streams.entries) ≡ next_active log id
+next_active_same streams log id are =
+    two_least _ _
+    (λ some.
+    let n : ℕ = first_active id (map.entries streams.entries) in
+    let f = first_found id (map.entries streams.entries) (map.entries_sorted streams.entries)
+    some in
+    let kept : map.get streams.entries n ≡ Some f.x = map.get-entries streams.entries n ∙ f.found in
+    let alive : active log n ≡ true = living_is_active (active log n) (list_any (resets n) log.sent)
+    (said (core log) n) f.x (sym (are.entries n) ∙ kept) f.active_by_items in
+    next_found log id n alive (ltb-true id n f.higher))
+    (λ some.
+    let n : ℕ = next_active log id in
+    let both = and_parts (active log n) (nat_lt id n) (next_passes log id some) in
+    first_least id n (map.entries streams.entries) (active_entry (said (core log) n))
+    (map.entries_sorted streams.entries)
+    (sym (map.get-entries streams.entries n) ∙ entry_said streams (core log) n are both.0) refl
+    (ltb-true id n both.1))
 
--- An active stream's block is among those that a client wrote.
-client_block : (log : Log) (n : ℕ) → log.role ≡ Client → active log n ≡ true
-    → list_any (is_block_on n) log.sent ≡ true
-client_block log n client alive =
-    client_block_of log.role n log.received log.sent client (active_parts log.role n log.received
-    log.sent log.reported alive).opened
-
--- The first active number above the last one is the least one.
+-- At a client it is the least one that was written.
 least_same : (e : End) (log : Log) (last : ℕ) → log.role ≡ Client → Going e (core log)
     → first_active last (map.entries e.streams.entries) ≡ least_block (λ j. active log j && nat_lt
     last j) log.sent
+unfolding next_active
 least_same e log last client g =
-    two_least _ _
-    (λ some.
-    let f = first_found last (map.entries e.streams.entries) (map.entries_sorted e.streams.entries)
-    some in
-    let n : ℕ = first_active last (map.entries e.streams.entries) in
-    let kept : map.get e.streams.entries n ≡ Some f.x = map.get-entries e.streams.entries n
-    ∙ f.found in
-    let alive : active log n ≡ true = living_is_active (active log n) (list_any (resets n) log.sent)
-    (said (core log) n) f.x (sym (g.streams.entries n) ∙ kept) f.active_by_items in
-    least_found (λ j. active log j && nat_lt last j) n log.sent
-    (λ j both none. absurd (omega (
-      arith,
-      none,
-      ltb-true last j (and_parts (active log j)
-          (nat_lt last j) both).1,
-    )))
-    (and_from (active log n) (nat_lt last n) alive f.higher)
-    (client_block log n client alive))
-    (λ some.
-    let n : ℕ = least_block (λ j. active log j && nat_lt last j) log.sent in
-    let both = and_parts (active log n) (nat_lt last n) (least_passes (λ j. active log j && nat_lt
-    last j) log.sent some) in
-    first_least last n (map.entries e.streams.entries) (active_entry (said (core log) n))
-    (map.entries_sorted e.streams.entries)
-    (sym (map.get-entries e.streams.entries n) ∙ active_said e (core log) n g both.0) refl
-    (ltb-true last n both.1))
+    next_active_same e.streams log last g.streams
+    ∙ ap (λ (role : Role). least_block (λ j. active log j && nat_lt last j)
+    (openings role log.received log.sent)) client
 
 -- The next stream at an end, by its role, and by whether a GOAWAY was read.
 next_by : (e : End) (log : Log) (role : Role) (b : Bool) → e.role ≡ role → log.role ≡ role

@@ -120,51 +120,25 @@ step_typed role log octets view frame item read is last code debug same =
     goaway_typed role log octets last code debug
     (subst (λ (f : Frame). TakesFrame role log octets f) one read)
 
--- After what a frame makes of the block that has begun an end keeps what its log says.
-step_after : (e : End) (log : Log) (decoded : Option Decoded) (step : FrameStep)
-    → ((item : Item) → step ≡ completes item → IsTypedItem item)
-    → e.reading.started ≡ not (settings_count log.received == 0) → Sound (core log)
-    → Waits e log → Going e (core log)
-    → After (after_step e decoded step) (with_step log decoded step)
-unfolding after_step with_step last_processed
-step_after e log decoded (fails_with code) typed started sound w g =
+-- An end with another block that has begun keeps what its log with that block says.
+pub going_begun : (e : End) (log : Log) (begun : Option Begun) → Going e (core log)
+    → Going (with_begun e begun) (core (record log { begun = begun }))
+going_begun e log begun g =
     record {
-      waits = fails_connection e.role e.failed e.output.waiting log code e.streams.last_processed
-          (last_processed log) g.streams.last_processed w;
-      streams = failing_streams e.streams log code (last_processed log) (λ server i active_is.
-          let taken = sound.active_taken server i active_is in
-          let same : last_processed log
-          ≡ greatest_processed log.reported = rw server refl in
-          omega (arith, taken, same)) g.streams;
-      going = λ up. absurd (cc);
+      reading = record { begun = refl; table = g.reading.table };
+      encoder = g.encoder;
+      streams = g.streams;
+      windows = g.windows;
+      peer = g.peer;
+      own = g.own;
+      goaway = g.goaway;
+      ping = g.ping;
     }
-step_after e log decoded (begins_block begun) typed started sound w g =
-    after_going (with_begun e (Some begun)) (record log { begun = Some begun }) w
-    (record {
-      reading = record { begun = refl; table = g.reading.table };
-      encoder = g.encoder;
-      streams = g.streams;
-      windows = g.windows;
-      peer = g.peer;
-      own = g.own;
-      goaway = g.goaway;
-      ping = g.ping;
-    })
-step_after e log decoded (completes item) typed started sound w g =
-    let f : End = with_begun e None in
-    let before : Log = record log { begun = None } in
-    let h : Going f (core before) =
-    record {
-      reading = record { begun = refl; table = g.reading.table };
-      encoder = g.encoder;
-      streams = g.streams;
-      windows = g.windows;
-      peer = g.peer;
-      own = g.own;
-      goaway = g.goaway;
-      ping = g.ping;
-    } in
-    let still : Sound (core before) =
+
+-- Nor does such a block change whether the log is sound.
+pub sound_begun : (log : Log) (begun : Option Begun) → Sound (core log)
+    → Sound (core (record log { begun = begun }))
+sound_begun log begun sound =
     record {
       with_sent = sound.with_sent;
       used = sound.used;
@@ -187,7 +161,34 @@ step_after e log decoded (completes item) typed started sound w g =
       settings = sound.settings;
       released = sound.released;
       unopened = sound.unopened;
-    } in
+    }
+
+-- After what a frame makes of the block that has begun an end keeps what its log says.
+step_after : (e : End) (log : Log) (decoded : Option Decoded) (step : FrameStep)
+    → ((item : Item) → step ≡ completes item → IsTypedItem item)
+    → e.reading.started ≡ not (settings_count log.received == 0) → Sound (core log)
+    → Waits e log → Going e (core log)
+    → After (after_step e decoded step) (with_step log decoded step)
+unfolding after_step with_step last_processed
+step_after e log decoded (fails_with code) typed started sound w g =
+    record {
+      waits = fails_connection e.role e.failed e.output.waiting log code e.streams.last_processed
+          (last_processed log) g.streams.last_processed w;
+      streams = failing_streams e.streams log code (last_processed log) (λ server i active_is.
+          let taken = sound.active_taken server i active_is in
+          let same : last_processed log
+          ≡ greatest_processed log.reported = rw server refl in
+          omega (arith, taken, same)) g.streams;
+      going = λ up. absurd (cc);
+    }
+step_after e log decoded (begins_block begun) typed started sound w g =
+    after_going (with_begun e (Some begun)) (record log { begun = Some begun }) w
+    (going_begun e log (Some begun) g)
+step_after e log decoded (completes item) typed started sound w g =
+    let f : End = with_begun e None in
+    let before : Log = record log { begun = None } in
+    let h : Going f (core before) = going_begun e log None g in
+    let still : Sound (core before) = sound_begun log None sound in
     rw (over_limits_same f before decoded item w still h)
     (item_after f before decoded item (verdict_of (log_view before) decoded item) refl
     (typed item refl) started still w h)

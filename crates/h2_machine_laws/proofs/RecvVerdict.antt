@@ -6,7 +6,7 @@ use Rattle.std.specs.List.{list_any}
 use Rattle.std.specs.FinMap as map
 use Rattle.std.proofs.lemmas.Bool.Decides.{nat_tests}
 use Rattle.h2_machine.specs.End.{end_view, End, active_entry, stream_in, stream_at, is_beyond}
-use Rattle.h2_machine.specs.End.{state_by_entry, state_at}
+use Rattle.h2_machine.specs.End.{state_by_entry, state_at, Streams}
 use Rattle.h2_log.specs.LogView.{log_view}
 use Rattle.h2_log.specs.Items.{data_on, data_of, ends, resets, increment_on, is_block_on, one_ping}
 use Rattle.h2_log.specs.Items.{is_goaway, total}
@@ -26,7 +26,7 @@ use Rattle.h2_log_laws.proofs.ReplyInvariant.{resets_used}
 use Rattle.h2_log_laws.proofs.ReaderStates.{active_used}
 use Rattle.h2_log_laws.proofs.LogViewLemmas.{when_some}
 use Rattle.h2_machine_laws.proofs.LogCore.{said, Core, core, Going, confirmed, active_by_items}
-use Rattle.h2_machine_laws.proofs.LogCore.{greatest_used}
+use Rattle.h2_machine_laws.proofs.LogCore.{greatest_used, StreamsOf}
 use Rattle.h2_machine_laws.proofs.ViewsAgree.{stream_same, max_streams_agree, window_agrees}
 
 -- Nothing was read of a number, nor written but perhaps increments.
@@ -67,11 +67,15 @@ pub record Sound (c : Core) : Type 0 where
       → reported_total (flow_on i) c.reported ≡ 0
 
 -- What is kept of an active stream is what the log says of it.
+pub entry_said : (streams : Streams) (c : Core) (i : ℕ) → StreamsOf streams c
+    → active_by_items c i ≡ true → map.get streams.entries i ≡ Some (active_entry (said c i))
+entry_said streams c i are active =
+    are.entries i ∙ ap (λ (b : Bool). entry_by b (list_any (resets i) c.sent) (said c i)) active
+
+-- The same at an end.
 pub active_said : (e : End) (c : Core) (i : ℕ) → Going e c → active_by_items c i ≡ true
     → map.get e.streams.entries i ≡ Some (active_entry (said c i))
-active_said e c i g active = g.streams.entries i ∙ ap (λ (b : Bool). entry_by b (list_any (resets i)
-    c.sent)
-    (said c i)) active
+active_said e c i g active = entry_said e.streams c i g.streams active
 
 -- The same of the stream.
 pub stream_said : (e : End) (c : Core) (i : ℕ) → Going e c → active_by_items c i ≡ true

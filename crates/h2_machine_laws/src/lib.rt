@@ -3,12 +3,14 @@
 //! function that does nothing.
 #![tactic(auto)]
 
+mod answers;
 mod bounds;
 mod machine;
 #[cfg(test)]
 mod tests;
 mod windows;
 
+pub use answers::{frames_are_taken_alike, machines_answer_alike};
 pub use bounds::{
     connection_window_is_kept, entries_are_counted, everything_is_bounded, values_are_in_range,
 };

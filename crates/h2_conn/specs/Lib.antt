@@ -1,0 +1,3 @@
+pub mod Conn
+pub mod Events
+pub mod Inner

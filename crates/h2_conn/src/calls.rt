@@ -1,0 +1,132 @@
+//! The calls of a connection.
+
+ghost use Rattle.std.specs.Prelude.{IfOk, OnErr, ◌≡◌};
+ghost use Rattle.h2_log.specs.Acts.{Open, SendFields, SendData, Release, ResetStream, Refuse};
+ghost use Rattle.h2_log.specs.Acts.{SendPing, SendGoAway, PutOut, Number, Count, Done};
+ghost use Rattle.h2_conn.specs.Conn.{ConnAnswers, ConnShows, GivesOut, answer_by};
+
+use crate::conn::Conn;
+use h2_log::Refusal;
+use hpack::Field;
+
+impl Conn {
+    /// Opens a stream with a field block; `end` says that nothing follows on it (END_STREAM).
+    /// Answers its number: 1, 3, 5 and so on.
+    ///
+    /// # Errors
+    ///
+    /// C1, C4, C5 (at a server always), C6, C7, C10 and C12, in this order. Nothing has changed.
+    pub fn open(&mut self, fields: &[Field], end: bool) -> Result<u32, Refusal>
+        ensures { ConnAnswers self.old (Open fields.now end) (answer_by (λ id. Number id) result)
+            self.new }
+    {
+        self.inner.end.open(fields, end)
+    }
+
+    /// Sends a further field block on a stream: a response's, or trailers.
+    ///
+    /// # Errors
+    ///
+    /// C1, C2, C3, C7, C10 and C12, in this order. Nothing has changed.
+    pub fn fields(&mut self, id: u32, fields: &[Field], end: bool) -> Result<(), Refusal>
+        ensures { ConnAnswers self.old (SendFields id fields.now end)
+            (answer_by (λ done. Done) result) self.new }
+    {
+        self.inner.end.send_fields(id, fields, end)
+    }
+
+    /// Sends as many octets of a body as both windows let through, and 65,536 at most; answers how
+    /// many. Where all went and `end` is set, the last DATA has END_STREAM; an empty slice with
+    /// `end` sends one empty DATA.
+    ///
+    /// # Errors
+    ///
+    /// C1, C2, C3, C7 and C12, in this order. Nothing has changed.
+    pub fn data(&mut self, id: u32, octets: &[u8], end: bool) -> Result<usize, Refusal>
+        ensures { ConnAnswers self.old (SendData id octets.now end)
+            (answer_by (λ count. Count count) result) self.new }
+    {
+        self.inner.end.send_data(id, octets, end)
+    }
+
+    /// Gives the peer as many octets of a stream's window, and of the connection's, back: of those
+    /// that were reported and are owed (RFC 9113, section 6.9).
+    ///
+    /// # Errors
+    ///
+    /// C1, C2, C7, C11 and C12, in this order. Nothing has changed.
+    pub fn release(&mut self, id: u32, count: u32) -> Result<(), Refusal>
+        ensures { ConnAnswers self.old (Release id count) (answer_by (λ done. Done) result)
+            self.new }
+    {
+        self.inner.end.release(id, count)
+    }
+
+    /// Resets a stream with a code (section 6.4).
+    ///
+    /// # Errors
+    ///
+    /// C1, C2, C7, C9 and C12, in this order. Nothing has changed.
+    pub fn reset(&mut self, id: u32, code: u32) -> Result<(), Refusal>
+        ensures { ConnAnswers self.old (ResetStream id code) (answer_by (λ done. Done) result)
+            self.new }
+    {
+        self.inner.end.reset(id, code)
+    }
+
+    /// Resets a stream for a fault of the peer that the layer above found. With INTERNAL_ERROR (2)
+    /// that layer has no memory, and the connection fails with it; it fails with ENHANCE_YOUR_CALM
+    /// where 1,000 streams were reset, or RST_STREAM would bring the waiting output above 262,144
+    /// octets, and with INTERNAL_ERROR where an allocation was refused. [`Conn::take`] then answers
+    /// the code.
+    ///
+    /// # Errors
+    ///
+    /// C1 and, unless the code is 2, C2. Nothing has changed.
+    pub fn refuse(&mut self, id: u32, code: u32) -> Result<(), Refusal>
+        ensures { ConnShows self.old (Refuse id code) (answer_by (λ done. Done) result) self.new }
+    {
+        self.inner.end.refuse(id, code)
+    }
+
+    /// Sends PING (section 6.7).
+    ///
+    /// # Errors
+    ///
+    /// C1, C7, C8 and C12, in this order. Nothing has changed.
+    pub fn ping(&mut self, octets: [u8; 8]) -> Result<(), Refusal>
+        ensures { ConnAnswers self.old (SendPing octets) (answer_by (λ done. Done) result)
+            self.new }
+    {
+        self.inner.end.ping(octets)
+    }
+
+    /// Says that this end takes no further streams (section 6.8): GOAWAY with the greatest that it
+    /// has processed, and NO_ERROR.
+    ///
+    /// # Errors
+    ///
+    /// C1, C6, C7 and C12, in this order. Nothing has changed.
+    pub fn go_away(&mut self) -> Result<(), Refusal>
+        ensures { ConnAnswers self.old SendGoAway (answer_by (λ done. Done) result) self.new }
+    {
+        self.inner.end.go_away()
+    }
+
+    /// Appends as many octets of the output as wait, and at most `count`, to `out`, and takes them
+    /// away. Where less than the full output waits, all that is unreturned is returned first. It
+    /// works after a failure too.
+    ///
+    /// # Errors
+    ///
+    /// C12. Nothing has changed.
+    pub fn put_out(&mut self, count: usize, out: &mut Vec<u8>) -> Result<usize, Refusal>
+        ensures answers { ConnAnswers self.old (PutOut count)
+            (answer_by (λ given. Count given) result) self.new }
+        ensures ok { IfOk result (λ given. GivesOut self.old count given out.old.items
+            out.new.items) }
+        ensures err { OnErr result (out.new.items ≡ out.old.items) }
+    {
+        self.inner.end.put_out(count, out)
+    }
+}

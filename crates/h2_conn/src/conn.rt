@@ -1,0 +1,121 @@
+//! One end of a connection.
+
+ghost use Rattle.std.specs.Prelude.{◌≡◌, ◌≤◌, length, IfOk, IfErr};
+ghost use Rattle.std.specs.Borrow.{sem};
+ghost use Rattle.std.specs.Io.BufRead.{Rests};
+ghost use Rattle.h2_config.specs.ConfigValues.{values_of};
+ghost use Rattle.h2_log.specs.declared.role.Role.TheVariants.{Client, Server};
+ghost use Rattle.h2_log.specs.LogCalls.{opened};
+ghost use Rattle.h2_core.specs.Endpoint.{end_of};
+ghost use Rattle.h2_conn.specs.Inner.{PartsRepresent};
+ghost use Rattle.h2_conn.specs.Conn.{ConnRepresents, ConnTakes};
+ghost use Rattle.h2_conn.specs.contracts.conn.Conn.{the_row};
+
+use crate::event::{ConnFault, Event, Taken};
+use crate::happened::Happened;
+use crate::inner::Inner;
+use h2_config::Config;
+use h2_core::Endpoint;
+use h2_log::{Refusal, Role};
+use h2_wire::Cutter;
+use std::alloc::Global;
+
+/// The most octets of a payload that an end reads (RFC 9113, section 4.2).
+const MAX_PAYLOAD: u32 = 16_384;
+
+/// One end of a connection: it takes octets and calls, and gives events and octets. It does no input
+/// or output.
+#[derive(Drop)]
+pub struct Conn {
+    pub(crate) inner: Inner,
+}
+
+impl Conn {
+    /// A client, whose opening waits: the preface and SETTINGS (RFC 9113, section 3.4).
+    ///
+    /// # Errors
+    ///
+    /// C12 where an allocation was refused.
+    pub fn client(alloc: Global, config: Config) -> Result<Conn, Refusal>
+        ensures ok { IfOk result (λ conn. ConnRepresents (values_of config) conn
+            (opened Client (values_of config))) }
+        ensures err { IfErr result (λ refusal. refusal ≡ Refusal.Memory) }
+    {
+        Ok(Conn {
+            inner: new_inner(alloc, Role::Client, config)?,
+        })
+    }
+
+    /// A server, whose opening waits: SETTINGS (section 3.4).
+    ///
+    /// # Errors
+    ///
+    /// C12 where an allocation was refused.
+    pub fn server(alloc: Global, config: Config) -> Result<Conn, Refusal>
+        ensures ok { IfOk result (λ conn. ConnRepresents (values_of config) conn
+            (opened Server (values_of config))) }
+        ensures err { IfErr result (λ refusal. refusal ≡ Refusal.Memory) }
+    {
+        Ok(Conn {
+            inner: new_inner(alloc, Role::Server, config)?,
+        })
+    }
+
+    /// Takes octets of the piece, up to the end of one frame or else all of them, and answers what
+    /// is reported: at most one event. Call it again until the piece is used and nothing is
+    /// reported: streams that the peer does not process are reported one a call, with no octets
+    /// used.
+    ///
+    /// # Errors
+    ///
+    /// [`ConnFault`] where the connection fails, and at every call from then on.
+    pub fn take<'a>(&'a mut self, piece: &'a [u8]) -> Result<Taken<'a>, ConnFault>
+        ensures used { IfOk result (λ taken. taken.used ≤ length piece.now) }
+
+        // After the borrow ends: whatever log it represented, it represents the log with this call,
+        // which may have this answer.
+        ensures* after { sem 𝓛 (Rests the_row self.entry
+            (λ new. ConnTakes self.old piece.now result new)) }
+    {
+        let progress = match self.inner.take(piece) {
+            Ok(progress) => progress,
+            Err(code) => return Err(ConnFault { code }),
+        };
+        let event = match progress.happened {
+            None => None,
+            Some(Happened::Fields { id, end }) => Some(Event::Fields {
+                id,
+                list: self.inner.end.fields(),
+                end,
+            }),
+            Some(Happened::Data { id, flow, end }) => Some(Event::Data {
+                id,
+                octets: &self.inner.octets[..],
+                flow,
+                end,
+            }),
+            Some(Happened::Reset { id, code, ours }) => Some(Event::Reset { id, code, ours }),
+            Some(Happened::GoAway { last, code }) => Some(Event::GoAway { last, code }),
+            Some(Happened::Unprocessed { id }) => Some(Event::Unprocessed { id }),
+            Some(Happened::Acked) => Some(Event::Acked),
+            Some(Happened::Pong { octets }) => Some(Event::Pong { octets }),
+        };
+        Ok(Taken {
+            used: progress.used,
+            event,
+        })
+    }
+}
+
+/// The parts of a new end.
+fn new_inner(alloc: Global, role: Role, config: Config) -> Result<Inner, Refusal>
+    ensures ok { IfOk result (λ inner. PartsRepresent (values_of config) inner.cutter
+        (end_of inner.end) (opened role (values_of config))) }
+    ensures err { IfErr result (λ refusal. refusal ≡ Refusal.Memory) }
+{
+    Ok(Inner {
+        cutter: Cutter::new(alloc, MAX_PAYLOAD, role == Role::Server),
+        end: Endpoint::new(alloc, role, config)?,
+        octets: Vec::new(alloc),
+    })
+}

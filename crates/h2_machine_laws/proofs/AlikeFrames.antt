@@ -1,0 +1,61 @@
+-- A machine that represents a log makes of frames and items what the log does.
+use Rattle.std.proofs.Common.{◌≡◌, Option, None, refl, ap, sym, ◌∙◌}
+use Rattle.h2_frame.specs.Frames.{Frame, GoAway}
+use Rattle.h2_block.specs.Grouping.{Item, alone}
+use Rattle.h2_log.specs.Acts.{Values}
+use Rattle.h2_log.specs.ItemEffects.{events_of}
+use Rattle.h2_log.specs.ItemRules.{Decoded, frame_step, verdict_of}
+use Rattle.h2_log.specs.Log.{Log}
+use Rattle.h2_log.specs.LogView.{log_view}
+use Rattle.h2_log.specs.Verdicts.{Verdict, Reported}
+use Rattle.h2_log.specs.View.{View}
+use Rattle.h2_machine.specs.End.{end_view, End}
+use Rattle.h2_machine.specs.Machine.{with_begun}
+use Rattle.h2_machine.specs.Represents.{Represents}
+use Rattle.h2_machine_laws.proofs.LogCore.{going}
+use Rattle.h2_machine_laws.proofs.RecvFrames.{going_begun, sound_begun}
+use Rattle.h2_machine_laws.proofs.RecvVerdictLimits.{over_limits_same}
+use Rattle.h2_machine_laws.proofs.SoundLogs.{sound_log}
+use Rattle.h2_machine_laws.proofs.WaitingOutput.{waits_of}
+
+-- The step that a frame makes is the same at a machine as at its log.
+pub step_alike : (values : Values) (e : End) (log : Log) (frame : Frame) → Represents values e log
+    → e.failed ≡ None → frame_step (end_view e) frame ≡ frame_step (log_view log) frame
+unfolding frame_step
+step_alike values e log frame represents up =
+    let run = represents.running up in
+    rw (run.started, run.reading.begun) refl
+
+-- So is the verdict on an item, where no block has begun.
+pub verdict_alike : (values : Values) (e : End) (log : Log) (decoded : Option Decoded) (item : Item)
+    → Represents values e log → e.failed ≡ None
+    → verdict_of (end_view (with_begun e None)) decoded item
+    ≡ verdict_of (log_view (record log { begun = None })) decoded item
+verdict_alike values e log decoded item represents up =
+    over_limits_same (with_begun e None) (record log { begun = None }) decoded item
+    (waits_of values e log represents)
+    (sound_begun log None (sound_log e.role values log represents.came
+    (sym represents.failed ∙ up)))
+    (going_begun e log None (going e log represents.streams (represents.running up)))
+
+-- Events look at nothing of a view but the least last stream of the GOAWAYs that were received.
+events_by : (view other : View) (decoded : Option Decoded) (verdict : Verdict) (item : Item)
+    → view.goaway_received ≡ other.goaway_received
+    → events_of view decoded verdict item ≡ events_of other decoded verdict item
+unfolding events_of
+events_by view other decoded Reported (alone (GoAway last code debug)) same = rw same refl
+events_by view other decoded verdict item same = refl
+
+-- The events of an item are the same at a machine as at its log.
+pub events_alike : (values : Values) (e : End) (log : Log) (decoded : Option Decoded) (item : Item)
+    → Represents values e log → e.failed ≡ None
+    → events_of (end_view (with_begun e None)) decoded
+    (verdict_of (end_view (with_begun e None)) decoded item) item
+    ≡ events_of (log_view (record log { begun = None })) decoded
+    (verdict_of (log_view (record log { begun = None })) decoded item) item
+events_alike values e log decoded item represents up =
+    ap (λ (verdict : Verdict). events_of (end_view (with_begun e None)) decoded verdict item)
+    (verdict_alike values e log decoded item represents up)
+    ∙ events_by (end_view (with_begun e None)) (log_view (record log { begun = None })) decoded
+    (verdict_of (log_view (record log { begun = None })) decoded item) item
+    (represents.running up).goaway.least_received
