@@ -10,3 +10,41 @@ mod StepStreams
 mod StepEnds
 -- Why calls are refused, and what accepted calls make of an end.
 mod StepCalls
+-- When a layer above refuses a stream.
+mod StepRefuse
+-- Octets that are released.
+mod StepRelease
+mod ItemResults
+mod ItemStatuses
+mod ItemVerdicts
+mod ItemPings
+mod ItemWindows
+mod ItemUpdates
+mod ItemResets
+mod ItemData
+-- Field blocks and frames that are received.
+mod FrameFailures
+mod FrameGroups
+mod FrameTables
+mod FrameTaking
+mod FrameVerdicts
+mod FrameWritable
+-- Why calls are refused.
+mod CallConditions
+-- What calls add to the output.
+mod CallOutput
+-- The DATA frames of a body's octets.
+mod CallData
+-- Calls that send on an active stream.
+mod CallSend
+-- A number that is added to the streams, and taken away again.
+mod CallMaps
+-- Opening a stream.
+mod CallOpen
+-- Send windows that octets are taken of.
+mod CallWindows
+-- Facts of one end that its steps stand on.
+mod OwnItems
+mod OwnNumbers
+mod OwnOutput
+mod OwnSettings

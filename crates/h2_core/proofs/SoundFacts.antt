@@ -1,12 +1,12 @@
 -- What is known of an end whose values are sound.
 use Rattle.std.proofs.Common.{◌≡◌, ◌<◌, ◌≤◌, ◌^◌, ◌+◌, ℕ, Bool, true, false, cond, List, [], ◌∷◌}
-use Rattle.std.proofs.Common.{Option, Some, None, length, refl, sym, ap, ◌∙◌, arith}
+use Rattle.std.proofs.Common.{Option, Some, None, length, sym, ap, ◌∙◌, arith}
 use Rattle.std.proofs.lemmas.Int.{ints}
 use Rattle.std.specs.FinMap as map
 use Rattle.std.specs.Ordering.{nat_cmp, is_eq}
 use Rattle.h2_log.specs.View.{StreamView}
 use Rattle.h2_machine.specs.End.{Entry, active_entry, reset_entry, End, stream_in, stream_at}
-use Rattle.h2_machine.specs.End.{owed_entry, owed_sum}
+use Rattle.h2_machine.specs.End.{owed_sum}
 use Rattle.h2_machine_laws.specs.Ranges.{count_active, StreamIsInRange}
 use Rattle.h2_streams.specs.Streams.{is_far}
 use Rattle.h2_core.specs.Endpoint.{IsSound}

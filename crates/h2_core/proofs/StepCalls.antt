@@ -1,15 +1,18 @@
 -- Why calls are refused, and what accepted calls make of an end, by the tests that the code makes.
 use Rattle.std.proofs.Common.{◌≡◌, ℕ, Bool, true, false, if◌then◌else◌, List, [], ◌∷◌, Option, Some}
-use Rattle.std.proofs.Common.{None, Result, Ok, Err, inl, inr, refl, ap}
-use Rattle.std.specs.Result.{OnOk, is_err}
-use Rattle.h2_frame.specs.Frames.{Ping, GoAway}
+use Rattle.std.proofs.Common.{◌≤◌, ◌<◌, None, Result, Ok, Err, inl, inr, is_some, nat_le, not, refl}
+use Rattle.std.proofs.Common.{sym, ap, arith}
+use Rattle.std.proofs.lemmas.Bool.Decides.{nat_tests}
+use Rattle.std.specs.Result.{OnOk, OnErr, is_err}
+use Rattle.h2_frame.specs.Frames.{Reset, Ping, GoAway}
 use Rattle.h2_block.specs.Grouping.{alone}
 use Rattle.h2_log.specs.declared.refusal.Refusal.{Refusal}
 use Rattle.h2_log.specs.declared.refusal.Refusal.TheVariants.{Memory}
-use Rattle.h2_log.specs.Acts.{Act, SendPing, SendGoAway}
-use Rattle.h2_log.specs.CallRules.{refusal_of, first_of, items_of, encoder_after_call}
-use Rattle.h2_machine.specs.End.{End, end_view}
-use Rattle.h2_machine.specs.Machine.{after_call, queue_output}
+use Rattle.h2_log.specs.View.{StreamView}
+use Rattle.h2_log.specs.Acts.{Act, ResetStream, SendPing, SendGoAway}
+use Rattle.h2_log.specs.CallRules.{refusal_of, first_of, is_no_stream, items_of, encoder_after_call}
+use Rattle.h2_machine.specs.End.{End, end_view, stream_at}
+use Rattle.h2_machine.specs.Machine.{after_call, queue_output, reset_stream}
 use Rattle.h2_core.specs.Calls.{CallRefused}
 
 -- The first condition holds.
@@ -37,6 +40,28 @@ pub at_ok : {T E : Type 0} {P : Type 0} (answer : Result T E) → is_err answer 
 at_ok (Ok value) is h = h
 at_ok (Err error) is h = cc
 
+-- What holds of an error holds where the answer is one.
+pub at_err : {T E : Type 0} {P : Type 0} (answer : Result T E) → is_err answer ≡ true
+    → OnErr answer P → P
+at_err (Ok value) is h = cc
+at_err (Err error) is h = h
+
+-- Tests of numbers.
+pub le-true : (a b : ℕ) → a ≤ b → nat_le a b ≡ true
+le-true a b h = grind (arith, nat_tests)
+
+pub le-false : (a b : ℕ) → b < a → nat_le a b ≡ false
+le-false a b h = grind (arith, nat_tests)
+
+-- Whether a stream isn't active, by the stream.
+pub no-stream : (e : End) (id : ℕ) → None ≡ stream_at e id → is_no_stream (end_view e) id ≡ true
+no-stream e id is = ap (λ (stream : Option StreamView). not (is_some stream)) (sym is)
+
+pub some-stream : (e : End) (id : ℕ) (stream : StreamView) → Some stream ≡ stream_at e id
+    → is_no_stream (end_view e) id ≡ false
+some-stream e id stream is =
+    ap (λ (stream : Option StreamView). not (is_some stream)) (sym is)
+
 -- A call is refused by a condition, or for want of memory.
 pub refused : (e : End) (act : Act) (refusal : Refusal) (new : End)
     → refusal_of (end_view e) act ≡ Some refusal → new ≡ e → CallRefused e act refusal new
@@ -61,3 +86,10 @@ pub after-goaway : (e : End)
     }
 unfolding after_call items_of encoder_after_call
 after-goaway e = refl
+
+-- What a reset makes of an end.
+pub after-reset : (e : End) (id code : ℕ)
+    → after_call e (ResetStream id code)
+    ≡ reset_stream (queue_output e (alone (Reset id code) ∷ [])) id 0
+unfolding after_call items_of encoder_after_call
+after-reset e id code = refl

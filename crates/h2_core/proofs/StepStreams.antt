@@ -1,5 +1,5 @@
 -- What the steps on a stream make of an end, by the stream that is active.
-use Rattle.std.proofs.Common.{◌≡◌, ◌≢◌, ℕ, ◌+◌, ◌-◌, ◌==◌, Bool, true, false, ◌&&◌, if◌then◌else◌}
+use Rattle.std.proofs.Common.{◌≡◌, ℕ, ◌+◌, ◌-◌, ◌==◌, Bool, true, false, ◌&&◌, if◌then◌else◌}
 use Rattle.std.proofs.Common.{Option, Some, None, is_some, eq-eqb, refl, sym, ap, ap₂, ◌∙◌, arith}
 use Rattle.std.specs.Cmp.{nat_cmp_total, unsigned_tied}
 use Rattle.std.specs.FinMap as map
@@ -71,13 +71,6 @@ without_stream e i =
         active_count = e.streams.active_count - 1;
       };
     }
-
--- An active stream that is over.
-pub closed-stream : (e : End) (i more : ℕ) (stream : StreamView) → stream_at e i ≡ Some stream
-    → close_stream e i more ≡ add_unreturned (more + stream.owed) (without_stream e i)
-closed-stream e i more stream active =
-    ap (λ (owing : ℕ). add_unreturned (more + owing) (without_stream e i))
-    (owed_in (map.get e.streams.entries i) ∙ ap owed_of active)
 
 -- A stream that both sides have ended.
 pub updated-over : (e : End) (i : ℕ) (stream : StreamView)

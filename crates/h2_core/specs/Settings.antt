@@ -1,9 +1,12 @@
 -- SETTINGS that are checked before they are applied.
-use Rattle.std.specs.Prelude.{◌≡◌, ℕ, List, [], ◌∷◌, Option, Some, None, Result, Ok, Err}
+use Rattle.std.specs.Prelude.{◌≡◌, ℕ, ℤ, List, [], ◌∷◌, Option, Some, None, Result, Ok, Err}
+use Rattle.std.specs.FinMap as map
 use Rattle.h2_flow.specs.declared.settings.Settings.{Settings}
 use Rattle.h2_flow.specs.Settings.{with_value}
 use Rattle.h2_log.specs.ItemRules.{settings_fault}
-use Rattle.h2_machine.specs.End.{end_view}
+use Rattle.h2_machine.specs.End.{end_view, any_above}
+use Rattle.h2_streams.specs.Streams.{is_above_by_shift}
+use Rattle.h2_streams.specs.Table.{TableState}
 use Rattle.h2_core.specs.declared.endpoint.Endpoint.{Endpoint}
 use Rattle.h2_core.specs.declared.reader.Stop.{Stop}
 use Rattle.h2_core.specs.declared.reader.Stop.TheVariants.{Fault, OutOfMemory}
@@ -21,3 +24,11 @@ AppliesSettings one pairs (Ok settings) =
 AppliesSettings one pairs (Err (Fault code opened)) =
     (settings_fault (end_view (end_of one)) pairs ≡ Some code) × (opened ≡ 0)
 AppliesSettings one pairs (Err OutOfMemory) = ⊥
+
+-- The greatest of the send windows isn't known yet, or is known: whether an initial window brings
+-- one of them above the greatest can be told by it.
+abbrev pub KnowsGreatest : TableState → Option (Option ℤ) → Type 0
+KnowsGreatest table None = Unit {0}
+KnowsGreatest table (Some greatest) = (initial : ℕ)
+    → any_above table.send_initial initial (map.entries table.entries)
+    ≡ is_above_by_shift table.send_initial initial greatest

@@ -1,16 +1,20 @@
 //! Calls that send messages: field blocks and DATA (RFC 9113, sections 6.1, 6.2 and 8.1).
 
-ghost use Rattle.std.specs.Prelude.{◌≡◌, ◌+◌, ◌*◌, ◌/◌, ◌≤◌, ◌<◌, ◌^◌, Bool, [], ◌∷◌, length, None};
-ghost use Rattle.std.specs.Prelude.{Some, false, IfOk, IfErr, OnOk, OnErr};
+ghost use Rattle.std.specs.Prelude.{◌≡◌, ℕ, ◌+◌, ◌-◌, ◌*◌, ◌/◌, ◌≤◌, ◌<◌, ◌^◌, ◌==◌, Bool, [], ◌∷◌};
+ghost use Rattle.std.specs.Prelude.{pos, ◌-ℤ◌, not, ◌&&◌, length, None};
+ghost use Rattle.std.specs.Prelude.{Some, false, is_some, ◌||◌, ◌++◌, IfOk, IfErr, OnOk, OnErr};
 ghost use Rattle.hpack.specs.Choice.{block_of, after_block};
-ghost use Rattle.hpack.specs.Lists.{list_size};
+ghost use Rattle.hpack.specs.Lists.{EncoderState, list_size};
 ghost use Rattle.h2_block.specs.Grouping.{block};
+ghost use Rattle.h2_block.specs.Spread.{max_payload, spread_frames, encoding_of_frames};
 ghost use Rattle.h2_log.specs.Acts.{Open, SendFields, SendData};
+ghost use Rattle.h2_log.specs.Items.{encoding_of_items};
 ghost use Rattle.h2_log.specs.Limits.{max_list};
 ghost use Rattle.h2_log.specs.CallRules.{refusal_of, data_frames, data_count};
+ghost use Rattle.h2_log.specs.CallRules.{has_all_streams, has_no_number, at_least_none};
 ghost use Rattle.h2_streams.specs.Streams.{stream_view, is_far};
 ghost use Rattle.h2_machine.specs.End.{end_view, stream_at, number_after};
-ghost use Rattle.h2_machine.specs.Machine.{queue_output, with_encoder};
+ghost use Rattle.h2_machine.specs.Machine.{queue_output, with_encoder, update_stream};
 ghost use Rattle.h2_core.specs.Endpoint.{end_of, IsSound};
 ghost use Rattle.h2_core.specs.Calls.{CallRefused, CallAccepted, NotSendable};
 
@@ -21,8 +25,9 @@ use crate::limits::{
 use h2_block::spread;
 use h2_flow::StreamState;
 use h2_log::{Refusal, Role};
+use h2_output::Output;
 use h2_streams::Stream;
-use hpack::{Field, list_size};
+use hpack::{Encoder, Field, list_size};
 use std::alloc::AllocError;
 
 impl Endpoint {
@@ -98,9 +103,9 @@ impl Endpoint {
         ensures err { IfErr result (λ refusal. CallRefused (end_of self.old)
             (SendData id octets.now end) refusal (end_of self.new)) }
     {
-        let mut stream = self.sendable(id)?;
+        let stream = self.sendable(id)?;
         let count = self.sendable_octets(&stream, octets.len());
-        if count == 0 && !(octets.is_empty() && end) {
+        if sends_nothing(octets, end, count) {
             return Ok(0);
         }
         let room = count + HEAD * (1 + count / MAX_PAYLOAD) + SMALL_FRAME;
@@ -108,11 +113,7 @@ impl Endpoint {
             return Err(Refusal::Memory);
         }
         let ends = end && count == octets.len();
-        self.add_data(id, &octets[..count], ends);
-        self.send_window -= count as u32;
-        stream.send_window -= count as i64;
-        stream.state.ended_out = ends;
-        self.update_stream(id, stream);
+        self.write_data(id, stream, &octets[..count], ends);
         Ok(count)
     }
 
@@ -151,6 +152,35 @@ impl Endpoint {
             .min(MAX_DATA)
     }
 
+    /// Sends octets, as many as both windows let through, on an active stream. There is room for
+    /// their frames, and for a WINDOW_UPDATE.
+    fn write_data(&mut self, id: u32, mut stream: Stream, octets: &[u8], end: bool)
+        requires sound { IsSound (end_of self.old) }
+        requires up { self.old.failed ≡ None }
+        requires active { stream_at (end_of self.old) id ≡ Some (stream_view stream) }
+        requires count { length octets.now ≤ 65536 }
+        requires connection { length octets.now ≤ self.old.send_window }
+        requires window { length octets.now ≤ at_least_none stream.send_window }
+        requires room { length octets.now + 9 * (1 + length octets.now / 16384) + 13
+            ≤ self.old.output.spare }
+        ensures { end_of self.new ≡ update_stream
+            (record (queue_output (end_of self.old)
+            (data_frames (length octets.now + 1) 16384 id octets.now end)) {
+          windows = record (end_of self.old).windows {
+            send = self.old.send_window - length octets.now;
+          };
+        }) id (record (stream_view stream) {
+          send_window = stream.send_window -ℤ pos (length octets.now);
+          ended_out = end;
+        }) }
+    {
+        self.add_data(id, octets, end);
+        self.send_window -= octets.len() as u32;
+        stream.send_window -= octets.len() as i64;
+        stream.state.ended_out = end;
+        self.update_stream(id, stream);
+    }
+
     /// Adds the DATA frames of octets, for which there is room: each filled to 16,384 but the last,
     /// which has END_STREAM where `end` is set.
     fn add_data(&mut self, id: u32, octets: &[u8], end: bool)
@@ -163,13 +193,7 @@ impl Endpoint {
         ensures spare { self.old.output.spare
             ≤ self.new.output.spare + (length octets.now + 9 * (1 + length octets.now / 16384)) }
     {
-        let mut rest = octets;
-        while rest.len() > MAX_PAYLOAD {
-            let (first, following) = rest.split_at(MAX_PAYLOAD);
-            self.output.add_data(id, first, false);
-            rest = following;
-        }
-        self.output.add_data(id, rest, end);
+        add_data_frames(&mut self.output, id, octets, end);
     }
 
     /// Encodes a field block and adds its frames, with room for a WINDOW_UPDATE after them.
@@ -187,18 +211,16 @@ impl Endpoint {
             × (13 ≤ self.new.output.spare)) }
         ensures err { OnErr result (end_of self.new ≡ end_of self.old) }
     {
-        let octets = list_size(fields) + 12;
-        let room = octets + HEAD * (1 + octets / MAX_PAYLOAD);
-        self.block.clear();
-        self.block_frames.clear();
-        self.block_frames.reserve(room)?;
+        let room = frames_room(fields);
         self.output.reserve(room + SMALL_FRAME)?;
-        if self.encoder.encode(fields, &mut self.block).is_err() {
-            return Err(AllocError);
-        }
-        if spread(id, end, &self.block, &mut self.block_frames).is_err() {
-            return Err(AllocError);
-        }
+        encode_frames(
+            &mut self.encoder,
+            id,
+            end,
+            fields,
+            &mut self.block,
+            &mut self.block_frames,
+        )?;
         self.output.add_octets(&self.block_frames);
         Ok(())
     }
@@ -211,11 +233,11 @@ impl Endpoint {
     {
         if self.failed.is_some() {
             Some(Refusal::Closed)
-        } else if self.role == Role::Client && self.active_count >= self.streams_allowed() {
+        } else if self.has_all_streams() {
             Some(Refusal::TooManyStreams)
-        } else if self.role == Role::Server || self.next_number() > GREATEST {
+        } else if self.has_no_number() {
             Some(Refusal::StreamsExhausted)
-        } else if self.goaway_sent.is_some() || self.goaway_received.is_some() {
+        } else if self.is_going_away() {
             Some(Refusal::GoingAway)
         } else if self.output.len() >= FULL_OUTPUT {
             Some(Refusal::OutputFull)
@@ -224,6 +246,34 @@ impl Endpoint {
         } else {
             None
         }
+    }
+
+    /// C4: a client has as many streams active as it may.
+    fn has_all_streams(&self) -> bool
+        ensures { result ≡ has_all_streams (end_view (end_of self.now)) }
+    {
+        match self.role {
+            Role::Client => self.active_count >= self.streams_allowed(),
+            Role::Server => false,
+        }
+    }
+
+    /// C5: a server opens no stream, and a client none above the greatest number.
+    fn has_no_number(&self) -> bool
+        requires { self.now.highest < 2 ^ 31 }
+        ensures { result ≡ has_no_number (end_view (end_of self.now)) }
+    {
+        match self.role {
+            Role::Client => self.next_number() > GREATEST,
+            Role::Server => true,
+        }
+    }
+
+    /// C6: GOAWAY was sent, or has come.
+    fn is_going_away(&self) -> bool
+        ensures { result ≡ (is_some self.now.goaway_sent || is_some self.now.goaway_received) }
+    {
+        self.goaway_sent.is_some() || self.goaway_received.is_some()
     }
 
     /// How many streams of its own a client may have active (RFC 9113, section 5.1.2).
@@ -250,4 +300,73 @@ impl Endpoint {
             self.highest + 2
         }
     }
+}
+
+/// Whether a call sends nothing: it may send none of the octets, and it isn't that there are none
+/// and the stream ends.
+fn sends_nothing(octets: &[u8], end: bool, count: usize) -> bool
+    ensures { result ≡ (count == 0 && not (length octets.now == 0 && end)) }
+{
+    count == 0 && !(octets.is_empty() && end)
+}
+
+/// The most octets of a field block's frames.
+fn frames_room(fields: &[Field]) -> usize
+    requires { list_size fields.now ≤ max_list }
+    ensures enough { (encoder : EncoderState) (id : ℕ) (end : Bool) → length (encoding_of_frames
+        (spread_frames max_payload id end (block_of encoder fields.now))) ≤ result }
+    ensures small { result < 2 ^ 17 }
+{
+    let octets = list_size(fields) + 12;
+    octets + HEAD * (1 + octets / MAX_PAYLOAD)
+}
+
+/// Encodes a field block, and puts its frames in place of what `frames` has.
+///
+/// # Errors
+///
+/// [`AllocError`] where an allocation was refused; the encoder has not changed.
+fn encode_frames(
+    encoder: &mut Encoder,
+    id: u32,
+    end: bool,
+    fields: &[Field],
+    block: &mut Vec<u8>,
+    frames: &mut Vec<u8>,
+) -> Result<(), AllocError>
+    requires number { (1 ≤ id) × (id < 2 ^ 31) }
+    requires size { list_size fields.now ≤ max_list }
+    ensures ok { OnOk result ((frames.new.items ≡ encoding_of_frames (spread_frames max_payload id
+        end (block_of encoder.old fields.now)))
+        × (encoder.new ≡ after_block encoder.old fields.now)) }
+    ensures err { OnErr result (encoder.new ≡ encoder.old) }
+{
+    block.clear();
+    frames.clear();
+    frames.reserve(frames_room(fields))?;
+    if encoder.encode(fields, block).is_err() {
+        return Err(AllocError);
+    }
+    spread(id, end, block, frames).unwrap();
+    Ok(())
+}
+
+/// Adds the DATA frames of octets, for which there is room: each filled to 16,384 but the last,
+/// which has END_STREAM where `end` is set.
+fn add_data_frames(output: &mut Output, id: u32, octets: &[u8], end: bool)
+    requires up { output.old.ended ≡ false }
+    requires room { length octets.now + 9 * (1 + length octets.now / 16384) ≤ output.old.spare }
+    ensures waiting { output.new.waiting ≡ output.old.waiting ++ encoding_of_items 16384
+        (data_frames (length octets.now + 1) 16384 id octets.now end) }
+    ensures spare { output.old.spare
+        ≤ output.new.spare + (length octets.now + 9 * (1 + length octets.now / 16384)) }
+    ensures ended { output.new.ended ≡ false }
+{
+    let mut rest = octets;
+    while rest.len() > MAX_PAYLOAD {
+        let (first, following) = rest.split_at(MAX_PAYLOAD);
+        output.add_data(id, first, false);
+        rest = following;
+    }
+    output.add_data(id, rest, end);
 }

@@ -1,5 +1,5 @@
-//! Calls that steer streams and the connection: credit, resets, PING, GOAWAY and SETTINGS (RFC 9113,
-//! sections 6.4, 6.5, 6.7, 6.8 and 6.9).
+//! Calls that steer streams and the connection: credit, resets, PING, GOAWAY and SETTINGS (RFC
+//! 9113, sections 6.4, 6.5, 6.7, 6.8 and 6.9).
 
 ghost use Rattle.std.specs.Prelude.{◌≡◌, nat_le, length, is_some, None, true, false, OnOk};
 ghost use Rattle.std.specs.Prelude.{IfErr};

@@ -1,7 +1,8 @@
 //! Frames that are received: the first must be SETTINGS, then field blocks are gathered (RFC 9113,
 //! sections 3.4 and 6.10).
 
-ghost use Rattle.std.specs.Prelude.{◌≡◌, None, true};
+ghost use Rattle.std.specs.Prelude.{◌≡◌, None, true, not, ◌&&◌};
+ghost use Rattle.h2_log.specs.ItemRules.{may_be_first};
 ghost use Rattle.h2_frame.specs.Frames.{frame_of};
 ghost use Rattle.h2_frame.specs.Encoding.{refusal};
 ghost use Rattle.h2_block.specs.Grouping.{alone, is_standalone};
@@ -14,7 +15,7 @@ use crate::endpoint::Endpoint;
 use crate::limits::MAX_BLOCK;
 use crate::reader::{Reported, Stop};
 use crate::receive::DataFrame;
-use h2_block::{BlockFault, Gathered};
+use h2_block::Gathered;
 use h2_frame::{Code, FrameRef};
 
 impl Endpoint {
@@ -32,20 +33,33 @@ impl Endpoint {
         ensures { TakesFrame (end_of self.old) (frame_of frame.entry) self.new.list result
             (end_of self.new) }
     {
-        if !self.started && !matches!(frame, FrameRef::Settings { ack: false, .. }) {
+        if self.is_too_early(frame) {
             return Err(self.fail_by(Stop::fault(Code::ProtocolError)));
         }
         match frame {
             FrameRef::Headers {
                 stream,
                 end,
-                whole: true,
+                whole,
                 fragment,
                 ..
-            } if !self.gather.is_inside() && fragment.len() <= MAX_BLOCK => {
+            } if whole && !self.gather.is_inside() && fragment.len() <= MAX_BLOCK => {
                 self.take_block(stream, end, fragment)
             }
             _ => self.gather_frame(frame),
+        }
+    }
+
+    /// Whether no frame has come yet, and this one may not be the first (section 3.4).
+    fn is_too_early(&self, frame: FrameRef<'_>) -> bool
+        ensures { result ≡ (not self.now.started && not (may_be_first (frame_of frame.entry))) }
+    {
+        if self.started {
+            return false;
+        }
+        match frame {
+            FrameRef::Settings { ack, .. } => ack,
+            _ => true,
         }
     }
 
@@ -58,28 +72,27 @@ impl Endpoint {
         ensures { TakesFrame (end_of self.old) (frame_of frame.entry) self.new.list result
             (end_of self.new) }
     {
-        match self.gather.take(frame) {
-            Ok(Gathered::More) => Ok(None),
-            Ok(Gathered::Pass(frame)) => match self.take_alone(frame) {
-                Ok(reported) => Ok(reported),
-                Err(stop) => Err(self.fail_by(stop)),
-            },
-            Ok(Gathered::Block {
-                stream,
-                end,
-                octets,
-            }) => self.take_block(stream, end, &octets),
+        let gathered = match self.gather.take(frame) {
+            Ok(gathered) => gathered,
             Err(fault) => {
-                let code = match fault {
-                    BlockFault::Interrupted | BlockFault::Stray => Code::ProtocolError,
-                    BlockFault::TooLong => Code::EnhanceYourCalm,
-                    BlockFault::Memory => Code::InternalError,
-                };
+                let code = fault.code();
                 self.failed = Some(code);
                 self.output
                     .end_with_goaway(self.last_processed, code.number());
-                Err(code)
+                return Err(code);
             }
+        };
+        match gathered {
+            Gathered::More => Ok(None),
+            Gathered::Pass(frame) => match self.take_alone(frame) {
+                Ok(reported) => Ok(reported),
+                Err(stop) => Err(self.fail_by(stop)),
+            },
+            Gathered::Block {
+                stream,
+                end,
+                octets,
+            } => self.take_block(stream, end, &octets),
         }
     }
 

@@ -1,10 +1,12 @@
 //! Giving output out, streams that the peer does not process, and what an end answers of itself.
 
 ghost use Rattle.std.specs.Prelude.{◌≡◌, ◌≢◌, length, is_some, if◌then◌else◌, None, IfOk, IfErr};
-ghost use Rattle.std.specs.Prelude.{OnOk};
+ghost use Rattle.std.specs.Prelude.{OnOk, true, ◌≤◌};
 ghost use Rattle.std.specs.FinMap as map;
 ghost use Rattle.h2_streams.specs.Streams.{number_or_none};
-ghost use Rattle.h2_machine.specs.Machine.{fail, unprocessed_of_end};
+ghost use Rattle.h2_log.specs.CallRules.{returns_before_put_out};
+ghost use Rattle.h2_machine.specs.End.{end_view};
+ghost use Rattle.h2_machine.specs.Machine.{fail, unprocessed_of_end, before_put_out_at};
 ghost use Rattle.h2_machine.specs.Machine.{close_unprocessed, first_active};
 ghost use Rattle.h2_core.specs.Endpoint.{end_of, IsSound};
 ghost use Rattle.h2_core.specs.Frames.{FailsWithoutMemory};
@@ -32,19 +34,39 @@ impl Endpoint {
         ensures err { IfErr result (λ refusal. (refusal ≡ Refusal.Memory)
             × (out.new.items ≡ out.old.items) × (end_of self.new ≡ end_of self.old)) }
     {
-        let returns =
-            self.failed.is_none() && self.unreturned > 0 && self.output.len() < FULL_OUTPUT;
-        let update = if returns { SMALL_FRAME } else { 0 };
+        let update = if self.returns_before_output() {
+            SMALL_FRAME
+        } else {
+            0
+        };
         let given = count.min(self.output.len() + update);
         if out.reserve(given).is_err() || self.output.reserve(update).is_err() {
             return Err(Refusal::Memory);
         }
-        if returns {
-            self.return_credit();
-        }
+        self.return_before_output();
         match self.output.put_out(count, out) {
             Ok(given) => Ok(given),
             Err(_) => Err(Refusal::Memory),
+        }
+    }
+
+    /// Whether all that is unreturned is returned before output is given out.
+    fn returns_before_output(&self) -> bool
+        ensures { result ≡ returns_before_put_out (end_view (end_of self.now)) }
+    {
+        self.failed.is_none() && self.unreturned > 0 && self.output.len() < FULL_OUTPUT
+    }
+
+    /// Returns all that is unreturned, where that is to be done before output is given out. There
+    /// is room for a WINDOW_UPDATE then.
+    fn return_before_output(&mut self)
+        requires sound { IsSound (end_of self.old) }
+        requires room { returns_before_put_out (end_view (end_of self.old)) ≡ true
+            → 13 ≤ self.old.output.spare }
+        ensures { end_of self.new ≡ before_put_out_at (end_of self.old) }
+    {
+        if self.returns_before_output() {
+            self.return_credit();
         }
     }
 
@@ -114,9 +136,9 @@ impl Endpoint {
         self.output.len()
     }
 
-    /// How many octets this end may send: on the connection where `id` is 0, else on a stream, if it
-    /// is active; below zero where settings have shifted its window so. None once the connection has
-    /// failed. It takes no memory.
+    /// How many octets this end may send: on the connection where `id` is 0, else on a stream, if
+    /// it is active; below zero where settings have shifted its window so. None once the connection
+    /// has failed. It takes no memory.
     pub fn room(&self, id: u32) -> Option<i64>
         ensures { result ≡ room_of (end_of self.now) id }
     {
@@ -130,8 +152,8 @@ impl Endpoint {
         Some(stream.send_window)
     }
 
-    /// How many octets of a stream were reported and are not released; 0 where it is not active, and
-    /// once the connection has failed. It takes no memory.
+    /// How many octets of a stream were reported and are not released; 0 where it is not active,
+    /// and once the connection has failed. It takes no memory.
     pub fn owed(&self, id: u32) -> u32
         ensures { result ≡ owed_of (end_of self.now) id }
     {
@@ -149,7 +171,11 @@ impl Endpoint {
     pub fn due(&self) -> u32
         ensures { result ≡ (if is_some self.now.failed then 0 else self.now.unreturned) }
     {
-        if self.failed.is_some() { 0 } else { self.unreturned }
+        if self.failed.is_some() {
+            0
+        } else {
+            self.unreturned
+        }
     }
 
     /// The least active stream above a number; none once the connection has failed. It takes no

@@ -187,7 +187,7 @@ impl Endpoint {
         ensures { TakesItem (end_of self.old) None (alone (Ping false octets)) self.new.list result
             (end_of self.new) }
     {
-        if self.output.len() + PING > MAX_OUTPUT {
+        if self.output.len() > MAX_OUTPUT - PING {
             return Err(Stop::fault(Code::EnhanceYourCalm));
         }
         if self.output.reserve(PING).is_err() {

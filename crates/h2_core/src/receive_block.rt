@@ -75,7 +75,8 @@ impl Endpoint {
     {
         match self.status(id) {
             Status::Idle if self.is_fresh(id) => self.take_opening(id, end, too_large),
-            Status::Idle | Status::Closed => Err(Stop::fault(Code::ProtocolError)),
+            Status::Idle => Err(Stop::fault(Code::ProtocolError)),
+            Status::Closed => Err(Stop::fault(Code::ProtocolError)),
             Status::ClosedByUs => Ok(None),
             Status::Active(stream) => self.take_further(id, end, too_large, stream),
         }

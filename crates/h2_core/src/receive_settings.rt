@@ -1,19 +1,25 @@
 //! SETTINGS that are received (RFC 9113, section 6.5).
 
-ghost use Rattle.std.specs.Prelude.{◌≡◌, ℕ, List, None, true, false};
+ghost use Rattle.std.specs.Prelude.{◌≡◌, ◌==◌, ◌&&◌, ℕ, List, None, true, false};
+ghost use Rattle.std.specs.FinMap as map;
 ghost use Rattle.h2_block.specs.Grouping.{alone};
 ghost use Rattle.h2_frame.specs.Frames.{Settings as SettingsFrame};
 ghost use Rattle.h2_frame.specs.Pairs.{lent_pairs};
+ghost use Rattle.h2_log.specs.Settings.{peer_of};
+ghost use Rattle.h2_log.specs.ItemEffects.{encoder_after_settings};
+ghost use Rattle.h2_streams.specs.Streams.{is_above_by_shift};
+ghost use Rattle.h2_machine.specs.End.{any_above};
 ghost use Rattle.h2_core.specs.Endpoint.{end_of, IsSound};
 ghost use Rattle.h2_core.specs.Items.{TakesItem};
-ghost use Rattle.h2_core.specs.Settings.{AppliesSettings};
+ghost use Rattle.h2_core.specs.Settings.{AppliesSettings, KnowsGreatest};
 
 use crate::endpoint::Endpoint;
 use crate::limits::{GREATEST, HEAD, MAX_OUTPUT};
 use crate::reader::{Reported, Stop};
 use h2_flow::Settings;
-use h2_frame::{Code, FrameRef, Pairs};
+use h2_frame::{Code, Pairs};
 use h2_log::Role;
+use hpack::Encoder;
 
 /// The most octets of header table that this end's encoder takes (own).
 const MAX_ENCODER_TABLE: u32 = 4_096;
@@ -26,8 +32,9 @@ impl Endpoint {
     ) -> Result<Option<Reported<'a>>, Stop>
         requires sound { IsSound (end_of self.old) }
         requires up { self.old.failed ≡ None }
-        ensures { TakesItem (end_of self.old) None (alone (SettingsFrame false (lent_pairs pairs.entry)))
-            self.new.list result (end_of self.new) }
+        ensures { TakesItem (end_of self.old) None
+            (alone (SettingsFrame false (lent_pairs pairs.entry))) self.new.list result
+            (end_of self.new) }
     {
         let settings = self.settings_after(pairs)?;
         if self.output.len() + HEAD > MAX_OUTPUT {
@@ -36,11 +43,7 @@ impl Endpoint {
         if self.output.reserve(HEAD).is_err() {
             return Err(Stop::OutOfMemory);
         }
-        for (id, value) in pairs.iter() {
-            if id == 1 {
-                self.encoder.set_limit(value.min(MAX_ENCODER_TABLE));
-            }
-        }
+        limit_encoder(&mut self.encoder, pairs);
         self.output.add_octets(&ACKNOWLEDGMENT);
         self.streams.set_send_initial(settings.initial_window_size);
         self.peer = settings;
@@ -54,40 +57,46 @@ impl Endpoint {
     fn settings_after(&self, pairs: Pairs<'_>) -> Result<Settings, Stop>
         ensures { AppliesSettings self.now (lent_pairs pairs.entry) result }
     {
-        let from = match self.role {
-            Role::Client => Role::Server,
-            Role::Server => Role::Client,
-        };
         let mut settings = self.peer;
         let mut greatest = None;
         for (id, value) in pairs.iter() {
-            if let Err(bad) = settings.apply(from, id, value) {
+            if let Err(bad) = settings.apply(self.peer_role(), id, value) {
                 return Err(Stop::fault(bad.0));
             }
-            if id == 4 {
-                let window = match greatest {
-                    Some(window) => window,
-                    None => self.streams.greatest_send_window(),
-                };
-                greatest = Some(window);
-                if self.overflows(window, value) {
-                    return Err(Stop::fault(Code::FlowControlError));
-                }
+            if self.overflows(id, value, &mut greatest) {
+                return Err(Stop::fault(Code::FlowControlError));
             }
         }
         Ok(settings)
     }
 
-    /// Whether this initial window brings the greatest of the send windows above 2<sup>31</sup> -
-    /// 1.
-    fn overflows(&self, greatest: Option<i64>, initial: u32) -> bool {
-        match greatest {
-            Some(window) => {
-                window - i64::from(self.peer.initial_window_size) + i64::from(initial)
-                    > i64::from(GREATEST)
-            }
-            None => false,
+    /// The role of the other end.
+    fn peer_role(&self) -> Role
+        ensures { result ≡ peer_of self.now.role }
+    {
+        match self.role {
+            Role::Client => Role::Server,
+            Role::Server => Role::Client,
         }
+    }
+
+    /// Whether a pair is an initial window that brings some send window above 2<sup>31</sup> - 1.
+    /// The greatest of the windows is computed once, and then known.
+    fn overflows(&self, id: u16, value: u32, greatest: &mut Option<Option<i64>>) -> bool
+        requires known { KnowsGreatest self.now.streams greatest.old }
+        ensures overflows { result ≡ (id == 4 && any_above self.now.streams.send_initial value
+            (map.entries self.now.streams.entries)) }
+        ensures known { KnowsGreatest self.now.streams greatest.new }
+    {
+        if id != 4 {
+            return false;
+        }
+        let window = match *greatest {
+            Some(window) => window,
+            None => self.streams.greatest_send_window(),
+        };
+        *greatest = Some(window);
+        is_above(window, self.peer.initial_window_size, value)
     }
 
     /// The acknowledgment of own SETTINGS: those that await it come into force (section 6.5.3).
@@ -110,3 +119,25 @@ impl Endpoint {
 
 /// The acknowledgment of SETTINGS (section 6.5).
 const ACKNOWLEDGMENT: [u8; HEAD] = [0, 0, 0, 4, 1, 0, 0, 0, 0];
+
+/// Each value 1, in order, sets the encoder's limit (RFC 7541, section 4.2).
+fn limit_encoder(encoder: &mut Encoder, pairs: Pairs<'_>)
+    ensures { encoder.new ≡ encoder_after_settings encoder.old (lent_pairs pairs.entry) }
+{
+    for (id, value) in pairs.iter() {
+        if id == 1 {
+            encoder.set_limit(value.min(MAX_ENCODER_TABLE));
+        }
+    }
+}
+
+/// Whether another initial window brings the greatest send window, if there is one, above
+/// 2<sup>31</sup> - 1.
+fn is_above(greatest: Option<i64>, old: u32, new: u32) -> bool
+    ensures { result ≡ is_above_by_shift old new greatest }
+{
+    match greatest {
+        Some(window) => window > i64::from(GREATEST) + i64::from(old) - i64::from(new),
+        None => false,
+    }
+}

@@ -75,13 +75,14 @@ impl Endpoint {
         ensures { TakesItem (end_of self.old) None (alone (WindowUpdate id increment))
             self.new.list result (end_of self.new) }
     {
+        let window = stream.send_window + i64::from(increment);
         let code = if increment == 0 {
             Code::ProtocolError
-        } else if stream.send_window + i64::from(increment) > i64::from(GREATEST) {
+        } else if window > i64::from(GREATEST) {
             Code::FlowControlError
         } else {
             let mut changed = stream;
-            changed.send_window += i64::from(increment);
+            changed.send_window = window;
             self.streams.set(id, changed);
             return Ok(None);
         };
@@ -105,6 +106,6 @@ impl Endpoint {
         ensures { result ≡ (nat_le max_resets self.now.resets
             || nat_lt max_output (length self.now.output.waiting + 13)) }
     {
-        self.resets >= MAX_RESETS || self.output.len() + SMALL_FRAME > MAX_OUTPUT
+        self.resets >= MAX_RESETS || self.output.len() > MAX_OUTPUT - SMALL_FRAME
     }
 }

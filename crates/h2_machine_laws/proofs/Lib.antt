@@ -23,7 +23,7 @@ mod CountedBySteps
 mod CountedUnprocessed
 mod EachStream
 mod EntryCounts
-mod EveryStep
+pub mod EveryStep
 mod EveryUpLog
 mod FirstSettings
 mod FreshNumbers
@@ -37,7 +37,7 @@ mod NumberedSteps
 mod OneAwaited
 mod OneItemMore
 mod OwedAtClose
-mod OwedOnStreams
+pub mod OwedOnStreams
 mod OwedSums
 mod QuietNumbers
 mod RangesOfCalls

@@ -1,5 +1,5 @@
 -- GOAWAY is the last item of the output.
-use Rattle.std.proofs.Common.{◌≡◌, ◌∙◌, ap, [], List, ℕ}
+use Rattle.std.proofs.Common.{[]}
 use Rattle.h2_frame.specs.Codes.{code_number}
 use Rattle.h2_frame.specs.Frames.{GoAway}
 use Rattle.h2_log.specs.Limits.{max_frame_size_sent}

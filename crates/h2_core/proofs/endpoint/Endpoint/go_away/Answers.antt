@@ -1,7 +1,7 @@
 -- The code's tests are the conditions of GOAWAY in their order; the frame and its stream are kept.
-use Rattle.std.proofs.Common.{◌≡◌, ℕ, ◌<◌, ◌^◌, List, [], ◌∷◌, ◌++◌, Some, is_some, refl, sym, ap, arith, ◌∙◌}
+use Rattle.std.proofs.Common.{ℕ, ◌<◌, ◌^◌, List, [], ◌∷◌, ◌++◌, Some, is_some, refl, sym, ap, arith}
+use Rattle.std.proofs.Common.{◌∙◌}
 use Rattle.std.proofs.lemmas.Result.{err_from_is_err_and}
-use Rattle.h2_frame.specs.Codes.{code_number}
 use Rattle.h2_frame.specs.Frames.{GoAway}
 use Rattle.h2_block.specs.Grouping.{alone}
 use Rattle.h2_log.specs.Items.{encoding_of_items}
@@ -78,7 +78,7 @@ abbrev with_goaway : End → End
 with_goaway e = record e { goaway = record e.goaway { sent = Some e.streams.last_processed } }
 
 pub returns-clause-ok : goal.returns-clause-ok
-unfolding conditions code_number
+unfolding conditions
 returns-clause-ok c =
     let e = end_of c.args.self.now in
     let last = e.streams.last_processed in

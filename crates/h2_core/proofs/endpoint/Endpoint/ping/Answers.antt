@@ -1,5 +1,5 @@
 -- The code's tests are the conditions of PING in their order; the frame and its octets are kept.
-use Rattle.std.proofs.Common.{◌≡◌, ℕ, List, Some, false, is_some, refl, sym, ap, arith, ◌∙◌}
+use Rattle.std.proofs.Common.{ℕ, List, Some, false, is_some, refl, sym, ap, arith, ◌∙◌}
 use Rattle.std.proofs.lemmas.Result.{err_from_is_err_and}
 use Rattle.h2_frame.specs.Frames.{Ping}
 use Rattle.h2_log.specs.Acts.{SendPing}

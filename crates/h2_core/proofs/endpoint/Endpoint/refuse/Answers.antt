@@ -1,38 +1,98 @@
-use Rattle.std.proofs.Common.{rules, ◌≡◌, nat_le, length, is_some, None, true, false, OnOk, IfErr, ℕ, ◌+◌, ◌-◌, ◌*◌, ◌<◌, ◌≤◌, ◌/◌, ◌%◌, Bool, nat_eq, nat_lt, List, [], ◌∷◌, ◌++◌, slice_index_or, slice_set, bit_and, bit_or, Fits, w8, w32, w64, Bor, MutBor}
-use Rattle.h2_log.specs.Limits.{full_output}
-use Rattle.h2_log.specs.Acts.{Release, ResetStream, SendPing, SendGoAway}
-use Rattle.h2_core.specs.Endpoint.{end_of, IsSound}
-use Rattle.h2_core.specs.Calls.{CallRefused, CallAccepted, CallRefuses}
+-- The code's tests are the condition of a refusal and the causes for which the connection fails.
+use Rattle.std.proofs.Common.{◌≡◌, ◌≢◌, ◌+◌, ◌≤◌, max, false, ℕ, inl, inr, ap, subst, refl, sym}
+use Rattle.std.proofs.Common.{arith, ◌∙◌}
+use Rattle.std.proofs.lemmas.Result.{err_from_is_err_and}
+use Rattle.h2_frame.specs.declared.code.Code.TheVariants.{InternalError, EnhanceYourCalm}
+use Rattle.h2_machine.specs.End.{End}
+use Rattle.h2_machine.specs.Machine.{fail}
+use Rattle.h2_streams.specs.Streams.{stream_view}
+use Rattle.h2_core.specs.declared.reader.Stop.{Stop}
+use Rattle.h2_core.specs.Endpoint.{end_of}
+use Rattle.h2_core.specs.Stops.{FailsBy}
+use Rattle.h2_core.proofs.SoundFacts.{counted, owed_fits}
+use Rattle.h2_core.proofs.StepCalls.{no-stream, some-stream, at_ok, at_err}
+use Rattle.h2_core.proofs.StepRefuse.{refuse-closed, refuse-no-stream, refuse-internal}
+use Rattle.h2_core.proofs.StepRefuse.{refuse-active, after-limit, after-refusal}
 use Rattle.h2_core.proofs.endpoint.Endpoint.refuse.Goals as goal
 
--- src/control_calls.rt:100:9
 pub returns-in_err-check_up : goal.returns-in_err-check_up
-returns-in_err-check_up c = ?
+returns-in_err-check_up c =
+    let e = end_of c.args.self.now in
+    let p = err_from_is_err_and c.from_residual.result c.from_residual.ensures.1 in
+    rw (p.1, p.2, c.in_err-check_up.ensures.err.0)
+    (refuse-closed e c.args.id c.args.code c.in_err-check_up.ensures.err.1, refl)
 
--- src/control_calls.rt:104:13
 pub returns-then-code-number : goal.returns-then-code-number
-returns-then-code-number c = ?
+returns-then-code-number c =
+    let e = end_of c.args.self.now in
+    inr (
+      refuse-internal e c.args.id c.args.code c.in_ok-check_up.ensures.ok
+          (c.if-code-number.true ∙ c.number.ensures),
+      c.fail_by.ensures.1,
+    )
 
--- src/control_calls.rt:107:13
 pub returns-in_default : goal.returns-in_default
-returns-in_default c = ?
+returns-in_default c =
+    let e = end_of c.args.self.now in
+    let other : c.args.code ≢ 2 = omega (arith, c.number.ensures, c.if-code-number.false) in (
+      refuse-no-stream e c.args.id c.args.code c.in_ok-check_up.ensures.ok other
+          (no-stream e c.args.id c.in_default.ensures),
+      refl,
+    )
 
--- src/control_calls.rt:111:13
 pub returns-then-is_over_limits : goal.returns-then-is_over_limits
-returns-then-is_over_limits c = ?
+returns-then-is_over_limits c =
+    let e = end_of c.args.self.now in
+    let other : c.args.code ≢ 2 = omega (arith, c.number.ensures, c.if-code-number.false) in
+    let last : max e.streams.last_processed 0 ≡ e.streams.last_processed = omega arith in
+    let fails =
+    subst (λ (stop : Stop).
+    FailsBy e stop c.fail_by-then-is_over_limits.result
+    (end_of c.fail_by-then-is_over_limits.new.self)) c.fault.ensures
+    c.fail_by-then-is_over_limits.ensures in
+    inl (record {
+      free =
+          refuse-active e c.args.id c.args.code c.in_ok-check_up.ensures.ok
+          (some-stream e c.args.id (stream_view c.in-Some.stream) c.in-Some.ensures);
+      after =
+          fails.1 ∙ ap (λ (last : ℕ). fail EnhanceYourCalm last e) last
+          ∙ sym (after-limit e c.args.id c.args.code other (sym c.if-is_over_limits.ensures));
+    })
 
--- src/control_calls.rt:113:12
 pub reset_stream-requires-clause-counted : goal.reset_stream-requires-clause-counted
-reset_stream-requires-clause-counted c = ?
+reset_stream-requires-clause-counted c = λ _.
+    counted (end_of c.args.self.now) c.args.id (stream_view c.in-Some.stream) c.requires.sound
+    (sym c.in-Some.ensures)
 
--- src/control_calls.rt:113:12
 pub reset_stream-requires-clause-window : goal.reset_stream-requires-clause-window
-reset_stream-requires-clause-window c = ?
+reset_stream-requires-clause-window c =
+    let e = end_of c.args.self.now in
+    let stream = stream_view c.in-Some.stream in
+    let fits : e.windows.recv + (e.windows.unreturned + stream.owed) ≤ 65535 =
+    owed_fits e c.args.id stream c.requires.sound (sym c.in-Some.ensures) in
+    omega (arith, fits)
 
--- src/control_calls.rt:96:5
 pub returns-then-is_err : goal.returns-then-is_err
-returns-then-is_err c = ?
+returns-then-is_err c =
+    let e = end_of c.args.self.now in
+    let same =
+    at_err c.reset_stream.result (sym c.if-is_err.ensures.value) c.reset_stream.ensures.err in
+    inr (
+      refuse-active e c.args.id c.args.code c.in_ok-check_up.ensures.ok
+          (some-stream e c.args.id (stream_view c.in-Some.stream) c.in-Some.ensures),
+      c.fail_by-then-is_err.ensures.1
+          ∙ ap (λ (end : End). fail InternalError end.streams.last_processed end) same,
+    )
 
--- src/control_calls.rt:96:5
 pub returns-else-is_err : goal.returns-else-is_err
-returns-else-is_err c = ?
+returns-else-is_err c =
+    let e = end_of c.args.self.now in
+    let other : c.args.code ≢ 2 = omega (arith, c.number.ensures, c.if-code-number.false) in
+    inl (record {
+      free =
+          refuse-active e c.args.id c.args.code c.in_ok-check_up.ensures.ok
+          (some-stream e c.args.id (stream_view c.in-Some.stream) c.in-Some.ensures);
+      after =
+          at_ok c.reset_stream.result (sym c.if-is_err.ensures.value) c.reset_stream.ensures.ok
+          ∙ sym (after-refusal e c.args.id c.args.code other (sym c.if-is_over_limits.ensures));
+    })

@@ -1,5 +1,5 @@
 -- A WINDOW_UPDATE without stream has 13 octets, and those wait then.
-use Rattle.std.proofs.Common.{arith, refl, sym, ◌∙◌}
+use Rattle.std.proofs.Common.{arith}
 use Rattle.h2_log.specs.Limits.{max_frame_size_sent}
 use Rattle.h2_frame.specs.Frames.{WindowUpdate}
 use Rattle.h2_core.proofs.StepFrames.{update-written, length-update, one-item}
@@ -15,7 +15,7 @@ add_frame-requires-clause-short c = omega (arith, length-update 0 c.args.self.no
 pub add_frame-requires-clause-room : goal.add_frame-requires-clause-room
 add_frame-requires-clause-room c = omega (arith, length-update 0 c.args.self.now.unreturned)
 
-pub returns : goal.returns
-returns c =
+pub returns-clause-after : goal.returns-clause-after
+returns-clause-after c =
     let item = one-item max_frame_size_sent (WindowUpdate 0 c.args.self.now.unreturned) in
-    record { after = (cc); list = refl }
+    cc

@@ -15,14 +15,10 @@ with_one_less e = record e {
   streams = record e.streams { active_count = e.streams.active_count - 1 };
 }
 
-pub returns-then-closed : goal.returns-then-closed
-returns-then-closed c =
+pub returns-then-closed-clause-after : goal.returns-then-closed-clause-after
+returns-then-closed-clause-after c =
     let e = end_of c.args.self.now in
-    record {
-      after =
-          c.add_unreturned.ensures.after
-          ∙ ap (λ (table : TableState). add_unreturned c.args.stream.owed
-          (with_table (with_one_less e) table)) c.close.ensures
-          ∙ sym (updated-over e c.args.id (stream_view c.args.stream) (sym c.if-closed.ensures));
-      list = c.add_unreturned.ensures.list;
-    }
+    c.add_unreturned.ensures.after
+    ∙ ap (λ (table : TableState). add_unreturned c.args.stream.owed
+    (with_table (with_one_less e) table)) c.close.ensures
+    ∙ sym (updated-over e c.args.id (stream_view c.args.stream) (sym c.if-closed.ensures))

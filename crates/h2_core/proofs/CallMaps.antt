@@ -1,0 +1,50 @@
+-- What is kept of a number that is added to the streams, and taken away again.
+use Rattle.std.proofs.Common.{◌≡◌, ℕ, ◌==◌, Bool, true, false, if◌then◌else◌, Some, None, refl, sym}
+use Rattle.std.proofs.Common.{ap, ◌∙◌, eq-eqb}
+use Rattle.std.specs.Ordering.{nat_cmp}
+use Rattle.std.specs.Cmp.{nat_cmp_total, unsigned_tied}
+use Rattle.std.specs.FinMap as map
+use Rattle.std.proofs.lemmas.Bool.{eqb-true}
+use Rattle.h2_machine.specs.End.{Entry, StreamMap}
+
+-- what is kept after an entry that is set
+get_set : (m : StreamMap) (k : ℕ) (v : Entry) (q : ℕ)
+    → map.get (map.insert m k v) q ≡ (if q == k then Some v else map.get m q)
+get_set m k v q =
+    map.get-insert nat_cmp_total m k v q
+    ∙ ap (λ (b : Bool). if b then Some v else map.get m q) (unsigned_tied q k)
+
+-- what is kept after an entry that is removed
+get_removed : (m : StreamMap) (k q : ℕ)
+    → map.get (map.remove m k) q ≡ (if q == k then None else map.get m q)
+get_removed m k q =
+    map.get-remove nat_cmp_total m k q
+    ∙ ap (λ (b : Bool). if b then None else map.get m q) (unsigned_tied q k)
+
+-- At the number itself, the entry is the one that was set.
+pub get_set_same : (m : StreamMap) (k : ℕ) (v : Entry) → map.get (map.insert m k v) k ≡ Some v
+get_set_same m k v =
+    get_set m k v k ∙ ap (λ (b : Bool). if b then Some v else map.get m k) (eq-eqb k k refl)
+
+-- Each entry is what it was, by whether its number was added and taken away.
+entry_again : (m : StreamMap) (k : ℕ) (v : Entry) (q : ℕ) (same : Bool)
+    → map.get m k ≡ None → (q == k) ≡ same
+    → map.get (map.remove (map.insert m k v) k) q ≡ map.get m q
+entry_again m k v q true none is =
+    let equal : q ≡ k = eqb-true q k is in
+    let absent : map.get m q ≡ None = rw equal none in
+    get_removed (map.insert m k v) k q
+    ∙ ap (λ (b : Bool). if b then None else map.get (map.insert m k v) q) is
+    ∙ sym absent
+entry_again m k v q false none is =
+    get_removed (map.insert m k v) k q
+    ∙ ap (λ (b : Bool). if b then None else map.get (map.insert m k v) q) is
+    ∙ get_set m k v q
+    ∙ ap (λ (b : Bool). if b then Some v else map.get m q) is
+
+-- A number of which nothing was kept, added and taken away, leaves the streams as they were.
+pub remove_inserted : (m : StreamMap) (k : ℕ) (v : Entry) → map.get m k ≡ None
+    → map.remove (map.insert m k v) k ≡ m
+remove_inserted m k v none =
+    map.same_map nat_cmp_total map.nat_cmp-IsAntisymmetric (map.remove (map.insert m k v) k) m
+    (λ q. entry_again m k v q (q == k) none refl)

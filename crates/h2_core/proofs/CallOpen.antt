@@ -1,0 +1,130 @@
+-- Opening a stream: what holds where no condition refuses it, and what it makes of an end.
+use Rattle.std.proofs.Common.{◌≡◌, ℕ, ◌+◌, ◌==◌, ◌≤◌, ◌<◌, Bool, true, false, List, [], ◌∷◌}
+use Rattle.std.proofs.Common.{if◌then◌else◌, Option, Some, None, refl, sym, ap, ◌∙◌, arith}
+use Rattle.std.specs.Option.{is_some}
+use Rattle.std.specs.FinMap as map
+use Rattle.std.proofs.lemmas.Bool.{ltb-false, eqb-true, or_parts}
+use Rattle.hpack.specs.declared.types.field.Field.{Field}
+use Rattle.hpack.specs.Choice.{block_of, after_block}
+use Rattle.hpack.specs.Lists.{list_size}
+use Rattle.h2_block.specs.Grouping.{block}
+use Rattle.h2_log.specs.declared.refusal.Refusal.{Refusal}
+use Rattle.h2_log.specs.Acts.{Open}
+use Rattle.h2_log.specs.CallRules.{first_of, conditions, refusal_of, items_of, encoder_after_call}
+use Rattle.h2_log.specs.Settings.{is_server}
+use Rattle.h2_log.specs.View.{StreamView}
+use Rattle.h2_machine.specs.End.{End, end_view, active_entry, number_after}
+use Rattle.h2_machine.specs.Machine.{after_call, queue_output, with_encoder, new_stream, open_stream}
+use Rattle.h2_streams.specs.Table.{TableState}
+use Rattle.h2_core.proofs.CallMaps.{remove_inserted}
+
+-- Where none of some conditions holds, the first doesn't.
+none_first : (holds : Bool) (refusal : Refusal) (others : List (Bool × Refusal))
+    → first_of ((holds, refusal) ∷ others) ≡ None
+    → (holds ≡ false) × (first_of others ≡ None)
+unfolding first_of
+none_first true refusal others is = cc
+none_first false refusal others is = (refl, is)
+
+-- What isn't there is nothing.
+nothing : {A : Type 0} (value : Option A) → is_some value ≡ false → value ≡ None
+nothing None is = refl
+nothing (Some x) is = cc
+
+-- What holds where no condition refuses to open a stream.
+pub record MayOpen (e : End) (fields : List Field) : Type 0 where
+  pub up : e.failed ≡ None
+  pub client : is_server e.role ≡ false
+  pub number : number_after e.streams.highest ≤ 2147483647
+  pub small : list_size fields ≤ 65536
+
+-- the number, at a client
+number_at : (server : Bool) (number : ℕ) → server ≡ false → (if server then 0 else number) ≡ number
+number_at server number is = rw is
+
+pub may_open : (e : End) (fields : List Field) (end : Bool)
+    → refusal_of (end_view e) (Open fields end) ≡ None → MayOpen e fields
+unfolding conditions
+may_open e fields end free =
+    let up = none_first _ _ _ free in
+    let few = none_first _ _ _ up.1 in
+    let numbered = none_first _ _ _ few.1 in
+    let going = none_first _ _ _ numbered.1 in
+    let room = none_first _ _ _ going.1 in
+    let small = none_first _ _ _ room.1 in
+    let parts = or_parts _ _ numbered.0 in
+    record {
+      up = nothing _ up.0;
+      client = parts.0;
+      number = omega (arith, ltb-false _ _ parts.1,
+          number_at (is_server e.role) (number_after e.streams.highest) parts.0);
+      small = ltb-false _ _ small.0;
+    }
+
+-- The next number isn't 0, and above all that were used.
+number_by : (highest : ℕ) (none : Bool) → (highest == 0) ≡ none
+    → (1 ≤ number_after highest) × (highest < number_after highest)
+number_by highest true is =
+    let zero : highest ≡ 0 = eqb-true highest 0 is in
+    let first : number_after highest ≡ 1 = rw is in
+    (omega arith, omega arith)
+number_by highest false is =
+    let next : number_after highest ≡ highest + 2 = rw is in (omega arith, omega arith)
+
+pub number_above : (highest : ℕ) → (1 ≤ number_after highest) × (highest < number_after highest)
+number_above highest = number_by highest (highest == 0) refl
+
+-- an end whose streams are those of a table
+abbrev pub with_table : End → TableState → End
+with_table e table = record e {
+  streams = record e.streams { entries = table.entries };
+  peer = record e.peer { initial_window = table.send_initial };
+  own = record e.own { in_force = record e.own.in_force { initial_window = table.recv_initial } };
+}
+
+-- the table whose streams an end has
+abbrev pub table_of : End → TableState
+table_of e = record {
+  entries = e.streams.entries;
+  send_initial = e.peer.initial_window;
+  recv_initial = e.own.in_force.initial_window;
+}
+
+-- a table with a stream that is added, and without a number
+abbrev pub with_stream : TableState → ℕ → StreamView → TableState
+with_stream table id stream = record table {
+  entries = map.insert table.entries id (active_entry stream);
+}
+
+abbrev pub without : TableState → ℕ → TableState
+without table id = record table { entries = map.remove table.entries id }
+
+-- A stream that is added and taken away leaves the table as it was.
+pub taken_away : (table added : TableState) (id : ℕ) (stream : StreamView)
+    → map.get table.entries id ≡ None → added ≡ with_stream table id stream
+    → without added id ≡ table
+taken_away table added id stream none is =
+    ap (λ (one : TableState). without one id) is
+    ∙ ap (λ streams. record table { entries = streams })
+    (remove_inserted table.entries id (active_entry stream) none)
+
+-- an end with one active stream more, the greatest
+abbrev pub with_count : End → ℕ → End
+with_count e id = record e {
+  streams = record e.streams { active_count = e.streams.active_count + 1; highest = id };
+}
+
+-- the end once the stream is open and the block is written
+pub opened : (e : End) (added : TableState) (fields : List Field) (end : Bool) (id : ℕ)
+    → added ≡ with_stream (table_of e) id (new_stream e false end)
+    → id ≡ (end_view e).next_number
+    → with_count (queue_output (with_encoder (with_table e added) (after_block e.output.encoder
+    fields)) (block id end (block_of e.output.encoder fields) ∷ [])) id
+    ≡ after_call e (Open fields end)
+unfolding after_call items_of encoder_after_call
+opened e added fields end id is number =
+    ap (λ (one : TableState). with_count (queue_output (with_encoder (with_table e one)
+    (after_block e.output.encoder fields)) (block id end (block_of e.output.encoder fields) ∷ []))
+    id) is
+    ∙ ap (λ next. open_stream (queue_output (with_encoder e (after_block e.output.encoder fields))
+    (block next end (block_of e.output.encoder fields) ∷ [])) next end) number

@@ -1,0 +1,51 @@
+-- What calls add to the output.
+use Rattle.std.proofs.Common.{◌≡◌, ℕ, ◌+◌, ◌-◌, ◌*◌, ◌/◌, ◌≤◌, Bool, List, [], ◌∷◌, length, refl, arith}
+use Rattle.std.proofs.Math.Nat.{div-mul-le_self}
+use Rattle.std.proofs.lemmas.Nat.{le-div}
+use Rattle.hpack.specs.declared.types.field.Field.{Field}
+use Rattle.hpack.specs.Lists.{EncoderState, list_size}
+use Rattle.hpack.specs.Choice.{block_of}
+use Rattle.hpack.proofs.RoomLemmas.{block_short, most_octets-list_size}
+use Rattle.h2_block.proofs.SpreadLengths.{length-spread_frames}
+use Rattle.h2_frame.specs.Frames.{Frame}
+use Rattle.h2_frame.specs.Encoding.{encoding_of}
+use Rattle.h2_block.specs.Grouping.{alone, block}
+use Rattle.h2_block.specs.Spread.{spread_frames, encoding_of_frames}
+use Rattle.h2_log.specs.Items.{encoding_of_item, encoding_of_items}
+use Rattle.h2_machine.specs.End.{End}
+
+-- an end whose output is this
+abbrev pub with_waiting : End → List ℕ → End
+with_waiting e octets = record e { output = record e.output { waiting = octets } }
+
+-- the octets of one frame
+pub octets_of_frame : (most : ℕ) (frame : Frame)
+    → encoding_of_items most (alone frame ∷ []) ≡ encoding_of frame
+unfolding encoding_of_items encoding_of_item
+octets_of_frame most frame = refl
+
+-- the octets of one block
+pub octets_of_block : (most id : ℕ) (end : Bool) (octets : List ℕ)
+    → encoding_of_items most (block id end octets ∷ [])
+    ≡ encoding_of_frames (spread_frames most id end octets)
+unfolding encoding_of_items encoding_of_item
+octets_of_block most id end octets = refl
+
+-- A smaller number has no greater quotient.
+quotient_below : (a b n : ℕ) → a ≤ b → 1 ≤ n → a / n ≤ b / n
+quotient_below a b n below positive =
+    le-div (a / n) b n (omega arith) (omega (arith, div-mul-le_self a n))
+
+-- The octets of a block, by the size of its list.
+pub block_within : (state : EncoderState) (fields : List Field)
+    → length (block_of state fields) ≤ list_size fields + 12
+block_within state fields =
+    omega (arith, block_short state fields, most_octets-list_size fields)
+
+-- The frames of a block have no more octets than there is room for.
+pub frames_within : (id : ℕ) (end : Bool) (octets : List ℕ) (most : ℕ) → length octets ≤ most
+    → length (encoding_of_frames (spread_frames 16384 id end octets))
+    ≤ most + 9 * (1 + most / 16384)
+frames_within id end octets most within =
+    let lower = quotient_below (length octets - 1) most 16384 (omega arith) (omega arith) in
+    omega (arith, length-spread_frames 16384 id end octets (omega arith), lower)

@@ -1,0 +1,128 @@
+-- Calls that send on an active stream: when none of their conditions holds, and what they make of
+-- an end.
+use Rattle.std.proofs.Common.{ap, sym, ◌∙◌, suc, ◌+◌, take, add-one}
+use Rattle.std.proofs.lemmas.List.{length-take-le}
+use Rattle.std.proofs.Common.{◌≡◌, ℕ, ◌-◌, ◌≤◌, ◌<◌, ◌==◌, not, ◌&&◌, Bool, true, false, List, []}
+use Rattle.std.proofs.Common.{◌∷◌, ◌++◌, length, pos, ◌-ℤ◌, Option, Some, None, refl, arith}
+use Rattle.std.proofs.lemmas.Bool.{lt-leb, lt-ltb, le-ltb}
+use Rattle.hpack.specs.declared.types.field.Field.{Field}
+use Rattle.hpack.specs.Choice.{block_of, after_block}
+use Rattle.hpack.specs.Lists.{list_size}
+use Rattle.h2_block.specs.Grouping.{Item, block}
+use Rattle.h2_log.specs.declared.refusal.Refusal.{Refusal}
+use Rattle.h2_log.specs.declared.refusal.Refusal.TheVariants.{ListTooLarge}
+use Rattle.h2_log.specs.Acts.{SendFields, SendData}
+use Rattle.h2_log.specs.CallRules.{first_of, conditions, refusal_of, data_count, data_items, items_of}
+use Rattle.h2_log.specs.CallRules.{data_frames, encoder_after_call}
+use Rattle.h2_log.specs.View.{StreamView}
+use Rattle.h2_machine.specs.End.{End, end_view, stream_at}
+use Rattle.h2_machine.specs.Machine.{after_call, update_stream, queue_output, with_encoder}
+use Rattle.h2_core.proofs.CallConditions.{holds_first, others_decide}
+
+-- The first condition that holds is the first among more.
+pub first_kept : (conditions more : List (Bool × Refusal)) (refusal : Refusal)
+    → first_of conditions ≡ Some refusal → first_of (conditions ++ more) ≡ Some refusal
+unfolding first_of
+first_kept [] more refusal is = cc
+first_kept ((true, first) ∷ conditions) more refusal is = is
+first_kept ((false, first) ∷ conditions) more refusal is = first_kept conditions more refusal is
+
+-- No condition refuses fields.
+pub fields_free : (e : End) (id : ℕ) (stream : StreamView) (fields : List Field) (end : Bool)
+    → e.failed ≡ None → stream_at e id ≡ Some stream → stream.ended_out ≡ false
+    → length e.output.waiting < 65536 → list_size fields ≤ 65536
+    → refusal_of (end_view e) (SendFields id fields end) ≡ None
+unfolding first_of conditions
+fields_free e id stream fields end up active goes room small =
+    rw (up, active, goes, lt-leb 65536 (length e.output.waiting) room,
+    le-ltb 65536 (list_size fields) small)
+
+-- A list that is too large, where nothing else refuses fields.
+pub fields_large : (e : End) (id : ℕ) (stream : StreamView) (fields : List Field) (end : Bool)
+    → e.failed ≡ None → stream_at e id ≡ Some stream → stream.ended_out ≡ false
+    → length e.output.waiting < 65536 → 65536 < list_size fields
+    → refusal_of (end_view e) (SendFields id fields end) ≡ Some ListTooLarge
+unfolding first_of conditions
+fields_large e id stream fields end up active goes room large =
+    rw (up, active, goes, lt-leb 65536 (length e.output.waiting) room,
+    lt-ltb 65536 (list_size fields) large)
+
+-- No condition refuses DATA.
+pub data_free : (e : End) (id : ℕ) (stream : StreamView) (octets : List ℕ) (end : Bool)
+    → e.failed ≡ None → stream_at e id ≡ Some stream → stream.ended_out ≡ false
+    → length e.output.waiting < 65536 → refusal_of (end_view e) (SendData id octets end) ≡ None
+unfolding first_of conditions
+data_free e id stream octets end up active goes room =
+    rw (up, active, goes, lt-leb 65536 (length e.output.waiting) room)
+
+-- the end once the block is written
+pub fields_sent : (e : End) (id : ℕ) (stream : StreamView) (fields : List Field) (end : Bool)
+    → stream_at e id ≡ Some stream
+    → after_call e (SendFields id fields end)
+    ≡ update_stream
+    (queue_output (with_encoder e (after_block e.output.encoder fields))
+    (block id end (block_of e.output.encoder fields) ∷ []))
+    id (record stream { ended_out = end })
+unfolding after_call items_of encoder_after_call
+fields_sent e id stream fields end active = rw active
+
+-- Nothing is sent.
+pub data_unsent : (e : End) (id : ℕ) (stream : StreamView) (octets : List ℕ) (end : Bool)
+    (count : ℕ)
+    → stream_at e id ≡ Some stream
+    → count ≡ data_count (end_view e) (Some stream) (length octets)
+    → (count == 0 && not (length octets == 0 && end)) ≡ true
+    → after_call e (SendData id octets end) ≡ e
+unfolding after_call
+data_unsent e id stream octets end count active is none = rw (active, ← is, none)
+
+-- an end with items that DATA gave, and both send windows without so many octets
+abbrev pub after_sent : End → ℕ → StreamView → List Item → ℕ → Bool → End
+after_sent e id stream items count ends =
+    update_stream
+    (record (queue_output e items) {
+      windows = record e.windows { send = e.windows.send - count };
+    })
+    id (record stream { send_window = stream.send_window -ℤ pos count; ended_out = ends })
+
+-- the end once so many octets are written
+data_sent : (e : End) (id : ℕ) (stream : StreamView) (octets : List ℕ) (end : Bool) (count : ℕ)
+    → stream_at e id ≡ Some stream
+    → count ≡ data_count (end_view e) (Some stream) (length octets)
+    → (count == 0 && not (length octets == 0 && end)) ≡ false
+    → after_call e (SendData id octets end)
+    ≡ after_sent e id stream (data_items 16384 id octets end count) count
+    (end && count == length octets)
+unfolding after_call
+data_sent e id stream octets end count active is some = rw (active, ← is, some)
+
+-- the items of octets of which some are sent, or none and the stream ends
+items_sent : (most id : ℕ) (octets : List ℕ) (end : Bool) (count : ℕ)
+    → (count == 0 && not (length octets == 0 && end)) ≡ false
+    → data_items most id octets end count
+    ≡ data_frames (suc count) most id (take count octets) (end && count == length octets)
+unfolding data_items
+items_sent most id octets end count some = rw some
+
+-- The end once the octets that may be sent are written, as many as there are of them.
+pub data_written : (e : End) (id : ℕ) (stream : StreamView) (octets : List ℕ) (end : Bool)
+    (count : ℕ) (ends : Bool)
+    → stream_at e id ≡ Some stream
+    → count ≡ data_count (end_view e) (Some stream) (length octets)
+    → (count == 0 && not (length octets == 0 && end)) ≡ false
+    → count ≤ length octets → ends ≡ (end && count == length octets)
+    → after_sent e id stream
+    (data_frames (length (take count octets) + 1) 16384 id (take count octets) ends)
+    (length (take count octets)) ends
+    ≡ after_call e (SendData id octets end)
+data_written e id stream octets end count ends active is some within last =
+    let counted : length (take count octets) ≡ count = length-take-le count octets within in
+    ap (λ (n : ℕ). after_sent e id stream (data_frames (n + 1) 16384 id (take count octets) ends) n
+    ends) counted
+    ∙ ap (λ (n : ℕ). after_sent e id stream (data_frames n 16384 id (take count octets) ends) count
+    ends) (add-one count)
+    ∙ ap (λ (b : Bool). after_sent e id stream (data_frames (suc count) 16384 id (take count octets)
+    b) count b) last
+    ∙ ap (λ items. after_sent e id stream items count (end && count == length octets))
+    (sym (items_sent 16384 id octets end count some))
+    ∙ sym (data_sent e id stream octets end count active is some)

@@ -1,0 +1,149 @@
+-- DATA: its verdict, by what the code asks, and what is made of it.
+use Rattle.std.proofs.Common.{◌≡◌, ◌⊎◌, ℕ, ◌<◌, ◌≤◌, ◌+◌, true, false, ℤ, pos, ◌-ℤ◌, List}
+use Rattle.std.proofs.Common.{length, Option, Some, None, Result, Ok, Err, refl, sym, ◌∙◌, inl, inr}
+use Rattle.std.proofs.Common.{arith}
+use Rattle.std.proofs.lemmas.Bool.Decides.{nat_tests}
+use Rattle.std.proofs.lemmas.Int.{ints}
+use Rattle.hpack.specs.declared.types.field.Field.{Field}
+use Rattle.h2_frame.specs.declared.code.Code.TheVariants.{ProtocolError, FlowControlError}
+use Rattle.h2_frame.specs.declared.code.Code.TheVariants.{StreamClosed}
+use Rattle.h2_frame.specs.Encoding.{payload_of}
+use Rattle.h2_block.specs.Grouping.{alone}
+use Rattle.h2_log.specs.View.{StreamView, ended_in}
+use Rattle.h2_log.specs.States.{State, Idle, Active, ClosedByUs, Closed}
+use Rattle.h2_log.specs.Verdicts.{ConnectionFault, StreamFault, NoEvent, Reported, data_verdict}
+use Rattle.h2_log.specs.ItemRules.{verdict_by_rules, verdict_of, replies_to, exceeds}
+use Rattle.h2_log.specs.ItemRules.{exceeds_stream}
+use Rattle.h2_machine.specs.End.{End, end_view, state_at, stream_at}
+use Rattle.h2_machine.specs.Machine.{after_reported, after_ignored, narrow_recv_window}
+use Rattle.h2_machine.specs.Machine.{update_stream}
+use Rattle.h2_core.specs.declared.receive.DataFrame.{DataFrame}
+use Rattle.h2_core.specs.declared.reader.Reported.{Reported as Answer}
+use Rattle.h2_core.specs.declared.reader.Stop.{Stop}
+use Rattle.h2_core.specs.DataFrames.{data_of}
+use Rattle.h2_core.specs.Items.{TakesItem, DiscardsData}
+use Rattle.h2_core.proofs.ItemStatuses.{active_state}
+use Rattle.h2_core.proofs.ItemVerdicts.{quiet_verdict, fault_stands, report_stands, ignored_taken}
+use Rattle.h2_core.proofs.ItemVerdicts.{with_waiting}
+
+-- The flow is the octets of the payload.
+abbrev pub HasFlow : DataFrame → Option ℕ → Type 0
+HasFlow one pad = one.flow ≡ length (payload_of (data_of one pad))
+
+-- Whether it exceeds the connection's window.
+exceeds_connection : (flow window : ℕ) → window < flow → exceeds flow (pos window) ≡ true
+exceeds_connection flow window much = grind (arith, ints, nat_tests)
+
+within_connection : (flow window : ℕ) → flow ≤ window → exceeds flow (pos window) ≡ false
+within_connection flow window few = grind (arith, ints, nat_tests)
+
+-- The verdict goes by the state of its stream.
+by_state : (e : End) (one : DataFrame) (pad : Option ℕ) (state : State) → HasFlow one pad
+    → state_at e one.stream ≡ state
+    → verdict_by_rules (end_view e) None (alone (data_of one pad))
+    ≡ data_verdict state (exceeds one.flow (pos e.windows.recv)) (ended_in (stream_at e one.stream))
+    (exceeds_stream one.flow (stream_at e one.stream))
+unfolding verdict_by_rules
+by_state e one pad state flow is = rw (flow, is) refl
+
+-- On an idle stream it is a fault of the connection, and so it is on a past one.
+pub idle_data : (e : End) (one : DataFrame) (pad : Option ℕ) → HasFlow one pad
+    → Idle ≡ state_at e one.stream
+    → verdict_of (end_view e) None (alone (data_of one pad)) ≡ ConnectionFault ProtocolError
+unfolding data_verdict
+idle_data e one pad flow is =
+    fault_stands (end_view e) (data_of one pad) ProtocolError
+    (by_state e one pad Idle flow (sym is))
+
+pub past_data : (e : End) (one : DataFrame) (pad : Option ℕ) → HasFlow one pad
+    → Closed ≡ state_at e one.stream
+    → verdict_of (end_view e) None (alone (data_of one pad)) ≡ ConnectionFault StreamClosed
+unfolding data_verdict
+past_data e one pad flow is =
+    fault_stands (end_view e) (data_of one pad) StreamClosed
+    (by_state e one pad Closed flow (sym is))
+
+-- So is what exceeds the connection's window on any other.
+pub beyond_connection : (e : End) (one : DataFrame) (pad : Option ℕ) → HasFlow one pad
+    → (state_at e one.stream ≡ ClosedByUs) ⊎ (state_at e one.stream ≡ Active)
+    → e.windows.recv < one.flow
+    → verdict_of (end_view e) None (alone (data_of one pad)) ≡ ConnectionFault FlowControlError
+unfolding data_verdict
+beyond_connection e one pad flow (inl is) much =
+    fault_stands (end_view e) (data_of one pad) FlowControlError
+    (by_state e one pad ClosedByUs flow is
+    ∙ rw (exceeds_connection one.flow e.windows.recv much) refl)
+beyond_connection e one pad flow (inr is) much =
+    fault_stands (end_view e) (data_of one pad) FlowControlError
+    (by_state e one pad Active flow is
+    ∙ rw (exceeds_connection one.flow e.windows.recv much) refl)
+
+-- On a stream that this end has closed it has no event.
+discarded : (e : End) (one : DataFrame) (pad : Option ℕ) → HasFlow one pad
+    → state_at e one.stream ≡ ClosedByUs → one.flow ≤ e.windows.recv
+    → verdict_of (end_view e) None (alone (data_of one pad)) ≡ NoEvent
+unfolding data_verdict replies_to
+discarded e one pad flow is few =
+    quiet_verdict (end_view e) (data_of one pad) NoEvent
+    (by_state e one pad ClosedByUs flow is
+    ∙ rw (within_connection one.flow e.windows.recv few) refl) refl refl
+
+-- After the peer's end it is a fault of the stream.
+pub late_data : (e : End) (one : DataFrame) (pad : Option ℕ) (stream : StreamView)
+    → HasFlow one pad → stream_at e one.stream ≡ Some stream → stream.ended_in ≡ true
+    → one.flow ≤ e.windows.recv
+    → verdict_by_rules (end_view e) None (alone (data_of one pad)) ≡ StreamFault StreamClosed
+unfolding data_verdict
+late_data e one pad stream flow active ended few =
+    by_state e one pad Active flow (active_state e one.stream stream active)
+    ∙ rw (within_connection one.flow e.windows.recv few, active, ended) refl
+
+-- What exceeds the stream's window is a fault of the connection.
+pub beyond_stream : (e : End) (one : DataFrame) (pad : Option ℕ) (stream : StreamView)
+    → HasFlow one pad → stream_at e one.stream ≡ Some stream → stream.ended_in ≡ false
+    → one.flow ≤ e.windows.recv → exceeds one.flow stream.recv_window ≡ true
+    → verdict_of (end_view e) None (alone (data_of one pad)) ≡ ConnectionFault FlowControlError
+unfolding data_verdict
+beyond_stream e one pad stream flow active unended few much =
+    fault_stands (end_view e) (data_of one pad) FlowControlError
+    (by_state e one pad Active flow (active_state e one.stream stream active)
+    ∙ rw (within_connection one.flow e.windows.recv few, active, unended, much) refl)
+
+-- All other is reported.
+pub reported_data : (e : End) (one : DataFrame) (pad : Option ℕ) (stream : StreamView)
+    → HasFlow one pad → stream_at e one.stream ≡ Some stream → stream.ended_in ≡ false
+    → one.flow ≤ e.windows.recv → exceeds one.flow stream.recv_window ≡ false
+    → verdict_of (end_view e) None (alone (data_of one pad)) ≡ Reported
+unfolding data_verdict
+reported_data e one pad stream flow active unended few within =
+    report_stands (end_view e) (data_of one pad)
+    (by_state e one pad Active flow (active_state e one.stream stream active)
+    ∙ rw (within_connection one.flow e.windows.recv few, active, unended, within) refl)
+
+-- What is reported takes of both windows, and is owed.
+pub reported_after : (e : End) (one : DataFrame) (pad : Option ℕ) (stream : StreamView)
+    (window : ℤ) (waiting : List ℕ) → HasFlow one pad → stream_at e one.stream ≡ Some stream
+    → stream.ended_in ≡ false → window ≡ stream.recv_window -ℤ pos one.flow
+    → waiting ≡ e.output.waiting
+    → update_stream (narrow_recv_window (with_waiting e waiting) one.flow) one.stream
+    (record stream {
+      recv_window = window;
+      owed = stream.owed + one.flow;
+      ended_in = one.end;
+    })
+    ≡ after_reported e None (alone (data_of one pad))
+unfolding after_reported
+reported_after e one pad stream window waiting flow active unended is same =
+    rw (is, same, flow, active, unended) refl
+
+-- What is discarded is taken so.
+pub discarded_taken : (e : End) (one : DataFrame) (pad : Option ℕ) (list : List Field)
+    (result : Result (Option Answer) Stop) (new : End) → HasFlow one pad
+    → state_at e one.stream ≡ ClosedByUs → one.flow ≤ e.windows.recv
+    → DiscardsData e one.flow result new
+    → TakesItem e None (alone (data_of one pad)) list result new
+unfolding after_ignored
+discarded_taken e one pad list (Ok answer) new flow is few h =
+    rw h.0 (ignored_taken e (data_of one pad) list new (discarded e one pad flow is few)
+    (rw (← flow) h.1))
+discarded_taken e one pad list (Err stop) new flow is few h = rw h.0 h.1

@@ -1,0 +1,125 @@
+-- The verdict on WINDOW_UPDATE, by what the code asks.
+use Rattle.std.proofs.Common.{◌≡◌, ◌≢◌, ℕ, ◌+◌, ◌<◌, ◌≤◌, ◌==◌, true, false}
+use Rattle.std.proofs.Common.{◌⊎◌, pos, Some, None, refl, sym, arith, ◌∙◌, inl, inr}
+use Rattle.std.proofs.lemmas.Bool.Decides.{nat_tests}
+use Rattle.std.proofs.lemmas.Int.{ints}
+use Rattle.h2_frame.specs.declared.code.Code.{Code}
+use Rattle.h2_frame.specs.declared.code.Code.TheVariants.{ProtocolError, FlowControlError}
+use Rattle.h2_frame.specs.Frames.{WindowUpdate}
+use Rattle.h2_block.specs.Grouping.{alone}
+use Rattle.h2_log.specs.View.{StreamView}
+use Rattle.h2_log.specs.States.{State, Idle, Active, ClosedByUs, Closed}
+use Rattle.h2_log.specs.Windows.{greatest_window}
+use Rattle.h2_log.specs.Verdicts.{ConnectionFault, StreamFault, NoEvent}
+use Rattle.h2_log.specs.Verdicts.{connection_update_verdict, update_verdict}
+use Rattle.h2_log.specs.ItemRules.{verdict_by_rules, verdict_of, replies_to, overflows_by}
+use Rattle.h2_log.specs.ItemRules.{overflows_stream}
+use Rattle.h2_machine.specs.End.{End, end_view, state_at, stream_at}
+use Rattle.h2_machine.specs.Machine.{widen_send_window}
+use Rattle.h2_core.proofs.ItemVerdicts.{quiet_verdict, fault_stands}
+use Rattle.h2_core.proofs.ItemStatuses.{active_state}
+
+-- Whether an increment is too much for the connection's window.
+passes : (send increment : ℕ) → greatest_window < send + increment
+    → overflows_by increment (pos send) ≡ true
+passes send increment much = grind (arith, ints)
+
+fits : (send increment : ℕ) → send + increment ≤ greatest_window
+    → overflows_by increment (pos send) ≡ false
+fits send increment few = grind (arith, ints)
+
+-- On the connection: no octets are a fault.
+pub empty_is_fault : (e : End) (increment : ℕ) → increment ≡ 0
+    → verdict_of (end_view e) None (alone (WindowUpdate 0 increment))
+    ≡ ConnectionFault ProtocolError
+unfolding verdict_by_rules connection_update_verdict
+empty_is_fault e increment none =
+    fault_stands (end_view e) (WindowUpdate 0 increment) ProtocolError (rw none refl)
+
+-- So is too great a window.
+pub great_is_fault : (e : End) (increment : ℕ) → increment ≢ 0
+    → greatest_window < e.windows.send + increment
+    → verdict_of (end_view e) None (alone (WindowUpdate 0 increment))
+    ≡ ConnectionFault FlowControlError
+unfolding verdict_by_rules connection_update_verdict
+great_is_fault e increment some much =
+    let nonzero : (increment == 0) ≡ false = grind (arith, nat_tests) in
+    fault_stands (end_view e) (WindowUpdate 0 increment) FlowControlError
+    (rw (nonzero, passes e.windows.send increment much) refl)
+
+-- Any other increment has no event.
+pub widens_connection : (e : End) (increment : ℕ) → increment ≢ 0
+    → e.windows.send + increment ≤ greatest_window
+    → verdict_of (end_view e) None (alone (WindowUpdate 0 increment)) ≡ NoEvent
+unfolding verdict_by_rules connection_update_verdict replies_to
+widens_connection e increment some few =
+    let nonzero : (increment == 0) ≡ false = grind (arith, nat_tests) in
+    quiet_verdict (end_view e) (WindowUpdate 0 increment) NoEvent
+    (rw (nonzero, fits e.windows.send increment few) refl) refl refl
+
+-- On a stream the verdict goes by its state.
+by_state : (e : End) (id increment : ℕ) (state : State) → id ≢ 0 → state_at e id ≡ state
+    → verdict_by_rules (end_view e) None (alone (WindowUpdate id increment))
+    ≡ update_verdict state increment (overflows_stream increment (stream_at e id))
+unfolding verdict_by_rules
+by_state e id increment state some is =
+    let nonzero : (id == 0) ≡ false = grind (arith, nat_tests) in
+    rw (nonzero, is) refl
+
+-- On an idle stream it is a fault of the connection.
+pub idle_update : (e : End) (id increment : ℕ) → id ≢ 0 → Idle ≡ state_at e id
+    → verdict_of (end_view e) None (alone (WindowUpdate id increment))
+    ≡ ConnectionFault ProtocolError
+unfolding update_verdict
+idle_update e id increment some is =
+    fault_stands (end_view e) (WindowUpdate id increment) ProtocolError
+    (by_state e id increment Idle some (sym is))
+
+-- On a closed one it has no event.
+pub closed_update : (e : End) (id increment : ℕ) → id ≢ 0
+    → (state_at e id ≡ ClosedByUs) ⊎ (state_at e id ≡ Closed)
+    → verdict_of (end_view e) None (alone (WindowUpdate id increment)) ≡ NoEvent
+unfolding update_verdict replies_to
+closed_update e id increment some (inl is) =
+    quiet_verdict (end_view e) (WindowUpdate id increment) NoEvent
+    (by_state e id increment ClosedByUs some is) refl refl
+closed_update e id increment some (inr is) =
+    quiet_verdict (end_view e) (WindowUpdate id increment) NoEvent
+    (by_state e id increment Closed some is) refl refl
+
+-- On an active one: no octets are a fault of the stream.
+pub empty_resets : (e : End) (id increment : ℕ) (stream : StreamView) (code : Code) → id ≢ 0
+    → stream_at e id ≡ Some stream → increment ≡ 0 → code ≡ ProtocolError
+    → verdict_by_rules (end_view e) None (alone (WindowUpdate id increment)) ≡ StreamFault code
+unfolding update_verdict
+empty_resets e id increment stream code some active none is =
+    by_state e id increment Active some (active_state e id stream active) ∙ rw (none, is) refl
+
+-- So is too great a window.
+pub great_resets : (e : End) (id increment : ℕ) (stream : StreamView) (code : Code) → id ≢ 0
+    → stream_at e id ≡ Some stream → increment ≢ 0
+    → overflows_by increment stream.send_window ≡ true → code ≡ FlowControlError
+    → verdict_by_rules (end_view e) None (alone (WindowUpdate id increment)) ≡ StreamFault code
+unfolding update_verdict
+great_resets e id increment stream code some active more much is =
+    let nonzero : (increment == 0) ≡ false = grind (arith, nat_tests) in
+    by_state e id increment Active some (active_state e id stream active)
+    ∙ rw (nonzero, active, much, is) refl
+
+-- Any other increment has no event.
+pub widens_stream : (e : End) (id increment : ℕ) (stream : StreamView) → id ≢ 0
+    → stream_at e id ≡ Some stream → increment ≢ 0
+    → overflows_by increment stream.send_window ≡ false
+    → verdict_of (end_view e) None (alone (WindowUpdate id increment)) ≡ NoEvent
+unfolding update_verdict replies_to
+widens_stream e id increment stream some active more few =
+    let nonzero : (increment == 0) ≡ false = grind (arith, nat_tests) in
+    quiet_verdict (end_view e) (WindowUpdate id increment) NoEvent
+    (by_state e id increment Active some (active_state e id stream active)
+    ∙ rw (nonzero, active, few) refl) refl refl
+
+-- An increment on a number without a stream changes nothing.
+pub widen_none : (e : End) (id increment : ℕ) → id ≢ 0 → stream_at e id ≡ None
+    → widen_send_window e id increment (stream_at e id) ≡ e
+widen_none e id increment some none =
+    let nonzero : (id == 0) ≡ false = grind (arith, nat_tests) in rw (none, nonzero) refl

@@ -1,0 +1,134 @@
+-- What a step makes of a frame alone, by its verdict.
+use Rattle.std.proofs.Common.{◌≡◌, ℕ, ◌+◌, nat_le, nat_lt, ◌||◌, Bool, true, false}
+use Rattle.std.proofs.Common.{if◌then◌else◌, List, [], ◌∷◌, length, Some, None, Err, refl}
+use Rattle.std.proofs.Common.{ap}
+use Rattle.hpack.specs.declared.types.field.Field.{Field}
+use Rattle.h2_frame.specs.declared.code.Code.{Code}
+use Rattle.h2_frame.specs.declared.code.Code.TheVariants.{EnhanceYourCalm}
+use Rattle.h2_frame.specs.Codes.{code_number}
+use Rattle.h2_frame.specs.Frames.{Frame}
+use Rattle.h2_block.specs.Grouping.{alone}
+use Rattle.h2_log.specs.Items.{encoding_of_items, stream_of_item}
+use Rattle.h2_log.specs.Events.{Event, ResetEvent}
+use Rattle.h2_log.specs.Limits.{max_output, max_resets}
+use Rattle.h2_log.specs.View.{View}
+use Rattle.h2_log.specs.Verdicts.{Verdict, ConnectionFault, StreamFault, NoEvent, Reported}
+use Rattle.h2_log.specs.ItemRules.{verdict_by_rules, verdict_of, over_limits, replies_to, opened_by}
+use Rattle.h2_log.specs.ItemRules.{is_stream_fault}
+use Rattle.h2_log.specs.ItemEffects.{events_of}
+use Rattle.h2_streams.specs.Table.{TableState}
+use Rattle.h2_machine.specs.End.{End, end_view}
+use Rattle.h2_machine.specs.Machine.{after_verdict, after_ignored, after_reported}
+use Rattle.h2_machine.specs.Machine.{after_stream_fault}
+use Rattle.h2_log_laws.proofs.ItemSizes.{size-reset}
+use Rattle.h2_core.specs.declared.reader.Reported.{Reported as Answer}
+use Rattle.h2_core.specs.declared.reader.Stop.{Stop}
+use Rattle.h2_core.specs.declared.reader.Stop.TheVariants.{Fault}
+use Rattle.h2_core.specs.Items.{TakesItem, ItemTaken, event_of}
+
+-- Whether a further RST_STREAM is more than an end sends.
+abbrev pub is_full : End → Bool
+is_full e = nat_le max_resets e.streams.resets || nat_lt max_output (length e.output.waiting + 13)
+
+-- A verdict to which nothing is replied stands.
+pub quiet_verdict : (view : View) (frame : Frame) (verdict : Verdict)
+    → verdict_by_rules view None (alone frame) ≡ verdict → is_stream_fault verdict ≡ false
+    → replies_to verdict (alone frame) ≡ [] → verdict_of view None (alone frame) ≡ verdict
+unfolding verdict_of over_limits encoding_of_items
+quiet_verdict view frame verdict is calm silent = rw (is, silent, calm) refl
+
+-- A fault of the connection stands.
+pub fault_stands : (view : View) (frame : Frame) (code : Code)
+    → verdict_by_rules view None (alone frame) ≡ ConnectionFault code
+    → verdict_of view None (alone frame) ≡ ConnectionFault code
+unfolding replies_to
+fault_stands view frame code is = quiet_verdict view frame (ConnectionFault code) is refl refl
+
+-- So does the verdict on what is reported.
+pub report_stands : (view : View) (frame : Frame)
+    → verdict_by_rules view None (alone frame) ≡ Reported
+    → verdict_of view None (alone frame) ≡ Reported
+unfolding replies_to
+report_stands view frame is = quiet_verdict view frame Reported is refl refl
+
+-- RST_STREAM is replied to a fault of the stream where that isn't too much.
+pub reset_verdict_is : (e : End) (frame : Frame) (code : Code)
+    → verdict_by_rules (end_view e) None (alone frame) ≡ StreamFault code
+    → verdict_of (end_view e) None (alone frame)
+    ≡ (if is_full e then ConnectionFault EnhanceYourCalm else StreamFault code)
+unfolding verdict_of over_limits replies_to
+reset_verdict_is e frame code is =
+    rw (is, size-reset (stream_of_item (alone frame)) (code_number code)) refl
+
+-- It is replied.
+pub reset_stands : (e : End) (frame : Frame) (code : Code)
+    → verdict_by_rules (end_view e) None (alone frame) ≡ StreamFault code → is_full e ≡ false
+    → verdict_of (end_view e) None (alone frame) ≡ StreamFault code
+reset_stands e frame code is room = rw (reset_verdict_is e frame code is, room) refl
+
+-- It is too much.
+pub calm_stands : (e : End) (frame : Frame) (code : Code)
+    → verdict_by_rules (end_view e) None (alone frame) ≡ StreamFault code → is_full e ≡ true
+    → verdict_of (end_view e) None (alone frame) ≡ ConnectionFault EnhanceYourCalm
+calm_stands e frame code is full = rw (reset_verdict_is e frame code is, full) refl
+
+-- The connection's fault is answered, and nothing has changed.
+pub fault_taken : (e : End) (frame : Frame) (code : Code) (list : List Field) (stop : Stop)
+    → stop ≡ Fault code 0 → verdict_of (end_view e) None (alone frame) ≡ ConnectionFault code
+    → TakesItem e None (alone frame) list (Err stop) e
+unfolding opened_by
+fault_taken e frame code list stop is verdict = rw is (verdict, refl, refl)
+
+-- What has no event is taken.
+pub ignored_taken : (e : End) (frame : Frame) (list : List Field) (new : End)
+    → verdict_of (end_view e) None (alone frame) ≡ NoEvent
+    → new ≡ after_ignored e None (alone frame)
+    → ItemTaken e None (alone frame) list None new
+unfolding after_verdict events_of
+ignored_taken e frame list new verdict after = record {
+  goes_on = λ code same. cc;
+  after = rw verdict after;
+  events = rw verdict refl;
+}
+
+-- What is reported is taken.
+pub report_taken : (e : End) (frame : Frame) (list : List Field) (answer : Answer) (new : End)
+    → verdict_of (end_view e) None (alone frame) ≡ Reported
+    → new ≡ after_reported e None (alone frame)
+    → event_of list answer ∷ [] ≡ events_of (end_view e) None Reported (alone frame)
+    → ItemTaken e None (alone frame) list (Some answer) new
+unfolding after_verdict
+report_taken e frame list answer new verdict after events = record {
+  goes_on = λ code same. cc;
+  after = rw verdict after;
+  events = rw verdict events;
+}
+
+-- A fault of the stream is taken.
+pub stream_fault_taken : (e : End) (frame : Frame) (code : Code) (list : List Field)
+    (answer : Answer) (new : End)
+    → verdict_of (end_view e) None (alone frame) ≡ StreamFault code
+    → new ≡ after_stream_fault e None (alone frame) code
+    → event_of list answer ≡ ResetEvent (stream_of_item (alone frame)) (code_number code) true
+    → ItemTaken e None (alone frame) list (Some answer) new
+unfolding after_verdict events_of
+stream_fault_taken e frame code list answer new verdict after event = record {
+  goes_on = λ code same. cc;
+  after = rw verdict after;
+  events = rw verdict (ap (λ (one : Event). one ∷ []) event);
+}
+
+-- an end with other output
+abbrev pub with_waiting : End → List ℕ → End
+with_waiting e waiting = record e { output = record e.output { waiting = waiting } }
+
+-- an end with another table of streams
+abbrev pub with_table : End → TableState → End
+with_table e table =
+    record e {
+      streams = record e.streams { entries = table.entries };
+      peer = record e.peer { initial_window = table.send_initial };
+      own = record e.own {
+        in_force = record e.own.in_force { initial_window = table.recv_initial };
+      };
+    }

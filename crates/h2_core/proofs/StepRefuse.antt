@@ -1,0 +1,77 @@
+-- When a layer above refuses a stream: the condition of the call, and what it makes of an end.
+use Rattle.std.proofs.Common.{◌≡◌, ◌≢◌, ℕ, ◌+◌, ◌==◌, Bool, true, false, ◌&&◌, ◌||◌, not, nat_lt}
+use Rattle.std.proofs.Common.{if◌then◌else◌}
+use Rattle.std.proofs.Common.{[], ◌∷◌, length, Some, None, is_some, refl, ap, ap₂, ◌∙◌}
+use Rattle.std.proofs.Common.{eq-eqb, ne_eqb, nat_le}
+use Rattle.h2_frame.specs.declared.code.Code.TheVariants.{InternalError, EnhanceYourCalm}
+use Rattle.h2_frame.specs.Frames.{Reset}
+use Rattle.h2_block.specs.Grouping.{alone}
+use Rattle.h2_log.specs.declared.refusal.Refusal.TheVariants.{Closed, NoSuchStream}
+use Rattle.h2_log.specs.Acts.{Refuse}
+use Rattle.h2_log.specs.CallRules.{refusal_of, conditions, is_no_stream, refuse_fault}
+use Rattle.h2_machine.specs.End.{End, end_view}
+use Rattle.h2_machine.specs.Machine.{after_call, after_refuse, queue_output, reset_stream, fail}
+use Rattle.h2_core.proofs.StepCalls.{first-here, first-later, first-none}
+
+-- The connection has failed.
+pub refuse-closed : (e : End) (id code : ℕ) → is_some e.failed ≡ true
+    → refusal_of (end_view e) (Refuse id code) ≡ Some Closed
+unfolding conditions
+refuse-closed e id code down = first-here _ _ _ down
+
+-- The stream isn't active, and the code isn't INTERNAL_ERROR.
+pub refuse-no-stream : (e : End) (id code : ℕ) → e.failed ≡ None → code ≢ 2
+    → is_no_stream (end_view e) id ≡ true
+    → refusal_of (end_view e) (Refuse id code) ≡ Some NoSuchStream
+unfolding conditions
+refuse-no-stream e id code up other none =
+    first-later _ _ _ (ap is_some up)
+    ∙ first-here _ _ _
+    (ap₂ (λ (a b : Bool). not a && b) (ne_eqb code 2 other) none)
+
+-- The code is INTERNAL_ERROR.
+pub refuse-internal : (e : End) (id code : ℕ) → e.failed ≡ None → code ≡ 2
+    → refusal_of (end_view e) (Refuse id code) ≡ None
+unfolding conditions
+refuse-internal e id code up same =
+    first-later _ _ _ (ap is_some up)
+    ∙ first-later _ _ _
+    (ap (λ (a : Bool). not a && is_no_stream (end_view e) id) (eq-eqb code 2 same))
+    ∙ first-none
+
+-- A test and one that fails fail.
+and-false : (a : Bool) → (a && false) ≡ false
+and-false true = refl
+and-false false = refl
+
+-- The stream is active.
+pub refuse-active : (e : End) (id code : ℕ) → e.failed ≡ None
+    → is_no_stream (end_view e) id ≡ false
+    → refusal_of (end_view e) (Refuse id code) ≡ None
+unfolding conditions
+refuse-active e id code up some =
+    first-later _ _ _ (ap is_some up)
+    ∙ first-later _ _ _
+    (ap (λ (b : Bool). not (code == 2) && b) some ∙ and-false (not (code == 2)))
+    ∙ first-none
+
+-- A limit is reached.
+pub after-limit : (e : End) (id code : ℕ) → code ≢ 2
+    → (nat_le 1000 e.streams.resets || nat_lt 262144 (length e.output.waiting + 13)) ≡ true
+    → after_call e (Refuse id code) ≡ fail EnhanceYourCalm e.streams.last_processed e
+unfolding after_call refuse_fault
+after-limit e id code other over =
+    ap₂ (λ (a b : Bool). after_refuse e id code
+    (if a then Some InternalError else if b then Some EnhanceYourCalm else None))
+    (ne_eqb code 2 other) over
+
+-- None is.
+pub after-refusal : (e : End) (id code : ℕ) → code ≢ 2
+    → (nat_le 1000 e.streams.resets || nat_lt 262144 (length e.output.waiting + 13)) ≡ false
+    → after_call e (Refuse id code)
+    ≡ reset_stream (queue_output e (alone (Reset id code) ∷ [])) id 0
+unfolding after_call refuse_fault
+after-refusal e id code other within =
+    ap₂ (λ (a b : Bool). after_refuse e id code
+    (if a then Some InternalError else if b then Some EnhanceYourCalm else None))
+    (ne_eqb code 2 other) within

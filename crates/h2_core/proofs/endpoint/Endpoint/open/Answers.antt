@@ -1,0 +1,79 @@
+-- Where no condition refuses, a stream is added to the table, and taken away again where the block
+-- cannot be written.
+use Rattle.std.proofs.Common.{◌≡◌, false, ap, sym, ◌∙◌, arith}
+use Rattle.h2_flow.specs.declared.stream_state.StreamState.{StreamState}
+use Rattle.h2_streams.specs.Streams.{stream_view}
+use Rattle.h2_streams.specs.Table.{TableState}
+use Rattle.h2_machine.specs.End.{End, end_view, active_entry}
+use Rattle.h2_machine.specs.Machine.{new_stream}
+use Rattle.h2_core.specs.Endpoint.{end_of}
+use Rattle.h2_core.proofs.CallConditions.{lacks_memory, unless_err, if_err}
+use Rattle.h2_core.proofs.CallMaps.{get_set_same}
+use Rattle.h2_core.proofs.CallOpen.{may_open, number_above, with_table, with_stream, without}
+use Rattle.h2_core.proofs.CallOpen.{table_of, taken_away, with_count, opened}
+use Rattle.h2_core.proofs.SoundFacts.{absent_above}
+use Rattle.h2_core.proofs.endpoint.Endpoint.open.Goals as goal
+
+pub write_block-requires-clause-up : goal.write_block-requires-clause-up
+write_block-requires-clause-up c =
+    (may_open (end_of c.args.self.now) c.args.fields.now c.args.end
+    (sym (c.refusal_of_open.ensures c.args.end) ∙ c.in_default.is)).up
+
+pub write_block-requires-clause-number : goal.write_block-requires-clause-number
+write_block-requires-clause-number c =
+    let may = may_open (end_of c.args.self.now) c.args.fields.now c.args.end
+    (sym (c.refusal_of_open.ensures c.args.end) ∙ c.in_default.is) in
+    let above = number_above c.args.self.now.highest in
+    (omega (arith, c.next_number-id.ensures, above.0), omega (arith, c.next_number-id.ensures, may.number))
+
+pub write_block-requires-clause-size : goal.write_block-requires-clause-size
+write_block-requires-clause-size c =
+    (may_open (end_of c.args.self.now) c.args.fields.now c.args.end
+    (sym (c.refusal_of_open.ensures c.args.end) ∙ c.in_default.is)).small
+
+pub close-requires : goal.close-requires
+close-requires c =
+    let added = unless_err c.open.result (cc c.is_err.ensures.value) c.open.ensures.ok in
+    let same = if_err c.write_block.result (cc c.is_err-2.ensures.value) c.write_block.ensures.err in
+    let entries = ap (λ (e : End). e.streams.entries) same
+    ∙ ap (λ (table : TableState). table.entries) added in
+    rw (entries, get_set_same c.args.self.now.streams.entries c.next_number-id.result
+    (active_entry (stream_view c.new_stream-stream.result)))
+
+pub returns-then-is_err-2-clause-err : goal.returns-then-is_err-2-clause-err
+returns-then-is_err-2-clause-err c =
+    let e = end_of c.args.self.now in
+    let id = c.next_number-id.result in
+    let free = sym (c.refusal_of_open.ensures c.args.end) ∙ c.in_default.is in
+    let added = unless_err c.open.result (cc c.is_err.ensures.value) c.open.ensures.ok in
+    let same = if_err c.write_block.result (cc c.is_err-2.ensures.value) c.write_block.ensures.err in
+    let none = absent_above e id c.requires.sound (omega (arith, c.next_number-id.ensures,
+    (number_above c.args.self.now.highest).1)) in
+    let closed : c.close.new.self ≡ c.args.self.now.streams =
+    c.close.ensures
+    ∙ ap (λ (one : End). without (table_of one) id) same
+    ∙ taken_away c.args.self.now.streams c.open.new.self id
+    (stream_view c.new_stream-stream.result) none added in
+    lacks_memory e _ _ free
+    (ap (λ (one : End). with_table one c.close.new.self) same
+    ∙ ap (with_table e) closed)
+
+pub returns-clause-ok : goal.returns-clause-ok
+returns-clause-ok c =
+    let e = end_of c.args.self.now in
+    let id = c.next_number-id.result in
+    let free = sym (c.refusal_of_open.ensures c.args.end) ∙ c.in_default.is in
+    let may = may_open e c.args.fields.now c.args.end free in
+    let number : id ≡ (end_view e).next_number = rw may.client c.next_number-id.ensures in
+    let added = unless_err c.open.result (cc c.is_err.ensures.value) c.open.ensures.ok in
+    let wrote = unless_err c.write_block.result (cc c.is_err-2.ensures.value) c.write_block.ensures.ok
+    in
+    let stream : stream_view c.new_stream-stream.result ≡ new_stream e false c.args.end =
+    c.new_stream-stream.ensures
+    ∙ ap (λ (state : StreamState). new_stream e state.ended_in c.args.end) c.open-state.ensures in
+    let table = added ∙ ap (with_stream c.args.self.now.streams id) stream in
+    (number, record {
+      free = free;
+      after = ap (λ (one : End). with_count one id) wrote.0
+          ∙ opened e c.open.new.self c.args.fields.now c.args.end id table number;
+    })

@@ -1,0 +1,122 @@
+use Rattle.std.proofs.Common.{◌≡◌, ◌++◌, ℕ, List, [], None, Some, Ok, Err, inl, inr, refl, sym, ap, subst, ◌∙◌}
+use Rattle.hpack.specs.Lists.{DecoderState}
+use Rattle.h2_frame.specs.declared.code.Code.{Code}
+use Rattle.h2_frame.specs.Codes.{code_number}
+use Rattle.h2_frame.specs.Encoding.{encoding_of}
+use Rattle.h2_frame.specs.Frames.{GoAway}
+use Rattle.h2_block.specs.Grouping.{block}
+use Rattle.h2_log.specs.ItemRules.{Decoded}
+use Rattle.h2_machine.specs.End.{End}
+use Rattle.h2_core.specs.Endpoint.{end_of, IsSound}
+use Rattle.h2_core.specs.Items.{TakesItem}
+use Rattle.h2_core.proofs.FrameFailures.{table_sound, block_taken, block_stopped, decode_fails}
+use Rattle.h2_core.proofs.FrameFailures.{memory_fails, alike, at_table, from_table, stopped_same}
+use Rattle.h2_core.proofs.FrameFailures.{stopped_small, Held, held, with_decoder}
+use Rattle.h2_core.proofs.endpoint.Endpoint.take_block.Goals as goal
+use Rattle.h2_core.proofs.endpoint.Endpoint.take_block.Goals.{in-Compression, in-Memory}
+
+pub returns-in-Err : goal.returns-in-Err
+returns-in-Err c =
+    let e : End = end_of c.args.self.now in
+    let waits = c.end_with_goaway.ensures.waiting
+    ∙ ap (λ (n : ℕ). e.output.waiting ++ encoding_of (GoAway e.streams.last_processed n []))
+    c.number.ensures in
+    let failed = alike e _ c.match-fault.code e.streams.last_processed refl refl refl refl waits in
+    elim c.match-fault.branch [
+      | in-Compression w ↦
+          inl (decode_fails e _ c.args.id c.args.end c.args.octets.now c.match-fault.code w.code-is
+          (rw w.in-Compression.is at
+          (c.in-Err.ensures.fault (c.args.self.now.decodes c.requires.up))) failed)
+      | in-Memory w ↦ inr (memory_fails e _ c.match-fault.code w.code-is failed)
+    ]
+
+pub take_decoded-requires-clause-sound : goal.take_decoded-requires-clause-sound
+take_decoded-requires-clause-sound c =
+    let e : End = end_of c.args.self.now in
+    let d = c.in-Ok.ensures.ok.1 in
+    from_table e c.decode_into.new.self d.after IsSound d.state
+    (table_sound e c.args.octets.now d.fields d.after c.requires.sound d.block)
+
+pub fail_by-requires-clause-sound : goal.fail_by-requires-clause-sound
+fail_by-requires-clause-sound c =
+    let e : End = end_of c.args.self.now in
+    let d = c.in-Ok.ensures.ok.1 in
+    let h = held c.in-Ok.decoded d.fields c.decode_into.new.list d.holds in
+    let stopped = c.in-Err-take_decoded.ensures (record { fields = d.fields; after = d.after })
+    c.args.octets.now (sym (ap (λ (s : DecoderState). s.table) d.state))
+    (h.size ∙ sym c.eq-too_large.ensures)
+    (λ small. h.same (sym c.eq-too_large.ensures ∙ small)) in
+    let mid : End = end_of c.take_decoded.new.self in
+    let before : IsSound (with_decoder e c.decode_into.new.self) =
+    from_table e c.decode_into.new.self d.after IsSound d.state
+    (table_sound e c.args.octets.now d.fields d.after c.requires.sound d.block) in
+    let same : mid ≡ with_decoder e c.decode_into.new.self =
+    stopped_same (with_decoder e c.decode_into.new.self) mid
+    (Some (record { fields = d.fields; after = d.after }))
+    (block c.args.id c.args.end c.args.octets.now) c.take_decoded.new.self.list
+    c.in-Err-take_decoded.stop stopped in
+    subst (λ (x : End). IsSound x) (sym same) before
+
+pub fail_by-requires-clause-up : goal.fail_by-requires-clause-up
+fail_by-requires-clause-up c =
+    let e : End = end_of c.args.self.now in
+    let d = c.in-Ok.ensures.ok.1 in
+    let h = held c.in-Ok.decoded d.fields c.decode_into.new.list d.holds in
+    let stopped = c.in-Err-take_decoded.ensures (record { fields = d.fields; after = d.after })
+    c.args.octets.now (sym (ap (λ (s : DecoderState). s.table) d.state))
+    (h.size ∙ sym c.eq-too_large.ensures)
+    (λ small. h.same (sym c.eq-too_large.ensures ∙ small)) in
+    let mid : End = end_of c.take_decoded.new.self in
+    let same : mid ≡ with_decoder e c.decode_into.new.self =
+    stopped_same (with_decoder e c.decode_into.new.self) mid
+    (Some (record { fields = d.fields; after = d.after }))
+    (block c.args.id c.args.end c.args.octets.now) c.take_decoded.new.self.list
+    c.in-Err-take_decoded.stop stopped in
+    ap (λ (x : End). x.failed) same ∙ c.requires.up
+
+pub fail_by-requires-clause-opened : goal.fail_by-requires-clause-opened
+fail_by-requires-clause-opened c =
+    let e : End = end_of c.args.self.now in
+    let d = c.in-Ok.ensures.ok.1 in
+    let h = held c.in-Ok.decoded d.fields c.decode_into.new.list d.holds in
+    let stopped = c.in-Err-take_decoded.ensures (record { fields = d.fields; after = d.after })
+    c.args.octets.now (sym (ap (λ (s : DecoderState). s.table) d.state))
+    (h.size ∙ sym c.eq-too_large.ensures)
+    (λ small. h.same (sym c.eq-too_large.ensures ∙ small)) in
+    stopped_small (with_decoder e c.decode_into.new.self) (end_of c.take_decoded.new.self)
+    (Some (record { fields = d.fields; after = d.after })) c.args.id c.args.end c.args.octets.now
+    c.take_decoded.new.self.list c.in-Err-take_decoded.stop c.requires.number.1 stopped
+
+pub returns-in-Ok-take_decoded : goal.returns-in-Ok-take_decoded
+returns-in-Ok-take_decoded c =
+    let e : End = end_of c.args.self.now in
+    let d = c.in-Ok.ensures.ok.1 in
+    let h = held c.in-Ok.decoded d.fields c.decode_into.new.list d.holds in
+    let one : Decoded = record { fields = d.fields; after = d.after } in
+    let taken = c.in-Ok-take_decoded.ensures one c.args.octets.now
+    (sym (ap (λ (s : DecoderState). s.table) d.state)) (h.size ∙ sym c.eq-too_large.ensures)
+    (λ small. h.same (sym c.eq-too_large.ensures ∙ small)) in
+    block_taken e c.args.id c.args.end c.args.octets.now one c.take_decoded.new.self.list
+    c.in-Ok-take_decoded.reported (end_of c.take_decoded.new.self) c.requires.up d.block
+    (at_table e c.decode_into.new.self d.after
+    (λ (x : End). TakesItem x (Some one) (block c.args.id c.args.end c.args.octets.now)
+    c.take_decoded.new.self.list (Ok c.in-Ok-take_decoded.reported)
+    (end_of c.take_decoded.new.self)) d.state taken)
+
+pub returns-in-Err-take_decoded : goal.returns-in-Err-take_decoded
+returns-in-Err-take_decoded c =
+    let e : End = end_of c.args.self.now in
+    let d = c.in-Ok.ensures.ok.1 in
+    let h = held c.in-Ok.decoded d.fields c.decode_into.new.list d.holds in
+    let one : Decoded = record { fields = d.fields; after = d.after } in
+    let stopped = c.in-Err-take_decoded.ensures one c.args.octets.now
+    (sym (ap (λ (s : DecoderState). s.table) d.state)) (h.size ∙ sym c.eq-too_large.ensures)
+    (λ small. h.same (sym c.eq-too_large.ensures ∙ small)) in
+    block_stopped e (end_of c.take_decoded.new.self) (end_of c.fail_by.new.self) c.args.id
+    c.args.end c.args.octets.now one c.take_decoded.new.self.list c.in-Err-take_decoded.stop
+    c.fail_by.result d.block
+    (at_table e c.decode_into.new.self d.after
+    (λ (x : End). TakesItem x (Some one) (block c.args.id c.args.end c.args.octets.now)
+    c.take_decoded.new.self.list (Err c.in-Err-take_decoded.stop)
+    (end_of c.take_decoded.new.self)) d.state stopped)
+    c.fail_by.ensures

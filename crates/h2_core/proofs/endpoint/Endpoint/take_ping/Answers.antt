@@ -1,0 +1,44 @@
+-- PING is answered.
+use Rattle.std.proofs.Common.{◌≤◌, ◌++◌, ℕ, List, true, false, arith, ap, sym, ◌∙◌}
+use Rattle.h2_frame.specs.Frames.{Ping}
+use Rattle.h2_frame.specs.Encoding.{encoding_of}
+use Rattle.h2_frame.specs.declared.code.Code.TheVariants.{EnhanceYourCalm}
+use Rattle.h2_log.specs.Items.{encoding_of_items, encoding_of_item}
+use Rattle.h2_machine.specs.Machine.{after_ignored}
+use Rattle.h2_core.specs.Endpoint.{end_of}
+use Rattle.h2_core.proofs.StepFrames.{ping-written, length-ping}
+use Rattle.h2_core.proofs.ItemResults.{when_ok}
+use Rattle.h2_core.proofs.ItemPings.{ping_too_much, ping_answered}
+use Rattle.h2_core.proofs.ItemVerdicts.{fault_taken, ignored_taken, with_waiting}
+use Rattle.h2_core.proofs.endpoint.Endpoint.take_ping.Goals as goal
+
+pub returns-then-len : goal.returns-then-len
+returns-then-len c =
+    let e = end_of c.args.self.now in
+    let frame = Ping false c.args.octets in
+    fault_taken e frame EnhanceYourCalm c.args.self.now.list c.fault.result c.fault.ensures
+    (ping_too_much e c.args.octets (omega arith) (omega arith))
+
+pub add_frame-requires-clause-writable : goal.add_frame-requires-clause-writable
+add_frame-requires-clause-writable c = ping-written true c.args.octets (omega arith)
+
+pub add_frame-requires-clause-short : goal.add_frame-requires-clause-short
+add_frame-requires-clause-short c = omega (arith, length-ping true c.args.octets (omega arith))
+
+pub add_frame-requires-clause-room : goal.add_frame-requires-clause-room
+add_frame-requires-clause-room c =
+    let room : 17 ≤ c.reserve.new.self.spare =
+    when_ok c.reserve.result (sym c.is_err.ensures.value ∙ c.if-is_err.false)
+    c.reserve.ensures.ok in
+    omega (arith, room, length-ping true c.args.octets (omega arith))
+
+pub returns : goal.returns
+unfolding encoding_of_items encoding_of_item after_ignored
+returns c =
+    let e = end_of c.args.self.now in
+    let frame = Ping false c.args.octets in
+    ignored_taken e frame c.args.self.now.list _
+    (ping_answered e c.args.octets (omega arith) (omega arith))
+    (ap (with_waiting e) (c.add_frame.ensures.waiting
+    ∙ ap (λ (waiting : List ℕ). waiting ++ encoding_of (Ping true c.args.octets))
+    c.reserve.ensures.waiting))

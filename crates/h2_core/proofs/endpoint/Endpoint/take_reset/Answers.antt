@@ -1,0 +1,53 @@
+-- RST_STREAM closes an active stream.
+use Rattle.std.proofs.Common.{ℕ, List, arith, refl, sym, ap, ◌∙◌}
+use Rattle.h2_frame.specs.Frames.{Reset}
+use Rattle.h2_frame.specs.declared.code.Code.TheVariants.{ProtocolError}
+use Rattle.h2_log.specs.ItemEffects.{events_of}
+use Rattle.h2_streams.specs.Streams.{stream_view}
+use Rattle.h2_machine.specs.End.{state_at}
+use Rattle.h2_machine.specs.Machine.{after_ignored, after_reported, close_stream}
+use Rattle.h2_core.specs.Endpoint.{end_of}
+use Rattle.h2_core.proofs.SoundFacts.{counted, owed_fits}
+use Rattle.h2_core.proofs.ItemVerdicts.{fault_taken, ignored_taken, report_taken, with_waiting}
+use Rattle.h2_core.proofs.ItemStatuses.{closed_state}
+use Rattle.h2_core.proofs.ItemResets.{idle_reset, active_reset, closed_reset}
+use Rattle.h2_core.proofs.endpoint.Endpoint.take_reset.Goals as goal
+
+pub close_stream-requires-clause-counted : goal.close_stream-requires-clause-counted
+close_stream-requires-clause-counted c =
+    counted (end_of c.args.self.now) c.args.id (stream_view c.in-Active.stream) c.requires.sound
+    (sym c.in-Active.ensures.stream)
+
+pub close_stream-requires-clause-window : goal.close_stream-requires-clause-window
+close_stream-requires-clause-window c =
+    omega (
+      arith,
+      owed_fits (end_of c.args.self.now) c.args.id (stream_view c.in-Active.stream)
+          c.requires.sound (sym c.in-Active.ensures.stream),
+    )
+
+pub returns-in-Idle : goal.returns-in-Idle
+returns-in-Idle c =
+    let e = end_of c.args.self.now in
+    fault_taken e (Reset c.args.id c.args.code) ProtocolError c.args.self.now.list
+    c.fault.result c.fault.ensures (idle_reset e c.args.id c.args.code c.in-Idle.ensures.state)
+
+pub returns-in-ClosedByUs : goal.returns-in-ClosedByUs
+unfolding after_ignored
+returns-in-ClosedByUs c =
+    let e = end_of c.args.self.now in
+    ignored_taken e (Reset c.args.id c.args.code) c.args.self.now.list _
+    (closed_reset e c.args.id c.args.code
+    (closed_state c.status.result (state_at e c.args.id) c.status.ensures.state c.in-ClosedByUs.is))
+    refl
+
+pub returns-else-is_err : goal.returns-else-is_err
+unfolding after_reported events_of
+returns-else-is_err c =
+    let e = end_of c.args.self.now in
+    report_taken e (Reset c.args.id c.args.code) c.close_stream.new.self.list _ _
+    (active_reset e c.args.id c.args.code c.in-Active.ensures.state)
+    (c.close_stream.ensures
+    ∙ ap (λ (waiting : List ℕ). close_stream (with_waiting e waiting) c.args.id 0)
+    c.reserve.ensures.waiting)
+    refl

@@ -1,0 +1,47 @@
+-- By the lemmas on SETTINGS as an item.
+use Rattle.std.proofs.Common.{◌≡◌, ◌+◌, ◌<◌, ◌≤◌, length, min, true, arith}
+use Rattle.std.proofs.lemmas.Result.{err_from_is_err_and}
+use Rattle.h2_frame.specs.Pairs.{lent_pairs}
+use Rattle.h2_log.specs.Settings.{value_after}
+use Rattle.h2_machine.specs.Machine.{first_allowed}
+use Rattle.h2_core.specs.Endpoint.{end_of, streams_allowed}
+use Rattle.h2_core.specs.Settings.{with_values}
+use Rattle.h2_core.proofs.OwnItems.{settings_stop, settings_over, settings_taken, window_after}
+use Rattle.h2_core.proofs.OwnItems.{streams_after}
+use Rattle.h2_core.proofs.endpoint.Endpoint.take_settings.Goals as goal
+
+pub returns-in_err-settings : goal.returns-in_err-settings
+returns-in_err-settings c =
+    let p = err_from_is_err_and c.from_residual.result c.from_residual.ensures.1 in
+    let one = c.args.self.now in
+    let stopped = settings_stop one _ _ one.list c.in_err-settings.ensures in
+    rw (p.1, p.2) stopped
+
+pub returns-then-len-gt-MAX_OUTPUT : goal.returns-then-len-gt-MAX_OUTPUT
+returns-then-len-gt-MAX_OUTPUT c =
+    let one = c.args.self.now in
+    let over : 262144 < length one.output.waiting + 9 = omega (arith, c.len.ensures) in
+    rw c.fault.ensures (settings_over (end_of one) _ one.list c.in_ok-settings.ensures.0 over)
+
+pub returns : goal.returns
+returns c =
+    let one = c.args.self.now in
+    let pairs = lent_pairs c.args.pairs in
+    let settings = c.in_ok-settings.settings in
+    let values : settings ≡ with_values one.peer pairs = c.in_ok-settings.ensures.1 in
+    let within : length one.output.waiting + 9 ≤ 262144 = omega (arith, c.len.ensures) in
+    let window : value_after 4 one.streams.send_initial pairs ≡ settings.initial_window_size =
+    rw (← one.initial, values) (window_after one.peer pairs) in
+    let allowed : min 1000 (value_after 3
+    (first_allowed one.started (streams_allowed one.started one.peer.max_concurrent_streams))
+    pairs)
+    ≡ streams_allowed true settings.max_concurrent_streams =
+    rw values (streams_after one.peer one.started pairs one.unsaid) in
+    rw (
+      c.set_send_initial.ensures,
+      c.add_octets.ensures.waiting,
+      c.limit_encoder.ensures,
+      c.reserve.ensures.waiting,
+    )
+    (settings_taken (end_of one) pairs one.list _ _ c.in_ok-settings.ensures.0 within window
+    allowed)

@@ -1,0 +1,25 @@
+-- The frames of the block join the output, and the encoder is the one after it.
+use Rattle.std.proofs.Common.{◌≡◌, ◌∷◌, [], ◌++◌, length, ap, ◌∙◌, arith}
+use Rattle.hpack.specs.Choice.{block_of, after_block}
+use Rattle.h2_block.specs.Grouping.{block}
+use Rattle.h2_log.specs.Items.{encoding_of_items}
+use Rattle.h2_machine.specs.Machine.{with_encoder}
+use Rattle.h2_core.specs.Endpoint.{end_of}
+use Rattle.h2_core.proofs.CallOutput.{octets_of_block, with_waiting}
+use Rattle.h2_core.proofs.endpoint.Endpoint.write_block.Goals as goal
+
+pub returns-clause-ok : goal.returns-clause-ok
+returns-clause-ok c =
+    let e = end_of c.args.self.now in
+    let encoded = c.in_ok-encode_frames.ensures.ok in
+    let octets = block_of e.output.encoder c.args.fields.now in
+    let fits = c.frames_room-room.ensures.enough e.output.encoder c.args.id c.args.end in
+    let joined : c.deref.result.now ≡ encoding_of_items 16384 (block c.args.id c.args.end octets ∷ [])
+    = rw (c.deref.ensures.value, encoded.0, octets_of_block 16384 c.args.id c.args.end octets) in
+    let written : c.add_octets.new.self.waiting
+    ≡ e.output.waiting ++ encoding_of_items 16384 (block c.args.id c.args.end octets ∷ []) =
+    rw (c.add_octets.ensures.waiting, c.reserve.ensures.waiting, joined) in
+    (ap (λ encoder. with_waiting (with_encoder e encoder) c.add_octets.new.self.waiting) encoded.1
+    ∙ ap (with_waiting (with_encoder e (after_block e.output.encoder c.args.fields.now))) written,
+    omega (arith, c.in_ok-reserve.ensures.ok, c.add_octets.ensures.spare, fits,
+    ap length c.deref.ensures.value, ap length encoded.0))

@@ -1,0 +1,49 @@
+-- At a client the preface precedes SETTINGS.
+use Rattle.std.proofs.Common.{◌≡◌, true, false, not, [], refl}
+use Rattle.h2_wire.specs.Streams.{expected_preface, preface}
+use Rattle.h2_frame.specs.Encoding.{encoding_of}
+use Rattle.h2_frame.specs.Frames.{Settings}
+use Rattle.h2_log.specs.Settings.{is_server}
+use Rattle.h2_log.specs.CallRules.{opening_pairs}
+use Rattle.h2_config.specs.ConfigValues.{values_of}
+use Rattle.h2_log.specs.declared.role.Role.{Role}
+use Rattle.h2_log.specs.declared.role.Role.TheVariants.{Client, Server}
+use Rattle.h2_log.specs.contracts.role.Role.{the_type}
+use denote.Enum.Bare.{sameb}
+use Rattle.h2_core.proofs.new.first_output.Goals as goal
+use Rattle.h2_core.proofs.new.first_output.Goals.{then-eq, else-eq}
+
+at_client : (role : Role) → true ≡ sameb the_type role Client
+    → expected_preface (not (is_server role)) ≡ preface
+unfolding expected_preface
+at_client Client is = refl
+at_client Server is = cc
+
+at_server : (role : Role) → false ≡ sameb the_type role Client
+    → expected_preface (not (is_server role)) ≡ []
+unfolding expected_preface
+at_server Client is = cc
+at_server Server is = refl
+
+pub returns : goal.returns
+unfolding preface
+returns c =
+    let role = c.args.role in
+    let empty = c.in_ok-output.ensures.0 in
+    let pairs = opening_pairs role (values_of c.args.config) in
+    let frame : c.deref.result.now ≡ encoding_of (Settings false pairs) =
+    rw (c.deref.ensures.value, c.in_ok-settings.ensures, c.opening_settings.ensures) refl in
+    let last = c.add_octets-2.ensures in
+    let kept = c.reserve.ensures.waiting in
+    elim c.if-eq.branch [
+      | then-eq w ↦
+          let first = w.add_octets.ensures.waiting in
+          let opening = at_client role w.if-eq.ensures in (
+            last.ended,
+            rw (last.waiting, frame, w.output-is, first, kept, empty, opening) refl,
+          )
+      | else-eq w ↦ (
+        last.ended,
+        rw (last.waiting, frame, w.output-is, kept, empty, at_server role w.if-eq.ensures) refl,
+      )
+    ]

@@ -1,0 +1,118 @@
+-- What stands in one direction between two ends, and every step at either end keeps, stands in both
+-- directions between the ends of every pair.
+use Rattle.std.proofs.Common.{◌≡◌, not, [], refl}
+use Rattle.h2_log.specs.declared.role.Role.{Role}
+use Rattle.h2_log.specs.declared.role.Role.TheVariants.{Client, Server}
+use Rattle.h2_log.specs.Acts.{Values}
+use Rattle.h2_log.specs.Settings.{is_server}
+use Rattle.h2_log.specs.LogCalls.{opened}
+use Rattle.h2_log.specs.Histories.{IsLog}
+use Rattle.h2_pair.specs.Pairs.{Half, HalfStep, IsPair, begins, client_steps, server_steps}
+use Rattle.h2_pair.proofs.PairLogs.{half_comes_about, other_same, both_logs}
+
+-- Two ends of opposite roles, whose logs come about.
+pub record AreEnds (writer reader : Half) : Type 0 where
+  pub writer_role : Role
+  pub reader_role : Role
+  pub writer_values : Values
+  pub reader_values : Values
+  pub opposite : is_server reader_role ≡ not (is_server writer_role)
+  pub writer_log : IsLog writer_role writer_values writer.log
+  pub reader_log : IsLog reader_role reader_values reader.log
+
+-- They stay so when the writer makes a step.
+pub after_writer : (writer reader : Half) {new_writer new_reader : Half} → AreEnds writer reader
+    → HalfStep writer reader new_writer new_reader → AreEnds new_writer new_reader
+after_writer writer reader ends step =
+    record {
+      writer_role = ends.writer_role;
+      reader_role = ends.reader_role;
+      writer_values = ends.writer_values;
+      reader_values = ends.reader_values;
+      opposite = ends.opposite;
+      writer_log = half_comes_about _ _ writer reader ends.writer_log step;
+      reader_log = other_same writer reader step (IsLog ends.reader_role ends.reader_values)
+          ends.reader_log;
+    }
+
+-- And when the reader does.
+pub after_reader : (writer reader : Half) {new_writer new_reader : Half} → AreEnds writer reader
+    → HalfStep reader writer new_reader new_writer → AreEnds new_writer new_reader
+after_reader writer reader ends step =
+    record {
+      writer_role = ends.writer_role;
+      reader_role = ends.reader_role;
+      writer_values = ends.writer_values;
+      reader_values = ends.reader_values;
+      opposite = ends.opposite;
+      writer_log = other_same reader writer step (IsLog ends.writer_role ends.writer_values)
+          ends.writer_log;
+      reader_log = half_comes_about _ _ reader writer ends.reader_log step;
+    }
+
+-- The ends of a pair, one way and the other.
+pub ends_to_server : (client_values server_values : Values) (client server : Half)
+    → IsPair client_values server_values client server → AreEnds client server
+ends_to_server client_values server_values client server is =
+    let both = both_logs client_values server_values client server is in
+    record {
+      writer_role = Client;
+      reader_role = Server;
+      writer_values = client_values;
+      reader_values = server_values;
+      opposite = refl;
+      writer_log = both.client_log;
+      reader_log = both.server_log;
+    }
+
+pub ends_to_client : (client_values server_values : Values) (client server : Half)
+    → IsPair client_values server_values client server → AreEnds server client
+ends_to_client client_values server_values client server is =
+    let both = both_logs client_values server_values client server is in
+    record {
+      writer_role = Server;
+      reader_role = Client;
+      writer_values = server_values;
+      reader_values = client_values;
+      opposite = refl;
+      writer_log = both.server_log;
+      reader_log = both.client_log;
+    }
+
+-- a new end
+abbrev pub new_half : Role → Values → Half
+new_half role values = record { log = opened role values; incoming = []; lost = [] }
+
+-- What stands between new ends, and steps at either end keep.
+pub record IsKept (P : Half → Half → Type 0) : Type 0 where
+  pub at_first : (role other : Role) (values others : Values)
+      → P (new_half role values) (new_half other others)
+  pub by_writer : (writer reader : Half) {new_writer new_reader : Half} → AreEnds writer reader
+      → HalfStep writer reader new_writer new_reader → P writer reader → P new_writer new_reader
+  pub by_reader : (writer reader : Half) {new_writer new_reader : Half} → AreEnds writer reader
+      → HalfStep reader writer new_reader new_writer → P writer reader → P new_writer new_reader
+
+-- It stands in both directions between the ends of every pair.
+pub both_ways : (P : Half → Half → Type 0) → IsKept P → (client_values server_values : Values)
+    (client server : Half) → IsPair client_values server_values client server
+    → P client server × P server client
+both_ways P kept client_values server_values _ _ (begins in_range others_in_range) = (
+  kept.at_first Client Server client_values server_values,
+  kept.at_first Server Client server_values client_values,
+)
+both_ways P kept client_values server_values _ _
+    (client_steps {client = client} {server = server} is step) =
+    let before = both_ways P kept client_values server_values client server is in (
+      kept.by_writer client server
+          (ends_to_server client_values server_values client server is) step before.0,
+      kept.by_reader server client
+          (ends_to_client client_values server_values client server is) step before.1,
+    )
+both_ways P kept client_values server_values _ _
+    (server_steps {client = client} {server = server} is step) =
+    let before = both_ways P kept client_values server_values client server is in (
+      kept.by_reader client server
+          (ends_to_server client_values server_values client server is) step before.0,
+      kept.by_writer server client
+          (ends_to_client client_values server_values client server is) step before.1,
+    )

@@ -1,0 +1,122 @@
+-- Octets are carried from one end to the other.
+use Rattle.std.proofs.Common.{◌≡◌, ◌≤◌, ℕ, List, [], ◌++◌, length, take, refl, sym, ap}
+use Rattle.std.proofs.Common.{◌∙◌, append_assoc}
+use Rattle.std.proofs.lemmas.List.{take-append-drop, take-append-le, take-take}
+use Rattle.h2_log.specs.declared.role.Role.{Role}
+use Rattle.h2_log.specs.Acts.{Values}
+use Rattle.h2_log.specs.Log.{Log}
+use Rattle.h2_log.specs.LogSteps.{with_sent}
+use Rattle.h2_log.specs.LogCalls.{opened, with_call}
+use Rattle.h2_log.proofs.StreamLemmas.{Keeps-call}
+use Rattle.h2_machine_laws.specs.Machines.{log_after}
+use Rattle.h2_pair.specs.Pairs.{Half, HalfStep, calls, takes, loses, given_out, given_since}
+use Rattle.h2_pair.specs.Pairs.{octets_used, IsPair}
+use Rattle.h2_pair.specs.Directions.{CarriesOctets}
+use Rattle.h2_pair.proofs.LogOutput.{Adds, Gives, gives_call}
+use Rattle.h2_pair.proofs.StepsOfLogs.{step_up, step_input, step_adds, given_within}
+use Rattle.h2_pair.proofs.BothWays.{AreEnds, IsKept, both_ways, new_half}
+
+-- Where octets are added and no fewer given out, those given out before are the first.
+given_more : (old new : Log) → old.given ≤ length old.written → Gives old new
+    → given_out new ≡ given_out old ++ given_since old new
+given_more old new within gives =
+    let first : take old.given (given_out new) ≡ given_out old =
+    take-take old.given new.given new.written gives.given
+    ∙ ap (λ (written : List ℕ). take old.given written) gives.written
+    ∙ take-append-le old.given old.written gives.octets within in
+    sym (take-append-drop old.given (given_out new))
+    ∙ ap (λ (octets : List ℕ). octets ++ given_since old new) first
+
+-- Where octets are added alone, the same are given out.
+given_same : (old new : Log) → old.given ≤ length old.written → Adds old new
+    → given_out new ≡ given_out old
+given_same old new within adds =
+    ap (λ (count : ℕ). take count new.written) adds.given
+    ∙ ap (λ (written : List ℕ). take old.given written) adds.written
+    ∙ take-append-le old.given old.written adds.octets within
+
+-- More comes onto the pipe.
+joined_more : (input lost incoming more given : List ℕ) → input ++ (lost ++ incoming) ≡ given
+    → input ++ (lost ++ (incoming ++ more)) ≡ given ++ more
+joined_more input lost incoming more given is =
+    ap (λ (octets : List ℕ). input ++ octets) (sym (append_assoc lost incoming more))
+    ∙ sym (append_assoc input (lost ++ incoming) more)
+    ∙ ap (λ (octets : List ℕ). octets ++ more) is
+
+-- By a step of the writer.
+writer_carries : (writer reader : Half) {new_writer new_reader : Half} → AreEnds writer reader
+    → HalfStep writer reader new_writer new_reader → CarriesOctets writer reader
+    → CarriesOctets new_writer new_reader
+writer_carries writer reader ends (calls act answer typed may) before =
+    let after = with_call writer.log act answer in
+    let more = given_more writer.log after
+    (given_within _ _ writer.log ends.writer_log) (gives_call writer.log act answer) in
+    record {
+      carried = joined_more reader.log.input reader.lost reader.incoming
+          (given_since writer.log after) (given_out writer.log) before.carried ∙ sym more;
+      none_lost = before.none_lost;
+    }
+writer_carries writer reader ends (takes step rest may none came) before =
+    record {
+      carried = before.carried ∙ sym (given_same writer.log (log_after writer.log step)
+          (given_within _ _ writer.log ends.writer_log) (step_adds writer.log step none));
+      none_lost = before.none_lost;
+    }
+writer_carries writer reader ends (loses octets rest failed came) before =
+    record { carried = before.carried; none_lost = before.none_lost }
+
+-- Octets of the pipe are used, where none was lost.
+used_joined : (input lost incoming octets rest given : List ℕ) → lost ≡ []
+    → incoming ≡ octets ++ rest → input ++ (lost ++ incoming) ≡ given
+    → (input ++ octets) ++ (lost ++ rest) ≡ given
+used_joined input lost incoming octets rest given none came is =
+    rw none (append_assoc input octets rest ∙ rw (none, came) at is)
+
+-- Octets of the pipe are lost.
+lost_joined : (input lost incoming octets rest given : List ℕ) → incoming ≡ octets ++ rest
+    → input ++ (lost ++ incoming) ≡ given → input ++ ((lost ++ octets) ++ rest) ≡ given
+lost_joined input lost incoming octets rest given came is =
+    ap (λ (line : List ℕ). input ++ line) (append_assoc lost octets rest) ∙ rw came at is
+
+-- By a step of the reader.
+reader_carries : (writer reader : Half) {new_writer new_reader : Half} → AreEnds writer reader
+    → HalfStep reader writer new_reader new_writer → CarriesOctets writer reader
+    → CarriesOctets new_writer new_reader
+reader_carries writer reader ends (calls act answer typed may) before =
+    let keeps = Keeps-call reader.log act answer in
+    record {
+      carried = ap (λ (input : List ℕ). input ++ (reader.lost ++ reader.incoming)) keeps.input
+          ∙ before.carried;
+      none_lost = λ up. before.none_lost (keeps.up up);
+    }
+reader_carries writer reader ends (takes step rest may none came) before =
+    let lost = before.none_lost (step_up reader.log step none may) in
+    record {
+      carried = ap (λ (input : List ℕ). input ++ (reader.lost ++ rest))
+          (step_input reader.log step none)
+          ∙ used_joined reader.log.input reader.lost reader.incoming (octets_used step) rest
+          (given_out writer.log) lost came before.carried;
+      none_lost = λ up. lost;
+    }
+reader_carries writer reader ends (loses octets rest failed came) before =
+    record {
+      carried = lost_joined reader.log.input reader.lost reader.incoming octets rest
+          (given_out writer.log) came before.carried;
+      none_lost = λ up. absurd (failed up);
+    }
+
+-- New ends.
+new_carries : (role other : Role) (values others : Values)
+    → CarriesOctets (new_half role values) (new_half other others)
+unfolding opened with_sent
+new_carries role other values others = record { carried = refl; none_lost = λ up. refl }
+
+-- They are carried both ways, by every pair.
+pub carries_is_kept : IsKept CarriesOctets
+carries_is_kept =
+    record { at_first = new_carries; by_writer = writer_carries; by_reader = reader_carries }
+
+pub carried_both_ways : (client_values server_values : Values) (client server : Half)
+    → IsPair client_values server_values client server
+    → CarriesOctets client server × CarriesOctets server client
+carried_both_ways = both_ways CarriesOctets carries_is_kept

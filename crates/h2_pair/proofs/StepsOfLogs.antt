@@ -1,0 +1,57 @@
+-- What the steps of a log that are no calls make of its input and output.
+use Rattle.std.proofs.Common.{◌≡◌, ◌≢◌, ◌≤◌, [], ◌++◌, length, None, refl, sym, ◌∙◌}
+use Rattle.std.proofs.Common.{append-nil}
+use Rattle.h2_log.specs.declared.role.Role.{Role}
+use Rattle.h2_log.specs.Acts.{Act, Answer, Values}
+use Rattle.h2_log.specs.Log.{Log}
+use Rattle.h2_log.specs.LogSteps.{used, with_sent}
+use Rattle.h2_log.specs.Histories.{IsLog}
+use Rattle.h2_log.proofs.StreamLemmas.{Keeps-frame, Keeps-none}
+use Rattle.h2_machine_laws.specs.Machines.{Step, uses_part, ends_frame, meets_fault}
+use Rattle.h2_machine_laws.specs.Machines.{runs_out_of_memory, reports_unprocessed, is_called}
+use Rattle.h2_machine_laws.specs.Machines.{MayStep, log_after}
+use Rattle.h2_machine_laws.proofs.EveryStep.{every_log_has_machine}
+use Rattle.h2_pair.specs.Pairs.{octets_used}
+use Rattle.h2_pair.proofs.LogOutput.{Adds, adds_used, adds_used_frame, adds_used_failure}
+use Rattle.h2_pair.proofs.LogOutput.{adds_unprocessed}
+
+-- The step is no call.
+abbrev pub IsNoCall : Step → Type 0
+IsNoCall step = (act : Act) (answer : Answer) → step ≢ is_called act answer
+
+-- An end makes such a step as long as it hasn't failed.
+pub step_up : (log : Log) (step : Step) → IsNoCall step → MayStep log step → log.failed ≡ None
+unfolding MayStep
+step_up log (uses_part octets unparsed) none (takes, part) = takes.up
+step_up log (ends_frame octets frame decoded) none (takes, read, sees) = takes.up
+step_up log (meets_fault octets fault) none (takes, at) = takes.up
+step_up log (runs_out_of_memory octets) none (up, may) = up
+step_up log reports_unprocessed none (up, some) = up
+step_up log (is_called act answer) none may = absurd (none act answer refl)
+
+-- It adds the octets that it uses to the input.
+pub step_input : (log : Log) (step : Step) → IsNoCall step
+    → (log_after log step).input ≡ log.input ++ octets_used step
+unfolding log_after used with_sent
+step_input log (uses_part octets unparsed) none = refl
+step_input log (ends_frame octets frame decoded) none =
+    (Keeps-frame (used log octets []) decoded frame).input
+step_input log (meets_fault octets fault) none = refl
+step_input log (runs_out_of_memory octets) none = refl
+step_input log reports_unprocessed none = (Keeps-none log).input ∙ sym (append-nil log.input)
+step_input log (is_called act answer) none = absurd (none act answer refl)
+
+-- It adds octets to the output, and gives none out.
+pub step_adds : (log : Log) (step : Step) → IsNoCall step → Adds log (log_after log step)
+unfolding log_after
+step_adds log (uses_part octets unparsed) none = adds_used log octets unparsed
+step_adds log (ends_frame octets frame decoded) none = adds_used_frame log octets decoded frame
+step_adds log (meets_fault octets fault) none = adds_used_failure log octets _ _
+step_adds log (runs_out_of_memory octets) none = adds_used_failure log octets _ _
+step_adds log reports_unprocessed none = adds_unprocessed log
+step_adds log (is_called act answer) none = absurd (none act answer refl)
+
+-- No more is given out than was written.
+pub given_within : (role : Role) (values : Values) (log : Log) → IsLog role values log
+    → log.given ≤ length log.written
+given_within role values log is = (every_log_has_machine role values log is).1.output.given

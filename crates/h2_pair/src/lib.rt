@@ -1,0 +1,11 @@
+//! Two ends of a connection, joined by two pipes: laws of what both have sent and received, over
+//! every pair that comes about. Each is the contract of a function that does nothing.
+#![tactic(auto)]
+
+mod carried;
+#[cfg(test)]
+mod tests;
+mod windows;
+
+pub use carried::{all_arrives, items_are_carried, logs_of_a_pair, octets_are_carried};
+pub use windows::{connection_window_of_a_pair, stream_window_of_a_pair};
