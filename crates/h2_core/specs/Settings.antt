@@ -26,7 +26,7 @@ AppliesSettings one pairs (Err (Fault code opened)) =
 AppliesSettings one pairs (Err OutOfMemory) = ⊥
 
 -- The greatest of the send windows isn't known yet, or is known: whether an initial window brings
--- one of them above the greatest can be told by it.
+-- one of them above the greatest can be decided by it.
 abbrev pub KnowsGreatest : TableState → Option (Option ℤ) → Type 0
 KnowsGreatest table None = Unit {0}
 KnowsGreatest table (Some greatest) = (initial : ℕ)

@@ -22,7 +22,7 @@ pub struct Endpoint {
     pub(crate) started: bool,
     /// The field block that has begun.
     pub(crate) gather: Gather,
-    /// The peer's header table.
+    /// The decoder of field blocks, with the peer's header table.
     pub(crate) decoder: Decoder,
     /// The fields of the block that was reported last.
     pub(crate) list: FieldList,
@@ -54,10 +54,11 @@ pub struct Endpoint {
     pub(crate) goaway_received: Option<u32>,
     /// The octets of an own PING that awaits its answer.
     pub(crate) ping: Option<[u8; 8]>,
-    /// The own header table.
+    /// The encoder of field blocks, with the own header table.
     pub(crate) encoder: Encoder,
-    /// A field block as it is encoded, and its frames.
+    /// A field block as it is encoded.
     pub(crate) block: Vec<u8>,
+    /// Its frames.
     pub(crate) block_frames: Vec<u8>,
     /// The output that waits.
     pub(crate) output: Output,

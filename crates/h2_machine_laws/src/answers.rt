@@ -35,10 +35,10 @@ pub fn frames_are_taken_alike()
         (verdict_of (log_view (record log { begun = None })) decoded item) item }
 {}
 
-/// It answers a call as the log does, and what it says of itself is what the log says: how many
-/// octets wait, how many may be sent on the connection (0) or a stream, how many are owed and
-/// unreturned, and which stream is the next active one. Once the connection has failed output is
-/// put out all the same, and all but the octets that wait are 0 or nothing.
+/// A machine that represents a log answers a call as the log does, and what it says of itself is
+/// what the log says: how many octets wait, how many may be sent on the connection (0) or a stream,
+/// how many are owed and unreturned, and which stream is the next active one. Once the connection
+/// has failed output is put out all the same, and all but the octets that wait are 0 or nothing.
 pub fn machines_answer_alike()
     ensures answer { (values : Values) (e : End) (log : Log) (act : Act)
         → Represents values e log → e.failed ≡ None

@@ -15,7 +15,7 @@ abbrev pub waiting_of_last : Option LastFrame → List ℕ
 waiting_of_last None = []
 waiting_of_last (Some last) = drop last.given last.octets
 
--- the most octets of a frame in its encoding that is written without DATA or a field block:
--- SETTINGS with five pairs have 39
+-- room for the encoding of each control frame that an end adds: the longest of them, GOAWAY without
+-- debug octets and PING, have 17
 abbrev pub max_control_octets : ℕ
 max_control_octets = 64

@@ -14,7 +14,7 @@ use h2_frame::{FrameRef, write_ref};
 use std::alloc::{AllocError, Global};
 use std::marker::Model;
 
-/// The most octets of a frame that is neither DATA nor a part of a field block.
+/// Room for the encoding of each control frame that an end adds.
 const CONTROL: usize = 64;
 
 /// The output that waits to be given out. Room is had first (`reserve`), and then frames are added
