@@ -1,7 +1,8 @@
 //! Giving output out, streams that the peer does not process, and what an end answers of itself.
 
-ghost use Rattle.std.specs.Prelude.{◌≡◌, ◌≢◌, ◌<◌, length, is_some, if◌then◌else◌, None, IfOk, IfErr, IfSome};
-ghost use Rattle.std.specs.Prelude.{OnOk, true, ◌≤◌};
+ghost use Rattle.std.specs.Prelude.{◌≡◌, ◌≢◌, ◌+◌, ◌<◌, ◌≤◌, length, min, is_some, true, false};
+ghost use Rattle.std.specs.Prelude.{if◌then◌else◌, None, IfOk, IfErr, IfSome, IsOk, OnOk, vec_len};
+ghost use Rattle.std.specs.Vec.{vec_capacity};
 ghost use Rattle.std.specs.FinMap as map;
 ghost use Rattle.h2_streams.specs.Streams.{number_or_none};
 ghost use Rattle.h2_log.specs.CallRules.{returns_before_put_out};
@@ -33,6 +34,11 @@ impl Endpoint {
             out.new.items (end_of self.new)) }
         ensures err { IfErr result (λ refusal. (refusal ≡ Refusal.Memory)
             × (out.new.items ≡ out.old.items) × (end_of self.new ≡ end_of self.old)) }
+
+        // Where nothing is returned first, the capacity of `out` is enough.
+        ensures room { returns_before_put_out (end_view (end_of self.old)) ≡ false
+            → vec_len out.old + min count (length self.old.output.waiting) ≤ vec_capacity out.old
+            → IsOk result }
     {
         let update = if self.returns_before_output() {
             SMALL_FRAME

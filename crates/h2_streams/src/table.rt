@@ -195,7 +195,7 @@ impl StreamTable {
         self.recv_initial = initial;
     }
 
-    /// The greatest send window of the active streams, if there are any: by it alone it can be decided
+    /// The greatest send window of the active streams, if there are any: by it alone it is decided
     /// whether an initial window would bring one of them above 2<sup>31</sup> - 1. It goes over all
     /// active streams, and takes no memory.
     pub fn greatest_send_window(&self) -> Option<i64>

@@ -45,3 +45,23 @@ returns-in-Err-clause-err c =
     ≤ vec_capacity c.reserve.new.self =
     rw wait (rw c.min-given.ensures at room) in
     absurd (false≢true (c.in-Err.ensures.room fits))
+
+pub returns-in-Err-clause-room : goal.returns-in-Err-clause-room
+returns-in-Err-clause-room c = λ none capacity.
+    let e = end_of c.args.self.now in
+    let ready = end_of c.return_before_output.new.self in
+    let is : ready ≡ before_put_out_at e =
+    rw c.reserve-else-is_err.ensures.waiting at c.return_before_output.ensures in
+    let update : c.if-returns_before_output.update
+    ≡ (if returns_before_put_out (end_view e) then 13 else 0) =
+    elim c.if-returns_before_output.branch [
+      | then-returns_before_output w ↦ rw (w.update-is, ← w.if-returns_before_output.ensures) refl
+      | else-returns_before_output w ↦ rw (w.update-is, ← w.if-returns_before_output.ensures) refl
+    ] in
+    let room = without_error c.reserve.result c.if-is_err.ensures.value c.reserve.ensures.ok in
+    let wait = waiting_ready e ready c.len.result _ is c.len.ensures update in
+    let fits : vec_len c.reserve.new.self
+    + min c.args.count (length c.return_before_output.new.self.output.waiting)
+    ≤ vec_capacity c.reserve.new.self =
+    rw wait (rw c.min-given.ensures at room) in
+    absurd (false≢true (c.in-Err.ensures.room fits))
