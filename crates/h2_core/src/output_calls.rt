@@ -1,7 +1,7 @@
 //! Giving output out, streams that the peer does not process, and what an end answers of itself.
 
-ghost use Rattle.std.specs.Prelude.{◌≡◌, ◌≢◌, ◌<◌, length, is_some, if◌then◌else◌, None, IfOk, IfErr, IfSome};
-ghost use Rattle.std.specs.Prelude.{OnOk, true, ◌≤◌};
+ghost use Rattle.std.specs.Prelude.{◌≡◌, ◌≢◌, ◌<◌, length, is_some, if◌then◌else◌, None, IfOk};
+ghost use Rattle.std.specs.Prelude.{IfErr, IfSome, OnOk, true, ◌≤◌};
 ghost use Rattle.std.specs.FinMap as map;
 ghost use Rattle.h2_streams.specs.Streams.{number_or_none};
 ghost use Rattle.h2_log.specs.CallRules.{returns_before_put_out};
