@@ -36,8 +36,8 @@ ConnAnswers old act answer new =
     (values : Values) (log : Log) → ConnRepresents values old log
     → MayAnswer log act answer × ConnRepresents values new (with_call log act answer)
 
--- The same of an answer that shows this one: where an allocation was refused to `refuse`, it is done
--- and the connection has failed.
+-- The same of an answer that shows this one: where an allocation was refused to `refuse`, it is
+-- done and the connection has failed.
 abbrev pub ConnShows : Conn → Act → Answer → Conn → Type 0
 ConnShows old act answer new =
     (values : Values) (log : Log) → ConnRepresents values old log

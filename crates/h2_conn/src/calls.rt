@@ -154,8 +154,8 @@ impl Conn {
     }
 }
 
-/// Names and values are octets, which contracts speak of. The sum isn't used, so that compilers drop
-/// it.
+/// Names and values are octets, which contracts speak of. The sum isn't used, so that compilers
+/// drop it.
 fn check_octets(fields: &[Field])
     ensures { AreOctets fields.now }
 {

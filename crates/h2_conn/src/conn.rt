@@ -23,8 +23,8 @@ use std::alloc::Global;
 /// The most octets of a payload that an end reads (RFC 9113, section 4.2).
 const MAX_PAYLOAD: u32 = 16_384;
 
-/// One end of a connection: it takes octets and calls, and gives events and octets. It does no input
-/// or output.
+/// One end of a connection: it takes octets and calls, and gives events and octets. It does no
+/// input or output.
 #[derive(Drop)]
 pub struct Conn {
     pub(crate) inner: Inner,

@@ -66,8 +66,8 @@ pub struct Taken<'a> {
     pub event: Option<Event<'a>>,
 }
 
-/// The connection has failed with this code; GOAWAY with it is the last frame of the output (section
-/// 5.4.1). INTERNAL_ERROR says that memory ran out.
+/// The connection has failed with this code; GOAWAY with it is the last frame of the output
+/// (section 5.4.1). INTERNAL_ERROR says that memory ran out.
 #[derive(Clone, Copy, Debug, PartialEq, Eq, Hash, Error)]
 #[error("the connection has failed: {code}")]
 pub struct ConnFault {

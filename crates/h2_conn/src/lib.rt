@@ -1,5 +1,5 @@
-//! One end of an HTTP/2 connection over cleartext, without input and output: octets and calls go in,
-//! events and octets come out (RFC 9113, sections 3 to 8).
+//! One end of an HTTP/2 connection over cleartext, without input and output: octets and calls go
+//! in, events and octets come out (RFC 9113, sections 3 to 8).
 //!
 //! Each call says what it does after any history: for every log of an end that a connection
 //! represents, which answer it gives, and that it represents the log with the call afterwards.

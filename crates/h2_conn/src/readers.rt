@@ -18,8 +18,8 @@ impl Conn {
         self.inner.end.waiting()
     }
 
-    /// How many octets of a preface or a frame have come that is not complete; 0 once the connection
-    /// has failed.
+    /// How many octets of a preface or a frame have come that is not complete; 0 once the
+    /// connection has failed.
     pub fn held(&self) -> usize
         ensures { (values : Values) (log : Log) → ConnRepresents values self.now log
             → result ≡ reader_held log }
@@ -30,9 +30,9 @@ impl Conn {
         self.inner.cutter.held()
     }
 
-    /// How many octets this end may send: on the connection where `id` is 0, else on a stream, if it
-    /// is active; below zero where settings have shifted its window so (RFC 9113, section 6.9.2).
-    /// None once the connection has failed.
+    /// How many octets this end may send: on the connection where `id` is 0, else on a stream, if
+    /// it is active; below zero where settings have shifted its window so (RFC 9113, section
+    /// 6.9.2). None once the connection has failed.
     pub fn room(&self, id: u32) -> Option<i64>
         ensures { (values : Values) (log : Log) → ConnRepresents values self.now log
             → result ≡ reader_room (log_view log) id }
@@ -40,8 +40,8 @@ impl Conn {
         self.inner.end.room(id)
     }
 
-    /// How many octets of a stream were reported and are not released; 0 where it is not active, and
-    /// once the connection has failed.
+    /// How many octets of a stream were reported and are not released; 0 where it is not active,
+    /// and once the connection has failed.
     pub fn owed(&self, id: u32) -> u32
         ensures { (values : Values) (log : Log) → ConnRepresents values self.now log
             → result ≡ reader_owed (log_view log) id }

@@ -14,7 +14,8 @@ use Rattle.h2_log.specs.CallRules.{first_of, conditions, refusal_of, items_of, e
 use Rattle.h2_log.specs.Settings.{is_server}
 use Rattle.h2_log.specs.View.{StreamView}
 use Rattle.h2_machine.specs.End.{End, end_view, active_entry, number_after}
-use Rattle.h2_machine.specs.Machine.{after_call, queue_output, with_encoder, new_stream, open_stream}
+use Rattle.h2_machine.specs.Machine.{after_call, queue_output, with_encoder, new_stream}
+use Rattle.h2_machine.specs.Machine.{open_stream}
 use Rattle.h2_streams.specs.Table.{TableState}
 use Rattle.h2_core.proofs.CallMaps.{remove_inserted}
 

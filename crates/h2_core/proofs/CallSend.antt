@@ -12,8 +12,8 @@ use Rattle.h2_block.specs.Grouping.{Item, block}
 use Rattle.h2_log.specs.declared.refusal.Refusal.{Refusal}
 use Rattle.h2_log.specs.declared.refusal.Refusal.TheVariants.{ListTooLarge}
 use Rattle.h2_log.specs.Acts.{SendFields, SendData}
-use Rattle.h2_log.specs.CallRules.{first_of, conditions, refusal_of, data_count, data_items, items_of}
-use Rattle.h2_log.specs.CallRules.{data_frames, encoder_after_call}
+use Rattle.h2_log.specs.CallRules.{first_of, conditions, refusal_of, data_count, data_items}
+use Rattle.h2_log.specs.CallRules.{items_of, data_frames, encoder_after_call}
 use Rattle.h2_log.specs.View.{StreamView}
 use Rattle.h2_machine.specs.End.{End, end_view, stream_at}
 use Rattle.h2_machine.specs.Machine.{after_call, update_stream, queue_output, with_encoder}

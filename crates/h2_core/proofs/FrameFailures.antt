@@ -1,7 +1,8 @@
 -- Items that don't fail the connection leave it up; and what stands where it fails.
-use Rattle.std.proofs.Common.{◌≡◌, ◌≢◌, ◌<◌, ◌≤◌, ◌^◌, ◌+◌, ℕ, ◌==◌, ◌&&◌, not, Bool, true, false, max, pos}
-use Rattle.std.proofs.Common.{if◌then◌else◌, ◌+ℤ◌, List, [], ◌∷◌, ◌++◌, length, Option, Some, None, Result}
-use Rattle.std.proofs.Common.{nat_lt, Ok, Err, ◌⊎◌, inl, inr, is_some, refl, sym, ap, subst, ◌∙◌, ◌||◌, arith}
+use Rattle.std.proofs.Common.{◌≡◌, ◌≢◌, ◌<◌, ◌≤◌, ◌^◌, ◌+◌, ℕ, ◌==◌, ◌&&◌, not, Bool, true, false}
+use Rattle.std.proofs.Common.{max, pos, if◌then◌else◌, ◌+ℤ◌, List, [], ◌∷◌, ◌++◌, length, Option}
+use Rattle.std.proofs.Common.{Some, None, Result, nat_lt, Ok, Err, ◌⊎◌, inl, inr, is_some, refl}
+use Rattle.std.proofs.Common.{sym, ap, subst, ◌∙◌, ◌||◌, arith}
 use Rattle.std.proofs.lemmas.Bool.{le-ltb, lt-ltb}
 use Rattle.hpack.specs.Blocks.{Block as BlockSays}
 use Rattle.hpack.specs.Lists.{NoBlock, DecoderState, HoldsList, list_size}
@@ -30,8 +31,8 @@ use Rattle.h2_machine.specs.End.{End, end_view, stream_at}
 use Rattle.h2_machine.specs.Machine.{after_item, after_verdict, after_stream_fault, after_ignored}
 use Rattle.h2_machine.specs.Machine.{after_reported, add_unreturned, return_credit, more_unreturned}
 use Rattle.h2_machine.specs.Machine.{update_stream, close_stream, set_stream, widen_send_window}
-use Rattle.h2_machine.specs.Machine.{receive_data, receive_block, apply_own_settings, fail, with_flow}
-use Rattle.h2_machine.specs.Machine.{narrow_recv_window}
+use Rattle.h2_machine.specs.Machine.{receive_data, receive_block, apply_own_settings, fail}
+use Rattle.h2_machine.specs.Machine.{with_flow, narrow_recv_window}
 use Rattle.h2_core.specs.Endpoint.{IsSound}
 use Rattle.h2_core.specs.Failure.{FailsAlike}
 use Rattle.h2_core.specs.Items.{ItemTaken, TakesItem}
@@ -262,7 +263,8 @@ no_block_fails e new id end octets none failed =
 pub block_stopped : (e mid new : End) (id : ℕ) (end : Bool) (octets : List ℕ) (decoded : Decoded)
     (list : List Field) (stop : Stop) (answer : Code)
     → BlockSays e.reading.table e.own.in_force.table_limit octets decoded.fields decoded.after
-    → TakesItem (with_table e decoded.after) (Some decoded) (block id end octets) list (Err stop) mid
+    → TakesItem (with_table e decoded.after) (Some decoded) (block id end octets) list (Err stop)
+    mid
     → FailsBy mid stop answer new
     → BlockFails e id end octets answer new ⊎ FailsWithoutMemory e answer new
 unfolding after_verdict
@@ -275,7 +277,8 @@ block_stopped e mid new id end octets decoded list (Fault code opened) answer sa
     ≡ fail code (max e.streams.last_processed opened) e =
     ap (after_verdict e (Some decoded) item) verdict
     ∙ ap (λ (n : ℕ). fail code (max e.streams.last_processed n) e) (sym opens) in
-    let became : new ≡ fail code (max e.streams.last_processed opened) (with_table e decoded.after) =
+    let became : new
+    ≡ fail code (max e.streams.last_processed opened) (with_table e decoded.after) =
     fails.1 ∙ ap (λ (x : End). fail code (max x.streams.last_processed opened) x) same in
     inl (record {
       decoded = Some decoded;

@@ -1,8 +1,8 @@
 -- What a gatherer makes of a frame is the step of the rules.
 use Rattle.std.proofs.Common.{◌≡◌, ◌≢◌, ◌<◌, ◌≤◌, ◌^◌, ◌+◌, ℕ, ◌==◌, nat_lt, not, Bool, true, false}
-use Rattle.std.proofs.Common.{if◌then◌else◌, List, [], ◌∷◌, ◌++◌, length, Option, Some, None, Ok, Err}
-use Rattle.std.proofs.Common.{Result, inl, inr, refl, sym, ap, subst, ◌∙◌, append-nil, length-append, ◌⊎◌}
-use Rattle.std.proofs.Common.{arith, ltb-false, ltb-true, eqb-true}
+use Rattle.std.proofs.Common.{if◌then◌else◌, List, [], ◌∷◌, ◌++◌, length, Option, Some, None, Ok}
+use Rattle.std.proofs.Common.{Err, Result, inl, inr, refl, sym, ap, subst, ◌∙◌, append-nil}
+use Rattle.std.proofs.Common.{length-append, ◌⊎◌, arith, ltb-false, ltb-true, eqb-true}
 use Rattle.h2_frame.specs.Frames.{Frame, Data, Headers, Priority, Reset, Settings, Ping, GoAway}
 use Rattle.h2_frame.specs.Frames.{WindowUpdate, Continuation, Unknown, frame_of}
 use Rattle.h2_frame.specs.Encoding.{refusal, stream_of, kind_of_frame, payload_of, has_good_values}

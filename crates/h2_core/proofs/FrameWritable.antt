@@ -1,7 +1,7 @@
 -- What a frame without a fault says of its numbers; and frames that change nothing.
 use Rattle.std.proofs.Common.{◌≡◌, ◌≢◌, ◌<◌, ◌≤◌, ◌^◌, ◌+◌, ℕ, nat_lt, not, ◌&&◌, Bool, true, false}
-use Rattle.std.proofs.Common.{if◌then◌else◌, List, [], length, Option, Some, None, refl, sym, ap, ◌∙◌, arith}
-use Rattle.std.proofs.Common.{ltb-false, ltb-true}
+use Rattle.std.proofs.Common.{if◌then◌else◌, List, [], length, Option, Some, None, refl, sym, ap}
+use Rattle.std.proofs.Common.{◌∙◌, arith, ltb-false, ltb-true}
 use Rattle.hpack.specs.declared.types.field.Field.{Field}
 use Rattle.h2_frame.specs.Frames.{Frame, Data, Headers, Priority, Reset, Settings, Ping, GoAway}
 use Rattle.h2_frame.specs.Frames.{WindowUpdate, Continuation, Unknown}

@@ -2,7 +2,8 @@
 use Rattle.std.specs.Prelude.{◌≡◌, ◌⊎◌, ℕ, not, nat_le, is_some, [], ◌∷◌, length, None, Some}
 use Rattle.std.specs.Prelude.{Result, Ok, Err}
 use Rattle.h2_log.specs.declared.refusal.Refusal.{Refusal}
-use Rattle.h2_log.specs.declared.refusal.Refusal.TheVariants.{Memory, Closed, NoSuchStream, Ended, OutputFull}
+use Rattle.h2_log.specs.declared.refusal.Refusal.TheVariants.{Memory, Closed, NoSuchStream, Ended}
+use Rattle.h2_log.specs.declared.refusal.Refusal.TheVariants.{OutputFull}
 use Rattle.h2_log.specs.Acts.{Act, Refuse}
 use Rattle.h2_log.specs.CallRules.{refusal_of, first_of}
 use Rattle.h2_log.specs.Limits.{full_output}
@@ -35,8 +36,8 @@ NotSendable one id refusal = first_of (
     ∷ (nat_le full_output (length one.output.waiting), OutputFull) ∷ []
     ) ≡ Some refusal
 
--- What `refuse` makes of an end: it is refused; or it is accepted; or an allocation was refused, and
--- the connection fails.
+-- What `refuse` makes of an end: it is refused; or it is accepted; or an allocation was refused,
+-- and the connection fails.
 abbrev pub CallRefuses : End → ℕ → ℕ → Result Unit Refusal → End → Type 0
 CallRefuses e id code (Ok done) new = CallAccepted e (Refuse id code) new
     ⊎ ((refusal_of (end_view e) (Refuse id code) ≡ None)

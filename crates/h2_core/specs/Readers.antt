@@ -1,6 +1,6 @@
 -- What an end answers of itself, and what giving output out does.
-use Rattle.std.specs.Prelude.{◌≡◌, ℕ, ◌==◌, ◌++◌, if◌then◌else◌, ℤ, pos, List, take, Option, Some, None}
-use Rattle.std.specs.Prelude.{is_some}
+use Rattle.std.specs.Prelude.{◌≡◌, ℕ, ◌==◌, ◌++◌, if◌then◌else◌, ℤ, pos, List, take, Option, Some}
+use Rattle.std.specs.Prelude.{None, is_some}
 use Rattle.std.specs.Option.{option_map}
 use Rattle.h2_log.specs.View.{owed_on}
 use Rattle.h2_log.specs.Acts.{PutOut, Count}
@@ -19,7 +19,8 @@ room_of e id =
 abbrev pub owed_of : End → ℕ → ℕ
 owed_of e id = if is_some e.failed then 0 else owed_on (stream_at e id)
 
--- So many octets were given out: the first of those that wait, once what is unreturned was returned.
+-- So many octets were given out: the first of those that wait, once what is unreturned was
+-- returned.
 pub record PutsOut (e : End) (count given : ℕ) (before after : List ℕ) (new : End) : Type 0 where
   pub answer : Count given ≡ answer_of (end_view e) (PutOut count)
   pub octets : after ≡ before ++ take given (before_put_out_at e).output.waiting

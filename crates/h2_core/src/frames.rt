@@ -19,8 +19,8 @@ use h2_block::Gathered;
 use h2_frame::{Code, FrameRef};
 
 impl Endpoint {
-    /// Takes the next frame, one that has come without a fault: the numbers of its stream, of a last
-    /// stream and of an increment have 31 bits, and its payload's length 24.
+    /// Takes the next frame, one that has come without a fault: the numbers of its stream, of a
+    /// last stream and of an increment have 31 bits, and its payload's length 24.
     ///
     /// # Errors
     ///

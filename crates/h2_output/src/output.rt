@@ -1,7 +1,8 @@
 //! The output that waits.
 
 ghost use Rattle.std.specs.Prelude.{◌≡◌, ◌+◌, ◌==◌, ◌^◌, ◌<◌, ◌≤◌, ◌++◌, [], length, min};
-ghost use Rattle.std.specs.Prelude.{take, drop, true, false, None, Some, OnOk, IfOk, OnErr, IsOk, vec_len};
+ghost use Rattle.std.specs.Prelude.{take, drop, true, false, None, Some, OnOk, IfOk, OnErr, IsOk};
+ghost use Rattle.std.specs.Prelude.{vec_len};
 ghost use Rattle.std.specs.Vec.{vec_capacity};
 ghost use Rattle.h2_frame.specs.Frames.{frame_of, Data, GoAway};
 ghost use Rattle.h2_frame.specs.Encoding.{encoding_of, refusal};

@@ -10,8 +10,8 @@ use Rattle.h2_log.specs.Windows.{first_window, connection_send_window}
 use Rattle.h2_log_laws.specs.Sums.{sum_below}
 use Rattle.h2_pair.specs.Pairs.{Half, given_out}
 
--- The octets that came in, those that were lost, and those on the pipe are, in order, those that the
--- other end gave out. None is lost as long as the reader hasn't failed.
+-- The octets that came in, those that were lost, and those on the pipe are, in order, those that
+-- the other end gave out. None is lost as long as the reader hasn't failed.
 pub record CarriesOctets (writer reader : Half) : Type 0 where
   pub carried : reader.log.input ++ (reader.lost ++ reader.incoming) ≡ given_out writer.log
   pub none_lost : reader.log.failed ≡ None → reader.lost ≡ []

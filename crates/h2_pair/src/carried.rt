@@ -19,8 +19,9 @@ pub fn logs_of_a_pair()
         → IsLog Server server_values server.log }
 {}
 
-/// What came in at one end, what was lost there once it had failed, and what is on the pipe are what
-/// the other end has given out, in order: both ways, and after faults and being out of memory too.
+/// What came in at one end, what was lost there once it had failed, and what is on the pipe are
+/// what the other end has given out, in order: both ways, and after faults and being out of memory
+/// too.
 pub fn octets_are_carried()
     ensures to_server { (client_values server_values : Values) (client server : Half)
         → IsPair client_values server_values client server → CarriesOctets client server }

@@ -74,8 +74,8 @@ returns c =
     report_taken e (data_of c.args.frame pad) c.update_stream.new.self.list _ _
     (reported_data e c.args.frame pad stream flow c.requires.active c.requires.open
     c.requires.connection c.requires.within)
-    (c.update_stream.ensures.after ∙ reported_after e c.args.frame pad stream _ _ flow c.requires.active
-    c.requires.open
+    (c.update_stream.ensures.after
+    ∙ reported_after e c.args.frame pad stream _ _ flow c.requires.active c.requires.open
     (narrowed_is c.args.stream.recv_window c.from.result c.args.frame.flow
     (recv_near e id stream c.requires.sound c.requires.active) c.from.ensures
     (omega (

@@ -41,13 +41,16 @@ pub returns-in_default-clause-err : goal.returns-in_default-clause-err
 unfolding conditions first_of
 returns-in_default-clause-err c =
     let none_waits = is_some_mapped values_of c.args.self.now.awaited ∙ sym c.if-is_some.ensures in
-    lacks_memory _ _ _ (rw (c.in_ok-check_up.ensures.ok, c.in_ok-check_room.ensures.ok, none_waits)) refl
+    lacks_memory _ _ _
+    (rw (c.in_ok-check_up.ensures.ok, c.in_ok-check_room.ensures.ok, none_waits)) refl
 
 pub returns-then-is_err-clause-err : goal.returns-then-is_err-clause-err
 unfolding conditions first_of
 returns-then-is_err-clause-err c =
     let none_waits = is_some_mapped values_of c.args.self.now.awaited ∙ sym c.if-is_some.ensures in
-    lacks_memory _ _ _ (rw (c.in_ok-check_up.ensures.ok, c.in_ok-check_room.ensures.ok, none_waits)) (ap (with_waiting (end_of c.args.self.now)) c.reserve.ensures.waiting)
+    lacks_memory _ _ _
+    (rw (c.in_ok-check_up.ensures.ok, c.in_ok-check_room.ensures.ok, none_waits))
+    (ap (with_waiting (end_of c.args.self.now)) c.reserve.ensures.waiting)
 
 pub returns-clause-ok : goal.returns-clause-ok
 unfolding conditions first_of after_call items_of encoder_after_call

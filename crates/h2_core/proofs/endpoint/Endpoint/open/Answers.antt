@@ -23,8 +23,10 @@ pub write_block-requires-clause-number : goal.write_block-requires-clause-number
 write_block-requires-clause-number c =
     let may = may_open (end_of c.args.self.now) c.args.fields.now c.args.end
     (sym (c.refusal_of_open.ensures c.args.end) ∙ c.in_default.is) in
-    let above = number_above c.args.self.now.highest in
-    (omega (arith, c.next_number-id.ensures, above.0), omega (arith, c.next_number-id.ensures, may.number))
+    let above = number_above c.args.self.now.highest in (
+      omega (arith, c.next_number-id.ensures, above.0),
+      omega (arith, c.next_number-id.ensures, may.number),
+    )
 
 pub write_block-requires-clause-size : goal.write_block-requires-clause-size
 write_block-requires-clause-size c =
@@ -34,7 +36,8 @@ write_block-requires-clause-size c =
 pub close-requires : goal.close-requires
 close-requires c =
     let added = unless_err c.open.result (cc c.is_err.ensures.value) c.open.ensures.ok in
-    let same = if_err c.write_block.result (cc c.is_err-2.ensures.value) c.write_block.ensures.err in
+    let same = if_err c.write_block.result (cc c.is_err-2.ensures.value)
+    c.write_block.ensures.err in
     let entries = ap (λ (e : End). e.streams.entries) same
     ∙ ap (λ (table : TableState). table.entries) added in
     rw (
@@ -49,7 +52,8 @@ returns-then-is_err-2-clause-err c =
     let id = c.next_number-id.result in
     let free = sym (c.refusal_of_open.ensures c.args.end) ∙ c.in_default.is in
     let added = unless_err c.open.result (cc c.is_err.ensures.value) c.open.ensures.ok in
-    let same = if_err c.write_block.result (cc c.is_err-2.ensures.value) c.write_block.ensures.err in
+    let same = if_err c.write_block.result (cc c.is_err-2.ensures.value)
+    c.write_block.ensures.err in
     let none = absent_above e id c.requires.sound (omega (
       arith,
       c.next_number-id.ensures,
@@ -72,8 +76,8 @@ returns-clause-ok c =
     let may = may_open e c.args.fields.now c.args.end free in
     let number : id ≡ (end_view e).next_number = rw may.client c.next_number-id.ensures in
     let added = unless_err c.open.result (cc c.is_err.ensures.value) c.open.ensures.ok in
-    let wrote = unless_err c.write_block.result (cc c.is_err-2.ensures.value) c.write_block.ensures.ok
-    in
+    let wrote = unless_err c.write_block.result (cc c.is_err-2.ensures.value)
+    c.write_block.ensures.ok in
     let stream : stream_view c.new_stream-stream.result ≡ new_stream e false c.args.end =
     c.new_stream-stream.ensures
     ∙ ap (λ (state : StreamState). new_stream e state.ended_in c.args.end) c.open-state.ensures in

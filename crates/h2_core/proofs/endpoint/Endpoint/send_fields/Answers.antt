@@ -78,6 +78,7 @@ returns-clause-ok c =
       free = fields_free e c.args.id _ c.args.fields.now c.args.end ok.0 ok.1 ok.2
           ok.3 (omega arith);
       after = changed
-          ∙ ap (λ (e : End). update_stream e c.args.id (record stream { ended_out = c.args.end })) wrote.0
+          ∙ ap (λ (e : End). update_stream e c.args.id (record stream { ended_out = c.args.end }))
+          wrote.0
           ∙ sym (fields_sent e c.args.id stream c.args.fields.now c.args.end ok.1);
     }

@@ -1,4 +1,5 @@
-use Rattle.std.proofs.Common.{◌≡◌, ◌≤◌, ◌<◌, ◌^◌, ℕ, None, true, ap, refl, inl, inr, arith, Fits, w32}
+use Rattle.std.proofs.Common.{◌≡◌, ◌≤◌, ◌<◌, ◌^◌, ℕ, None, true, ap, refl, inl, inr, arith, Fits}
+use Rattle.std.proofs.Common.{w32}
 use Rattle.h2_frame.specs.Frames.{frame_of}
 use Rattle.h2_frame.specs.declared.frame.FrameRef.{FrameRef}
 use Rattle.h2_core.specs.Endpoint.{end_of}

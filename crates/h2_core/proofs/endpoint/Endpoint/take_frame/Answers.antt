@@ -1,4 +1,5 @@
-use Rattle.std.proofs.Common.{◌≡◌, ℕ, None, Some, inl, refl, sym, ap, ◌∙◌, Option, is_some, Bool, true, false}
+use Rattle.std.proofs.Common.{◌≡◌, ℕ, None, Some, inl, refl, sym, ap, ◌∙◌, Option, is_some, Bool}
+use Rattle.std.proofs.Common.{true, false}
 use Rattle.h2_block.specs.Grouping.{Begun}
 use Rattle.h2_frame.specs.Frames.{frame_of, Headers}
 use Rattle.h2_frame.specs.declared.frame.FrameRef.{FrameRef}

@@ -1,5 +1,5 @@
-use Rattle.std.proofs.Common.{◌≡◌, ◌≤◌, ◌<◌, ◌^◌, ℕ, ◌+◌, Bool, true, false, if◌then◌else◌, List, None}
-use Rattle.std.proofs.Common.{Some, arith, refl, sym, ap, ◌∙◌, ◌||◌, inl, inr, ◌⊎◌}
+use Rattle.std.proofs.Common.{◌≡◌, ◌≤◌, ◌<◌, ◌^◌, ℕ, ◌+◌, Bool, true, false, if◌then◌else◌, List}
+use Rattle.std.proofs.Common.{None, Some, arith, refl, sym, ap, ◌∙◌, ◌||◌, inl, inr, ◌⊎◌}
 use Rattle.hpack.specs.declared.types.field.Field.{Field}
 use Rattle.h2_frame.specs.declared.code.Code.{Code}
 use Rattle.h2_frame.specs.declared.code.Code.TheVariants.{StreamClosed, EnhanceYourCalm}

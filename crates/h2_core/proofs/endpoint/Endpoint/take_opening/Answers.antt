@@ -1,6 +1,6 @@
 use Rattle.std.proofs.Common.{◌≡◌, ◌≤◌, ◌<◌, ◌^◌, ℕ, ◌+◌, Bool, true, false, nat_lt, max, not, ◌&&◌}
-use Rattle.std.proofs.Common.{if◌then◌else◌, List, None, Some, Result, Ok, Err, arith, refl, sym, ap}
-use Rattle.std.proofs.Common.{◌∙◌, is_some, OnOk, ltb-true}
+use Rattle.std.proofs.Common.{if◌then◌else◌, List, None, Some, Result, Ok, Err, arith, refl, sym}
+use Rattle.std.proofs.Common.{ap, ◌∙◌, is_some, OnOk, ltb-true}
 use Rattle.std.specs.Result.{is_err}
 use Rattle.std.specs.FinMap as map
 use Rattle.std.proofs.lemmas.Result.{err_from_is_err_and}
