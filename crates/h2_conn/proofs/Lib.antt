@@ -1,0 +1,4 @@
+-- The parts of a connection where its cutter is left as it is.
+pub mod AskLimits
+-- What calls make of a connection.
+pub mod AskCalls
