@@ -1,6 +1,7 @@
 -- What a call makes of the parts of a connection, whatever log they represent.
-use Rattle.std.proofs.Common.{◌≡◌, ℕ, Bool, true, false, Option, Some, None, Result, Ok, Err, inl, inr}
-use Rattle.std.proofs.Common.{IfOk, IfErr, OnOk, refl, sym, ap, subst, ◌∙◌, ◌⊎◌}
+use Rattle.std.proofs.Common.{◌≡◌, ℕ, Bool, true, false, Option, Some, None, Result, Ok, Err, inl}
+use Rattle.std.proofs.Common.{inr, IfOk, IfErr, OnOk, refl, sym, ap, subst, ◌∙◌, ◌⊎◌, List, [], ◌∷◌}
+use Rattle.std.proofs.Common.{if◌then◌else◌}
 use Rattle.std.specs.Option.{is_some}
 use Rattle.h2_frame.specs.declared.code.Code.{Code}
 use Rattle.h2_wire.specs.Cutter.{CutterState}
@@ -12,7 +13,7 @@ use Rattle.h2_log.specs.Acts.{ChangeSettings}
 use Rattle.h2_log.specs.Log.{Log}
 use Rattle.h2_log.specs.LogView.{log_view}
 use Rattle.h2_log.specs.LogCalls.{MayAnswer, accepts, refuses, lacks, fails, with_call}
-use Rattle.h2_log.specs.CallRules.{refusal_of, answer_of, may_lack_memory}
+use Rattle.h2_log.specs.CallRules.{refusal_of, answer_of, may_lack_memory, first_of}
 use Rattle.h2_log.proofs.StreamLemmas.{Keeps-call}
 use Rattle.h2_machine.specs.End.{End, end_view}
 use Rattle.h2_machine.specs.Machine.{after_call}
@@ -136,3 +137,30 @@ done_by answer (Ok value) cutter e new act up typed lacking is ok err =
     accepted_answers cutter e new act answer up typed is ok
 done_by answer (Err refusal) cutter e new act up typed lacking is ok err =
     refused_answers cutter e new act refusal typed lacking err
+
+-- The first condition of a call holds.
+pub first_holds : (refusal : Refusal) (others : List (Bool × Refusal)) (test : Bool)
+    → test ≡ true → first_of ((test, refusal) ∷ others) ≡ Some refusal
+unfolding first_of
+first_holds refusal others test holds =
+    ap (λ (b : Bool). if b then Some refusal else first_of others) holds
+
+-- A call that is refused since the connection has failed.
+pub closed_answers : (cutter : CutterState) (e : End) (act : Act) → IsTypedAct act
+    → refusal_of (end_view e) act ≡ Some Closed → PartsAnswer cutter e act (Refused Closed) e
+closed_answers cutter e act typed why values log parts =
+    let may : MayAnswer log act (Refused Closed) =
+    refuses Closed (sym (refusal_same values e log act parts.machine) ∙ why) refl in
+    (
+      may,
+      subst (λ (x : End). PartsRepresent values cutter x (with_call log act (Refused Closed)))
+          (refused_after e act Closed) (parts_called values cutter e log act (Refused Closed) parts
+          typed may),
+    )
+
+-- What is said of a value, otherwise.
+pub value_as : {A : Type 0} (X Y : A → Type 0) (P : Type 0) (result : Result A Refusal)
+    → ((value : A) → X value → Y value) → IfOk result (λ value. X value × P)
+    → IfOk result (λ value. Y value × P)
+value_as X Y P (Ok value) says ok = (says value ok.0, ok.1)
+value_as X Y P (Err refusal) says ok = ok

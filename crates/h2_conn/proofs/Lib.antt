@@ -2,3 +2,5 @@
 pub mod AskLimits
 -- What calls make of a connection.
 pub mod AskCalls
+-- A call leaves what is kept sound.
+pub mod AskSound
