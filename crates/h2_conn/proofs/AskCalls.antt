@@ -145,17 +145,19 @@ unfolding first_of
 first_holds refusal others test holds =
     ap (λ (b : Bool). if b then Some refusal else first_of others) holds
 
--- A call that is refused since the connection has failed.
-pub closed_answers : (cutter : CutterState) (e : End) (act : Act) → IsTypedAct act
-    → refusal_of (end_view e) act ≡ Some Closed → PartsAnswer cutter e act (Refused Closed) e
-closed_answers cutter e act typed why values log parts =
-    let may : MayAnswer log act (Refused Closed) =
-    refuses Closed (sym (refusal_same values e log act parts.machine) ∙ why) refl in
+-- A call that is refused for the first condition that holds, such as that the connection has
+-- failed.
+pub condition_answers : (cutter : CutterState) (e : End) (act : Act) (refusal : Refusal)
+    → IsTypedAct act → refusal_of (end_view e) act ≡ Some refusal
+    → PartsAnswer cutter e act (Refused refusal) e
+condition_answers cutter e act refusal typed why values log parts =
+    let may : MayAnswer log act (Refused refusal) =
+    refuses refusal (sym (refusal_same values e log act parts.machine) ∙ why) refl in
     (
       may,
-      subst (λ (x : End). PartsRepresent values cutter x (with_call log act (Refused Closed)))
-          (refused_after e act Closed) (parts_called values cutter e log act (Refused Closed) parts
-          typed may),
+      subst (λ (x : End). PartsRepresent values cutter x (with_call log act (Refused refusal)))
+          (refused_after e act refusal)
+          (parts_called values cutter e log act (Refused refusal) parts typed may),
     )
 
 -- What is said of a value, otherwise.

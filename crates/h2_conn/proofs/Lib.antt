@@ -4,3 +4,6 @@ pub mod AskLimits
 pub mod AskCalls
 -- A call leaves what is kept sound.
 pub mod AskSound
+-- Refusing a stream, and putting output out.
+pub mod AskOutput
+pub mod AskRefusing
