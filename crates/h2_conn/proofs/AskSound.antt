@@ -1,8 +1,9 @@
 -- A call leaves the values of an end sound.
 use Rattle.std.proofs.Common.{◌≡◌, ℕ, Bool, true, false, if◌then◌else◌, Option, Some, None, Result, Ok, Err, inl, inr, IfOk, IfErr}
-use Rattle.std.proofs.Common.{OnOk, refl, sym, ap, subst, ◌∙◌, ◌⊎◌}
+use Rattle.std.proofs.Common.{List, OnOk, refl, sym, ap, subst, ◌∙◌, ◌⊎◌}
 use Rattle.h2_frame.specs.declared.code.Code.{Code}
 use Rattle.h2_log.specs.declared.refusal.Refusal.{Refusal}
+use Rattle.h2_log.specs.declared.refusal.Refusal.TheVariants.{Memory}
 use Rattle.h2_log.specs.Acts.{Act, IsTypedAct, Refuse, PutOut}
 use Rattle.h2_log.specs.CallRules.{refusal_of, returns_before_put_out, conditions, first_of}
 use Rattle.h2_machine.specs.End.{End, end_view}
@@ -16,6 +17,7 @@ use Rattle.h2_machine_laws.proofs.RangesOfCalls.{call_fits}
 use Rattle.h2_machine_laws.proofs.RangesOfSteps.{fits, are_in_range}
 use Rattle.h2_core.specs.Calls.{CallRefused, CallAccepted, CallRefuses}
 use Rattle.h2_core.specs.Endpoint.{IsSound}
+use Rattle.h2_core.specs.Readers.{PutsOut}
 
 -- A call that is accepted leaves an end sound.
 pub accepted_sound : (e : End) (act : Act) → refusal_of (end_view e) act ≡ None → IsTypedAct act
@@ -73,11 +75,24 @@ pub never_refused : (e : End) (count : ℕ) → refusal_of (end_view e) (PutOut 
 unfolding conditions first_of
 never_refused e count = refl
 
+-- Putting output out leaves it whether an end has failed, whatever it answers.
+pub still_failed : (result : Result ℕ Refusal) (e new : End) (count : ℕ) (before after : List ℕ)
+    → IfOk result (λ given. PutsOut e count given before after new)
+    → IfErr result (λ refusal. (refusal ≡ Memory) × (after ≡ before) × (new ≡ e))
+    → new.failed ≡ e.failed
+still_failed (Ok given) e new count before after ok err =
+    ap (λ (x : End). x.failed) ok.machine ∙ put_out_failed e count
+still_failed (Err refusal) e new count before after ok (memory, kept, same) =
+    ap (λ (x : End). x.failed) same
+
 -- Putting output out leaves an end sound that hasn't failed.
-pub put_out_sound : (e new : End) (count : ℕ) → IsTypedAct (PutOut count)
-    → (e.failed ≡ None → IsSound e) → new ≡ after_call e (PutOut count)
-    → new.failed ≡ None → IsSound new
-put_out_sound e new count typed sound is up =
-    let same = sym (put_out_failed e count) ∙ ap (λ (x : End). x.failed) (sym is) ∙ up in
-    subst IsSound (sym is)
-    (accepted_sound e (PutOut count) (never_refused e count) typed (sound same))
+pub put_out_sound : (result : Result ℕ Refusal) (e new : End) (count : ℕ) (before after : List ℕ)
+    → IsTypedAct (PutOut count) → IsSound e
+    → IfOk result (λ given. PutsOut e count given before after new)
+    → IfErr result (λ refusal. (refusal ≡ Memory) × (after ≡ before) × (new ≡ e))
+    → IsSound new
+put_out_sound (Ok given) e new count before after typed sound ok err =
+    subst IsSound (sym ok.machine)
+    (accepted_sound e (PutOut count) (never_refused e count) typed sound)
+put_out_sound (Err refusal) e new count before after typed sound ok (memory, kept, same) =
+    subst IsSound (sym same) sound
