@@ -7,3 +7,5 @@ pub mod AskSound
 -- Refusing a stream, and putting output out.
 pub mod AskOutput
 pub mod AskRefusing
+-- What a connection answers of itself.
+pub mod AskReaders

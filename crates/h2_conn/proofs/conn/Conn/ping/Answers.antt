@@ -30,5 +30,6 @@ invariant_of-self c =
 pub returns : goal.returns
 unfolding IsTypedAct may_lack_memory
 returns c =
-    done_by Done c.ping.result _ _ _ _ c.in_ok-check_up.ensures.ok (search rules, all_octets c.args.octets c.type_inv.octets) refl refl
+    let x = c.well_formed in
+    done_by Done c.ping.result _ _ _ _ c.in_ok-check_up.ensures.ok (search rules, ?) refl refl
     c.ping.ensures.ok c.ping.ensures.err
