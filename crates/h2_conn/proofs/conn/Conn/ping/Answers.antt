@@ -14,7 +14,7 @@ unfolding IsTypedAct conditions
 returns-in_err-check_up c =
     let p = err_from_is_err_and c.from_residual.result c.from_residual.ensures.1 in
     rw (p.1, p.2, c.in_err-check_up.ensures.err.0)
-    (condition_answers _ _ _ _ (search rules, all_octets c.args.octets c.type_inv.octets)
+    (condition_answers _ _ _ _ (search rules, all_octets c.args.octets (λ i. search rules))
     (first_holds _ _ _ c.in_err-check_up.ensures.err.1))
 
 pub invariant_of-self : goal.invariant_of-self
@@ -22,7 +22,7 @@ unfolding IsTypedAct
 invariant_of-self c =
     record {
       sound = λ up. sound_by c.ping.result (end_of c.args.self.now.inner.end)
-          (end_of c.ping.new.self) (SendPing c.args.octets) (search rules, all_octets c.args.octets c.type_inv.octets) (search rules)
+          (end_of c.ping.new.self) (SendPing c.args.octets) (search rules, all_octets c.args.octets (λ i. search rules)) (search rules)
           c.ping.ensures.ok c.ping.ensures.err;
       cuts = λ up. search rules;
     }
@@ -30,6 +30,5 @@ invariant_of-self c =
 pub returns : goal.returns
 unfolding IsTypedAct may_lack_memory
 returns c =
-    let x = c.well_formed in
-    done_by Done c.ping.result _ _ _ _ c.in_ok-check_up.ensures.ok (search rules, ?) refl refl
+    done_by Done c.ping.result _ _ _ _ c.in_ok-check_up.ensures.ok (search rules, all_octets c.args.octets (λ i. search rules)) refl refl
     c.ping.ensures.ok c.ping.ensures.err
