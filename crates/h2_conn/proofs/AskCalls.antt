@@ -1,18 +1,14 @@
 -- What a call makes of the parts of a connection, whatever log they represent.
-use Rattle.std.proofs.Common.{◌≡◌, ℕ, Bool, true, false, Option, Some, None, Result, Ok, Err, inl}
-use Rattle.std.proofs.Common.{inr, IfOk, IfErr, OnOk, refl, sym, ap, subst, ◌∙◌, ◌⊎◌, List, [], ◌∷◌}
-use Rattle.std.proofs.Common.{if◌then◌else◌}
-use Rattle.std.specs.Option.{is_some}
-use Rattle.h2_frame.specs.declared.code.Code.{Code}
+use Rattle.std.proofs.Common.{◌≡◌, Bool, true, Some, None, Result, Ok, Err, inl, inr, IfOk, IfErr}
+use Rattle.std.proofs.Common.{OnOk, refl, sym, ap, subst, ◌∙◌, List, ◌∷◌, if◌then◌else◌}
 use Rattle.h2_wire.specs.Cutter.{CutterState}
 use Rattle.h2_log.specs.declared.refusal.Refusal.{Refusal}
-use Rattle.h2_log.specs.declared.refusal.Refusal.TheVariants.{Memory, Closed}
 use Rattle.h2_log.specs.Acts.{Values, Act, Answer, Refused, IsTypedAct, Open, SendFields, SendData}
 use Rattle.h2_log.specs.Acts.{Release, ResetStream, Refuse, SendPing, SendGoAway, PutOut}
 use Rattle.h2_log.specs.Acts.{ChangeSettings}
 use Rattle.h2_log.specs.Log.{Log}
 use Rattle.h2_log.specs.LogView.{log_view}
-use Rattle.h2_log.specs.LogCalls.{MayAnswer, accepts, refuses, lacks, fails, with_call}
+use Rattle.h2_log.specs.LogCalls.{MayAnswer, accepts, refuses, lacks, with_call}
 use Rattle.h2_log.specs.CallRules.{refusal_of, answer_of, may_lack_memory, first_of}
 use Rattle.h2_log.proofs.StreamLemmas.{Keeps-call}
 use Rattle.h2_machine.specs.End.{End, end_view}
@@ -64,8 +60,7 @@ pub refused_answers : (cutter : CutterState) (e new : End) (act : Act) (refusal 
     → IsTypedAct act → may_lack_memory act ≡ true → CallRefused e act refusal new
     → PartsAnswer cutter e act (Refused refusal) new
 refused_answers cutter e new act refusal typed lacking refused values log parts =
-    let may = refusal_may values e new log act refusal parts.machine lacking refused in
-    (
+    let may = refusal_may values e new log act refusal parts.machine lacking refused in (
       may,
       subst (λ (x : End). PartsRepresent values cutter x (with_call log act (Refused refusal)))
           (refused_after e act refusal ∙ sym refused.same)
@@ -98,8 +93,7 @@ accepted_with values cutter e new log act answer parts typed is alike free after
     let may : MayAnswer log act answer =
     accepts (sym (refusal_same values e log act parts.machine) ∙ free) (is ∙ alike) in
     let made : end_after e act answer ≡ new =
-    ap (λ (x : Answer). end_after e act x) is ∙ accepted_after e act ∙ sym after in
-    (
+    ap (λ (x : Answer). end_after e act x) is ∙ accepted_after e act ∙ sym after in (
       may,
       subst (λ (x : End). PartsRepresent values cutter x (with_call log act answer)) made
           (parts_called values cutter e log act answer parts typed may),
@@ -152,8 +146,7 @@ pub condition_answers : (cutter : CutterState) (e : End) (act : Act) (refusal : 
     → PartsAnswer cutter e act (Refused refusal) e
 condition_answers cutter e act refusal typed why values log parts =
     let may : MayAnswer log act (Refused refusal) =
-    refuses refusal (sym (refusal_same values e log act parts.machine) ∙ why) refl in
-    (
+    refuses refusal (sym (refusal_same values e log act parts.machine) ∙ why) refl in (
       may,
       subst (λ (x : End). PartsRepresent values cutter x (with_call log act (Refused refusal)))
           (refused_after e act refusal)

@@ -40,8 +40,7 @@ unfolding may_lack_memory end_after
 failing_answers cutter e new id code typed free is values log parts =
     let act = Refuse id code in
     let may : MayAnswer log act OutOfMemory =
-    fails (sym (refusal_same values e log act parts.machine) ∙ free) refl refl in
-    (
+    fails (sym (refusal_same values e log act parts.machine) ∙ free) refl refl in (
       may,
       subst (λ (x : End). PartsRepresent values cutter x (with_call log act OutOfMemory)) (sym is)
           (parts_called values cutter e log act OutOfMemory parts typed may),
@@ -63,8 +62,8 @@ refusing_shows (Err refusal) cutter e new id code up typed (why, is) =
     (subst (λ (x : End). PartsAnswer cutter e (Refuse id code) (Refused refusal) x) (sym is)
     (condition_answers cutter e (Refuse id code) refusal typed why))
 
--- A stream is refused where the connection has failed.
-pub closed_shows : (cutter : CutterState) (e : End) (act : Act) (refusal : Refusal)
+-- A call that is refused shows just that.
+pub refused_shows : (cutter : CutterState) (e : End) (act : Act) (refusal : Refusal)
     → PartsAnswer cutter e act (Refused refusal) e → PartsShow cutter e act (Refused refusal) e
-closed_shows cutter e act refusal answers =
+refused_shows cutter e act refusal answers =
     shows_own cutter e e act (Refused refusal) (Refused refusal) refl answers

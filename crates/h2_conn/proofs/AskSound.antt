@@ -1,7 +1,6 @@
 -- A call leaves the values of an end sound.
-use Rattle.std.proofs.Common.{◌≡◌, ℕ, Bool, true, false, if◌then◌else◌, Option, Some, None, Result, Ok, Err, inl, inr, IfOk, IfErr}
-use Rattle.std.proofs.Common.{List, OnOk, refl, sym, ap, subst, ◌∙◌, ◌⊎◌}
-use Rattle.h2_frame.specs.declared.code.Code.{Code}
+use Rattle.std.proofs.Common.{◌≡◌, ℕ, Bool, true, false, if◌then◌else◌, None, Result, Ok, Err, inl}
+use Rattle.std.proofs.Common.{inr, IfOk, IfErr, List, OnOk, refl, sym, ap, subst, ◌∙◌}
 use Rattle.h2_log.specs.declared.refusal.Refusal.{Refusal}
 use Rattle.h2_log.specs.declared.refusal.Refusal.TheVariants.{Memory}
 use Rattle.h2_log.specs.Acts.{Act, IsTypedAct, Refuse, PutOut}

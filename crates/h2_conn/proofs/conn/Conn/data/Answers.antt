@@ -1,10 +1,10 @@
 -- By the lemmas on a call's answer.
 use Rattle.std.proofs.Common.{refl, ap, rules}
 use Rattle.std.proofs.lemmas.Result.{err_from_is_err_and}
+use Rattle.hpack_text.proofs.ReadLemmas.{all_octets}
 use Rattle.h2_log.specs.Acts.{SendData, Count, IsTypedAct}
 use Rattle.h2_log.specs.CallRules.{conditions, may_lack_memory}
 use Rattle.h2_core.specs.Endpoint.{end_of}
-use Rattle.hpack_text.proofs.ReadLemmas.{all_octets}
 use Rattle.h2_conn.proofs.AskCalls.{answers_by, condition_answers, first_holds, value_as}
 use Rattle.h2_conn.proofs.AskSound.{sound_by, beside_value}
 use Rattle.h2_conn.proofs.conn.Conn.data.Goals as goal
@@ -22,7 +22,8 @@ unfolding IsTypedAct
 invariant_of-self c =
     record {
       sound = λ up. sound_by c.send_data.result (end_of c.args.self.now.inner.end)
-          (end_of c.send_data.new.self) (SendData c.args.id c.args.octets.now c.args.end) (c.ranges.id.fits, all_octets c.args.octets.now c.type_inv.octets) (search rules)
+          (end_of c.send_data.new.self) (SendData c.args.id c.args.octets.now c.args.end)
+          (c.ranges.id.fits, all_octets c.args.octets.now c.type_inv.octets) (search rules)
           (beside_value _ _ c.send_data.result c.send_data.ensures.ok) c.send_data.ensures.err;
       cuts = λ up. search rules;
     }
@@ -30,5 +31,7 @@ invariant_of-self c =
 pub returns : goal.returns
 unfolding IsTypedAct may_lack_memory
 returns c =
-    answers_by Count _ _ _ _ _ c.in_ok-check_up.ensures.ok (c.ranges.id.fits, all_octets c.args.octets.now c.type_inv.octets) refl
-    (value_as _ _ _ c.send_data.result (λ value is. ap Count is) c.send_data.ensures.ok) c.send_data.ensures.err
+    answers_by Count _ _ _ _ _ c.in_ok-check_up.ensures.ok
+    (c.ranges.id.fits, all_octets c.args.octets.now c.type_inv.octets) refl
+    (value_as _ _ _ c.send_data.result (λ value is. ap Count is)
+    c.send_data.ensures.ok) c.send_data.ensures.err

@@ -21,7 +21,8 @@ unfolding IsTypedAct
 invariant_of-self c =
     record {
       sound = λ up. sound_by c.send_fields.result (end_of c.args.self.now.inner.end)
-          (end_of c.send_fields.new.self) (SendFields c.args.id c.args.fields.now c.args.end) (c.ranges.id.fits, c.check_octets.ensures) (search rules)
+          (end_of c.send_fields.new.self) (SendFields c.args.id c.args.fields.now c.args.end)
+          (c.ranges.id.fits, c.check_octets.ensures) (search rules)
           c.send_fields.ensures.ok c.send_fields.ensures.err;
       cuts = λ up. search rules;
     }
@@ -29,5 +30,6 @@ invariant_of-self c =
 pub returns : goal.returns
 unfolding IsTypedAct may_lack_memory
 returns c =
-    done_by Done c.send_fields.result _ _ _ _ c.in_ok-check_up.ensures.ok (c.ranges.id.fits, c.check_octets.ensures) refl refl
+    done_by Done c.send_fields.result _ _ _ _ c.in_ok-check_up.ensures.ok
+    (c.ranges.id.fits, c.check_octets.ensures) refl refl
     c.send_fields.ensures.ok c.send_fields.ensures.err

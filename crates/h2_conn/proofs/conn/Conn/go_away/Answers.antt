@@ -21,7 +21,8 @@ unfolding IsTypedAct
 invariant_of-self c =
     record {
       sound = λ up. sound_by c.go_away.result (end_of c.args.self.now.inner.end)
-          (end_of c.go_away.new.self) (SendGoAway) tt (search rules)
+          (end_of c.go_away.new.self) (SendGoAway)
+          tt (search rules)
           c.go_away.ensures.ok c.go_away.ensures.err;
       cuts = λ up. search rules;
     }
@@ -29,5 +30,6 @@ invariant_of-self c =
 pub returns : goal.returns
 unfolding IsTypedAct may_lack_memory
 returns c =
-    done_by Done c.go_away.result _ _ _ _ c.in_ok-check_up.ensures.ok tt refl refl
+    done_by Done c.go_away.result _ _ _ _ c.in_ok-check_up.ensures.ok
+    tt refl refl
     c.go_away.ensures.ok c.go_away.ensures.err

@@ -21,7 +21,8 @@ unfolding IsTypedAct
 invariant_of-self c =
     record {
       sound = λ up. sound_by c.open.result (end_of c.args.self.now.inner.end)
-          (end_of c.open.new.self) (Open c.args.fields.now c.args.end) c.check_octets.ensures (search rules)
+          (end_of c.open.new.self) (Open c.args.fields.now c.args.end)
+          c.check_octets.ensures (search rules)
           (beside_value _ _ c.open.result c.open.ensures.ok) c.open.ensures.err;
       cuts = λ up. search rules;
     }
@@ -29,5 +30,7 @@ invariant_of-self c =
 pub returns : goal.returns
 unfolding IsTypedAct may_lack_memory
 returns c =
-    answers_by Number _ _ _ _ _ c.in_ok-check_up.ensures.ok c.check_octets.ensures refl
-    (value_as _ _ _ c.open.result (λ value is. ap Number is) c.open.ensures.ok) c.open.ensures.err
+    answers_by Number _ _ _ _ _ c.in_ok-check_up.ensures.ok
+    c.check_octets.ensures refl
+    (value_as _ _ _ c.open.result (λ value is. ap Number is)
+    c.open.ensures.ok) c.open.ensures.err

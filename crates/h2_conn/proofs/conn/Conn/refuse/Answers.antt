@@ -5,7 +5,7 @@ use Rattle.h2_log.specs.Acts.{Refuse, IsTypedAct}
 use Rattle.h2_log.specs.CallRules.{conditions}
 use Rattle.h2_core.specs.Endpoint.{end_of}
 use Rattle.h2_conn.proofs.AskCalls.{condition_answers, first_holds}
-use Rattle.h2_conn.proofs.AskRefusing.{refusing_shows, closed_shows}
+use Rattle.h2_conn.proofs.AskRefusing.{refusing_shows, refused_shows}
 use Rattle.h2_conn.proofs.AskSound.{refusing_sound}
 use Rattle.h2_conn.proofs.conn.Conn.refuse.Goals as goal
 
@@ -14,7 +14,7 @@ unfolding IsTypedAct conditions
 returns-in_err-check_up c =
     let p = err_from_is_err_and c.from_residual.result c.from_residual.ensures.1 in
     rw (p.1, p.2, c.in_err-check_up.ensures.err.0)
-    (closed_shows _ _ _ _ (condition_answers _ _ (Refuse c.args.id c.args.code) _
+    (refused_shows _ _ _ _ (condition_answers _ _ (Refuse c.args.id c.args.code) _
     (c.ranges.id.fits, c.ranges.code.fits) (first_holds _ _ _ c.in_err-check_up.ensures.err.1)))
 
 pub invariant_of-self : goal.invariant_of-self

@@ -21,7 +21,8 @@ unfolding IsTypedAct
 invariant_of-self c =
     record {
       sound = λ up. sound_by c.release.result (end_of c.args.self.now.inner.end)
-          (end_of c.release.new.self) (Release c.args.id c.args.count) (c.ranges.id.fits, c.ranges.count.fits) (search rules)
+          (end_of c.release.new.self) (Release c.args.id c.args.count)
+          (c.ranges.id.fits, c.ranges.count.fits) (search rules)
           c.release.ensures.ok c.release.ensures.err;
       cuts = λ up. search rules;
     }
@@ -29,5 +30,6 @@ invariant_of-self c =
 pub returns : goal.returns
 unfolding IsTypedAct may_lack_memory
 returns c =
-    done_by Done c.release.result _ _ _ _ c.in_ok-check_up.ensures.ok (c.ranges.id.fits, c.ranges.count.fits) refl refl
+    done_by Done c.release.result _ _ _ _ c.in_ok-check_up.ensures.ok
+    (c.ranges.id.fits, c.ranges.count.fits) refl refl
     c.release.ensures.ok c.release.ensures.err

@@ -21,7 +21,8 @@ unfolding IsTypedAct
 invariant_of-self c =
     record {
       sound = λ up. sound_by c.reset.result (end_of c.args.self.now.inner.end)
-          (end_of c.reset.new.self) (ResetStream c.args.id c.args.code) (c.ranges.id.fits, c.ranges.code.fits) (search rules)
+          (end_of c.reset.new.self) (ResetStream c.args.id c.args.code)
+          (c.ranges.id.fits, c.ranges.code.fits) (search rules)
           c.reset.ensures.ok c.reset.ensures.err;
       cuts = λ up. search rules;
     }
@@ -29,5 +30,6 @@ invariant_of-self c =
 pub returns : goal.returns
 unfolding IsTypedAct may_lack_memory
 returns c =
-    done_by Done c.reset.result _ _ _ _ c.in_ok-check_up.ensures.ok (c.ranges.id.fits, c.ranges.code.fits) refl refl
+    done_by Done c.reset.result _ _ _ _ c.in_ok-check_up.ensures.ok
+    (c.ranges.id.fits, c.ranges.code.fits) refl refl
     c.reset.ensures.ok c.reset.ensures.err
