@@ -119,7 +119,7 @@ ready_given_by log true = refl
 ready_given_by log false = refl
 
 -- Making ready puts nothing out.
-ready_given : (log : Log) → (before_put_out log).given ≡ log.given
+pub ready_given : (log : Log) → (before_put_out log).given ≡ log.given
 unfolding before_put_out
 ready_given log = ready_given_by log _
 
@@ -186,12 +186,12 @@ unfolding before_put_out
 ready_size log given = ready_size_by log (returns_before_put_out (log_view log)) given
 
 -- An end that has failed is ready.
-ready_failed_at : (e : End) (code : Code) → e.failed ≡ Some code → before_put_out_at e ≡ e
+pub ready_failed_at : (e : End) (code : Code) → e.failed ≡ Some code → before_put_out_at e ≡ e
 unfolding before_put_out_at
 ready_failed_at e code is = rw is refl
 
 -- So is its log.
-ready_failed : (log : Log) (code : Code) → log.failed ≡ Some code → before_put_out log ≡ log
+pub ready_failed : (log : Log) (code : Code) → log.failed ≡ Some code → before_put_out log ≡ log
 unfolding before_put_out
 ready_failed log code is = rw is refl
 

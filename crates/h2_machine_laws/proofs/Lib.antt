@@ -1,32 +1,32 @@
 -- The lemmas of the laws.
-mod AlikeAnswers
+pub mod AlikeAnswers
 mod AlikeFrames
 mod BlocksBegun
-mod BoundsOfCalls
+pub mod BoundsOfCalls
 mod BoundsOfFrames
 mod BoundsOfSteps
 mod CallFailing
 mod CallLaw
 mod CallOpen
-mod CallRefusals
+pub mod CallRefusals
 mod CallRelease
 mod CallReset
 mod CallSend
 mod CallSendItems
-mod CallWithoutStream
-mod ConservedByCalls
+pub mod CallWithoutStream
+pub mod ConservedByCalls
 mod ConservedByFrames
-mod ConservedBySteps
-mod CountedByCalls
+pub mod ConservedBySteps
+pub mod CountedByCalls
 mod CountedByFrames
-mod CountedBySteps
+pub mod CountedBySteps
 mod CountedUnprocessed
 mod EachStream
 mod EntryCounts
 pub mod EveryStep
 mod EveryUpLog
 mod FirstSettings
-mod FreshNumbers
+pub mod FreshNumbers
 mod GoAwaysSent
 mod ItemsApart
 mod LogCore
@@ -40,9 +40,9 @@ mod OwedAtClose
 pub mod OwedOnStreams
 mod OwedSums
 mod QuietNumbers
-mod RangesOfCalls
+pub mod RangesOfCalls
 mod RangesOfFrames
-mod RangesOfSteps
+pub mod RangesOfSteps
 mod RecvBeside
 mod RecvBlocks
 mod RecvConnectionFault
@@ -67,7 +67,7 @@ mod RecvVerdict
 mod RecvVerdictCases
 mod RecvVerdictLimits
 mod RecvWithoutFrame
-mod RepresentedSteps
+pub mod RepresentedSteps
 mod SentConnectionItems
 mod SentQuietItems
 mod SentStreamItems
@@ -79,4 +79,4 @@ mod UpInvariant
 mod UpInvariantLogs
 mod UpInvariantReads
 mod ViewsAgree
-mod WaitingOutput
+pub mod WaitingOutput

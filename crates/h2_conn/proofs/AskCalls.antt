@@ -1,0 +1,161 @@
+-- What a call makes of the parts of a connection, whatever log they represent.
+use Rattle.std.proofs.Common.{◌≡◌, Bool, true, Some, None, Result, Ok, Err, inl, inr, IfOk, IfErr}
+use Rattle.std.proofs.Common.{OnOk, refl, sym, ap, subst, ◌∙◌, List, ◌∷◌, if◌then◌else◌}
+use Rattle.h2_wire.specs.Cutter.{CutterState}
+use Rattle.h2_log.specs.declared.refusal.Refusal.{Refusal}
+use Rattle.h2_log.specs.Acts.{Values, Act, Answer, Refused, IsTypedAct, Open, SendFields, SendData}
+use Rattle.h2_log.specs.Acts.{Release, ResetStream, Refuse, SendPing, SendGoAway, PutOut}
+use Rattle.h2_log.specs.Acts.{ChangeSettings}
+use Rattle.h2_log.specs.Log.{Log}
+use Rattle.h2_log.specs.LogView.{log_view}
+use Rattle.h2_log.specs.LogCalls.{MayAnswer, accepts, refuses, lacks, with_call}
+use Rattle.h2_log.specs.CallRules.{refusal_of, answer_of, may_lack_memory, first_of}
+use Rattle.h2_log.proofs.StreamLemmas.{Keeps-call}
+use Rattle.h2_machine.specs.End.{End, end_view}
+use Rattle.h2_machine.specs.Machine.{after_call}
+use Rattle.h2_machine.specs.Represents.{Represents}
+use Rattle.h2_machine_laws.specs.Machines.{end_after}
+use Rattle.h2_machine_laws.proofs.AlikeAnswers.{answer_alike}
+use Rattle.h2_machine_laws.proofs.CallRefusals.{refusal_same}
+use Rattle.h2_machine_laws.proofs.FreshNumbers.{calls_represent}
+use Rattle.h2_core.specs.Calls.{CallRefused, CallAccepted}
+use Rattle.h2_conn.specs.Conn.{answer_by}
+use Rattle.h2_conn.specs.Inner.{PartsRepresent}
+use Rattle.h2_conn.proofs.AskLimits.{parts_kept}
+
+-- Whatever log the parts represent: the call may have the answer, and they represent the log with
+-- it.
+abbrev pub PartsAnswer : CutterState → End → Act → Answer → End → Type 0
+PartsAnswer cutter e act answer new =
+    (values : Values) (log : Log) → PartsRepresent values cutter e log
+    → MayAnswer log act answer × PartsRepresent values cutter new (with_call log act answer)
+
+-- The parts represent the log with a call that may have its answer.
+pub parts_called : (values : Values) (cutter : CutterState) (e : End) (log : Log) (act : Act)
+    (answer : Answer) → PartsRepresent values cutter e log → IsTypedAct act
+    → MayAnswer log act answer
+    → PartsRepresent values cutter (end_after e act answer) (with_call log act answer)
+parts_called values cutter e log act answer parts typed may =
+    parts_kept values cutter e (end_after e act answer) log (with_call log act answer) parts
+    (Keeps-call log act answer) (calls_represent values e log act answer parts.machine typed may)
+
+-- A refusal that the machine gives, or a refused allocation, is one that the log may give.
+refusal_may : (values : Values) (e new : End) (log : Log) (act : Act) (refusal : Refusal)
+    → Represents values e log → may_lack_memory act ≡ true → CallRefused e act refusal new
+    → MayAnswer log act (Refused refusal)
+refusal_may values e new log act refusal represents may refused =
+    let same = refusal_same values e log act represents in
+    elim refused.why [
+      | inl why ↦ refuses refusal (sym same ∙ why) refl
+      | inr (memory, free) ↦ lacks (sym same ∙ free) may (ap Refused memory)
+    ]
+
+-- A refused call leaves the end as it is.
+refused_after : (e : End) (act : Act) (refusal : Refusal) → end_after e act (Refused refusal) ≡ e
+unfolding end_after
+refused_after e act refusal = refl
+
+-- A call that is refused.
+pub refused_answers : (cutter : CutterState) (e new : End) (act : Act) (refusal : Refusal)
+    → IsTypedAct act → may_lack_memory act ≡ true → CallRefused e act refusal new
+    → PartsAnswer cutter e act (Refused refusal) new
+refused_answers cutter e new act refusal typed lacking refused values log parts =
+    let may = refusal_may values e new log act refusal parts.machine lacking refused in (
+      may,
+      subst (λ (x : End). PartsRepresent values cutter x (with_call log act (Refused refusal)))
+          (refused_after e act refusal ∙ sym refused.same)
+          (parts_called values cutter e log act (Refused refusal) parts typed may),
+    )
+
+-- An accepted call makes the machine after it.
+accepted_after : (e : End) (act : Act)
+    → end_after e act (answer_of (end_view e) act) ≡ after_call e act
+unfolding end_after
+accepted_after e (Open fields end) = refl
+accepted_after e (SendFields id fields end) = refl
+accepted_after e (SendData id octets end) = refl
+accepted_after e (Release id count) = refl
+accepted_after e (ResetStream id code) = refl
+accepted_after e (Refuse id code) = refl
+accepted_after e (SendPing octets) = refl
+accepted_after e SendGoAway = refl
+accepted_after e (PutOut count) = refl
+accepted_after e (ChangeSettings values) = refl
+
+-- A call that is accepted, with the machine's answer where the log has the same.
+pub accepted_with : (values : Values) (cutter : CutterState) (e new : End) (log : Log) (act : Act)
+    (answer : Answer) → PartsRepresent values cutter e log → IsTypedAct act
+    → answer ≡ answer_of (end_view e) act
+    → answer_of (end_view e) act ≡ answer_of (log_view log) act
+    → refusal_of (end_view e) act ≡ None → new ≡ after_call e act
+    → MayAnswer log act answer × PartsRepresent values cutter new (with_call log act answer)
+accepted_with values cutter e new log act answer parts typed is alike free after =
+    let may : MayAnswer log act answer =
+    accepts (sym (refusal_same values e log act parts.machine) ∙ free) (is ∙ alike) in
+    let made : end_after e act answer ≡ new =
+    ap (λ (x : Answer). end_after e act x) is ∙ accepted_after e act ∙ sym after in (
+      may,
+      subst (λ (x : End). PartsRepresent values cutter x (with_call log act answer)) made
+          (parts_called values cutter e log act answer parts typed may),
+    )
+
+-- A call that is accepted by an end that hasn't failed.
+pub accepted_answers : (cutter : CutterState) (e new : End) (act : Act) (answer : Answer)
+    → e.failed ≡ None → IsTypedAct act → answer ≡ answer_of (end_view e) act
+    → CallAccepted e act new → PartsAnswer cutter e act answer new
+accepted_answers cutter e new act answer up typed is accepted values log parts =
+    accepted_with values cutter e new log act answer parts typed is
+    (answer_alike values e log act parts.machine up) accepted.free accepted.after
+
+-- What a call answers by its result, where its value is the machine's answer.
+pub answers_by : {A : Type 0} (answered : A → Answer) (result : Result A Refusal)
+    (cutter : CutterState) (e new : End) (act : Act) → e.failed ≡ None → IsTypedAct act
+    → may_lack_memory act ≡ true
+    → IfOk result (λ value. (answered value ≡ answer_of (end_view e) act)
+    × CallAccepted e act new)
+    → IfErr result (λ refusal. CallRefused e act refusal new)
+    → PartsAnswer cutter e act (answer_by answered result) new
+answers_by answered (Ok value) cutter e new act up typed lacking ok err =
+    accepted_answers cutter e new act (answered value) up typed ok.0 ok.1
+answers_by answered (Err refusal) cutter e new act up typed lacking ok err =
+    refused_answers cutter e new act refusal typed lacking err
+
+-- The same of calls whose answer is that they are done.
+pub done_by : {A : Type 0} (answer : Answer) (result : Result A Refusal)
+    (cutter : CutterState) (e new : End) (act : Act) → e.failed ≡ None → IsTypedAct act
+    → may_lack_memory act ≡ true → answer ≡ answer_of (end_view e) act
+    → OnOk result (CallAccepted e act new)
+    → IfErr result (λ refusal. CallRefused e act refusal new)
+    → PartsAnswer cutter e act (answer_by (λ done. answer) result) new
+done_by answer (Ok value) cutter e new act up typed lacking is ok err =
+    accepted_answers cutter e new act answer up typed is ok
+done_by answer (Err refusal) cutter e new act up typed lacking is ok err =
+    refused_answers cutter e new act refusal typed lacking err
+
+-- The first condition of a call holds.
+pub first_holds : (refusal : Refusal) (others : List (Bool × Refusal)) (test : Bool)
+    → test ≡ true → first_of ((test, refusal) ∷ others) ≡ Some refusal
+unfolding first_of
+first_holds refusal others test holds =
+    ap (λ (b : Bool). if b then Some refusal else first_of others) holds
+
+-- A call that is refused for the first condition that holds, such as that the connection has
+-- failed.
+pub condition_answers : (cutter : CutterState) (e : End) (act : Act) (refusal : Refusal)
+    → IsTypedAct act → refusal_of (end_view e) act ≡ Some refusal
+    → PartsAnswer cutter e act (Refused refusal) e
+condition_answers cutter e act refusal typed why values log parts =
+    let may : MayAnswer log act (Refused refusal) =
+    refuses refusal (sym (refusal_same values e log act parts.machine) ∙ why) refl in (
+      may,
+      subst (λ (x : End). PartsRepresent values cutter x (with_call log act (Refused refusal)))
+          (refused_after e act refusal)
+          (parts_called values cutter e log act (Refused refusal) parts typed may),
+    )
+
+-- What is said of a value, otherwise.
+pub value_as : {A : Type 0} (X Y : A → Type 0) (P : Type 0) (result : Result A Refusal)
+    → ((value : A) → X value → Y value) → IfOk result (λ value. X value × P)
+    → IfOk result (λ value. Y value × P)
+value_as X Y P (Ok value) says ok = (says value ok.0, ok.1)
+value_as X Y P (Err refusal) says ok = ok

@@ -1,0 +1,69 @@
+-- What refusing a stream makes of the parts of a connection.
+use Rattle.std.proofs.Common.{◌≡◌, ℕ, None, Result, Ok, Err, inl, inr, refl, sym, subst, ◌∙◌}
+use Rattle.h2_frame.specs.declared.code.Code.TheVariants.{InternalError}
+use Rattle.h2_wire.specs.Cutter.{CutterState}
+use Rattle.h2_log.specs.declared.refusal.Refusal.{Refusal}
+use Rattle.h2_log.specs.Acts.{Values, Act, Answer, IsTypedAct, Refuse, Done, OutOfMemory, Refused}
+use Rattle.h2_log.specs.Acts.{shown}
+use Rattle.h2_log.specs.CallRules.{refusal_of, may_lack_memory}
+use Rattle.h2_log.specs.Log.{Log}
+use Rattle.h2_log.specs.LogCalls.{MayAnswer, fails, with_call}
+use Rattle.h2_machine.specs.End.{End, end_view}
+use Rattle.h2_machine.specs.Machine.{fail}
+use Rattle.h2_machine_laws.specs.Machines.{end_after}
+use Rattle.h2_machine_laws.proofs.CallRefusals.{refusal_same}
+use Rattle.h2_core.specs.Calls.{CallRefuses}
+use Rattle.h2_conn.specs.Conn.{answer_by}
+use Rattle.h2_conn.specs.Inner.{PartsRepresent}
+use Rattle.h2_conn.proofs.AskCalls.{PartsAnswer, accepted_answers, condition_answers, parts_called}
+
+-- Whatever log the parts represent: the call may have an answer that shows this one, and they
+-- represent the log with it.
+abbrev pub PartsShow : CutterState → End → Act → Answer → End → Type 0
+PartsShow cutter e act answer new =
+    (values : Values) (log : Log) → PartsRepresent values cutter e log
+    → (one : Answer) × (shown one ≡ answer) × MayAnswer log act one
+    × PartsRepresent values cutter new (with_call log act one)
+
+-- An answer shows itself.
+shows_own : (cutter : CutterState) (e new : End) (act : Act) (one answer : Answer)
+    → shown one ≡ answer → PartsAnswer cutter e act one new → PartsShow cutter e act answer new
+shows_own cutter e new act one answer is answers values log parts =
+    let made = answers values log parts in (one, is, made.0, made.1)
+
+-- Where an allocation was refused the connection fails.
+failing_answers : (cutter : CutterState) (e new : End) (id code : ℕ) → IsTypedAct (Refuse id code)
+    → refusal_of (end_view e) (Refuse id code) ≡ None
+    → new ≡ fail InternalError e.streams.last_processed e
+    → PartsAnswer cutter e (Refuse id code) OutOfMemory new
+unfolding may_lack_memory end_after
+failing_answers cutter e new id code typed free is values log parts =
+    let act = Refuse id code in
+    let may : MayAnswer log act OutOfMemory =
+    fails (sym (refusal_same values e log act parts.machine) ∙ free) refl refl in (
+      may,
+      subst (λ (x : End). PartsRepresent values cutter x (with_call log act OutOfMemory)) (sym is)
+          (parts_called values cutter e log act OutOfMemory parts typed may),
+    )
+
+-- What it shows.
+pub refusing_shows : (result : Result Unit Refusal) (cutter : CutterState) (e new : End)
+    (id code : ℕ) → e.failed ≡ None → IsTypedAct (Refuse id code)
+    → CallRefuses e id code result new
+    → PartsShow cutter e (Refuse id code) (answer_by (λ done. Done) result) new
+refusing_shows (Ok done) cutter e new id code up typed (inl accepted) =
+    shows_own cutter e new (Refuse id code) Done Done refl
+    (accepted_answers cutter e new (Refuse id code) Done up typed refl accepted)
+refusing_shows (Ok done) cutter e new id code up typed (inr (free, is)) =
+    shows_own cutter e new (Refuse id code) OutOfMemory Done refl
+    (failing_answers cutter e new id code typed free is)
+refusing_shows (Err refusal) cutter e new id code up typed (why, is) =
+    shows_own cutter e new (Refuse id code) (Refused refusal) (Refused refusal) refl
+    (subst (λ (x : End). PartsAnswer cutter e (Refuse id code) (Refused refusal) x) (sym is)
+    (condition_answers cutter e (Refuse id code) refusal typed why))
+
+-- A call that is refused shows just that.
+pub refused_shows : (cutter : CutterState) (e : End) (act : Act) (refusal : Refusal)
+    → PartsAnswer cutter e act (Refused refusal) e → PartsShow cutter e act (Refused refusal) e
+refused_shows cutter e act refusal answers =
+    shows_own cutter e e act (Refused refusal) (Refused refusal) refl answers

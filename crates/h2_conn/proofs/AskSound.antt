@@ -1,0 +1,97 @@
+-- A call leaves the values of an end sound.
+use Rattle.std.proofs.Common.{◌≡◌, ℕ, Bool, true, false, if◌then◌else◌, None, Result, Ok, Err, inl}
+use Rattle.std.proofs.Common.{inr, IfOk, IfErr, List, OnOk, refl, sym, ap, subst, ◌∙◌}
+use Rattle.h2_log.specs.declared.refusal.Refusal.{Refusal}
+use Rattle.h2_log.specs.declared.refusal.Refusal.TheVariants.{Memory}
+use Rattle.h2_log.specs.Acts.{Act, IsTypedAct, Refuse, PutOut}
+use Rattle.h2_log.specs.CallRules.{refusal_of, returns_before_put_out, conditions, first_of}
+use Rattle.h2_machine.specs.End.{End, end_view}
+use Rattle.h2_machine.specs.Machine.{after_call, before_put_out_at, fail, return_credit}
+use Rattle.h2_machine_laws.proofs.BoundsOfCalls.{call_bounded}
+use Rattle.h2_machine_laws.proofs.ConservedByCalls.{call_holds}
+use Rattle.h2_machine_laws.proofs.ConservedBySteps.{holds, is_whole}
+use Rattle.h2_machine_laws.proofs.CountedByCalls.{call_counts}
+use Rattle.h2_machine_laws.proofs.CountedBySteps.{counted, is_counted}
+use Rattle.h2_machine_laws.proofs.RangesOfCalls.{call_fits}
+use Rattle.h2_machine_laws.proofs.RangesOfSteps.{fits, are_in_range}
+use Rattle.h2_core.specs.Calls.{CallRefused, CallAccepted, CallRefuses}
+use Rattle.h2_core.specs.Endpoint.{IsSound}
+use Rattle.h2_core.specs.Readers.{PutsOut}
+
+-- A call that is accepted leaves an end sound.
+pub accepted_sound : (e : End) (act : Act) → refusal_of (end_view e) act ≡ None → IsTypedAct act
+    → IsSound e → IsSound (after_call e act)
+accepted_sound e act free typed sound =
+    record {
+      bounded = call_bounded e act free typed sound.bounded;
+      window = is_whole (after_call e act) (call_holds e act free (holds e sound.window));
+      ranges = are_in_range (after_call e act) (call_fits e act free typed (fits e sound.ranges));
+      counts = is_counted (after_call e act) (call_counts e act free (counted e sound.counts));
+    }
+
+-- So does a call, whatever it answers.
+pub sound_by : {A : Type 0} (result : Result A Refusal) (e new : End) (act : Act)
+    → IsTypedAct act → IsSound e → OnOk result (CallAccepted e act new)
+    → IfErr result (λ refusal. CallRefused e act refusal new) → IsSound new
+sound_by (Ok value) e new act typed sound ok err =
+    subst IsSound (sym ok.after) (accepted_sound e act ok.free typed sound)
+sound_by (Err refusal) e new act typed sound ok err = subst IsSound (sym err.same) sound
+
+-- What holds beside something else of a value.
+pub beside_value : {A : Type 0} (X : A → Type 0) (P : Type 0) (result : Result A Refusal)
+    → IfOk result (λ value. X value × P) → OnOk result P
+beside_value X P (Ok value) ok = ok.1
+beside_value X P (Err refusal) ok = ok
+
+-- Refusing a stream leaves an end sound that hasn't failed.
+pub refusing_sound : (result : Result Unit Refusal) (e new : End) (id code : ℕ)
+    → IsTypedAct (Refuse id code) → IsSound e → CallRefuses e id code result new
+    → new.failed ≡ None → IsSound new
+refusing_sound (Ok done) e new id code typed sound (inl accepted) up =
+    subst IsSound (sym accepted.after) (accepted_sound e (Refuse id code) accepted.free typed sound)
+refusing_sound (Ok done) e new id code typed sound (inr (free, is)) up =
+    let failed = ap (λ (x : End). x.failed) (sym is) ∙ up in absurd (cc)
+refusing_sound (Err refusal) e new id code typed sound (why, is) up =
+    subst IsSound (sym is) sound
+
+-- Returning credit leaves it whether an end has failed, by the test.
+ready_same_by : (e : End) (b : Bool) → (if b then return_credit e else e).failed ≡ e.failed
+ready_same_by e true = refl
+ready_same_by e false = refl
+
+-- Returning credit leaves it whether an end has failed.
+ready_same : (e : End) → (before_put_out_at e).failed ≡ e.failed
+unfolding before_put_out_at
+ready_same e = ready_same_by e (returns_before_put_out (end_view e))
+
+-- Putting output out leaves it whether an end has failed.
+pub put_out_failed : (e : End) (count : ℕ) → (after_call e (PutOut count)).failed ≡ e.failed
+unfolding after_call
+put_out_failed e count = ready_same e
+
+-- Putting output out is never refused.
+pub never_refused : (e : End) (count : ℕ) → refusal_of (end_view e) (PutOut count) ≡ None
+unfolding conditions first_of
+never_refused e count = refl
+
+-- Putting output out leaves it whether an end has failed, whatever it answers.
+pub still_failed : (result : Result ℕ Refusal) (e new : End) (count : ℕ) (before after : List ℕ)
+    → IfOk result (λ given. PutsOut e count given before after new)
+    → IfErr result (λ refusal. (refusal ≡ Memory) × (after ≡ before) × (new ≡ e))
+    → new.failed ≡ e.failed
+still_failed (Ok given) e new count before after ok err =
+    ap (λ (x : End). x.failed) ok.machine ∙ put_out_failed e count
+still_failed (Err refusal) e new count before after ok (memory, kept, same) =
+    ap (λ (x : End). x.failed) same
+
+-- Putting output out leaves an end sound that hasn't failed.
+pub put_out_sound : (result : Result ℕ Refusal) (e new : End) (count : ℕ) (before after : List ℕ)
+    → IsTypedAct (PutOut count) → IsSound e
+    → IfOk result (λ given. PutsOut e count given before after new)
+    → IfErr result (λ refusal. (refusal ≡ Memory) × (after ≡ before) × (new ≡ e))
+    → IsSound new
+put_out_sound (Ok given) e new count before after typed sound ok err =
+    subst IsSound (sym ok.machine)
+    (accepted_sound e (PutOut count) (never_refused e count) typed sound)
+put_out_sound (Err refusal) e new count before after typed sound ok (memory, kept, same) =
+    subst IsSound (sym same) sound

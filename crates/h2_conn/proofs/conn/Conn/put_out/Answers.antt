@@ -1,0 +1,34 @@
+-- By the lemmas on putting output out.
+use Rattle.std.proofs.Common.{◌≡◌, None, sym, ◌∙◌, rules}
+use Rattle.h2_log.specs.Acts.{IsTypedAct}
+use Rattle.h2_core.specs.Endpoint.{end_of}
+use Rattle.h2_conn.proofs.AskOutput.{put_out_answers, given_out, ok_as}
+use Rattle.h2_conn.proofs.AskSound.{put_out_sound, still_failed}
+use Rattle.h2_conn.proofs.conn.Conn.put_out.Goals as goal
+
+pub invariant_of-self : goal.invariant_of-self
+unfolding IsTypedAct
+invariant_of-self c =
+    let e = end_of c.args.self.now.inner.end in
+    let new = end_of c.put_out.new.self in
+    let still : new.failed ≡ e.failed =
+    still_failed c.put_out.result e new c.args.count c.args.out.now.items c.put_out.new.out.items
+    c.put_out.ensures.ok c.put_out.ensures.err in
+    record {
+      sound = λ up. let before : e.failed ≡ None = sym still ∙ up in
+          put_out_sound c.put_out.result e new c.args.count c.args.out.now.items
+          c.put_out.new.out.items c.ranges.count.fits (search rules) c.put_out.ensures.ok
+          c.put_out.ensures.err;
+      cuts = λ up. let before : e.failed ≡ None = sym still ∙ up in search rules;
+    }
+
+pub returns-clause-answers : goal.returns-clause-answers
+unfolding IsTypedAct
+returns-clause-answers c =
+    put_out_answers c.put_out.result _ _ _ _ _ _ c.ranges.count.fits c.put_out.ensures.ok
+    c.put_out.ensures.err
+
+pub returns-clause-ok : goal.returns-clause-ok
+returns-clause-ok c =
+    ok_as _ _ c.put_out.result (λ given puts values log parts. given_out values _ _ log _ given _ _
+    parts.machine puts) c.put_out.ensures.ok

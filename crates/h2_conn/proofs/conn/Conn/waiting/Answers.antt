@@ -1,0 +1,10 @@
+-- The machine answers as the log does.
+use Rattle.std.proofs.Common.{◌∙◌}
+use Rattle.h2_core.specs.Endpoint.{end_of}
+use Rattle.h2_machine_laws.proofs.AlikeAnswers.{waiting_alike}
+use Rattle.h2_conn.proofs.conn.Conn.waiting.Goals as goal
+
+pub returns : goal.returns
+returns c values log parts =
+    c.waiting.ensures
+    ∙ waiting_alike values (end_of c.args.self.now.inner.end) log parts.machine
