@@ -1,13 +1,14 @@
 //! The calls of a connection.
 
-ghost use Rattle.std.specs.Prelude.{IfOk, OnErr, ◌≡◌};
+ghost use Rattle.std.specs.Prelude.{◌≡◌, is_some, true, None, IfOk, IfErr, OnOk, OnErr};
+ghost use Rattle.hpack.specs.Written.{AreOctets};
 ghost use Rattle.h2_log.specs.Acts.{Open, SendFields, SendData, Release, ResetStream, Refuse};
 ghost use Rattle.h2_log.specs.Acts.{SendPing, SendGoAway, PutOut, Number, Count, Done};
 ghost use Rattle.h2_conn.specs.Conn.{ConnAnswers, ConnShows, GivesOut, answer_by};
 
 use crate::conn::Conn;
 use h2_log::Refusal;
-use hpack::Field;
+use hpack::{Field, list_size};
 
 impl Conn {
     /// Opens a stream with a field block; `end` says that nothing follows on it (END_STREAM).
@@ -20,6 +21,8 @@ impl Conn {
         ensures { ConnAnswers self.old (Open fields.now end) (answer_by (λ id. Number id) result)
             self.new }
     {
+        check_octets(fields);
+        self.check_up()?;
         self.inner.end.open(fields, end)
     }
 
@@ -32,6 +35,8 @@ impl Conn {
         ensures { ConnAnswers self.old (SendFields id fields.now end)
             (answer_by (λ done. Done) result) self.new }
     {
+        check_octets(fields);
+        self.check_up()?;
         self.inner.end.send_fields(id, fields, end)
     }
 
@@ -46,6 +51,7 @@ impl Conn {
         ensures { ConnAnswers self.old (SendData id octets.now end)
             (answer_by (λ count. Count count) result) self.new }
     {
+        self.check_up()?;
         self.inner.end.send_data(id, octets, end)
     }
 
@@ -59,6 +65,7 @@ impl Conn {
         ensures { ConnAnswers self.old (Release id count) (answer_by (λ done. Done) result)
             self.new }
     {
+        self.check_up()?;
         self.inner.end.release(id, count)
     }
 
@@ -71,6 +78,7 @@ impl Conn {
         ensures { ConnAnswers self.old (ResetStream id code) (answer_by (λ done. Done) result)
             self.new }
     {
+        self.check_up()?;
         self.inner.end.reset(id, code)
     }
 
@@ -86,6 +94,7 @@ impl Conn {
     pub fn refuse(&mut self, id: u32, code: u32) -> Result<(), Refusal>
         ensures { ConnShows self.old (Refuse id code) (answer_by (λ done. Done) result) self.new }
     {
+        self.check_up()?;
         self.inner.end.refuse(id, code)
     }
 
@@ -98,6 +107,7 @@ impl Conn {
         ensures { ConnAnswers self.old (SendPing octets) (answer_by (λ done. Done) result)
             self.new }
     {
+        self.check_up()?;
         self.inner.end.ping(octets)
     }
 
@@ -110,6 +120,7 @@ impl Conn {
     pub fn go_away(&mut self) -> Result<(), Refusal>
         ensures { ConnAnswers self.old SendGoAway (answer_by (λ done. Done) result) self.new }
     {
+        self.check_up()?;
         self.inner.end.go_away()
     }
 
@@ -129,4 +140,24 @@ impl Conn {
     {
         self.inner.end.put_out(count, out)
     }
+
+    /// C1: the connection has failed.
+    fn check_up(&self) -> Result<(), Refusal>
+        ensures ok { OnOk result (self.now.inner.end.failed ≡ None) }
+        ensures err { IfErr result (λ refusal. (refusal ≡ Refusal.Closed)
+            × (is_some self.now.inner.end.failed ≡ true)) }
+    {
+        if self.inner.end.failed().is_some() {
+            return Err(Refusal::Closed);
+        }
+        Ok(())
+    }
+}
+
+/// Names and values are octets, which contracts speak of. The sum isn't used, so that compilers drop
+/// it.
+fn check_octets(fields: &[Field])
+    ensures { AreOctets fields.now }
+{
+    let _size = list_size(fields);
 }

@@ -12,8 +12,6 @@ mod happened;
 mod inner;
 mod readers;
 mod taking;
-#[cfg(test)]
-mod tests;
 
 pub use conn::Conn;
 pub use event::{ConnFault, Event, Taken};

@@ -56,8 +56,11 @@ may_open e fields end free =
     record {
       up = nothing _ up.0;
       client = parts.0;
-      number = omega (arith, ltb-false _ _ parts.1,
-          number_at (is_server e.role) (number_after e.streams.highest) parts.0);
+      number = omega (
+        arith,
+        ltb-false _ _ parts.1,
+        number_at (is_server e.role) (number_after e.streams.highest) parts.0,
+      );
       small = ltb-false _ _ small.0;
     }
 

@@ -34,8 +34,13 @@ pub fields_free : (e : End) (id : ℕ) (stream : StreamView) (fields : List Fiel
     → refusal_of (end_view e) (SendFields id fields end) ≡ None
 unfolding first_of conditions
 fields_free e id stream fields end up active goes room small =
-    rw (up, active, goes, lt-leb 65536 (length e.output.waiting) room,
-    le-ltb 65536 (list_size fields) small)
+    rw (
+      up,
+      active,
+      goes,
+      lt-leb 65536 (length e.output.waiting) room,
+      le-ltb 65536 (list_size fields) small,
+    )
 
 -- A list that is too large, where nothing else refuses fields.
 pub fields_large : (e : End) (id : ℕ) (stream : StreamView) (fields : List Field) (end : Bool)
@@ -44,8 +49,13 @@ pub fields_large : (e : End) (id : ℕ) (stream : StreamView) (fields : List Fie
     → refusal_of (end_view e) (SendFields id fields end) ≡ Some ListTooLarge
 unfolding first_of conditions
 fields_large e id stream fields end up active goes room large =
-    rw (up, active, goes, lt-leb 65536 (length e.output.waiting) room,
-    lt-ltb 65536 (list_size fields) large)
+    rw (
+      up,
+      active,
+      goes,
+      lt-leb 65536 (length e.output.waiting) room,
+      lt-ltb 65536 (list_size fields) large,
+    )
 
 -- No condition refuses DATA.
 pub data_free : (e : End) (id : ℕ) (stream : StreamView) (octets : List ℕ) (end : Bool)

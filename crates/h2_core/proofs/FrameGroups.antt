@@ -130,15 +130,18 @@ continuation_step begun stream true fragment same short =
         frames_begun (Some begun) ++ Continuation stream true fragment ∷ [],
         [],
         refl,
-        (inr (record {
-          preceding = frames_begun (Some begun);
-          prefix = begun.octets;
-          last = fragment;
-          begun = one_begun begun;
-          ended = ap (λ (s : ℕ). frames_begun (Some begun) ++ Continuation s true fragment ∷ [])
-              same;
-          joined = refl;
-        }), short),
+        (
+          inr (record {
+            preceding = frames_begun (Some begun);
+            prefix = begun.octets;
+            last = fragment;
+            begun = one_begun begun;
+            ended = ap (λ (s : ℕ). frames_begun (Some begun) ++ Continuation s true fragment ∷ [])
+                same;
+            joined = refl;
+          }),
+          short,
+        ),
         refl,
       );
       unfinished = refl;

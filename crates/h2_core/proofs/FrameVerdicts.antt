@@ -275,9 +275,12 @@ pub fault_error : (one new : Endpoint) (id : ℕ) (end : Bool) (octets : List �
     → opened_by (end_view (end_of one)) (Some decoded) (block id end octets) ≡ opened
     → ResetsForBlock one id code opened (Err stop) new
     → TakesItem (end_of one) (Some decoded) (block id end octets) list (Err stop) (end_of new)
-fault_error one new id end octets decoded code opened (Fault fault stream) list is opens h =
-    (fault_over (end_of one) id end octets decoded code is h.0
-    ∙ ap ConnectionFault (sym h.1), h.2 ∙ sym opens, h.3)
+fault_error one new id end octets decoded code opened (Fault fault stream) list is opens h = (
+  fault_over (end_of one) id end octets decoded code is h.0
+      ∙ ap ConnectionFault (sym h.1),
+  h.2 ∙ sym opens,
+  h.3,
+)
 fault_error one new id end octets decoded code opened OutOfMemory list is opens h = h
 
 -- One that is answered, on a number that is fresh or not.

@@ -29,11 +29,11 @@ pub record CallAccepted (e : End) (act : Act) (new : End) : Type 0 where
 -- has ended it, or too much output waits; the first of these.
 abbrev pub NotSendable : Endpoint → ℕ → Refusal → Type 0
 NotSendable one id refusal = first_of (
-  (is_some one.failed, Closed) ∷
-      (not (is_some (stream_at (end_of one) id)), NoSuchStream)
-      ∷ (ended_out (stream_at (end_of one) id), Ended)
-      ∷ (nat_le full_output (length one.output.waiting), OutputFull) ∷ []
-) ≡ Some refusal
+    (is_some one.failed, Closed) ∷
+    (not (is_some (stream_at (end_of one) id)), NoSuchStream)
+    ∷ (ended_out (stream_at (end_of one) id), Ended)
+    ∷ (nat_le full_output (length one.output.waiting), OutputFull) ∷ []
+    ) ≡ Some refusal
 
 -- What `refuse` makes of an end: it is refused; or it is accepted; or an allocation was refused, and
 -- the connection fails.

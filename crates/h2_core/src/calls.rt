@@ -20,7 +20,8 @@ ghost use Rattle.h2_core.specs.Calls.{CallRefused, CallAccepted, NotSendable};
 
 use crate::endpoint::Endpoint;
 use crate::limits::{
-    FIRST_ACTIVE, FULL_OUTPUT, GREATEST, HEAD, MAX_ACTIVE, MAX_DATA, MAX_LIST, MAX_PAYLOAD, SMALL_FRAME,
+    FIRST_ACTIVE, FULL_OUTPUT, GREATEST, HEAD, MAX_ACTIVE, MAX_DATA, MAX_LIST, MAX_PAYLOAD,
+    SMALL_FRAME,
 };
 use h2_block::spread;
 use h2_flow::StreamState;
@@ -166,13 +167,13 @@ impl Endpoint {
         ensures { end_of self.new ≡ update_stream
             (record (queue_output (end_of self.old)
             (data_frames (length octets.now + 1) 16384 id octets.now end)) {
-          windows = record (end_of self.old).windows {
-            send = self.old.send_window - length octets.now;
-          };
-        }) id (record (stream_view stream) {
-          send_window = stream.send_window -ℤ pos (length octets.now);
-          ended_out = end;
-        }) }
+              windows = record (end_of self.old).windows {
+                send = self.old.send_window - length octets.now;
+              };
+            }) id (record (stream_view stream) {
+              send_window = stream.send_window -ℤ pos (length octets.now);
+              ended_out = end;
+            }) }
     {
         self.add_data(id, octets, end);
         self.send_window -= octets.len() as u32;

@@ -1,6 +1,6 @@
 //! Giving output out, streams that the peer does not process, and what an end answers of itself.
 
-ghost use Rattle.std.specs.Prelude.{◌≡◌, ◌≢◌, length, is_some, if◌then◌else◌, None, IfOk, IfErr};
+ghost use Rattle.std.specs.Prelude.{◌≡◌, ◌≢◌, ◌<◌, length, is_some, if◌then◌else◌, None, IfOk, IfErr, IfSome};
 ghost use Rattle.std.specs.Prelude.{OnOk, true, ◌≤◌};
 ghost use Rattle.std.specs.FinMap as map;
 ghost use Rattle.h2_streams.specs.Streams.{number_or_none};
@@ -28,7 +28,7 @@ impl Endpoint {
     ///
     /// C12 where an allocation was refused. Nothing has changed.
     pub fn put_out(&mut self, count: usize, out: &mut Vec<u8>) -> Result<usize, Refusal>
-        requires sound { IsSound (end_of self.old) }
+        requires sound { self.old.failed ≡ None → IsSound (end_of self.old) }
         ensures ok { IfOk result (λ given. PutsOut (end_of self.old) count given out.old.items
             out.new.items (end_of self.new)) }
         ensures err { IfErr result (λ refusal. (refusal ≡ Refusal.Memory)
@@ -60,7 +60,7 @@ impl Endpoint {
     /// Returns all that is unreturned, where that is to be done before output is given out. There
     /// is room for a WINDOW_UPDATE then.
     fn return_before_output(&mut self)
-        requires sound { IsSound (end_of self.old) }
+        requires sound { self.old.failed ≡ None → IsSound (end_of self.old) }
         requires room { returns_before_put_out (end_view (end_of self.old)) ≡ true
             → 13 ≤ self.old.output.spare }
         ensures { end_of self.new ≡ before_put_out_at (end_of self.old) }
@@ -73,8 +73,9 @@ impl Endpoint {
     /// The next stream that the peer does not process (RFC 9113, section 6.8): the least active one
     /// of a client above the last stream of the peer's GOAWAY. It takes no memory.
     pub fn unprocessed(&self) -> Option<u32>
-        ensures { number_or_none result ≡ unprocessed_of_end self.now.role
+        ensures number { number_or_none result ≡ unprocessed_of_end self.now.role
             self.now.streams.entries self.now.goaway_received }
+        ensures some { IfSome result (λ id. id ≢ 0) }
     {
         match (self.role, self.goaway_received) {
             (Role::Client, Some(last)) => self.streams.next_active(last),
@@ -181,8 +182,9 @@ impl Endpoint {
     /// The least active stream above a number; none once the connection has failed. It takes no
     /// memory.
     pub fn next_live(&self, above: u32) -> Option<u32>
-        ensures { number_or_none result ≡ (if is_some self.now.failed then 0
+        ensures number { number_or_none result ≡ (if is_some self.now.failed then 0
             else first_active above (map.entries self.now.streams.entries)) }
+        ensures above { IfSome result (λ number. above < number) }
     {
         if self.failed.is_some() {
             return None;

@@ -38,10 +38,7 @@ impl Endpoint {
         ensures { TakesBlock (end_of self.old) id end octets.now self.new.list result
             (end_of self.new) }
     {
-        let decoded = match self
-            .decoder
-            .decode_into(octets, MAX_LIST, &mut self.list)
-        {
+        let decoded = match self.decoder.decode_into(octets, MAX_LIST, &mut self.list) {
             Ok(decoded) => decoded,
             Err(fault) => {
                 let code = match fault {

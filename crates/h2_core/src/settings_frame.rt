@@ -38,10 +38,7 @@ pub(crate) fn opening_settings(role: Role, config: Config) -> [(u16, u32); 4]
 /// # Errors
 ///
 /// [`AllocError`] where an allocation was refused.
-pub(crate) fn settings_frame(
-    alloc: Global,
-    pairs: &[(u16, u32)],
-) -> Result<Vec<u8>, AllocError>
+pub(crate) fn settings_frame(alloc: Global, pairs: &[(u16, u32)]) -> Result<Vec<u8>, AllocError>
     requires { length pairs.now ≤ 5 }
     ensures { IfOk result (λ octets. octets.items ≡ encoding_of (Settings false pairs.now)) }
 {

@@ -1,5 +1,5 @@
 -- Heads: which octets they are read from, and what a head without fault is.
-use Rattle.std.proofs.Common.{◌≡◌, ℕ, ◌<◌, ◌≤◌, List, ◌++◌, length, drop, None, refl, ap, ◌∙◌}
+use Rattle.std.proofs.Common.{◌≡◌, ℕ, ◌<◌, ◌≤◌, ◌^◌, List, ◌++◌, length, drop, None, refl, ap, ◌∙◌}
 use Rattle.std.proofs.Common.{arith, get_or, length-drop}
 use Rattle.std.proofs.lemmas.Bool.Decides.{nat_tests}
 use Rattle.std.proofs.Math.ListN.{get_or-append}
@@ -42,3 +42,8 @@ form_fault-head_fault head limit sound = grind (arith, nat_tests)
 pub stream-Headers : (head : Head) → head.kind ≡ Headers → form_fault head ≡ None → 0 < head.stream
 unfolding form_fault fits_stream
 stream-Headers head kind sound = grind (arith, nat_tests)
+
+-- a head's stream has 31 bits
+pub stream-head_of : (octets : List ℕ) → (head_of octets).stream < 2 ^ 31
+unfolding head_of
+stream-head_of octets = omega arith

@@ -5,3 +5,4 @@ pub mod PairLemmas
 pub mod Rules
 pub mod FramePartsLemmas
 pub mod EncodingLemmas
+pub mod RefusalLemmas

@@ -1,6 +1,6 @@
 //! Reading and checking heads (RFC 9113, sections 4.1, 4.2 and 6).
 
-ghost use Rattle.std.specs.Prelude.{◌≡◌, ◌≤◌, None};
+ghost use Rattle.std.specs.Prelude.{◌≡◌, ◌<◌, ◌≤◌, ◌^◌, None};
 ghost use Rattle.h2_frame.specs.Heads.{head_of, head_fault as fault_of, form_fault};
 ghost use Rattle.h2_frame.specs.Heads.{fits_stream as stream_fits, fits_length as length_fits};
 ghost use Rattle.h2_frame.specs.Heads.{octets_of_flags as flag_octets};
@@ -29,7 +29,10 @@ pub(crate) const PRIORITY: u8 = 0x20;
 /// 4.1).
 #[tactic(auto, unfolding(crate::specs::Heads::head_of))]
 pub fn head(octets: &[u8; 9]) -> Head
-    ensures { result ≡ head_of octets.now }
+    ensures value { result ≡ head_of octets.now }
+
+    // The length has 24 bits, and the stream 31.
+    ensures bounds { (result.length < 2 ^ 24) × (result.stream < 2 ^ 31) }
 {
     Head {
         length: BigEndian::read_u24(octets),

@@ -141,6 +141,8 @@ completes old appended new piece start missing_octets head same changed items st
       within = all_within;
       some = omega (arith, counted, short);
       complete = ap length items ∙ complete;
+      is_head = prefix ∙ ap head_of (sym items);
+      bounded = starts.bounded;
       form = form;
       sound = sound_payload;
       none_unparsed = refl;
@@ -205,6 +207,7 @@ starts_payload buffer piece head is invariant =
       short = kept.short;
       nine = omega (arith, nine);
       is_head = is_head;
+      bounded = kept.bounded;
       sound_head = kept.sound;
       opens = λ expects limits stream so_far represented.
           let past =

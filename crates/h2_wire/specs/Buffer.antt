@@ -1,5 +1,5 @@
 -- How a cutter keeps its state: what a buffer represents, and what is true of it between calls.
-use Rattle.std.specs.Prelude.{◌≡◌, ℕ, ◌+◌, ◌<◌, ◌≤◌, Bool, true, false, List, [], length, take}
+use Rattle.std.specs.Prelude.{◌≡◌, ℕ, ◌+◌, ◌^◌, ◌<◌, ◌≤◌, Bool, true, false, List, [], length, take}
 use Rattle.std.specs.Prelude.{Option, None, Some}
 use Rattle.h2_frame.specs.declared.heads.Head.{Head}
 use Rattle.h2_frame.specs.Heads.{head_of, head_fault}
@@ -50,6 +50,7 @@ state_of buffer =
 pub record IsPartialPayload (limit : ℕ) (head : Head) (octets : List ℕ) : Type 0 where
   pub nine : 9 ≤ length octets
   pub is_head : head ≡ head_of octets
+  pub bounded : head.length < 2 ^ 24
   pub sound : head_fault head limit ≡ None
   pub short : length octets < 9 + head.length
 

@@ -1,6 +1,6 @@
 -- What the steps of one call make of a buffer, for every stream that it represented.
-use Rattle.std.specs.Prelude.{◌≡◌, ℕ, ◌+◌, ◌<◌, ◌≤◌, Bool, List, [], ◌∷◌, ◌++◌, length, take, drop}
-use Rattle.std.specs.Prelude.{None, MatchOption, Result, Ok, Err}
+use Rattle.std.specs.Prelude.{◌≡◌, ℕ, ◌+◌, ◌^◌, ◌<◌, ◌≤◌, Bool, List, [], ◌∷◌, ◌++◌, length, take}
+use Rattle.std.specs.Prelude.{drop, None, MatchOption, Result, Ok, Err}
 use Rattle.h2_frame.specs.declared.heads.Head.{Head}
 use Rattle.h2_frame.specs.Heads.{head_of, form_fault, head_fault}
 use Rattle.h2_frame.specs.Frames.{Frame, Carries, payload_fault}
@@ -44,6 +44,7 @@ pub record StartsPayload (old : Buffer) (piece : List ℕ) (start : ℕ) (head :
   pub short : length old.octets.items < 9 + head.length
   pub nine : 9 ≤ length old.octets.items + length (drop start piece)
   pub is_head : head ≡ head_of (old.octets.items ++ drop start piece)
+  pub bounded : head.length < 2 ^ 24
   pub sound_head : head_fault head old.limit ≡ None
   pub opens : OpensSoundly (state_of old) (take start piece) old.octets.items head
 
@@ -60,6 +61,8 @@ pub record BufferCompletes (old : CutterState) (piece : List ℕ) (used : ℕ) (
   pub within : used ≤ length piece
   pub some : 0 < used
   pub complete : length new.octets.items ≡ 9 + head.length
+  pub is_head : head ≡ head_of new.octets.items
+  pub bounded : head.length < 2 ^ 24
   pub form : form_fault head ≡ None
   pub sound : payload_fault head (drop 9 new.octets.items) ≡ None
   pub none_unparsed : (state_of new).unparsed ≡ []

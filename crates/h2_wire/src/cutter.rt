@@ -6,6 +6,8 @@ ghost use Rattle.std.specs.Prelude.{IsSome, IfSome};
 ghost use Rattle.std.specs.Borrow.{sem};
 ghost use Rattle.std.specs.Io.BufRead.{Rests};
 ghost use Rattle.h2_frame.specs.declared.code.Code.{Code};
+ghost use Rattle.h2_frame.specs.Frames.{frame_of};
+ghost use Rattle.h2_frame.specs.Encoding.{refusal};
 ghost use Rattle.h2_wire.specs.Cutter.{CutterRepresents, Cuts, FaultsAtHead};
 ghost use Rattle.h2_wire.specs.Streams.{BeginsWithPreface};
 ghost use Rattle.h2_wire.specs.contracts.cutter.Cutter.{the_row};
@@ -63,6 +65,11 @@ impl Cutter {
         ensures used { IfOk result (λ cut. cut.used ≤ length piece.now) }
         ensures all { IfOk result (λ cut. cut.frame ≡ None → cut.used ≡ length piece.now) }
         ensures some { IfOk result (λ cut. IsSome cut.frame → 0 < cut.used) }
+
+        // A frame that is answered is one that can be written: its numbers have the bits that their
+        // places have, and its stream and values are allowed for its kind.
+        ensures good { IfOk result (λ cut. IfSome cut.frame (λ frame. refusal (frame_of frame)
+            ≡ None)) }
 
         // A fault is answered again.
         ensures failed { IfSome self.old.fault (λ fault. result ≡ Err fault) }

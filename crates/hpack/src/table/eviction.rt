@@ -1,6 +1,8 @@
 //! The size of entries, and the eviction of the oldest (RFC 7541, sections 4.1, 4.3 and 4.4).
 
 ghost use Rattle.std.specs.Prelude.{◌≡◌, ◌+◌, ◌-◌, ◌^◌, ◌≤◌, [], length, min};
+ghost use Rattle.std.specs.List.{AllByRecursion};
+ghost use Rattle.hpack_text.specs.Bits.{IsOctet};
 ghost use Rattle.hpack.specs.Sizes.{entry_size, table_size, fit};
 
 use crate::types::entry::Entry;
@@ -19,7 +21,11 @@ pub(crate) fn size_of(entry: &Entry) -> usize
 /// The size of an entry or a field of this name and value, or the greatest number where that is
 /// less.
 pub(crate) fn size_of_octets(name: &[u8], value: &[u8]) -> usize
-    ensures { result ≡ min (length name.now + length value.now + 32) (2 ^ 64 - 1) }
+    ensures size { result ≡ min (length name.now + length value.now + 32) (2 ^ 64 - 1) }
+
+    // The items of slices are octets.
+    ensures name { AllByRecursion IsOctet name.now }
+    ensures value { AllByRecursion IsOctet value.now }
 {
     name.len()
         .saturating_add(value.len())

@@ -2,6 +2,7 @@
 
 ghost use Rattle.std.specs.Prelude.{◌≡◌, ◌-◌, ◌^◌, min};
 ghost use Rattle.hpack.specs.Lists.{list_size as size_of_list};
+ghost use Rattle.hpack.specs.Written.{AreOctets};
 
 use crate::table::eviction::size_of_octets;
 use crate::types::field::Field;
@@ -9,7 +10,10 @@ use crate::types::field::Field;
 /// The size of a list: the sum of name, value and 32 octets for each field (RFC 9113, section
 /// 6.5.2), or the greatest number where that is less. It takes no memory.
 pub fn list_size(fields: &[Field]) -> usize
-    ensures { result ≡ min (size_of_list fields.now) (2 ^ 64 - 1) }
+    ensures size { result ≡ min (size_of_list fields.now) (2 ^ 64 - 1) }
+
+    // Names and values are octets.
+    ensures octets { AreOctets fields.now }
 {
     let mut size: usize = 0;
     for field in fields {

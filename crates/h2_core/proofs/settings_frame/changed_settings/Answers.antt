@@ -10,5 +10,9 @@ returns-in-Client c =
 pub returns-in-Server : goal.returns-in-Server
 unfolding changed_pairs
 returns-in-Server c =
-    rw (c.in-Server.is, ← c.table_limit.ensures, ← c.max_streams.ensures,
-    ← c.initial_window.ensures) c.settings_frame-in-Server.ensures
+    rw (
+      c.in-Server.is,
+      ← c.table_limit.ensures,
+      ← c.max_streams.ensures,
+      ← c.initial_window.ensures,
+    ) c.settings_frame-in-Server.ensures

@@ -6,7 +6,12 @@ use Rattle.h2_core.proofs.settings_frame.opening_settings.Goals.{in-Client, in-S
 pub returns : goal.returns
 unfolding opening_pairs
 returns c = elim c.match-role.branch [
-  in-Client w ↦ rw (w.in-Client.is, w.second-is, c.table_limit.ensures, c.initial_window.ensures)
-  | in-Server w ↦ rw (w.in-Server.is, w.second-is, w.max_streams.ensures, c.table_limit.ensures,
-  c.initial_window.ensures)
+  | in-Client w ↦ rw (w.in-Client.is, w.second-is, c.table_limit.ensures, c.initial_window.ensures)
+  | in-Server w ↦ rw (
+    w.in-Server.is,
+    w.second-is,
+    w.max_streams.ensures,
+    c.table_limit.ensures,
+    c.initial_window.ensures,
+  )
 ]

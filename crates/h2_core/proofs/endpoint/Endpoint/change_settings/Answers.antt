@@ -57,8 +57,12 @@ returns-clause-ok c =
     let values = values_of c.args.config in
     let written : c.add_octets.new.self.waiting
     ≡ e.output.waiting ++ encoding_of (Settings false (changed_pairs e.role values)) =
-    rw (c.add_octets.ensures.waiting, c.reserve.ensures.waiting, c.deref.ensures.value,
-    c.in-Ok.ensures) in
+    rw (
+      c.add_octets.ensures.waiting,
+      c.reserve.ensures.waiting,
+      c.deref.ensures.value,
+      c.in-Ok.ensures,
+    ) in
     record {
       free = rw (c.in_ok-check_up.ensures.ok, c.in_ok-check_room.ensures.ok, none_waits);
       after = ap (with_waiting (record e { own = record e.own { awaited = Some values } }))

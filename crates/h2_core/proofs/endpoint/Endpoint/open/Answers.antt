@@ -37,8 +37,11 @@ close-requires c =
     let same = if_err c.write_block.result (cc c.is_err-2.ensures.value) c.write_block.ensures.err in
     let entries = ap (λ (e : End). e.streams.entries) same
     ∙ ap (λ (table : TableState). table.entries) added in
-    rw (entries, get_set_same c.args.self.now.streams.entries c.next_number-id.result
-    (active_entry (stream_view c.new_stream-stream.result)))
+    rw (
+      entries,
+      get_set_same c.args.self.now.streams.entries c.next_number-id.result
+          (active_entry (stream_view c.new_stream-stream.result)),
+    )
 
 pub returns-then-is_err-2-clause-err : goal.returns-then-is_err-2-clause-err
 returns-then-is_err-2-clause-err c =
@@ -47,8 +50,11 @@ returns-then-is_err-2-clause-err c =
     let free = sym (c.refusal_of_open.ensures c.args.end) ∙ c.in_default.is in
     let added = unless_err c.open.result (cc c.is_err.ensures.value) c.open.ensures.ok in
     let same = if_err c.write_block.result (cc c.is_err-2.ensures.value) c.write_block.ensures.err in
-    let none = absent_above e id c.requires.sound (omega (arith, c.next_number-id.ensures,
-    (number_above c.args.self.now.highest).1)) in
+    let none = absent_above e id c.requires.sound (omega (
+      arith,
+      c.next_number-id.ensures,
+      (number_above c.args.self.now.highest).1,
+    )) in
     let closed : c.close.new.self ≡ c.args.self.now.streams =
     c.close.ensures
     ∙ ap (λ (one : End). without (table_of one) id) same
@@ -71,9 +77,11 @@ returns-clause-ok c =
     let stream : stream_view c.new_stream-stream.result ≡ new_stream e false c.args.end =
     c.new_stream-stream.ensures
     ∙ ap (λ (state : StreamState). new_stream e state.ended_in c.args.end) c.open-state.ensures in
-    let table = added ∙ ap (with_stream c.args.self.now.streams id) stream in
-    (number, record {
-      free = free;
-      after = ap (λ (one : End). with_count one id) wrote.0
-          ∙ opened e c.open.new.self c.args.fields.now c.args.end id table number;
-    })
+    let table = added ∙ ap (with_stream c.args.self.now.streams id) stream in (
+      number,
+      record {
+        free = free;
+        after = ap (λ (one : End). with_count one id) wrote.0
+            ∙ opened e c.open.new.self c.args.fields.now c.args.end id table number;
+      },
+    )

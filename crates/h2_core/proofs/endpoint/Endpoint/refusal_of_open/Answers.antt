@@ -53,5 +53,11 @@ returns-else-list_size c =
     let room : nat_le 65536 (length c.args.self.now.output.waiting) ≡ false =
     lt-leb _ _ (omega arith) in
     let small : nat_lt 65536 (list_size c.args.fields.now) ≡ false = le-ltb _ _ (omega arith) in
-    λ end. rw (up, ← c.if-has_all_streams.ensures, ← c.if-has_no_number.ensures,
-    ← c.if-is_going_away.ensures, room, small)
+    λ end. rw (
+      up,
+      ← c.if-has_all_streams.ensures,
+      ← c.if-has_no_number.ensures,
+      ← c.if-is_going_away.ensures,
+      room,
+      small,
+    )

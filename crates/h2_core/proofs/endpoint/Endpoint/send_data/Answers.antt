@@ -28,13 +28,15 @@ returns-then-sends_nothing-clause-ok c =
     let ok = c.in_ok-stream.ensures.ok in
     let e = end_of c.args.self.now in
     let stream = stream_view c.in_ok-stream.stream in
-    let none = eqb-true _ 0 (and_parts _ _ (sym c.if-sends_nothing.ensures)).0 in
-    (rw ok.1 (sym none ∙ c.sendable_octets-count.ensures), record {
-      free = data_free e c.args.id stream c.args.octets.now c.args.end ok.0 ok.1 ok.2 ok.3;
-      after = sym (data_unsent e c.args.id stream c.args.octets.now c.args.end
-          c.sendable_octets-count.result ok.1 c.sendable_octets-count.ensures
-          (sym c.if-sends_nothing.ensures));
-    })
+    let none = eqb-true _ 0 (and_parts _ _ (sym c.if-sends_nothing.ensures)).0 in (
+      rw ok.1 (sym none ∙ c.sendable_octets-count.ensures),
+      record {
+        free = data_free e c.args.id stream c.args.octets.now c.args.end ok.0 ok.1 ok.2 ok.3;
+        after = sym (data_unsent e c.args.id stream c.args.octets.now c.args.end
+            c.sendable_octets-count.result ok.1 c.sendable_octets-count.ensures
+            (sym c.if-sends_nothing.ensures));
+      },
+    )
 
 pub returns-then-is_err-clause-err : goal.returns-then-is_err-clause-err
 returns-then-is_err-clause-err c =
@@ -55,15 +57,17 @@ returns-clause-ok c =
     let ends = c.if-end.ends in
     let last : ends ≡ (c.args.end && count == length octets) =
     elim c.if-end.branch [
-      then-end w ↦ rw w.if-end.true w.ends-is
+      | then-end w ↦ rw w.if-end.true w.ends-is
       | else-end w ↦ rw w.if-end.false (w.ends-is ∙ w.if-end.false)
-    ] in
-    (rw ok.1 c.sendable_octets-count.ensures, record {
-      free = data_free e c.args.id stream octets c.args.end ok.0 ok.1 ok.2 ok.3;
-      after = c.write_data.ensures
-          ∙ ap (λ waiting. after_sent (with_waiting e waiting) c.args.id stream
-          (data_frames (length (take count octets) + 1) 16384 c.args.id (take count octets) ends)
-          (length (take count octets)) ends) c.reserve.ensures.waiting
-          ∙ data_written e c.args.id stream octets c.args.end count ends ok.1
-          c.sendable_octets-count.ensures (sym c.if-sends_nothing.ensures) (omega arith) last;
-    })
+    ] in (
+      rw ok.1 c.sendable_octets-count.ensures,
+      record {
+        free = data_free e c.args.id stream octets c.args.end ok.0 ok.1 ok.2 ok.3;
+        after = c.write_data.ensures
+            ∙ ap (λ waiting. after_sent (with_waiting e waiting) c.args.id stream
+            (data_frames (length (take count octets) + 1) 16384 c.args.id (take count octets) ends)
+            (length (take count octets)) ends) c.reserve.ensures.waiting
+            ∙ data_written e c.args.id stream octets c.args.end count ends ok.1
+            c.sendable_octets-count.ensures (sym c.if-sends_nothing.ensures) (omega arith) last;
+      },
+    )

@@ -47,16 +47,22 @@ pub update_stream-requires-clause-counted : goal.update_stream-requires-clause-c
 update_stream-requires-clause-counted c =
     let wrote = unless_err c.write_block.result (cc c.is_err.ensures.value) c.write_block.ensures.ok
     in
-    omega (arith, ap (λ (e : End). e.streams.active_count) wrote.0,
-    counted (end_of c.args.self.now) c.args.id _ c.requires.sound c.in_ok-stream.ensures.ok.1)
+    omega (
+      arith,
+      ap (λ (e : End). e.streams.active_count) wrote.0,
+      counted (end_of c.args.self.now) c.args.id _ c.requires.sound c.in_ok-stream.ensures.ok.1,
+    )
 
 pub update_stream-requires-clause-window : goal.update_stream-requires-clause-window
 update_stream-requires-clause-window c =
     let wrote = unless_err c.write_block.result (cc c.is_err.ensures.value) c.write_block.ensures.ok
     in
-    omega (arith, ap (λ (e : End). e.windows.recv) wrote.0,
-    ap (λ (e : End). e.windows.unreturned) wrote.0,
-    owed_fits (end_of c.args.self.now) c.args.id _ c.requires.sound c.in_ok-stream.ensures.ok.1)
+    omega (
+      arith,
+      ap (λ (e : End). e.windows.recv) wrote.0,
+      ap (λ (e : End). e.windows.unreturned) wrote.0,
+      owed_fits (end_of c.args.self.now) c.args.id _ c.requires.sound c.in_ok-stream.ensures.ok.1,
+    )
 
 pub returns-clause-ok : goal.returns-clause-ok
 returns-clause-ok c =

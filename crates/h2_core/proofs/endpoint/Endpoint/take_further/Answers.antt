@@ -67,8 +67,11 @@ update_stream-requires-clause-counted c =
 
 pub update_stream-requires-clause-window : goal.update_stream-requires-clause-window
 update_stream-requires-clause-window c =
-    omega (arith, owed_fits (end_of c.args.self.now) c.args.id (stream_view c.args.stream)
-    c.requires.sound c.requires.active)
+    omega (
+      arith,
+      owed_fits (end_of c.args.self.now) c.args.id (stream_view c.args.stream)
+          c.requires.sound c.requires.active,
+    )
 
 -- an end whose output waits so
 abbrev with_waiting : End → List ℕ → End

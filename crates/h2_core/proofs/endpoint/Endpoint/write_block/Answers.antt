@@ -18,8 +18,15 @@ returns-clause-ok c =
     = rw (c.deref.ensures.value, encoded.0, octets_of_block 16384 c.args.id c.args.end octets) in
     let written : c.add_octets.new.self.waiting
     ≡ e.output.waiting ++ encoding_of_items 16384 (block c.args.id c.args.end octets ∷ []) =
-    rw (c.add_octets.ensures.waiting, c.reserve.ensures.waiting, joined) in
-    (ap (λ encoder. with_waiting (with_encoder e encoder) c.add_octets.new.self.waiting) encoded.1
-    ∙ ap (with_waiting (with_encoder e (after_block e.output.encoder c.args.fields.now))) written,
-    omega (arith, c.in_ok-reserve.ensures.ok, c.add_octets.ensures.spare, fits,
-    ap length c.deref.ensures.value, ap length encoded.0))
+    rw (c.add_octets.ensures.waiting, c.reserve.ensures.waiting, joined) in (
+      ap (λ encoder. with_waiting (with_encoder e encoder) c.add_octets.new.self.waiting) encoded.1
+          ∙ ap (with_waiting (with_encoder e (after_block e.output.encoder c.args.fields.now))) written,
+      omega (
+        arith,
+        c.in_ok-reserve.ensures.ok,
+        c.add_octets.ensures.spare,
+        fits,
+        ap length c.deref.ensures.value,
+        ap length encoded.0,
+      ),
+    )

@@ -22,11 +22,17 @@ update_stream-requires-clause-near c =
 
 pub update_stream-requires-clause-counted : goal.update_stream-requires-clause-counted
 update_stream-requires-clause-counted c =
-    omega (arith, ap (λ (e : End). e.streams.active_count) c.add_data.ensures.after,
-    counted (end_of c.args.self.now) c.args.id _ c.requires.sound c.requires.active)
+    omega (
+      arith,
+      ap (λ (e : End). e.streams.active_count) c.add_data.ensures.after,
+      counted (end_of c.args.self.now) c.args.id _ c.requires.sound c.requires.active,
+    )
 
 pub update_stream-requires-clause-window : goal.update_stream-requires-clause-window
 update_stream-requires-clause-window c =
-    omega (arith, ap (λ (e : End). e.windows.recv) c.add_data.ensures.after,
-    ap (λ (e : End). e.windows.unreturned) c.add_data.ensures.after,
-    owed_fits (end_of c.args.self.now) c.args.id _ c.requires.sound c.requires.active)
+    omega (
+      arith,
+      ap (λ (e : End). e.windows.recv) c.add_data.ensures.after,
+      ap (λ (e : End). e.windows.unreturned) c.add_data.ensures.after,
+      owed_fits (end_of c.args.self.now) c.args.id _ c.requires.sound c.requires.active,
+    )

@@ -44,7 +44,7 @@ returns-in-Some-head_fault-clause-takes c =
     let some = c.in-Some.ensures.some in
     let (nine, is_head) =
     read_head old.octets.items c.deref.result.now piece c.in-Some.octets c.args.start
-    c.head-head.result c.deref.ensures.value some.0 some.1 c.head-head.ensures in
+    c.head-head.result c.deref.ensures.value some.0 some.1 c.head-head.ensures.value in
     let few : length old.octets.items < 9 = starts.few in
     let within : c.args.start ≤ length piece = starts.within in
     let faulty : head_fault (head_of (old.octets.items ++ drop c.args.start piece)) old.limit
@@ -72,7 +72,7 @@ take_payload-requires c =
     let some = c.in-Some.ensures.some in
     let (nine, is_head) =
     read_head old.octets.items c.deref.result.now piece c.in-Some.octets c.args.start
-    c.head-head.result c.deref.ensures.value some.0 some.1 c.head-head.ensures in
+    c.head-head.result c.deref.ensures.value some.0 some.1 c.head-head.ensures.value in
     let few : length old.octets.items < 9 = starts.few in
     let sound = sym c.head_fault.ensures.value ∙ c.in_default-head_fault.is in
     record {
@@ -83,6 +83,7 @@ take_payload-requires c =
         short = omega (arith, few);
         nine = nine;
         is_head = is_head;
+        bounded = c.head-head.ensures.bounds.0;
         sound_head = sound;
         opens = λ expects limits stream so_far represented.
             let past = starts.opens expects limits stream so_far represented in (
@@ -100,7 +101,7 @@ returns-in-Some-head_fault-clause-checked c = λ code faulty.
     let is_head =
     (read_head old.octets.items c.deref.result.now c.args.piece.now c.in-Some.octets
     c.args.start c.head-head.result c.deref.ensures.value some.0 some.1
-    c.head-head.ensures).1 in
+    c.head-head.ensures.value).1 in
     let reported : head_fault c.head-head.result old.limit ≡ Some c.in-Some-head_fault.code =
     sym c.head_fault.ensures.value ∙ c.in-Some-head_fault.is in
     let found : head_fault c.head-head.result old.limit ≡ Some code =
@@ -115,7 +116,7 @@ returns-clause-checked c = λ code faulty.
     let is_head =
     (read_head old.octets.items c.deref.result.now c.args.piece.now c.in-Some.octets
     c.args.start c.head-head.result c.deref.ensures.value some.0 some.1
-    c.head-head.ensures).1 in
+    c.head-head.ensures.value).1 in
     let found : head_fault c.head-head.result old.limit ≡ Some code =
     ap (λ (head : Head). head_fault head old.limit) is_head ∙ faulty.faulty in
     none_some code (sym (sym c.head_fault.ensures.value ∙ c.in_default-head_fault.is) ∙ found)

@@ -40,6 +40,7 @@ returns-then-following-missing c =
         invariant = rw (c.pass.ensures, items, limit) (record {
           nine = omega (arith, enough, joined);
           is_head = starts.is_head;
+          bounded = starts.bounded;
           sound = starts.sound_head;
           short = short;
         });

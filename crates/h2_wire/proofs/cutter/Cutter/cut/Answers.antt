@@ -1,10 +1,12 @@
 -- A call advances, or fails.
-use Rattle.std.proofs.Common.{refl, arith}
+use Rattle.std.proofs.Common.{drop, refl, arith, length-drop}
 use Rattle.std.proofs.lemmas.List.{take_rest}
 use Rattle.std.proofs.lemmas.Result.{err_from_is_err_and}
 use Rattle.h2_wire.proofs.CutLemmas.{advances_none, advances_some, not_failed, failed_again}
 use Rattle.h2_wire.proofs.CutLemmas.{not_checked, checked_again}
 use Rattle.h2_wire.proofs.CutLemmas.{memory_again}
+use Rattle.h2_frame.specs.Frames.{frame_of}
+use Rattle.h2_frame.proofs.RefusalLemmas.{refusal-carried}
 use Rattle.h2_wire.specs.Cutter.{FaultsAtHead}
 use Rattle.h2_wire.specs.Buffer.{state_of}
 use Rattle.h2_wire.proofs.cutter.Cutter.cut.Goals as goal
@@ -19,6 +21,7 @@ returns-in_err-step c =
         used = tt;
         all = tt;
         some = tt;
+        good = tt;
         failed = failed_again _ _ _ c.in_err-step.field-0.0 c.in_err-step.ensures.failed;
         checked =
             checked_again _ _
@@ -44,6 +47,7 @@ returns c = elim c.match-step.branch [
           used = omega (arith, more.all);
           all = λ _. more.all;
           some = λ some. (cc);
+          good = tt;
           failed = not_failed _ c.in_ok-step.step _ c.in_ok-step.ensures.failed;
           checked =
               not_checked
@@ -70,6 +74,12 @@ returns c = elim c.match-step.branch [
           used = complete.within;
           all = λ none. (cc);
           some = λ _. complete.some;
+          good =
+              let octets = c.take.new.self.octets.items in
+              refusal-carried octets (drop 9 octets) (frame_of w.payload_frame.result)
+              (rw complete.is_head at complete.bounded)
+              (rw (← complete.is_head) (omega (arith, complete.complete, length-drop 9 octets)))
+              (rw complete.is_head at carried);
           failed = not_failed _ c.in_ok-step.step _ c.in_ok-step.ensures.failed;
           checked =
               not_checked

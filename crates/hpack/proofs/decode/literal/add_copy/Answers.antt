@@ -9,7 +9,7 @@ returns-then-size_of_octets-maximum c =
     rw (fit-none one c.args.table.now.entries c.args.table.now.maximum
     (omega (
       arith,
-      c.size_of_octets.ensures,
+      c.size_of_octets.ensures.size,
       c.maximum.ensures,
       c.if-size_of_octets-maximum.true,
     ))) c.clear.ensures

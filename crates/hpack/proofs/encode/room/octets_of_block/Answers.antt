@@ -6,7 +6,7 @@ pub overflow_sub-result : goal.overflow_sub-result
 overflow_sub-result c =
     omega (
       arith,
-      c.list_size.ensures,
+      c.list_size.ensures.size,
       c.requires,
       most_octets-list_size c.args.fields.now,
     )
@@ -15,7 +15,7 @@ pub returns : goal.returns
 returns c =
     omega (
       arith,
-      c.list_size.ensures,
+      c.list_size.ensures.size,
       c.requires,
       most_octets-list_size c.args.fields.now,
     )

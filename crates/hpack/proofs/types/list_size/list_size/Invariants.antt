@@ -1,7 +1,11 @@
--- The size of the fields so far.
-use Rattle.std.proofs.Common.{◌≡◌, ◌-◌, ◌^◌, min, take}
+-- The size of the fields so far, whose names and values are octets.
+use Rattle.std.proofs.Common.{◌≡◌, ◌-◌, ◌^◌, min, take, drop}
 use Rattle.hpack.specs.Lists.{list_size}
+use Rattle.hpack.specs.Written.{AreOctets}
 use Rattle.hpack.proofs.types.list_size.list_size.Given as goal
 
 abbrev pub invariant-loop-field : goal.invariant-loop-field
-invariant-loop-field l = l.size ≡ min (list_size (take l.field-index l.fields)) (2 ^ 64 - 1)
+invariant-loop-field l = record {
+  size : l.size ≡ min (list_size (take l.field-index l.fields)) (2 ^ 64 - 1);
+  octets : AreOctets (drop l.field-index l.fields) → AreOctets l.fields;
+}
