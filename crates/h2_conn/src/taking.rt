@@ -6,6 +6,7 @@ ghost use Rattle.h2_frame.specs.Encoding.{refusal};
 ghost use Rattle.h2_machine.specs.Machine.{unprocessed_of_end};
 ghost use Rattle.h2_core.specs.Endpoint.{end_of, IsSound};
 ghost use Rattle.h2_conn.specs.Inner.{PartsTake, HappensByFrame};
+ghost use Rattle.h2_conn.specs.Loans.{without_lent};
 
 use crate::happened::{Happened, Progress};
 use crate::inner::Inner;
@@ -99,7 +100,9 @@ fn take_frame(
 }
 
 /// What is reported, without what is lent.
-fn without_loan(reported: Reported<'_>) -> Happened {
+fn without_loan(reported: Reported<'_>) -> Happened
+    ensures { result ≡ without_lent reported.entry }
+{
     match reported {
         Reported::Fields { id, end } => Happened::Fields { id, end },
         Reported::Data { id, flow, end, .. } => Happened::Data { id, flow, end },

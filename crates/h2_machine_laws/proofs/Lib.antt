@@ -1,10 +1,10 @@
 -- The lemmas of the laws.
 mod AlikeAnswers
-mod AlikeFrames
+pub mod AlikeFrames
 mod BlocksBegun
-mod BoundsOfCalls
-mod BoundsOfFrames
-mod BoundsOfSteps
+pub mod BoundsOfCalls
+pub mod BoundsOfFrames
+pub mod BoundsOfSteps
 mod CallFailing
 mod CallLaw
 mod CallOpen
@@ -14,13 +14,13 @@ mod CallReset
 mod CallSend
 mod CallSendItems
 mod CallWithoutStream
-mod ConservedByCalls
-mod ConservedByFrames
-mod ConservedBySteps
-mod CountedByCalls
-mod CountedByFrames
-mod CountedBySteps
-mod CountedUnprocessed
+pub mod ConservedByCalls
+pub mod ConservedByFrames
+pub mod ConservedBySteps
+pub mod CountedByCalls
+pub mod CountedByFrames
+pub mod CountedBySteps
+pub mod CountedUnprocessed
 mod EachStream
 mod EntryCounts
 pub mod EveryStep
@@ -30,8 +30,8 @@ mod FreshNumbers
 mod GoAwaysSent
 mod ItemsApart
 mod LogCore
-mod NewEnd
-mod NextUnprocessed
+pub mod NewEnd
+pub mod NextUnprocessed
 mod NumberedLogs
 mod NumberedSteps
 mod OneAwaited
@@ -40,16 +40,16 @@ mod OwedAtClose
 pub mod OwedOnStreams
 mod OwedSums
 mod QuietNumbers
-mod RangesOfCalls
-mod RangesOfFrames
-mod RangesOfSteps
+pub mod RangesOfCalls
+pub mod RangesOfFrames
+pub mod RangesOfSteps
 mod RecvBeside
 mod RecvBlocks
 mod RecvConnectionFault
 mod RecvConnectionItems
 mod RecvData
 mod RecvEvents
-mod RecvFrames
+pub mod RecvFrames
 mod RecvItems
 mod RecvOpenings
 mod RecvPong

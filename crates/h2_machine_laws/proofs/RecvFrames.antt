@@ -105,7 +105,7 @@ completes_test true code begun frame lone fault is = cc
 completes_test false code begun frame lone fault is = completes_by begun frame lone fault is
 
 -- A frame that completes a lone frame is that frame.
-completes_frame : (view : View) (frame lone : Frame)
+pub completes_frame : (view : View) (frame lone : Frame)
     → frame_step view frame ≡ completes (alone lone) → frame ≡ lone
 unfolding frame_step
 completes_frame view frame lone is = completes_test _ _ view.begun frame lone _ is

@@ -1,0 +1,2 @@
+-- Frames that are taken, and the octets that are kept of them.
+mod TakeFrames
