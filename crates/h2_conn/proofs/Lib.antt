@@ -1,2 +1,10 @@
 -- Frames that are taken, and the octets that are kept of them.
 mod TakeFrames
+-- What is reported of a frame.
+mod TakeReports
+-- Where a fault of the stream is made.
+mod TakeFaults
+-- What taking octets makes of a log.
+mod TakeParts
+-- The values of an end stay sound.
+mod TakeSound

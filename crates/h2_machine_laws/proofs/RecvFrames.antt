@@ -194,7 +194,7 @@ step_after e log decoded (completes item) typed started sound w g =
     (typed item refl) started still w h)
 
 -- The step that a frame makes is the same at an end as at its log.
-step_same : (e : End) (log : Log) (octets : List ℕ) (frame : Frame)
+pub step_same : (e : End) (log : Log) (octets : List ℕ) (frame : Frame)
     → e.reading.started ≡ not (length log.frames == 0) → e.reading.begun ≡ log.begun
     → frame_step (end_view e) frame ≡ frame_step (log_view (used log octets [])) frame
 unfolding frame_step used
