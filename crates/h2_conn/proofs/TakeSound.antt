@@ -1,6 +1,10 @@
 -- The values of an end are sound after each step that taking octets makes.
 use Rattle.std.proofs.Common.{◌≡◌, ◌≢◌, ℕ, ◌≤◌, List, Option, Some, None, refl, ap, sym, subst}
-use Rattle.std.proofs.Common.{◌∙◌, arith}
+use Rattle.std.proofs.Common.{◌∙◌, arith, Result, Ok, Err}
+use Rattle.std.specs.Result.{OnOk, IfErr}
+use Rattle.h2_frame.specs.declared.code.Code.{Code}
+use Rattle.h2_frame.specs.declared.code.Code.TheVariants.{InternalError}
+use Rattle.h2_wire.proofs.ReadingLemmas.{none_some}
 use Rattle.hpack.specs.declared.types.field.Field.{Field}
 use Rattle.h2_frame.specs.Frames.{Frame}
 use Rattle.h2_frame.specs.Encoding.{refusal, stream_of}
@@ -20,7 +24,7 @@ use Rattle.h2_machine_laws.proofs.CountedUnprocessed.{unprocessed_counts}
 use Rattle.h2_machine_laws.proofs.RangesOfFrames.{frame_in_range}
 use Rattle.h2_machine_laws.proofs.RangesOfSteps.{fits, are_in_range, closed_fits}
 use Rattle.h2_core.specs.Endpoint.{IsSound}
-use Rattle.h2_core.specs.Frames.{IsDecodedBy}
+use Rattle.h2_core.specs.Frames.{IsDecodedBy, FailsWithoutMemory}
 use Rattle.h2_core.proofs.FrameWritable.{writable}
 use Rattle.h2_conn.specs.declared.happened.Happened.{Happened}
 use Rattle.h2_conn.specs.Inner.{FrameHappens}
@@ -66,3 +70,13 @@ unprocessed_sound e other id sound up next some closed =
       counts = unprocessed_counts e id next some sound.counts;
     } in
     subst (λ (x : End). IsSound x) (sym closed) after
+
+-- After a call that reports it, or for which memory is refused.
+pub closed_sound : (result : Result Unit Code) (e other : End) (id : ℕ) → IsSound e
+    → e.failed ≡ None → id ≡ unprocessed_of_end e.role e.streams.entries e.goaway.received → id ≢ 0
+    → OnOk result (other ≡ close_unprocessed e id)
+    → IfErr result (λ code. FailsWithoutMemory e code other) → other.failed ≡ None → IsSound other
+closed_sound (Ok done) e other id sound up next some closed fails going =
+    unprocessed_sound e other id sound up next some closed
+closed_sound (Err code) e other id sound up next some closed fails going =
+    none_some InternalError (sym going ∙ fails.after.failed)

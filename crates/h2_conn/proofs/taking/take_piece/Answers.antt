@@ -63,3 +63,11 @@ returns-in-Err-take_frame-clause-takes c = λ values log p.
       within = c.in-Ok.ensures.used;
       none = (rw c.in-Some.is at advances.none_unparsed_after_a_frame) refl;
     }) c.in-Err-take_frame.ensures
+
+pub returns-in_default-clause-cuts : goal.returns-in_default-clause-cuts
+returns-in_default-clause-cuts c = λ up.
+    (rw c.in-Ok.is at c.cut.follows.holds-at-none).continues.sound
+
+pub returns-in-Ok-take_frame-clause-cuts : goal.returns-in-Ok-take_frame-clause-cuts
+returns-in-Ok-take_frame-clause-cuts c = λ up.
+    (rw c.in-Ok.is at c.cut.follows.holds-at-none).continues.sound
