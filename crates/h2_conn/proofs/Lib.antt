@@ -8,3 +8,5 @@ mod TakeFaults
 mod TakeParts
 -- The values of an end stay sound.
 mod TakeSound
+-- A new end.
+mod TakeStart

@@ -408,3 +408,11 @@ cut_stopped values cutter new e other log piece (faults.PayloadFault code) p tak
     fault_taken values cutter new e other log piece (faults.PayloadFault code) p takes
     (first_fault cutter.fault (CutterFaults cutter piece (faults.PayloadFault code) new)
     (new ≡ cutter) (p.cut takes.up).sound fails) failed
+
+-- The event that is answered may be said in another way.
+pub said_so : (values : Values) (log : Log) (piece : List ℕ) (count : ℕ) (event other : Option Event)
+    (cutter : CutterState) (e : End) → event ≡ other
+    → Takes values log piece (Took count other) cutter e
+    → Takes values log piece (Took count event) cutter e
+said_so values log piece count event other cutter e same takes =
+    subst (λ (o : Option Event). Takes values log piece (Took count o) cutter e) (sym same) takes
