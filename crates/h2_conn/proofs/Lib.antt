@@ -7,3 +7,15 @@ pub mod AskOutput
 pub mod AskRefusing
 -- What a connection answers of itself.
 pub mod AskReaders
+-- Frames that are taken, and the octets that are kept of them.
+mod TakeFrames
+-- What is reported of a frame.
+mod TakeReports
+-- Where a fault of the stream is made.
+mod TakeFaults
+-- What taking octets makes of a log.
+mod TakeParts
+-- The values of an end stay sound.
+mod TakeSound
+-- A new end.
+mod TakeStart

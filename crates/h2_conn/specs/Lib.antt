@@ -1,3 +1,4 @@
 pub mod Conn
 pub mod Events
 pub mod Inner
+pub mod Loans

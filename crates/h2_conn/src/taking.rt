@@ -1,11 +1,12 @@
 //! Taking octets, before anything is lent.
 
-ghost use Rattle.std.specs.Prelude.{◌≡◌, None};
+ghost use Rattle.std.specs.Prelude.{◌≡◌, ◌≤◌, None, IfOk, length};
 ghost use Rattle.h2_frame.specs.Frames.{frame_of};
 ghost use Rattle.h2_frame.specs.Encoding.{refusal};
 ghost use Rattle.h2_machine.specs.Machine.{unprocessed_of_end};
 ghost use Rattle.h2_core.specs.Endpoint.{end_of, IsSound};
 ghost use Rattle.h2_conn.specs.Inner.{PartsTake, HappensByFrame};
+ghost use Rattle.h2_conn.specs.Loans.{without_lent};
 
 use crate::happened::{Happened, Progress};
 use crate::inner::Inner;
@@ -16,7 +17,8 @@ use h2_wire::{Cutter, WireFault};
 impl Inner {
     /// Takes octets of the piece, up to the end of one frame or else all of them.
     pub(crate) fn take(&mut self, piece: &[u8]) -> Result<Progress, Code>
-        ensures { PartsTake self.old.cutter (end_of self.old.end) piece.now self.new.end.list
+        ensures used { IfOk result (λ progress. progress.used ≤ length piece.now) }
+        ensures takes { PartsTake self.old.cutter (end_of self.old.end) piece.now self.new.end.list
             self.new.octets.items result self.new.cutter (end_of self.new.end) }
     {
         if let Some(code) = self.end.failed() {
@@ -45,6 +47,7 @@ fn take_piece(
     requires cuts { cutter.old.fault ≡ None }
     requires reported { unprocessed_of_end end.old.role end.old.streams.entries
         end.old.goaway_received ≡ 0 }
+    ensures used { IfOk result (λ progress. progress.used ≤ length piece.now) }
     ensures sound { end.new.failed ≡ None → IsSound (end_of end.new) }
     ensures cuts { end.new.failed ≡ None → cutter.new.fault ≡ None }
     ensures takes { PartsTake cutter.old (end_of end.old) piece.now end.new.list octets.new.items
@@ -99,7 +102,9 @@ fn take_frame(
 }
 
 /// What is reported, without what is lent.
-fn without_loan(reported: Reported<'_>) -> Happened {
+fn without_loan(reported: Reported<'_>) -> Happened
+    ensures { result ≡ without_lent reported.entry }
+{
     match reported {
         Reported::Fields { id, end } => Happened::Fields { id, end },
         Reported::Data { id, flow, end, .. } => Happened::Data { id, flow, end },

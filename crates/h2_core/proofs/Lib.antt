@@ -28,7 +28,7 @@ mod FrameGroups
 mod FrameTables
 mod FrameTaking
 mod FrameVerdicts
-mod FrameWritable
+pub mod FrameWritable
 -- Why calls are refused.
 mod CallConditions
 -- What calls add to the output.

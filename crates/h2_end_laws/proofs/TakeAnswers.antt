@@ -64,14 +64,14 @@ take_closed role values log after piece answer is
     (subst (λ (r : Role). MayRunOutOfMemory r log octets) own may))
 
 -- Events that are reported stand before those before.
-reported_is : (log : Log) (events : List Event)
+pub reported_is : (log : Log) (events : List Event)
     → (with_reported log events).reported ≡ events ++ log.reported
 unfolding with_reported
 reported_is log [] = refl
 reported_is log (event ∷ events) = refl
 
 -- What is written reports nothing.
-sent_reported : (log : Log) (items : List Item) → (with_sent log items).reported ≡ log.reported
+pub sent_reported : (log : Log) (items : List Item) → (with_sent log items).reported ≡ log.reported
 unfolding with_sent
 sent_reported log [] = refl
 sent_reported log (item ∷ items) = refl
@@ -84,7 +84,7 @@ unfolding with_sent
 unreturned_by more log true = refl
 unreturned_by more log false = refl
 
-unreturned_reported : (more : ℕ) (log : Log)
+pub unreturned_reported : (more : ℕ) (log : Log)
     → (with_unreturned more log).reported ≡ log.reported
 unfolding with_unreturned
 unreturned_reported more log = unreturned_by more log (nat_lt 0 more && nat_lt (waiting log)

@@ -1,11 +1,12 @@
 -- A machine that represents a log makes of frames and items what the log does.
-use Rattle.std.proofs.Common.{◌≡◌, Option, None, refl, ap, sym, ◌∙◌}
+use Rattle.std.proofs.Common.{◌≡◌, ℕ, List, [], ◌∷◌, ◌++◌, Option, None, refl, ap, sym, ◌∙◌}
 use Rattle.h2_frame.specs.Frames.{Frame, GoAway}
 use Rattle.h2_block.specs.Grouping.{Item, alone}
 use Rattle.h2_log.specs.Acts.{Values}
 use Rattle.h2_log.specs.ItemEffects.{events_of}
 use Rattle.h2_log.specs.ItemRules.{Decoded, frame_step, verdict_of}
 use Rattle.h2_log.specs.Log.{Log}
+use Rattle.h2_log.specs.LogSteps.{used}
 use Rattle.h2_log.specs.LogView.{log_view}
 use Rattle.h2_log.specs.Verdicts.{Verdict, Reported}
 use Rattle.h2_log.specs.View.{View}
@@ -59,3 +60,29 @@ events_alike values e log decoded item represents up =
     ∙ events_by (end_view (with_begun e None)) (log_view (record log { begun = None })) decoded
     (verdict_of (log_view (record log { begun = None })) decoded item) item
     (represents.running up).goaway.least_received
+
+-- They are the same where the octets of the frame that ends the item were used.
+pub events_used : (values : Values) (e : End) (log : Log) (octets : List ℕ) (frame : Frame)
+    (decoded : Option Decoded) (item : Item) → Represents values e log → e.failed ≡ None
+    → events_of (end_view (with_begun e None)) decoded
+    (verdict_of (end_view (with_begun e None)) decoded item) item
+    ≡ events_of (log_view (record (used log octets []) {
+      frames = log.frames ++ frame ∷ [];
+      begun = None;
+    })) decoded (verdict_of (log_view (record (used log octets []) {
+      frames = log.frames ++ frame ∷ [];
+      begun = None;
+    })) decoded item) item
+unfolding used
+events_used values e log octets frame decoded item represents up =
+    let after : Log = record (used log octets []) {
+      frames = log.frames ++ frame ∷ [];
+      begun = None;
+    } in
+    ap (λ (verdict : Verdict). events_of (end_view (with_begun e None)) decoded verdict item)
+    (over_limits_same (with_begun e None) after decoded item (waits_of values e log represents)
+    (sound_begun log None (sound_log e.role values log represents.came
+    (sym represents.failed ∙ up)))
+    (going_begun e log None (going e log represents.streams (represents.running up))))
+    ∙ events_by (end_view (with_begun e None)) (log_view after) decoded
+    (verdict_of (log_view after) decoded item) item (represents.running up).goaway.least_received

@@ -1,10 +1,10 @@
 -- The lemmas of the laws.
 pub mod AlikeAnswers
-mod AlikeFrames
+pub mod AlikeFrames
 mod BlocksBegun
 pub mod BoundsOfCalls
-mod BoundsOfFrames
-mod BoundsOfSteps
+pub mod BoundsOfFrames
+pub mod BoundsOfSteps
 mod CallFailing
 mod CallLaw
 mod CallOpen
@@ -15,12 +15,12 @@ mod CallSend
 mod CallSendItems
 pub mod CallWithoutStream
 pub mod ConservedByCalls
-mod ConservedByFrames
+pub mod ConservedByFrames
 pub mod ConservedBySteps
 pub mod CountedByCalls
-mod CountedByFrames
+pub mod CountedByFrames
 pub mod CountedBySteps
-mod CountedUnprocessed
+pub mod CountedUnprocessed
 mod EachStream
 mod EntryCounts
 pub mod EveryStep
@@ -30,8 +30,8 @@ pub mod FreshNumbers
 mod GoAwaysSent
 mod ItemsApart
 mod LogCore
-mod NewEnd
-mod NextUnprocessed
+pub mod NewEnd
+pub mod NextUnprocessed
 mod NumberedLogs
 mod NumberedSteps
 mod OneAwaited
@@ -41,7 +41,7 @@ pub mod OwedOnStreams
 mod OwedSums
 mod QuietNumbers
 pub mod RangesOfCalls
-mod RangesOfFrames
+pub mod RangesOfFrames
 pub mod RangesOfSteps
 mod RecvBeside
 mod RecvBlocks
@@ -49,7 +49,7 @@ mod RecvConnectionFault
 mod RecvConnectionItems
 mod RecvData
 mod RecvEvents
-mod RecvFrames
+pub mod RecvFrames
 mod RecvItems
 mod RecvOpenings
 mod RecvPong

@@ -105,7 +105,7 @@ completes_test true code begun frame lone fault is = cc
 completes_test false code begun frame lone fault is = completes_by begun frame lone fault is
 
 -- A frame that completes a lone frame is that frame.
-completes_frame : (view : View) (frame lone : Frame)
+pub completes_frame : (view : View) (frame lone : Frame)
     → frame_step view frame ≡ completes (alone lone) → frame ≡ lone
 unfolding frame_step
 completes_frame view frame lone is = completes_test _ _ view.begun frame lone _ is
@@ -194,7 +194,7 @@ step_after e log decoded (completes item) typed started sound w g =
     (typed item refl) started still w h)
 
 -- The step that a frame makes is the same at an end as at its log.
-step_same : (e : End) (log : Log) (octets : List ℕ) (frame : Frame)
+pub step_same : (e : End) (log : Log) (octets : List ℕ) (frame : Frame)
     → e.reading.started ≡ not (length log.frames == 0) → e.reading.begun ≡ log.begun
     → frame_step (end_view e) frame ≡ frame_step (log_view (used log octets [])) frame
 unfolding frame_step used

@@ -25,6 +25,7 @@ pub continues_after : (old new : CutterState) (used : List ℕ) (frames : List F
     → CutterContinues old used frames new
 unfolding preface
 continues_after old new used frames sound in_preface limit place past = record {
+  sound = sound;
   same_limit = limit;
   represents = λ expects limits stream so_far represented. record {
     sound = sound;

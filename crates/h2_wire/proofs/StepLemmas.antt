@@ -93,6 +93,7 @@ pub continues_preface : (old new : CutterState) (matched : ℕ) (used : List ℕ
 unfolding preface expected_preface
 continues_preface old new matched used sound in_preface after limit place unparsed few same
     new_unparsed = record {
+      sound = sound;
       same_limit = limit;
       represents = λ expects limits stream so_far represented.
           let (asked, none, all) =

@@ -40,10 +40,11 @@ pub record CutterRepresents (state : CutterState) (expects : Bool) (limits : Lim
   pub place : state.place ≡ saturated (length stream)
   pub ahead : (place : ℕ) → length stream < place → limits place ≡ state.limit
 
--- After a call that used these octets and answered these frames: if the cutter represented `stream`
--- and `so_far`, it now represents `stream ++ used` and `so_far ++ frames`.
+-- After a call that used these octets and answered these frames the cutter has met no fault: if it
+-- represented `stream` and `so_far`, it now represents `stream ++ used` and `so_far ++ frames`.
 pub record CutterContinues (old : CutterState) (used : List ℕ) (frames : List Frame)
     (new : CutterState) : Type 0 where
+  pub sound : new.fault ≡ None
   pub same_limit : new.limit ≡ old.limit
   pub represents : (expects : Bool) (limits : Limits) (stream : List ℕ) (so_far : List Frame)
       → CutterRepresents old expects limits stream so_far

@@ -1,0 +1,418 @@
+-- What taking octets makes of the parts of a connection: it is a step of each log that they
+-- represent.
+use Rattle.std.proofs.Common.{◌≡◌, ◌≢◌, ℕ, ◌≤◌, List, [], ◌∷◌, ◌++◌, length, take, drop, Option}
+use Rattle.std.proofs.Common.{◌⊎◌, inl, inr, Some, None, refl, ap, sym, subst, ◌∙◌, append-nil}
+use Rattle.std.proofs.lemmas.List.{take-append-drop, length-take-le}
+use Rattle.std.proofs.Math.Seq.{take-length}
+use Rattle.std.specs.Option.{option_map, MatchOption}
+use Rattle.hpack.specs.declared.types.field.Field.{Field}
+use Rattle.h2_frame.specs.declared.code.Code.{Code}
+use Rattle.h2_frame.specs.declared.code.Code.TheVariants.{InternalError}
+use Rattle.h2_frame.specs.Frames.{Frame}
+use Rattle.h2_wire.specs.declared.fault.WireFault.{WireFault}
+use Rattle.h2_wire.specs.declared.fault.WireFault.TheVariants as faults
+use Rattle.h2_wire.specs.Faults.{wire_fault_code}
+use Rattle.h2_wire.specs.Streams.{Limits, Frames}
+use Rattle.h2_wire.specs.Cutter.{CutterState, CutterRepresents, CutterContinues, CutterFaults}
+use Rattle.h2_wire.specs.Cutter.{CutterFails}
+use Rattle.h2_wire.proofs.ReadingLemmas.{none_some}
+use Rattle.h2_log.specs.declared.role.Role.{Role}
+use Rattle.h2_log.specs.Acts.{Values}
+use Rattle.h2_log.specs.Events.{Event, UnprocessedEvent}
+use Rattle.h2_log.specs.ItemRules.{Decoded}
+use Rattle.h2_log.specs.Settings.{is_server}
+use Rattle.h2_log.specs.Log.{Log, next_unprocessed}
+use Rattle.h2_log.specs.LogSteps.{limits_from, used, took_part, took_frame, took_fault, took_none}
+use Rattle.h2_log.specs.LogSteps.{took_out_of_memory}
+use Rattle.h2_log.specs.Histories.{IsLog, TakesOctets, TakesPart, TakesFrame, TakesFault}
+use Rattle.h2_log.specs.Histories.{IsDecodedFor, MayRunOutOfMemory, with_none, with_frame}
+use Rattle.h2_log.proofs.StreamLemmas.{Keeps-frame, Keeps-none}
+use Rattle.h2_machine.specs.End.{End}
+use Rattle.h2_machine.specs.Machine.{after_frame, fail, close_unprocessed, unprocessed_of_end}
+use Rattle.h2_machine.specs.Represents.{Represents, RepresentsOutput, RepresentsStreams}
+use Rattle.h2_machine_laws.specs.Machines.{Step, uses_part, ends_frame as a_frame}
+use Rattle.h2_machine_laws.specs.Machines.{meets_fault as a_fault, runs_out_of_memory as no_memory}
+use Rattle.h2_machine_laws.specs.Machines.{reports_unprocessed as one_unprocessed, MayStep}
+use Rattle.h2_machine_laws.specs.Machines.{log_after, machine_after}
+use Rattle.h2_machine_laws.proofs.EveryStep.{steps_represent, frames_represent}
+use Rattle.h2_machine_laws.proofs.NextUnprocessed.{next_same}
+use Rattle.h2_end_laws.specs.Takes.{TakeAnswer, Took, Failed, events_answered, MayTake}
+use Rattle.h2_end_laws.specs.Takes.{has_failed, reports_unprocessed, ends_no_frame, ends_frame}
+use Rattle.h2_end_laws.specs.Takes.{meets_fault, runs_out_of_memory}
+use Rattle.h2_end_laws.proofs.PayloadLimits.{limits_to_come}
+use Rattle.h2_core.specs.Failure.{FailsAlike}
+use Rattle.h2_core.specs.Frames.{FrameFails, FailsWithoutMemory, frame_events}
+use Rattle.h2_conn.specs.declared.happened.Happened.{Happened}
+use Rattle.h2_conn.specs.Events.{happened_value}
+use Rattle.h2_conn.specs.Inner.{PartsRepresent, happened_events, FrameHappens}
+use Rattle.h2_conn.proofs.TakeFaults.{fault_in}
+use Rattle.h2_conn.proofs.TakeReports.{frame_reported, decoded_for}
+
+-- A call of `take` may answer so, and the parts represent the log with it.
+abbrev pub Takes : Values → Log → List ℕ → TakeAnswer → CutterState → End → Type 0
+Takes values log piece answer cutter e =
+    (after : Log) × MayTake log piece answer after × PartsRepresent values cutter e after
+
+-- An end that has failed as another has represents what that one does.
+represents_alike : (values : Values) (e other : End) (log : Log) → Represents values e log
+    → FailsAlike e other → Represents values other log
+represents_alike values e other log s alike =
+    record {
+      came = subst (λ (role : Role). IsLog role values log) (sym alike.role) s.came;
+      role = alike.role ∙ s.role;
+      failed = alike.failed ∙ s.failed;
+      output = subst (λ octets. RepresentsOutput octets log.given log.written)
+          (sym alike.waiting) s.output;
+      streams = subst (λ streams. RepresentsStreams streams log.role log.received log.sent
+          log.reported log.calls) (sym alike.streams) s.streams;
+      running = λ up. absurd (alike.down (sym alike.failed ∙ up));
+      whole = rw (alike.windows, alike.streams) s.whole;
+      used = rw alike.streams s.used;
+    }
+
+-- Of a connection that has failed only the machine counts.
+pub failed_parts : (values : Values) (cutter : CutterState) (e : End) (log : Log)
+    → Represents values e log → e.failed ≢ None → PartsRepresent values cutter e log
+failed_parts values cutter e log s down =
+    record {
+      machine = s;
+      cut = λ up. absurd (down (s.failed ∙ up));
+      unparsed = λ up. absurd (down (s.failed ∙ up));
+    }
+
+alike_parts : (values : Values) (cutter : CutterState) (e other : End) (log : Log)
+    → Represents values e log → FailsAlike e other → PartsRepresent values cutter other log
+alike_parts values cutter e other log s alike =
+    failed_parts values cutter other log (represents_alike values e other log s alike)
+    (λ up. alike.down (sym alike.failed ∙ up))
+
+-- An end takes octets where it is up and has reported all unprocessed streams.
+pub takes_octets : (values : Values) (e : End) (log : Log) → Represents values e log
+    → e.failed ≡ None → unprocessed_of_end e.role e.streams.entries e.goaway.received ≡ 0
+    → TakesOctets log
+takes_octets values e log s up reported =
+    let log_up : log.failed ≡ None = sym s.failed ∙ up in
+    record { up = log_up; all_reported = sym (next_same values e log s log_up) ∙ reported }
+
+-- The limits that are in force are always the same.
+limits_kept : (role : Role) (values : Values) (log after : Log) → IsLog role values log
+    → IsLog role values after → limits_from after ≡ limits_from log
+limits_kept role values log after is came =
+    limits_to_come role values after came ∙ sym (limits_to_come role values log is)
+
+same_cut : (cutter : CutterState) (role other : Role) (limits others : Limits)
+    (input octets : List ℕ) (frames more : List Frame) → other ≡ role → others ≡ limits
+    → octets ≡ input → more ≡ frames
+    → CutterRepresents cutter (is_server role) limits input frames
+    → CutterRepresents cutter (is_server other) others octets more
+same_cut cutter role other limits others input octets frames more role_is limits_are input_is
+    frames_are h = rw (role_is, limits_are, input_is, frames_are) h
+
+-- Octets that end no frame.
+pub no_frame_taken : (values : Values) (cutter new : CutterState) (e : End) (log : Log)
+    (piece : List ℕ) (count : ℕ) → PartsRepresent values cutter e log → TakesOctets log
+    → e.failed ≡ None → count ≡ length piece → CutterContinues cutter (take count piece) [] new
+    → Takes values log piece (Took count None) new e
+unfolding MayStep log_after machine_after used
+no_frame_taken values cutter new e log piece count p takes up all continues =
+    let all_of : take count piece ≡ piece =
+    ap (λ (n : ℕ). take n piece) all ∙ take-length piece in
+    let now : CutterRepresents new (is_server log.role) (limits_from log) (log.input ++ piece)
+    log.frames =
+    same_cut new log.role log.role (limits_from log) (limits_from log)
+    (log.input ++ take count piece) (log.input ++ piece) (log.frames ++ []) log.frames refl refl
+    (ap (λ (o : List ℕ). log.input ++ o) (sym all_of)) (sym (append-nil log.frames))
+    (continues.represents (is_server log.role) (limits_from log) log.input log.frames
+    (p.cut takes.up)) in
+    let after : Log = took_part log piece new.unparsed in
+    let machine : Represents values e after =
+    steps_represent values e log (uses_part piece new.unparsed) p.machine (takes, now.split) in (
+      after,
+      ends_no_frame takes new.unparsed now.split (ap (λ (n : ℕ). Took n None) all) refl,
+      record {
+        machine = machine;
+        cut = λ going.
+            same_cut new log.role log.role (limits_from log) (limits_from after)
+            (log.input ++ piece) (log.input ++ piece) log.frames log.frames refl
+            (limits_kept e.role values log after p.machine.came machine.came) refl refl now;
+        unparsed = λ going. refl;
+      },
+    )
+
+-- A frame that was cut out of a piece.
+pub record IsCut (cutter new : CutterState) (piece : List ℕ) (count : ℕ) (frame : Frame) : Type 0
+  where
+    pub continues : CutterContinues cutter (take count piece) (frame ∷ []) new
+    pub within : count ≤ length piece
+    pub none : new.unparsed ≡ []
+
+cut_now : (values : Values) (cutter new : CutterState) (e : End) (log : Log) (piece : List ℕ)
+    (count : ℕ) (frame : Frame) → PartsRepresent values cutter e log → log.failed ≡ None
+    → IsCut cutter new piece count frame
+    → CutterRepresents new (is_server log.role) (limits_from log)
+    (log.input ++ take count piece) (log.frames ++ frame ∷ [])
+cut_now values cutter new e log piece count frame p up cut =
+    cut.continues.represents (is_server log.role) (limits_from log) log.input log.frames
+    (p.cut up)
+
+read_of : (values : Values) (cutter new : CutterState) (e : End) (log : Log) (piece : List ℕ)
+    (count : ℕ) (frame : Frame) → PartsRepresent values cutter e log → log.failed ≡ None
+    → IsCut cutter new piece count frame → TakesFrame log.role log (take count piece) frame
+read_of values cutter new e log piece count frame p up cut =
+    subst (λ (unparsed : List ℕ). Frames (is_server log.role) (limits_from log)
+    (log.input ++ take count piece) (log.frames ++ frame ∷ []) unparsed) cut.none
+    (cut_now values cutter new e log piece count frame p up cut).split
+
+-- what has happened, as the event that is answered
+answered : (list : List Field) (octets : List ℕ) (happened : Option Happened)
+    → events_answered (option_map (happened_value list octets) happened)
+    ≡ happened_events list octets happened
+answered list octets None = refl
+answered list octets (Some happened) = refl
+
+-- The parts after a frame that the connection outlives.
+frame_parts : (values : Values) (cutter new : CutterState) (e other : End) (log : Log)
+    (piece : List ℕ) (count : ℕ) (frame : Frame) (decoded : Option Decoded)
+    → PartsRepresent values cutter e log → log.failed ≡ None
+    → IsCut cutter new piece count frame → other.role ≡ e.role
+    → Represents values other (took_frame log (take count piece) decoded frame)
+    → PartsRepresent values new other (took_frame log (take count piece) decoded frame)
+unfolding used
+frame_parts values cutter new e other log piece count frame decoded p up cut role machine =
+    let octets : List ℕ = take count piece in
+    let after : Log = took_frame log octets decoded frame in
+    let keeps = Keeps-frame (used log octets []) decoded frame in
+    let came : IsLog e.role values after =
+    subst (λ (r : Role). IsLog r values after) role machine.came in
+    record {
+      machine = machine;
+      cut = λ going.
+          same_cut new log.role after.role (limits_from log) (limits_from after)
+          (log.input ++ octets) after.input (log.frames ++ frame ∷ []) after.frames keeps.role
+          (limits_kept e.role values log after p.machine.came came) keeps.input keeps.frames
+          (cut_now values cutter new e log piece count frame p up cut);
+      unparsed = λ going. cut.none ∙ sym keeps.unparsed;
+    }
+
+-- The log keeps its role.
+same_role : (log : Log) (octets : List ℕ) (decoded : Option Decoded) (frame : Frame)
+    → (took_frame log octets decoded frame).role ≡ log.role
+unfolding used
+same_role log octets decoded frame = (Keeps-frame (used log octets []) decoded frame).role
+
+-- A frame that the connection outlives.
+pub frame_taken : (values : Values) (cutter new : CutterState) (e other : End) (log : Log)
+    (piece : List ℕ) (count : ℕ) (frame : Frame) (list : List Field) (octets : List ℕ)
+    (happened : Option Happened) → PartsRepresent values cutter e log → TakesOctets log
+    → e.failed ≡ None → IsCut cutter new piece count frame
+    → FrameHappens e frame list octets happened other
+    → Takes values log piece (Took count (option_map (happened_value list octets) happened)) new
+    other
+frame_taken values cutter new e other log piece count frame list octets happened p takes up cut h =
+    let taken : List ℕ = take count piece in
+    let read = read_of values cutter new e log piece count frame p takes.up cut in
+    let sees : IsDecodedFor log h.decoded frame =
+    decoded_for values e log h.decoded frame p.machine up h.says in
+    let after : Log = took_frame log taken h.decoded frame in
+    let machine : Represents values other after =
+    subst (λ (x : End). Represents values x after) (sym h.after)
+    (frames_represent values e log taken frame h.decoded p.machine takes read sees) in
+    let going : after.failed ≡ None = sym machine.failed ∙ h.up in
+    let reported : after.reported
+    ≡ events_answered (option_map (happened_value list octets) happened) ++ log.reported =
+    frame_reported values e log taken h.decoded frame p.machine up going
+    ∙ ap (λ (events : List Event). events ++ log.reported)
+    (sym h.events ∙ sym (answered list octets happened)) in (
+      after,
+      ends_frame takes taken (drop count piece) (sym (take-append-drop count piece)) frame
+          h.decoded read sees refl (sym (length-take-le count piece cut.within), going, reported),
+      frame_parts values cutter new e other log piece count frame h.decoded p takes.up cut
+          (machine.role ∙ same_role log taken h.decoded frame ∙ sym p.machine.role) machine,
+    )
+
+-- A frame with which the connection fails.
+pub frame_fails : (values : Values) (cutter new : CutterState) (e other : End) (log : Log)
+    (piece : List ℕ) (count : ℕ) (frame : Frame) (code : Code)
+    → PartsRepresent values cutter e log → TakesOctets log → e.failed ≡ None
+    → IsCut cutter new piece count frame → FrameFails e frame code other
+    → Takes values log piece (Failed code) new other
+frame_fails values cutter new e other log piece count frame code p takes up cut h =
+    let taken : List ℕ = take count piece in
+    let read = read_of values cutter new e log piece count frame p takes.up cut in
+    let sees : IsDecodedFor log h.decoded frame =
+    decoded_for values e log h.decoded frame p.machine up h.says in
+    let after : Log = took_frame log taken h.decoded frame in
+    let machine : Represents values (after_frame e h.decoded frame) after =
+    frames_represent values e log taken frame h.decoded p.machine takes read sees in (
+      after,
+      ends_frame takes taken (drop count piece) (sym (take-append-drop count piece)) frame
+          h.decoded read sees refl (sym machine.failed ∙ h.fails),
+      alike_parts values new (after_frame e h.decoded frame) other after machine h.after,
+    )
+
+-- Memory was refused with so many octets.
+pub memory_refused : (values : Values) (cutter new : CutterState) (e other : End) (log : Log)
+    (piece octets unused : List ℕ) (code : Code) → PartsRepresent values cutter e log
+    → log.failed ≡ None → piece ≡ octets ++ unused → MayRunOutOfMemory log.role log octets
+    → FailsWithoutMemory e code other → Takes values log piece (Failed code) new other
+unfolding MayStep log_after machine_after
+memory_refused values cutter new e other log piece octets unused code p up joined may h =
+    let after : Log = took_out_of_memory log octets in
+    let machine : Represents values (fail InternalError e.streams.last_processed e) after =
+    steps_represent values e log (no_memory octets) p.machine (up, may) in (
+      after,
+      runs_out_of_memory up octets unused joined may (ap Failed h.lacks) refl,
+      alike_parts values new (fail InternalError e.streams.last_processed e) other after machine
+          h.after,
+    )
+
+-- Memory was refused with a frame.
+pub frame_lacks : (values : Values) (cutter new : CutterState) (e other : End) (log : Log)
+    (piece : List ℕ) (count : ℕ) (frame : Frame) (code : Code)
+    → PartsRepresent values cutter e log → TakesOctets log
+    → IsCut cutter new piece count frame → FailsWithoutMemory e code other
+    → Takes values log piece (Failed code) new other
+frame_lacks values cutter new e other log piece count frame code p takes cut h =
+    memory_refused values cutter new e other log piece (take count piece) (drop count piece) code p
+    takes.up (sym (take-append-drop count piece))
+    (with_frame takes frame (read_of values cutter new e log piece count frame p takes.up cut)) h
+
+-- Either of them.
+pub frame_stops : (values : Values) (cutter new : CutterState) (e other : End) (log : Log)
+    (piece : List ℕ) (count : ℕ) (frame : Frame) (code : Code)
+    → PartsRepresent values cutter e log → TakesOctets log → e.failed ≡ None
+    → IsCut cutter new piece count frame
+    → FrameFails e frame code other ⊎ FailsWithoutMemory e code other
+    → Takes values log piece (Failed code) new other
+frame_stops values cutter new e other log piece count frame code p takes up cut (inl fails) =
+    frame_fails values cutter new e other log piece count frame code p takes up cut fails
+frame_stops values cutter new e other log piece count frame code p takes up cut (inr lacks) =
+    frame_lacks values cutter new e other log piece count frame code p takes cut lacks
+
+-- A fault of a head or a payload has the code that it names.
+pub code_of : (fault : WireFault) (code : Code)
+    → (fault ≡ faults.HeadFault code) ⊎ (fault ≡ faults.PayloadFault code)
+    → wire_fault_code fault ≡ code
+code_of fault code (inl is) = ap wire_fault_code is
+code_of fault code (inr is) = ap wire_fault_code is
+
+-- A fault of the stream.
+pub fault_taken : (values : Values) (cutter new : CutterState) (e other : End) (log : Log)
+    (piece : List ℕ) (fault : WireFault) → PartsRepresent values cutter e log → TakesOctets log
+    → CutterFaults cutter piece fault new
+    → other ≡ fail (wire_fault_code fault) e.streams.last_processed e
+    → Takes values log piece (Failed (wire_fault_code fault)) new other
+unfolding MayStep log_after machine_after
+fault_taken values cutter new e other log piece fault p takes met failed =
+    let cut = p.cut takes.up in
+    let at = met.at (is_server log.role) (limits_from log) log.input log.frames cut in
+    let made = fault_in (is_server log.role) (limits_from log) log.input piece cutter.unparsed
+    log.frames at.0 fault cut.split at.1 in
+    let after : Log = took_fault log made.0 fault in
+    let machine : Represents values other after =
+    subst (λ (x : End). Represents values x after) (sym failed)
+    (steps_represent values e log (a_fault made.0 fault) p.machine (takes, made.3)) in
+    let down : other.failed ≢ None =
+    λ up. none_some (wire_fault_code fault) (sym up ∙ ap (λ (x : End). x.failed) failed) in (
+      after,
+      meets_fault takes made.0 made.1 made.2 fault made.3 refl refl,
+      failed_parts values new other after machine down,
+    )
+
+-- The same end fails in the same way.
+fails_alike : (e other : End) (code : Code) → other ≡ fail code e.streams.last_processed e
+    → FailsAlike (fail code e.streams.last_processed e) other
+fails_alike e other code same =
+    record {
+      down = λ up. none_some code (sym up);
+      role = ap (λ (x : End). x.role) same;
+      failed = ap (λ (x : End). x.failed) same;
+      streams = ap (λ (x : End). x.streams) same;
+      windows = ap (λ (x : End). x.windows) same;
+      waiting = ap (λ (x : End). x.output.waiting) same;
+    }
+
+-- A cutter without fault that fails has met one.
+first_fault : (known : Option WireFault) (Meets Stays : Type 0) → known ≡ None
+    → MatchOption known Meets (λ fault. Stays) → Meets
+first_fault None Meets Stays none h = h
+first_fault (Some fault) Meets Stays none h = cc
+
+-- A connection that has failed answers its code again.
+pub failed_again : (values : Values) (cutter : CutterState) (e : End) (log : Log) (piece : List ℕ)
+    (code : Code) → PartsRepresent values cutter e log → e.failed ≡ Some code
+    → Takes values log piece (Failed code) cutter e
+failed_again values cutter e log piece code p down =
+    (log, has_failed code (sym p.machine.failed ∙ down) refl refl, p)
+
+-- A stream that the peer doesn't process is reported.
+pub unprocessed_taken : (values : Values) (cutter : CutterState) (e other : End) (log : Log)
+    (piece : List ℕ) (id : ℕ) → PartsRepresent values cutter e log → e.failed ≡ None
+    → id ≡ unprocessed_of_end e.role e.streams.entries e.goaway.received → id ≢ 0
+    → other ≡ close_unprocessed e id
+    → Takes values log piece (Took 0 (Some (UnprocessedEvent id))) cutter other
+unfolding MayStep log_after machine_after
+unprocessed_taken values cutter e other log piece id p up next some closed =
+    let log_up : log.failed ≡ None = sym p.machine.failed ∙ up in
+    let named : id ≡ next_unprocessed log = next ∙ next_same values e log p.machine log_up in
+    let of_log : next_unprocessed log ≢ 0 = λ none. some (named ∙ none) in
+    let after : Log = took_none log in
+    let machine : Represents values other after =
+    subst (λ (x : End). Represents values x after)
+    (sym (closed ∙ ap (λ (i : ℕ). close_unprocessed e i) next))
+    (steps_represent values e log one_unprocessed p.machine (log_up, of_log)) in
+    let keeps = Keeps-none log in
+    let role : other.role ≡ e.role = machine.role ∙ keeps.role ∙ sym p.machine.role in
+    let came : IsLog e.role values after =
+    subst (λ (r : Role). IsLog r values after) role machine.came in (
+      after,
+      reports_unprocessed log_up of_log
+          (ap (λ (i : ℕ). Took 0 (Some (UnprocessedEvent i))) named) refl,
+      record {
+        machine = machine;
+        cut = λ going.
+            same_cut cutter log.role after.role (limits_from log) (limits_from after) log.input
+            after.input log.frames after.frames keeps.role
+            (limits_kept e.role values log after p.machine.came came) keeps.input keeps.frames
+            (p.cut log_up);
+        unparsed = λ going. p.unparsed log_up ∙ sym keeps.unparsed;
+      },
+    )
+
+-- Or memory is refused to it.
+pub unprocessed_lacks : (values : Values) (cutter : CutterState) (e other : End) (log : Log)
+    (piece : List ℕ) (code : Code) → PartsRepresent values cutter e log → e.failed ≡ None
+    → FailsWithoutMemory e code other → Takes values log piece (Failed code) cutter other
+unprocessed_lacks values cutter e other log piece code p up h =
+    memory_refused values cutter cutter e other log piece [] piece code p
+    (sym p.machine.failed ∙ up) refl (with_none refl) h
+
+-- What stops the cutter.
+pub cut_stopped : (values : Values) (cutter new : CutterState) (e other : End) (log : Log)
+    (piece : List ℕ) (fault : WireFault) → PartsRepresent values cutter e log → TakesOctets log
+    → CutterFails cutter piece fault new
+    → other ≡ fail (wire_fault_code fault) e.streams.last_processed e
+    → Takes values log piece (Failed (wire_fault_code fault)) new other
+cut_stopped values cutter new e other log piece faults.Memory p takes fails failed =
+    memory_refused values cutter new e other log piece [] piece InternalError p takes.up refl
+    (with_none refl) (record { lacks = refl; after = fails_alike e other InternalError failed })
+cut_stopped values cutter new e other log piece faults.BadPreface p takes fails failed =
+    fault_taken values cutter new e other log piece faults.BadPreface p takes
+    (first_fault cutter.fault (CutterFaults cutter piece faults.BadPreface new) (new ≡ cutter)
+    (p.cut takes.up).sound fails) failed
+cut_stopped values cutter new e other log piece (faults.HeadFault code) p takes fails failed =
+    fault_taken values cutter new e other log piece (faults.HeadFault code) p takes
+    (first_fault cutter.fault (CutterFaults cutter piece (faults.HeadFault code) new)
+    (new ≡ cutter) (p.cut takes.up).sound fails) failed
+cut_stopped values cutter new e other log piece (faults.PayloadFault code) p takes fails failed =
+    fault_taken values cutter new e other log piece (faults.PayloadFault code) p takes
+    (first_fault cutter.fault (CutterFaults cutter piece (faults.PayloadFault code) new)
+    (new ≡ cutter) (p.cut takes.up).sound fails) failed
+
+-- The event that is answered may be said in another way.
+pub said_so : (values : Values) (log : Log) (piece : List ℕ) (count : ℕ) (event other : Option Event)
+    (cutter : CutterState) (e : End) → event ≡ other
+    → Takes values log piece (Took count other) cutter e
+    → Takes values log piece (Took count event) cutter e
+said_so values log piece count event other cutter e same takes =
+    subst (λ (o : Option Event). Takes values log piece (Took count o) cutter e) (sym same) takes

@@ -1,0 +1,111 @@
+-- What a log reports of a frame is what the machine that represents it does.
+use Rattle.std.proofs.Common.{◌≡◌, ℕ, List, [], ◌∷◌, ◌++◌, Option, Some, None, refl, ap, sym}
+use Rattle.std.proofs.Common.{subst, ◌∙◌}
+use Rattle.h2_frame.specs.declared.code.Code.{Code}
+use Rattle.h2_frame.specs.Frames.{Frame}
+use Rattle.h2_wire.proofs.ReadingLemmas.{none_some}
+use Rattle.hpack.specs.Blocks.{Block}
+use Rattle.hpack.specs.Lists.{NoBlock}
+use Rattle.h2_block.specs.Grouping.{Item, alone, block}
+use Rattle.h2_log.specs.Acts.{Values}
+use Rattle.h2_log.specs.Events.{Event}
+use Rattle.h2_log.specs.Verdicts.{Verdict, ConnectionFault, StreamFault, NoEvent, Reported}
+use Rattle.h2_log.specs.ItemRules.{Decoded, FrameStep, fails_with, begins_block, completes}
+use Rattle.h2_log.specs.ItemRules.{frame_step, verdict_of}
+use Rattle.h2_log.specs.ItemEffects.{events_of}
+use Rattle.h2_log.specs.Log.{Log}
+use Rattle.h2_log.specs.LogView.{log_view}
+use Rattle.h2_log.specs.LogSteps.{used, with_verdict, with_step, with_frame}
+use Rattle.h2_log.specs.LogSteps.{took_frame}
+use Rattle.h2_log.specs.Histories.{IsDecodedIn, IsDecodedFor}
+use Rattle.h2_machine.specs.End.{End, end_view}
+use Rattle.h2_machine.specs.Represents.{Represents}
+use Rattle.h2_machine_laws.proofs.AlikeFrames.{step_alike, events_used}
+use Rattle.h2_machine_laws.proofs.RecvFrames.{step_same}
+use Rattle.h2_end_laws.proofs.TakeAnswers.{reported_is, sent_reported, unreturned_reported}
+use Rattle.h2_core.specs.Frames.{IsDecodedBy, step_events, frame_events}
+
+-- Of an item the events are reported that its verdict has.
+verdict_reports : (log : Log) (decoded : Option Decoded) (item : Item) (verdict : Verdict)
+    → (with_verdict log decoded item verdict).failed ≡ None
+    → (with_verdict log decoded item verdict).reported
+    ≡ events_of (log_view log) decoded verdict item ++ log.reported
+unfolding with_verdict
+verdict_reports log decoded item (ConnectionFault code) up = none_some code (sym up)
+verdict_reports log decoded item (StreamFault code) up =
+    reported_is _ _
+    ∙ ap (λ (r : List Event). events_of (log_view log) decoded (StreamFault code) item ++ r)
+    (unreturned_reported _ _ ∙ sent_reported _ _)
+verdict_reports log decoded item NoEvent up =
+    reported_is _ _
+    ∙ ap (λ (r : List Event). events_of (log_view log) decoded NoEvent item ++ r)
+    (unreturned_reported _ _ ∙ sent_reported _ _)
+verdict_reports log decoded item Reported up =
+    reported_is _ _
+    ∙ ap (λ (r : List Event). events_of (log_view log) decoded Reported item ++ r)
+    (unreturned_reported _ _ ∙ sent_reported _ _)
+
+-- the events of what a frame makes of the block that has begun
+abbrev log_events : Log → Option Decoded → FrameStep → List Event
+log_events log decoded (fails_with code) = []
+log_events log decoded (begins_block begun) = []
+log_events log decoded (completes item) =
+    events_of (log_view (record log { begun = None })) decoded
+    (verdict_of (log_view (record log { begun = None })) decoded item) item
+
+step_reports : (log : Log) (decoded : Option Decoded) (step : FrameStep)
+    → (with_step log decoded step).failed ≡ None
+    → (with_step log decoded step).reported ≡ log_events log decoded step ++ log.reported
+unfolding with_step
+step_reports log decoded (fails_with code) up = none_some code (sym up)
+step_reports log decoded (begins_block begun) up = refl
+step_reports log decoded (completes item) up =
+    verdict_reports (record log { begun = None }) decoded item _ up
+
+-- They are those of the machine.
+same_events : (values : Values) (e : End) (log : Log) (octets : List ℕ) (frame : Frame)
+    (decoded : Option Decoded) (step : FrameStep) → Represents values e log → e.failed ≡ None
+    → log_events (record (used log octets []) { frames = log.frames ++ frame ∷ [] }) decoded step
+    ≡ step_events e decoded step
+same_events values e log octets frame decoded (fails_with code) represents up = refl
+same_events values e log octets frame decoded (begins_block begun) represents up = refl
+same_events values e log octets frame decoded (completes item) represents up =
+    sym (events_used values e log octets frame decoded item represents up)
+
+-- What is reported of a frame, as long as the connection goes on.
+pub frame_reported : (values : Values) (e : End) (log : Log) (octets : List ℕ)
+    (decoded : Option Decoded) (frame : Frame) → Represents values e log → e.failed ≡ None
+    → (took_frame log octets decoded frame).failed ≡ None
+    → (took_frame log octets decoded frame).reported
+    ≡ frame_events e decoded frame ++ log.reported
+unfolding with_frame used
+frame_reported values e log octets decoded frame represents up after =
+    let run = represents.running up in
+    let step = frame_step (log_view (used log octets [])) frame in
+    let before : Log = record (used log octets []) { frames = log.frames ++ frame ∷ [] } in
+    step_reports before decoded step after
+    ∙ ap (λ (events : List Event). events ++ log.reported)
+    (same_events values e log octets frame decoded step represents up
+    ∙ ap (step_events e decoded) (sym (step_same e log octets frame run.started run.reading.begun)))
+
+-- What is decoded at the machine is decoded at the log.
+decoded_in : (values : Values) (e : End) (log : Log) (decoded : Option Decoded) (step : FrameStep)
+    → Represents values e log → e.failed ≡ None → IsDecodedBy e decoded step
+    → IsDecodedIn log decoded step
+decoded_in values e log None (completes (block stream end octets)) represents up says =
+    let run = represents.running up in
+    rw (sym run.reading.table, sym run.own.in_force.table_limit) says
+decoded_in values e log (Some decoded) (completes (block stream end octets)) represents up says =
+    let run = represents.running up in
+    rw (sym run.reading.table, sym run.own.in_force.table_limit) says
+decoded_in values e log decoded (completes (alone frame)) represents up says = says
+decoded_in values e log decoded (begins_block begun) represents up says = says
+decoded_in values e log decoded (fails_with code) represents up says = says
+
+pub decoded_for : (values : Values) (e : End) (log : Log) (decoded : Option Decoded)
+    (frame : Frame) → Represents values e log → e.failed ≡ None
+    → IsDecodedBy e decoded (frame_step (end_view e) frame) → IsDecodedFor log decoded frame
+decoded_for values e log decoded frame represents up says =
+    subst (λ (s : FrameStep). IsDecodedIn log decoded s)
+    (step_alike values e log frame represents up)
+    (decoded_in values e log decoded (frame_step (end_view e) frame) represents up says)

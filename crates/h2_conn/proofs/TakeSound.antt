@@ -1,0 +1,82 @@
+-- The values of an end are sound after each step that taking octets makes.
+use Rattle.std.proofs.Common.{◌≡◌, ◌≢◌, ℕ, ◌≤◌, List, Option, Some, None, refl, ap, sym, subst}
+use Rattle.std.proofs.Common.{◌∙◌, arith, Result, Ok, Err}
+use Rattle.std.specs.Result.{OnOk, IfErr}
+use Rattle.h2_frame.specs.declared.code.Code.{Code}
+use Rattle.h2_frame.specs.declared.code.Code.TheVariants.{InternalError}
+use Rattle.h2_wire.proofs.ReadingLemmas.{none_some}
+use Rattle.hpack.specs.declared.types.field.Field.{Field}
+use Rattle.h2_frame.specs.Frames.{Frame}
+use Rattle.h2_frame.specs.Encoding.{refusal, stream_of}
+use Rattle.h2_block.specs.Grouping.{block}
+use Rattle.h2_log.specs.States.{greatest_number}
+use Rattle.h2_log.specs.ItemRules.{Decoded, FrameStep, completes, frame_step}
+use Rattle.h2_machine.specs.End.{End, end_view}
+use Rattle.h2_machine.specs.Machine.{after_frame, close_unprocessed, unprocessed_of_end}
+use Rattle.h2_machine_laws.specs.Ranges.{IsDecodedAt}
+use Rattle.h2_machine_laws.proofs.BoundsOfFrames.{frame_bounded}
+use Rattle.h2_machine_laws.proofs.BoundsOfSteps.{is_up, is_bounded, ended_up}
+use Rattle.h2_machine_laws.proofs.ConservedByFrames.{frame_holds}
+use Rattle.h2_machine_laws.proofs.ConservedBySteps.{holds, is_whole, ended, lacks_none}
+use Rattle.h2_machine_laws.proofs.CountedByFrames.{frame_counts}
+use Rattle.h2_machine_laws.proofs.CountedBySteps.{counted, is_counted}
+use Rattle.h2_machine_laws.proofs.CountedUnprocessed.{unprocessed_counts}
+use Rattle.h2_machine_laws.proofs.RangesOfFrames.{frame_in_range}
+use Rattle.h2_machine_laws.proofs.RangesOfSteps.{fits, are_in_range, closed_fits}
+use Rattle.h2_core.specs.Endpoint.{IsSound}
+use Rattle.h2_core.specs.Frames.{IsDecodedBy, FailsWithoutMemory}
+use Rattle.h2_core.proofs.FrameWritable.{writable}
+use Rattle.h2_conn.specs.declared.happened.Happened.{Happened}
+use Rattle.h2_conn.specs.Inner.{FrameHappens}
+
+-- What was seen of a block is what it says.
+decoded_at : (e : End) (decoded : Option Decoded) (frame : Frame)
+    → IsDecodedBy e decoded (frame_step (end_view e) frame) → IsDecodedAt e decoded frame
+decoded_at e decoded frame says stream end octets one step is =
+    let seen : IsDecodedBy e decoded (completes (block stream end octets)) =
+    subst (λ (s : FrameStep). IsDecodedBy e decoded s) step says in
+    subst (λ (d : Option Decoded). IsDecodedBy e d (completes (block stream end octets))) is seen
+
+-- After a frame.
+pub frame_sound : (e other : End) (frame : Frame) (list : List Field) (octets : List ℕ)
+    (happened : Option Happened) → IsSound e → e.failed ≡ None → refusal frame ≡ None
+    → FrameHappens e frame list octets happened other → IsSound other
+frame_sound e other frame list octets happened sound up good h =
+    let number = (writable frame good).stream in
+    let most : stream_of frame ≤ greatest_number = omega (arith, number) in
+    let after : IsSound (after_frame e h.decoded frame) =
+    record {
+      bounded = frame_bounded e h.decoded frame up sound.bounded;
+      window = is_whole (after_frame e h.decoded frame)
+          (frame_holds e h.decoded frame (holds e sound.window));
+      ranges = frame_in_range e h.decoded frame most (decoded_at e h.decoded frame h.says)
+          sound.ranges;
+      counts = is_counted (after_frame e h.decoded frame)
+          (frame_counts e h.decoded frame (counted e sound.counts));
+    } in
+    subst (λ (x : End). IsSound x) (sym h.after) after
+
+-- After a stream that the peer doesn't process.
+pub unprocessed_sound : (e other : End) (id : ℕ) → IsSound e → e.failed ≡ None
+    → id ≡ unprocessed_of_end e.role e.streams.entries e.goaway.received → id ≢ 0
+    → other ≡ close_unprocessed e id → IsSound other
+unprocessed_sound e other id sound up next some closed =
+    let after : IsSound (close_unprocessed e id) =
+    record {
+      bounded = is_bounded (close_unprocessed e id) (ended_up e id 0 (is_up e up sound.bounded));
+      window = is_whole (close_unprocessed e id) (ended e id 0 (lacks_none e.windows.recv
+          e.windows.unreturned e.streams.highest e.streams.entries (holds e sound.window)));
+      ranges = are_in_range (close_unprocessed e id) (closed_fits e id 0 (fits e sound.ranges));
+      counts = unprocessed_counts e id next some sound.counts;
+    } in
+    subst (λ (x : End). IsSound x) (sym closed) after
+
+-- After a call that reports it, or for which memory is refused.
+pub closed_sound : (result : Result Unit Code) (e other : End) (id : ℕ) → IsSound e
+    → e.failed ≡ None → id ≡ unprocessed_of_end e.role e.streams.entries e.goaway.received → id ≢ 0
+    → OnOk result (other ≡ close_unprocessed e id)
+    → IfErr result (λ code. FailsWithoutMemory e code other) → other.failed ≡ None → IsSound other
+closed_sound (Ok done) e other id sound up next some closed fails going =
+    unprocessed_sound e other id sound up next some closed
+closed_sound (Err code) e other id sound up next some closed fails going =
+    none_some InternalError (sym going ∙ fails.after.failed)

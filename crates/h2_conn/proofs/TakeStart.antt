@@ -1,0 +1,87 @@
+-- A new end represents the log of one, and its values are sound.
+use Rattle.std.proofs.Common.{◌≡◌, ℕ, Bool, List, [], ◌∷◌, ◌++◌, refl, sym, subst, inl, inr}
+use denote.Enum.Bare.{sameb}
+use Rattle.h2_wire.specs.Streams.{Limits, Frames}
+use Rattle.h2_wire.specs.Cutter.{CutterState, CutterRepresents}
+use Rattle.h2_log.specs.declared.role.Role.{Role}
+use Rattle.h2_log.specs.declared.role.Role.TheVariants.{Client, Server}
+use Rattle.h2_log.specs.contracts.role.Role.{the_type}
+use Rattle.h2_log.specs.Acts.{Values, AreInRange}
+use Rattle.h2_log.specs.Settings.{is_server}
+use Rattle.h2_log.specs.LogSteps.{limits_from, with_sent}
+use Rattle.h2_log.specs.LogCalls.{opened}
+use Rattle.h2_log.specs.Histories.{begins}
+use Rattle.h2_machine.specs.End.{End}
+use Rattle.h2_machine.specs.Machine.{new_end}
+use Rattle.h2_machine.specs.Represents.{Represents}
+use Rattle.h2_machine_laws.proofs.BoundsOfCalls.{new_bounded}
+use Rattle.h2_machine_laws.proofs.ConservedByCalls.{new_holds}
+use Rattle.h2_machine_laws.proofs.ConservedBySteps.{is_whole}
+use Rattle.h2_machine_laws.proofs.CountedByCalls.{new_counts}
+use Rattle.h2_machine_laws.proofs.CountedBySteps.{is_counted}
+use Rattle.h2_machine_laws.proofs.NewEnd.{new_represents}
+use Rattle.h2_machine_laws.proofs.RangesOfCalls.{new_fits}
+use Rattle.h2_machine_laws.proofs.RangesOfSteps.{are_in_range}
+use Rattle.h2_end_laws.proofs.PayloadLimits.{payload_limits, limits_to_come}
+use Rattle.h2_core.specs.Endpoint.{IsSound}
+use Rattle.h2_conn.specs.Inner.{PartsRepresent}
+
+-- Whether an end is a server.
+pub is_a_server : (role : Role) → sameb the_type role Server ≡ is_server role
+is_a_server Client = refl
+is_a_server Server = refl
+
+-- The values of a new end are sound.
+pub new_sound : (e : End) (role : Role) (values : Values) → AreInRange values
+    → e ≡ new_end role values → IsSound e
+new_sound e role values in_range new =
+    let sound : IsSound (new_end role values) =
+    record {
+      bounded = new_bounded role values in_range;
+      window = is_whole (new_end role values) (new_holds role values);
+      ranges = are_in_range (new_end role values) (new_fits role values in_range);
+      counts = is_counted (new_end role values) (new_counts role values);
+    } in
+    subst (λ (x : End). IsSound x) (sym new) sound
+
+-- Of no octets none are left.
+none_joined : (part unparsed : List ℕ) → [] ≡ part ++ unparsed → unparsed ≡ []
+none_joined [] unparsed joined = sym joined
+none_joined (first ∷ part) unparsed joined = cc
+
+none_left : (unparsed : List ℕ) (expects : Bool) → Frames expects payload_limits [] [] unparsed
+    → unparsed ≡ []
+none_left unparsed expects (inl inside) = inside.all
+none_left unparsed expects (inr after) = none_joined after.part unparsed after.joined
+
+-- A cutter that has used nothing has answered the frames of a new end's log.
+opened_cut : (cutter : CutterState) (role : Role) (values : Values) (limits : Limits)
+    → limits ≡ payload_limits
+    → CutterRepresents cutter (is_server role) payload_limits [] []
+    → CutterRepresents cutter (is_server (opened role values).role) limits
+    (opened role values).input (opened role values).frames
+unfolding opened with_sent
+opened_cut cutter role values limits same h =
+    subst (λ (l : Limits). CutterRepresents cutter (is_server role) l [] []) (sym same) h
+
+-- Such a cutter keeps nothing.
+pub none_unparsed : (cutter : CutterState) (role : Role)
+    → CutterRepresents cutter (is_server role) payload_limits [] [] → cutter.unparsed ≡ []
+none_unparsed cutter role cut = none_left cutter.unparsed (is_server role) cut.split
+
+-- A new end represents its log, with such a cutter.
+pub new_parts : (cutter : CutterState) (e : End) (role : Role) (values : Values)
+    → AreInRange values → e ≡ new_end role values
+    → CutterRepresents cutter (is_server role) payload_limits [] [] → cutter.unparsed ≡ []
+    → PartsRepresent values cutter e (opened role values)
+unfolding opened with_sent
+new_parts cutter e role values in_range new cut none =
+    let machine : Represents values e (opened role values) =
+    subst (λ (x : End). Represents values x (opened role values)) (sym new)
+    (new_represents role values in_range) in
+    record {
+      machine = machine;
+      cut = λ up. opened_cut cutter role values (limits_from (opened role values))
+          (limits_to_come role values (opened role values) (begins in_range)) cut;
+      unparsed = λ up. none;
+    }
