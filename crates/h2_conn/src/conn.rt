@@ -81,28 +81,33 @@ impl Conn {
             Ok(progress) => progress,
             Err(code) => return Err(ConnFault { code }),
         };
-        let event = match progress.happened {
-            None => None,
-            Some(Happened::Fields { id, end }) => Some(Event::Fields {
+        let Some(happened) = progress.happened else {
+            return Ok(Taken {
+                used: progress.used,
+                event: None,
+            });
+        };
+        let event = match happened {
+            Happened::Fields { id, end } => Event::Fields {
                 id,
                 list: self.inner.end.fields(),
                 end,
-            }),
-            Some(Happened::Data { id, flow, end }) => Some(Event::Data {
+            },
+            Happened::Data { id, flow, end } => Event::Data {
                 id,
                 octets: &self.inner.octets[..],
                 flow,
                 end,
-            }),
-            Some(Happened::Reset { id, code, ours }) => Some(Event::Reset { id, code, ours }),
-            Some(Happened::GoAway { last, code }) => Some(Event::GoAway { last, code }),
-            Some(Happened::Unprocessed { id }) => Some(Event::Unprocessed { id }),
-            Some(Happened::Acked) => Some(Event::Acked),
-            Some(Happened::Pong { octets }) => Some(Event::Pong { octets }),
+            },
+            Happened::Reset { id, code, ours } => Event::Reset { id, code, ours },
+            Happened::GoAway { last, code } => Event::GoAway { last, code },
+            Happened::Unprocessed { id } => Event::Unprocessed { id },
+            Happened::Acked => Event::Acked,
+            Happened::Pong { octets } => Event::Pong { octets },
         };
         Ok(Taken {
             used: progress.used,
-            event,
+            event: Some(event),
         })
     }
 }
