@@ -1,6 +1,7 @@
 -- What has happened by a frame is what the end reports of it: the octets that are kept are those of
 -- the event.
-use Rattle.std.proofs.Common.{◌≡◌, ◌≢◌, ℕ, Bool, List, [], ◌∷◌, Option, Some, None, refl, sym, ap, ◌∙◌}
+use Rattle.std.proofs.Common.{◌≡◌, ◌≢◌, ℕ, Bool, List, [], ◌∷◌, Option, Some, None}
+use Rattle.std.proofs.Common.{refl, sym, ap, ◌∙◌}
 use Rattle.std.proofs.Common.{Bor}
 use Rattle.h2_frame.specs.declared.frame.FrameRef.{FrameRef}
 use Rattle.h2_frame.specs.declared.frame.FrameRef.TheVariants as refs
@@ -53,7 +54,8 @@ data_of_item view decoded Reported (Unknown kind flags stream payload) id octets
 data_of_block : (view : View) (decoded : Option Decoded) (verdict : Verdict) (stream : ℕ)
     (last : Bool) (fragment : List ℕ) (id : ℕ) (octets : List ℕ) (flow : ℕ) (end : Bool)
     (other : List ℕ)
-    → DataEvent id octets flow end ∷ [] ≡ events_of view decoded verdict (block stream last fragment)
+    → DataEvent id octets flow end ∷ []
+    ≡ events_of view decoded verdict (block stream last fragment)
     → octets ≡ other
 unfolding events_of
 data_of_block view decoded (ConnectionFault code) stream last fragment id octets flow end other is =

@@ -410,7 +410,8 @@ cut_stopped values cutter new e other log piece (faults.PayloadFault code) p tak
     (new ≡ cutter) (p.cut takes.up).sound fails) failed
 
 -- The event that is answered may be said in another way.
-pub said_so : (values : Values) (log : Log) (piece : List ℕ) (count : ℕ) (event other : Option Event)
+pub said_so : (values : Values) (log : Log) (piece : List ℕ) (count : ℕ)
+    (event other : Option Event)
     (cutter : CutterState) (e : End) → event ≡ other
     → Takes values log piece (Took count other) cutter e
     → Takes values log piece (Took count event) cutter e

@@ -18,8 +18,8 @@ use h2_log::Refusal;
 const LARGE_FRAME: usize = 17;
 
 impl Endpoint {
-    /// Returns credit of so many octets for a stream and the connection: of those that were reported
-    /// and are owed.
+    /// Returns credit of so many octets for a stream and the connection: of those that were
+    /// reported and are owed.
     ///
     /// # Errors
     ///
