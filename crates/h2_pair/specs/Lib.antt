@@ -1,2 +1,6 @@
 pub mod Pairs
 pub mod Directions
+pub mod HeaderTables
+pub mod Undisturbed
+pub mod Tokens
+pub mod Quiet

@@ -3,9 +3,15 @@
 #![tactic(auto)]
 
 mod carried;
+mod faults;
+mod heard;
+mod tables;
 #[cfg(test)]
 mod tests;
 mod windows;
 
 pub use carried::{all_arrives, items_are_carried, logs_of_a_pair, octets_are_carried};
+pub use faults::{no_faults_of_a_pair, waiting_of_a_pair};
+pub use heard::{all_is_heard, heard_is_a_prefix, quiet_messages_are_whole};
+pub use tables::{acknowledgments_are_awaited, tables_of_a_pair};
 pub use windows::{connection_window_of_a_pair, stream_window_of_a_pair};

@@ -1,0 +1,72 @@
+-- What is sent and heard on a stream, token by token (RFC 9113, section 8.1).
+use Rattle.std.specs.Prelude.{map as each, ◌≡◌, ℕ, ◌==◌, ◌&&◌, Bool, true, false, if◌then◌else◌}
+use Rattle.std.specs.Prelude.{List, [], ◌∷◌, ◌++◌, length, take, Option, Some, None}
+use Rattle.hpack.specs.declared.types.field.Field.{Field}
+use Rattle.h2_log.specs.Events.{Event, FieldsEvent, DataEvent}
+use Rattle.h2_log.specs.Acts.{Act, Answer, Open, SendFields, SendData, Number, Count, Done}
+
+-- a part of a message. Which field block is an interim response, the head or the trailers, the
+-- message layer says by its place and fields.
+pub data Token : Type 0 where
+  -- a field block with these fields
+  FieldsToken : (list : List Field) → Token
+  -- an octet of the body
+  OctetToken : (octet : ℕ) → Token
+  -- the end of the stream (END_STREAM)
+  EndToken : Token
+
+-- the end, where it is set
+unfoldable pub end_tokens : Bool → List Token
+end_tokens true = EndToken ∷ []
+end_tokens false = []
+
+-- what a call sends on the stream, by its answer
+unfoldable pub tokens_of_call : ℕ → Act → Answer → List Token
+tokens_of_call i (Open fields end) (Number id) =
+    if id == i then FieldsToken fields ∷ end_tokens end else []
+tokens_of_call i (SendFields id fields end) Done =
+    if id == i then FieldsToken fields ∷ end_tokens end else []
+tokens_of_call i (SendData id octets end) (Count count) =
+    if id == i then each OctetToken (take count octets)
+        ++ end_tokens (end && count == length octets)
+    else []
+tokens_of_call i act answer = []
+
+-- what was sent on the stream, the first token first; the newest call stands first
+unfoldable pub tokens_sent : ℕ → List (Act × Answer) → List Token
+tokens_sent i [] = []
+tokens_sent i ((act, answer) ∷ calls) = tokens_sent i calls ++ tokens_of_call i act answer
+
+-- what an event reports of the stream
+unfoldable pub tokens_of_event : ℕ → Event → List Token
+tokens_of_event i (FieldsEvent id list end) =
+    if id == i then FieldsToken list ∷ end_tokens end else []
+tokens_of_event i (DataEvent id octets flow end) =
+    if id == i then each OctetToken octets ++ end_tokens end else []
+tokens_of_event i event = []
+
+-- what was heard on the stream, the first token first; the newest event stands first
+unfoldable pub tokens_heard : ℕ → List Event → List Token
+tokens_heard i [] = []
+tokens_heard i (event ∷ events) = tokens_heard i events ++ tokens_of_event i event
+
+-- The first list is a prefix of the second.
+abbrev pub IsPrefixOf : (tokens whole : List Token) → Type 0
+IsPrefixOf tokens whole = (rest : List Token) × (whole ≡ tokens ++ rest)
+
+-- a message that an end is given for a stream: its head, its body, and its trailers if it has any
+pub record Message : Type 0 where
+  pub head : List Field
+  pub body : List ℕ
+  pub trailers : Option (List Field)
+
+-- the trailers' token
+unfoldable pub trailers_tokens : Option (List Field) → List Token
+trailers_tokens None = []
+trailers_tokens (Some list) = FieldsToken list ∷ []
+
+-- the tokens of a message
+unfoldable pub message_tokens : Message → List Token
+message_tokens message =
+    FieldsToken message.head ∷ (each OctetToken message.body ++ (trailers_tokens message.trailers
+        ++ EndToken ∷ []))

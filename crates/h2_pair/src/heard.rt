@@ -1,0 +1,48 @@
+//! What is heard on a stream is what was sent on it.
+
+ghost use Rattle.std.specs.Prelude.{◌≡◌, ⊥, ℕ};
+ghost use Rattle.h2_log.specs.Acts.{Values};
+ghost use Rattle.h2_pair.specs.Pairs.{Half, IsPair};
+ghost use Rattle.h2_pair.specs.Undisturbed.{IsUndisturbed};
+ghost use Rattle.h2_pair.specs.Tokens.{tokens_sent, tokens_heard, IsPrefixOf, Message};
+ghost use Rattle.h2_pair.specs.Tokens.{message_tokens};
+ghost use Rattle.h2_pair.specs.Quiet.{IsQuiet, WasReset, IsSending};
+
+/// What one end has reported of a stream is a prefix of what the other was given for it, token by
+/// token: always, after faults, refusals and resets too.
+pub fn heard_is_a_prefix()
+    ensures at_server { (client_values server_values : Values) (client server : Half) (i : ℕ)
+        → IsPair client_values server_values client server
+        → IsPrefixOf (tokens_heard i server.log.reported) (tokens_sent i client.log.calls) }
+    ensures at_client { (client_values server_values : Values) (client server : Half) (i : ℕ)
+        → IsPair client_values server_values client server
+        → IsPrefixOf (tokens_heard i client.log.reported) (tokens_sent i server.log.calls) }
+{}
+
+/// Once an undisturbed pair is quiet, all that was sent on a stream that wasn't reset was heard.
+/// A reset of another stream takes nothing from it.
+pub fn all_is_heard()
+    ensures at_server { (client_values server_values : Values) (client server : Half) (i : ℕ)
+        (pair : IsPair client_values server_values client server) → IsUndisturbed pair
+        → IsQuiet client server → (WasReset client.log server.log i → ⊥)
+        → tokens_heard i server.log.reported ≡ tokens_sent i client.log.calls }
+    ensures at_client { (client_values server_values : Values) (client server : Half) (i : ℕ)
+        (pair : IsPair client_values server_values client server) → IsUndisturbed pair
+        → IsQuiet client server → (WasReset client.log server.log i → ⊥)
+        → tokens_heard i client.log.reported ≡ tokens_sent i server.log.calls }
+{}
+
+/// Once an undisturbed pair is quiet, and what waits of a message could not go, the message was
+/// heard whole on its stream, unless that was reset: windows never hold a message back for good.
+pub fn quiet_messages_are_whole()
+    ensures at_server { (client_values server_values : Values) (client server : Half) (i : ℕ)
+        (message : Message) (pair : IsPair client_values server_values client server)
+        → IsUndisturbed pair → IsQuiet client server → (WasReset client.log server.log i → ⊥)
+        → IsSending client.log i message
+        → tokens_heard i server.log.reported ≡ message_tokens message }
+    ensures at_client { (client_values server_values : Values) (client server : Half) (i : ℕ)
+        (message : Message) (pair : IsPair client_values server_values client server)
+        → IsUndisturbed pair → IsQuiet client server → (WasReset client.log server.log i → ⊥)
+        → IsSending server.log i message
+        → tokens_heard i client.log.reported ≡ message_tokens message }
+{}
