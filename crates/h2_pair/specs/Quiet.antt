@@ -1,5 +1,5 @@
 -- When a pair is quiet, and when a stream was reset (RFC 9113, sections 5.1 and 6.8).
-use Rattle.std.specs.Prelude.{◌≡◌, ◌≢◌, ◌⊎◌, ⊥, ℕ, true, ℤ, pos, int_lt, List, [], ◌∷◌, ◌++◌}
+use Rattle.std.specs.Prelude.{◌≡◌, ◌≢◌, ◌⊎◌, ℕ, true, ℤ, pos, int_lt, List, [], ◌∷◌, ◌++◌}
 use Rattle.std.specs.Prelude.{length}
 use Rattle.std.specs.List.{Contains}
 use Rattle.h2_log.specs.Events.{UnprocessedEvent}

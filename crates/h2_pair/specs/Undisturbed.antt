@@ -1,6 +1,6 @@
 -- Pairs in which memory was not refused and the layer above made no connection fail; and what
 -- neither end of such a pair reports (RFC 9113, section 5.4).
-use Rattle.std.specs.Prelude.{◌≡◌, ◌≢◌, ◌⊎◌, ⊥, ℕ, true, false, List, None}
+use Rattle.std.specs.Prelude.{◌≡◌, ◌≢◌, ◌⊎◌, ℕ, true, false, List, None}
 use Rattle.std.specs.List.{Contains}
 use Rattle.h2_log.specs.Acts.{Values, Act, Answer, ResetStream, Refuse, Done, OutOfMemory}
 use Rattle.h2_log.specs.Events.{ResetEvent}
@@ -36,8 +36,8 @@ IsUndisturbed (server_steps before step) = IsUndisturbed before × IsUndisturbed
 
 -- A call asked for a reset of the stream, with the code, and was accepted.
 abbrev pub WasAsked : List (Act × Answer) → (id code : ℕ) → Type 0
-WasAsked calls id code =
-    Contains calls (ResetStream id code, Done) ⊎ Contains calls (Refuse id code, Done)
+WasAsked asked id code =
+    Contains asked (ResetStream id code, Done) ⊎ Contains asked (Refuse id code, Done)
 
 -- The connection has not failed, no stream was reset for a fault of the peer's, and whatever stream
 -- the peer has reset, that was asked of the peer.

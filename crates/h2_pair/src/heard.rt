@@ -1,6 +1,6 @@
 //! What is heard on a stream is what was sent on it.
 
-ghost use Rattle.std.specs.Prelude.{◌≡◌, ⊥, ℕ};
+ghost use Rattle.std.specs.Prelude.{◌≡◌, ℕ};
 ghost use Rattle.h2_log.specs.Acts.{Values};
 ghost use Rattle.h2_pair.specs.Pairs.{Half, IsPair};
 ghost use Rattle.h2_pair.specs.Undisturbed.{IsUndisturbed};
