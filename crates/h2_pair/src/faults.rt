@@ -12,10 +12,10 @@ ghost use Rattle.h2_pair.specs.Undisturbed.{IsUndisturbed, IsFaultless};
 pub fn waiting_of_a_pair()
     ensures at_client { (client_values server_values : Values) (client server : Half)
         → IsPair client_values server_values client server → client.log.failed ≡ None
-        → waiting client.log ≤ 150000 }
+        → waiting client.log ≤ 210000 }
     ensures at_server { (client_values server_values : Values) (client server : Half)
         → IsPair client_values server_values client server → server.log.failed ≡ None
-        → waiting server.log ≤ 150000 }
+        → waiting server.log ≤ 210000 }
 {}
 
 /// Where no connection failed for want of memory or by the layer above, neither end has failed,
