@@ -6,16 +6,16 @@ ghost use Rattle.h2_log.specs.Log.{waiting};
 ghost use Rattle.h2_pair.specs.Pairs.{Half, IsPair};
 ghost use Rattle.h2_pair.specs.Undisturbed.{IsUndisturbed, IsFaultless};
 
-/// As long as an end hasn't failed, its waiting output stays below 150,000 octets, whatever is put
+/// As long as an end hasn't failed, its waiting output stays below 210,000 octets, whatever is put
 /// out: its peer has one SETTINGS and one PING under way at most. So no reply exceeds the 262,144
 /// octets that may wait.
 pub fn waiting_of_a_pair()
     ensures at_client { (client_values server_values : Values) (client server : Half)
         → IsPair client_values server_values client server → client.log.failed ≡ None
-        → waiting client.log ≤ 150000 }
+        → waiting client.log ≤ 210000 }
     ensures at_server { (client_values server_values : Values) (client server : Half)
         → IsPair client_values server_values client server → server.log.failed ≡ None
-        → waiting server.log ≤ 150000 }
+        → waiting server.log ≤ 210000 }
 {}
 
 /// Where no connection failed for want of memory or by the layer above, neither end has failed,
