@@ -19,7 +19,7 @@ use Rattle.h2_log_laws.specs.Turns.{answers_of, TurnsRecord}
 use Rattle.h2_log_laws.proofs.EveryLog.{IsSteady, every_log}
 
 -- The octets of items after others.
-written_after : (most : ℕ) (newer older : List Item) → encoding_of_items most (newer ++ older)
+pub written_after : (most : ℕ) (newer older : List Item) → encoding_of_items most (newer ++ older)
     ≡ encoding_of_items most older ++ encoding_of_items most newer
 unfolding encoding_of_items
 written_after most [] older = sym (append-nil (encoding_of_items most older))

@@ -113,7 +113,7 @@ data_size_by i octets end count false =
     )
 
 -- What is written of octets of a body takes no more than nine octets and twice theirs.
-data_size : (i : ℕ) (octets : List ℕ) (end : Bool) (count : ℕ)
+pub data_size : (i : ℕ) (octets : List ℕ) (end : Bool) (count : ℕ)
     → size_of (data_items 16384 i octets end count) ≤ 9 + 2 * count
 unfolding data_items
 data_size i octets end count =
@@ -141,7 +141,7 @@ data_up e i octets end count (Some stream) few space h =
     (changed_up after i next (joined e items fits h))
 
 -- What a release writes, by the test whether the peer has ended the stream.
-release_size : (i count : ℕ) (b : Bool)
+pub release_size : (i count : ℕ) (b : Bool)
     → size_of (alone (WindowUpdate 0 count) ∷ (if b then [] else alone (WindowUpdate i count) ∷ []))
     ≤ 26
 release_size i count true = omega (arith, size-update 0 count)
@@ -224,7 +224,7 @@ changed_values e values in_range h =
     }
 
 -- What the tests say, where credit is returned before output is put out.
-returns_says : (x : Option Code) (some space : Bool)
+pub returns_says : (x : Option Code) (some space : Bool)
     → (not (is_some x) && (some && space)) ≡ true → (x ≡ None) × (space ≡ true)
 returns_says None true space is = (refl, is)
 returns_says None false space is = cc

@@ -11,3 +11,12 @@ pub mod NamedUnprocessed
 pub mod DataOnStreams
 pub mod StreamWindows
 pub mod Arrived
+pub mod WaitingReplies
+pub mod WaitingSteps
+pub mod WaitingCalls
+pub mod WaitingFrames
+pub mod WaitingGroups
+pub mod WaitingCarried
+pub mod WaitingWay
+pub mod WaitingResets
+pub mod WaitingBound

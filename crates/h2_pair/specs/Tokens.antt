@@ -28,7 +28,7 @@ tokens_of_call i (SendFields id fields end) Done =
     if id == i then FieldsToken fields ∷ end_tokens end else []
 tokens_of_call i (SendData id octets end) (Count count) =
     if id == i then each OctetToken (take count octets)
-        ++ end_tokens (end && count == length octets)
+    ++ end_tokens (end && count == length octets)
     else []
 tokens_of_call i act answer = []
 
@@ -69,4 +69,4 @@ trailers_tokens (Some list) = FieldsToken list ∷ []
 unfoldable pub message_tokens : Message → List Token
 message_tokens message =
     FieldsToken message.head ∷ (each OctetToken message.body ++ (trailers_tokens message.trailers
-        ++ EndToken ∷ []))
+    ++ EndToken ∷ []))

@@ -6,7 +6,7 @@ ghost use Rattle.h2_log.specs.Log.{waiting};
 ghost use Rattle.h2_pair.specs.Pairs.{Half, IsPair};
 ghost use Rattle.h2_pair.specs.Undisturbed.{IsUndisturbed, IsFaultless};
 
-/// As long as an end hasn't failed, its waiting output stays below 150,000 octets, whatever is put
+/// As long as an end hasn't failed, its waiting output stays below 210,000 octets, whatever is put
 /// out: its peer has one SETTINGS and one PING under way at most. So no reply exceeds the 262,144
 /// octets that may wait.
 pub fn waiting_of_a_pair()

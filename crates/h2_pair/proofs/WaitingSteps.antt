@@ -1,0 +1,137 @@
+-- How much output of one end waits: what calls add before it is full, and replies.
+use Rattle.std.proofs.Common.{◌≡◌, ℕ, suc, ◌+◌, ◌-◌, ◌≤◌, ◌<◌, ◌==◌, min, nat_lt, nat_le, not, ◌&&◌}
+use Rattle.std.proofs.Common.{Bool, true, false, if◌then◌else◌, List, [], ◌∷◌, ◌++◌, length, take}
+use Rattle.std.proofs.Common.{Option, Some, None, refl, sym, ◌∙◌, ap, arith, length-append}
+use Rattle.std.proofs.Common.{length-take, ltb-true, ltb-false, leb-false}
+use Rattle.hpack.specs.declared.types.field.Field.{Field}
+use Rattle.hpack.specs.Lists.{list_size}
+use Rattle.hpack.specs.Choice.{block_of}
+use Rattle.h2_frame.specs.declared.code.Code.{Code}
+use Rattle.h2_frame.specs.Codes.{code_number}
+use Rattle.h2_frame.specs.Frames.{Frame, Data, Headers, Priority, Reset, Settings, Ping, GoAway}
+use Rattle.h2_frame.specs.Frames.{WindowUpdate, Continuation, Unknown}
+use Rattle.h2_block.specs.Grouping.{Item, alone, block}
+use Rattle.h2_log.specs.Items.{encoding_of_items}
+use Rattle.h2_log.specs.Events.{Event}
+use Rattle.h2_log.specs.Limits.{full_output, max_list, max_frame_size_sent}
+use Rattle.h2_log.specs.Log.{Log, output, waiting, max_payload_sent}
+use Rattle.h2_log.specs.LogView.{log_view}
+use Rattle.h2_log.specs.LogSteps.{with_sent, with_reported, with_credit_returned, with_unreturned}
+use Rattle.h2_log.proofs.SentPayloads.{most_is_limit}
+use Rattle.h2_log_laws.proofs.ItemSizes.{size_of, size-append, size-update}
+use Rattle.h2_pair.proofs.WaitingReplies.{is_reply, reply_size, replies_left, replies_fall}
+
+-- what calls may add to an output that isn't full, and what waits then
+abbrev pub most_of_calls : ℕ
+most_of_calls = 65535 + 131113
+
+-- The output has so many octets, and the items; and what waits is at most what calls make of an
+-- output that isn't full, and replies.
+pub record Fits (before : ℕ) (log : Log) : Type 0 where
+  pub written : length log.written ≡ before + size_of log.sent
+  pub waits : before + size_of log.sent
+      ≤ log.given + (most_of_calls + replies_left before log.given log.sent)
+
+-- A log with the same output.
+pub fits_same : (before : ℕ) (old new : Log) → new.written ≡ old.written → new.sent ≡ old.sent
+    → new.given ≡ old.given → Fits before old → Fits before new
+fits_same before old new written sent given fits =
+    record {
+      written = rw (written, sent) fits.written;
+      waits = rw (sent, given) fits.waits;
+    }
+
+-- The octets that are added where items are sent.
+sent_length : (before : ℕ) (log : Log) (items : List Item) → Fits before log
+    → length (with_sent log items).written ≡ before + size_of (with_sent log items).sent
+unfolding with_sent
+sent_length before log [] fits = fits.written
+sent_length before log (item ∷ items) fits =
+    length-append log.written (encoding_of_items (max_payload_sent log) (item ∷ items))
+    ∙ rw (most_is_limit log.received, fits.written) (omega (
+      arith,
+      size-append (item ∷ items) log.sent,
+    ))
+
+-- A reply is sent.
+pub fits_reply : (before : ℕ) (log : Log) (item : Item) → is_reply item ≡ true → Fits before log
+    → Fits before (with_sent log (item ∷ []))
+unfolding with_sent
+fits_reply before log item is fits =
+    let all : reply_size item ≡ size_of (item ∷ []) = rw is refl in
+    record {
+      written = sent_length before log (item ∷ []) fits;
+      waits = omega (arith, fits.waits, size-append (item ∷ []) log.sent, all);
+    }
+
+-- Where less than the full output waits.
+pub has_space : (log : Log) → waiting log < full_output
+    → length log.written < log.given + full_output
+unfolding waiting output
+has_space log space = omega (arith, space)
+
+-- Items are sent where the output isn't full.
+pub fits_small : (before : ℕ) (log : Log) (items : List Item)
+    → length log.written < log.given + full_output → size_of items ≤ 131113 → Fits before log → Fits before (with_sent log items)
+unfolding with_sent
+fits_small before log [] space small fits = fits
+fits_small before log (item ∷ items) space small fits =
+    record {
+      written = sent_length before log (item ∷ items) fits;
+      waits = omega (
+        arith,
+        space,
+        small,
+        fits.written,
+        size-append (item ∷ items) log.sent,
+      );
+    }
+
+-- Events are reported.
+pub fits_reported : (before : ℕ) (log : Log) (events : List Event) → Fits before log
+    → Fits before (with_reported log events)
+unfolding with_reported
+fits_reported before log [] fits = fits
+fits_reported before log (event ∷ events) fits = fits_same before log _ refl refl refl fits
+
+-- Credit is returned where the output isn't full.
+pub fits_returned : (before : ℕ) (log : Log) → length log.written < log.given + full_output
+    → Fits before log → Fits before (with_credit_returned log)
+fits_returned before log space fits =
+    fits_small before (record log { unreturned = 0 }) (alone (WindowUpdate 0 log.unreturned) ∷ [])
+    space (omega (arith, size-update 0 log.unreturned))
+    (fits_same before log (record log { unreturned = 0 }) refl refl refl fits)
+
+-- By the test whether it is.
+unreturned_by : (before more : ℕ) (log : Log) (some space : Bool)
+    → nat_lt (waiting log) full_output ≡ space → Fits before log
+    → Fits before (if some && space then with_credit_returned
+    (record log { unreturned = log.unreturned + more })
+    else record log { unreturned = log.unreturned + more })
+unreturned_by before more log true true is fits =
+    fits_returned before (record log { unreturned = log.unreturned + more })
+    (has_space log (ltb-true (waiting log) full_output is))
+    (fits_same before log (record log { unreturned = log.unreturned + more }) refl refl refl fits)
+unreturned_by before more log true false is fits = fits_same before log _ refl refl refl fits
+unreturned_by before more log false true is fits = fits_same before log _ refl refl refl fits
+unreturned_by before more log false false is fits = fits_same before log _ refl refl refl fits
+
+-- What is unreturned.
+pub fits_unreturned : (before more : ℕ) (log : Log) → Fits before log
+    → Fits before (with_unreturned more log)
+unfolding with_unreturned
+fits_unreturned before more log fits =
+    unreturned_by before more log (nat_lt 0 more) (nat_lt (waiting log) full_output) refl fits
+
+-- Output is given out.
+pub fits_given : (before : ℕ) (log : Log) (more : ℕ) → Fits before log
+    → Fits before (record log { given = log.given + more })
+fits_given before log more fits =
+    record {
+      written = fits.written;
+      waits = omega (
+        arith,
+        fits.waits,
+        replies_fall before log.given more log.sent,
+      );
+    }

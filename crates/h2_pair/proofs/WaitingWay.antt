@@ -1,0 +1,138 @@
+-- Of replies at most one acknowledgment, one answer to a PING and 1,000 RST_STREAM are under way.
+use Rattle.std.proofs.Common.{◌≡◌, ℕ, ◌+◌, ◌-◌, ◌*◌, ◌≤◌, ◌==◌, nat_lt, nat_le, not, ◌&&◌, ◌||◌}
+use Rattle.std.proofs.Common.{if◌then◌else◌, min, Bool, true, false, List, [], ◌∷◌, ◌++◌, length}
+use Rattle.std.proofs.Common.{Option, Some, None, refl, sym, arith, inl, inr}
+use Rattle.std.proofs.lemmas.Bool.{eqb-true}
+use Rattle.std.specs.List.{AllByRecursion}
+use Rattle.h2_frame.specs.declared.owned.Unwritable.TheVariants.{TooLong, BadStream, BadValue}
+use Rattle.h2_frame.specs.Frames.{Frame, Data, Headers, Priority, Reset, Settings, Ping, GoAway}
+use Rattle.h2_frame.specs.Frames.{WindowUpdate, Continuation, Unknown}
+use Rattle.h2_frame.specs.Encoding.{refusal, has_good_values}
+use Rattle.h2_block.specs.Grouping.{Item, alone, block}
+use Rattle.h2_log.specs.declared.role.Role.{Role}
+use Rattle.h2_log.specs.Items.{total, one_ping, one_answer, one_reset}
+use Rattle.h2_log.specs.Limits.{max_frame_size_sent}
+use Rattle.h2_log.specs.Settings.{settings_count, one_settings, one_ack}
+use Rattle.h2_log.specs.Allowed.{AllowedHistory, Allowed, starts, reads, writes}
+use Rattle.h2_log.specs.CallRules.{opening_pairs}
+use Rattle.h2_log_laws.specs.Sending.{IsSendable}
+use Rattle.h2_log_laws.proofs.ItemSizes.{size_of, size-append, size-ack, size-ping, size-reset}
+use Rattle.h2_log_laws.proofs.SettingsLists.{settings_or, count_next, settings_one, count_none}
+use Rattle.h2_pair.proofs.WaitingReplies.{is_reply, reply_size, replies_left, reply_fits}
+
+-- No refusal of writing is no refusal for values, by the tests.
+good_by : (long stream good : Bool)
+    → (if long then Some TooLong else if not stream then Some BadStream
+    else if not good then Some BadValue else None) ≡ None → good ≡ true
+good_by true stream good none = cc
+good_by false false good none = cc
+good_by false true false none = cc
+good_by false true true none = refl
+
+-- An acknowledgment that can be sent has no pairs.
+ack_empty : (pairs : List (ℕ × ℕ)) → refusal (Settings true pairs) ≡ None → pairs ≡ []
+unfolding refusal has_good_values
+ack_empty [] none = refl
+ack_empty (pair ∷ pairs) none =
+    let same : length (pair ∷ pairs) ≡ 0 =
+    eqb-true (length (pair ∷ pairs)) 0 (good_by _ _ _ none) in
+    absurd (omega (arith, same))
+
+-- the octets of replies, by their number
+abbrev pub octets_by_kind : (acks answers resets : ℕ) → ℕ
+octets_by_kind acks answers resets = 9 * acks + 17 * answers + 13 * resets
+
+-- An acknowledgment.
+ack_size : (pairs : List (ℕ × ℕ)) → pairs ≡ [] → size_of (alone (Settings true pairs) ∷ []) ≡ 9
+ack_size pairs none = rw none size-ack
+
+-- A reply has no more.
+kind_size : (item : Item) → IsSendable max_frame_size_sent item
+    → reply_size item ≤ octets_by_kind (one_ack item) (one_answer item) (one_reset item)
+unfolding is_reply one_ack one_answer one_reset
+kind_size (block stream end octets) can = omega arith
+kind_size (alone (Data stream end octets pad)) can = omega arith
+kind_size (alone (Headers stream end whole fragment pad priority)) can = omega arith
+kind_size (alone (Priority stream octets)) can = omega arith
+kind_size (alone (Reset stream code)) can = omega (arith, size-reset stream code)
+kind_size (alone (Settings false pairs)) can = omega arith
+kind_size (alone (Settings true pairs)) can = omega (arith, ack_size pairs (ack_empty pairs can.1))
+kind_size (alone (Ping false octets)) can = omega arith
+kind_size (alone (Ping true octets)) can = omega (arith, size-ping true octets, can.2)
+kind_size (alone (GoAway last code debug)) can = omega arith
+kind_size (alone (WindowUpdate stream increment)) can = omega arith
+kind_size (alone (Continuation stream whole fragment)) can = omega arith
+kind_size (alone (Unknown kind flags stream payload)) can = omega arith
+
+-- What is left of the replies is no more than those of the newer items and what is left of the
+-- older ones.
+pub left_of_both : (before given : ℕ) (newer older : List Item)
+    → AllByRecursion (IsSendable max_frame_size_sent) newer
+    → replies_left before given (newer ++ older)
+    ≤ octets_by_kind (total one_ack newer) (total one_answer newer) (total one_reset newer)
+    + replies_left before given older
+unfolding total
+left_of_both before given [] older can = omega arith
+left_of_both before given (item ∷ newer) older can =
+    omega (arith, left_of_both before given newer older can.1, kind_size item can.0)
+
+-- Nothing is left of items that were given out.
+pub none_left : (before given : ℕ) (items : List Item) → before + size_of items ≤ given
+    → replies_left before given items ≡ 0
+none_left before given [] fits = refl
+none_left before given (item ∷ items) fits =
+    let sum = size-append (item ∷ []) items in
+    omega (arith, sum, fits, none_left before given items (omega (arith, sum, fits)))
+
+-- An end has one SETTINGS more, at most, than were acknowledged.
+pub settings_wait : (role : Role) (received sent : List Item) → AllowedHistory role received sent
+    → settings_count sent ≤ total one_ack received + 1
+unfolding total
+settings_wait role _ _ (starts values ok) =
+    omega (
+      arith,
+      count_next (alone (Settings false (opening_pairs role values))) [],
+      count_none,
+      settings_one (opening_pairs role values),
+    )
+settings_wait role _ sent (reads {received = received} item history) =
+    omega (arith, settings_wait role received sent history)
+settings_wait role received _ (writes {sent = sent} item history allowed) =
+    elim (settings_or item) [
+      | inl (pairs, is) ↦
+          let may = (rw is at allowed).1 in
+          let one : one_settings item ≡ 1 = rw is (settings_one pairs) in
+          omega (arith, count_next item sent, may.none_waits, settings_one pairs, one)
+      | inr none ↦ omega (arith, count_next item sent, none, settings_wait role received sent history)
+    ]
+
+-- And one PING more than were answered, by the item.
+ping_item : (role : Role) (received sent : List Item) (item : Item) → Allowed role received sent item
+    → total one_ping sent ≤ total one_answer received + 1
+    → one_ping item + total one_ping sent ≤ total one_answer received + 1
+unfolding one_ping
+ping_item role received sent (block stream end octets) allowed few = omega (arith, few)
+ping_item role received sent (alone (Data stream end octets pad)) allowed few = omega (arith, few)
+ping_item role received sent (alone (Headers stream end whole fragment pad priority)) allowed few =
+    omega (arith, few)
+ping_item role received sent (alone (Priority stream octets)) allowed few = omega (arith, few)
+ping_item role received sent (alone (Reset stream code)) allowed few = omega (arith, few)
+ping_item role received sent (alone (Settings ack pairs)) allowed few = omega (arith, few)
+ping_item role received sent (alone (Ping true octets)) allowed few = omega (arith, few)
+ping_item role received sent (alone (Ping false octets)) allowed few = omega (arith, allowed.1)
+ping_item role received sent (alone (GoAway last code debug)) allowed few = omega (arith, few)
+ping_item role received sent (alone (WindowUpdate stream increment)) allowed few =
+    omega (arith, few)
+ping_item role received sent (alone (Continuation stream whole fragment)) allowed few =
+    omega (arith, few)
+ping_item role received sent (alone (Unknown kind flags stream payload)) allowed few =
+    omega (arith, few)
+
+pub pings_wait : (role : Role) (received sent : List Item) → AllowedHistory role received sent
+    → total one_ping sent ≤ total one_answer received + 1
+unfolding total one_ping
+pings_wait role _ _ (starts values ok) = omega arith
+pings_wait role _ sent (reads {received = received} item history) =
+    omega (arith, pings_wait role received sent history)
+pings_wait role received _ (writes {sent = sent} item history allowed) =
+    ping_item role received sent item allowed (pings_wait role received sent history)
