@@ -11,3 +11,10 @@ pub mod NamedUnprocessed
 pub mod DataOnStreams
 pub mod StreamWindows
 pub mod Arrived
+pub mod TablesValues
+pub mod TablesDecoded
+pub mod TablesWritten
+pub mod TablesSteps
+pub mod TablesLists
+pub mod TablesRead
+pub mod TablesOfPairs
