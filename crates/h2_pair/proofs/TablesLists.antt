@@ -1,5 +1,6 @@
 -- The lists that an end was given, and accepted, are such as its encoder makes blocks of.
-use Rattle.std.proofs.Common.{◌≡◌, ℕ, List, [], ◌∷◌, ◌++◌, Option, None, refl, sym, ◌∙◌, arith, subst}
+use Rattle.std.proofs.Common.{◌≡◌, ℕ, List, [], ◌∷◌, ◌++◌, Option, None, refl, sym, ◌∙◌, arith}
+use Rattle.std.proofs.Common.{subst}
 use Rattle.std.specs.List.{AllByRecursion}
 use Rattle.std.proofs.lemmas.Bool.{ltb-false}
 use Rattle.hpack.specs.Lists.{list_size}
@@ -119,7 +120,8 @@ pub lists_of_log : (role : Role) (values : Values) (log : Log) → IsLog role va
     → AreEncodable log.calls
 lists_of_log role values _ (begins in_range) = opened_lists role values
 lists_of_log role values _ (took_some {log = log} is takes octets unparsed part) =
-    subst AreEncodable (sym (stays_used log octets unparsed).calls) (lists_of_log role values log is)
+    subst AreEncodable (sym (stays_used log octets unparsed).calls)
+    (lists_of_log role values log is)
 lists_of_log role values _ (took_one {log = log} is takes octets frame decoded read sees) =
     subst AreEncodable (sym (frame_calls (used log octets []) decoded frame
     ∙ (stays_used log octets []).calls)) (lists_of_log role values log is)

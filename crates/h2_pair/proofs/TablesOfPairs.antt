@@ -37,8 +37,15 @@ few_acks role values writer way back received sent is wrote read =
     let acks = acks_sent _ _ _ _ (log_sent role values writer is) in
     let all = ap (total one_ack) wrote in
     let settings = ap settings_count read in
-    omega (arith, acks, pairs_counted writer.received, all, total-append one_ack way received,
-    settings, settings_append back writer.received)
+    omega (
+      arith,
+      acks,
+      pairs_counted writer.received,
+      all,
+      total-append one_ack way received,
+      settings,
+      settings_append back writer.received,
+    )
 
 -- A step of one end keeps what it has read in step, where no more acknowledgments are read than
 -- SETTINGS were sent.

@@ -86,8 +86,13 @@ item_in_step : (log : Log) (decoded : Option Decoded) (item : Item) (events : Li
     → PendingInStep events (read log decoded item)
 item_in_step log decoded (alone frame) events sees seen acks is =
     record {
-      awaited = omega (arith, is.awaited, acks, reported_append one_acked events log.reported,
-          total_one one_ack (alone frame) log.received);
+      awaited = omega (
+        arith,
+        is.awaited,
+        acks,
+        reported_append one_acked events log.reported,
+        total_one one_ack (alone frame) log.received,
+      );
       read = is.read;
       decode = is.decode;
     }
@@ -95,8 +100,13 @@ item_in_step log None (block stream end octets) events sees seen acks is = absur
 item_in_step log (Some decoded) (block stream end octets) events sees seen acks is =
     let count : acked log ≡ 0 + total one_ack log.received = omega (arith, is.awaited) in
     record {
-      awaited = omega (arith, is.awaited, acks, reported_append one_acked events log.reported,
-          total_one one_ack (block stream end octets) log.received);
+      awaited = omega (
+        arith,
+        is.awaited,
+        acks,
+        reported_append one_acked events log.reported,
+        total_one one_ack (block stream end octets) log.received,
+      );
       read = decoded.fields ∷ is.read;
       decode = (
         decoded.fields,

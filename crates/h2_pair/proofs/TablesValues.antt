@@ -59,8 +59,11 @@ pairs_append (item ∷ newer) older = elim (settings_or item) [
       rw (is, pairs_next pairs (newer ++ older), pairs_next pairs newer, pairs_append newer older)
       refl
   | inr none ↦
-      rw (pairs_kept item (newer ++ older) none, pairs_kept item newer none,
-      pairs_append newer older) refl
+      rw (
+        pairs_kept item (newer ++ older) none,
+        pairs_kept item newer none,
+        pairs_append newer older,
+      ) refl
 ]
 
 -- The value that was read last is the limit after all.
@@ -101,8 +104,13 @@ limit_at_settings pairs items (first ∷ newer) older is before =
     let next = pairs_next pairs items in
     let others : settings_received items ≡ newer ++ older = cc in
     let same = ap length others in
-    ap (value_read 1 4096) (up_to_next (length older) newest items (λ one. omega (arith, same,
-    pairs_counted items, length-append newer older, one)))
+    ap (value_read 1 4096) (up_to_next (length older) newest items (λ one. omega (
+      arith,
+      same,
+      pairs_counted items,
+      length-append newer older,
+      one,
+    )))
     ∙ before newer others
 
 -- Before any the limit is 4,096.

@@ -55,15 +55,26 @@ pub acks_sent : (sent : List Item) (settings : List (List (ℕ × ℕ))) (lists 
     → total one_ack sent ≡ length settings
 acks_sent _ _ _ _ sent_nothing = total_none one_ack
 acks_sent _ _ _ _ (sent_acknowledgment {sent} {settings} {lists} {encoder} before pairs) =
-    omega (arith, acks_sent sent settings lists encoder before, one_is_ack [],
-    total_one one_ack (alone (Settings true [])) sent)
+    omega (
+      arith,
+      acks_sent sent settings lists encoder before,
+      one_is_ack [],
+      total_one one_ack (alone (Settings true [])) sent,
+    )
 acks_sent _ _ _ _ (sent_block {sent} {settings} {lists} {encoder} before stream end fields) =
-    omega (arith, acks_sent sent settings lists encoder before,
-    block_is_none stream end (block_of encoder fields),
-    total_one one_ack (block stream end (block_of encoder fields)) sent)
+    omega (
+      arith,
+      acks_sent sent settings lists encoder before,
+      block_is_none stream end (block_of encoder fields),
+      total_one one_ack (block stream end (block_of encoder fields)) sent,
+    )
 acks_sent _ _ _ _ (sent_other {sent} {settings} {lists} {encoder} before item same) =
-    omega (arith, acks_sent sent settings lists encoder before, no_ack item same,
-    total_one one_ack item sent)
+    omega (
+      arith,
+      acks_sent sent settings lists encoder before,
+      no_ack item same,
+      total_one one_ack item sent,
+    )
 
 -- The encoder is one whose blocks are read, with the limit of the SETTINGS received, 4,096 at most.
 pub record HasLimit (encoder : EncoderState) (limit : ℕ) : Type 0 where
