@@ -20,3 +20,10 @@ pub mod WaitingCarried
 pub mod WaitingWay
 pub mod WaitingResets
 pub mod WaitingBound
+pub mod TablesValues
+pub mod TablesDecoded
+pub mod TablesWritten
+pub mod TablesSteps
+pub mod TablesLists
+pub mod TablesRead
+pub mod TablesOfPairs

@@ -1,0 +1,154 @@
+-- The header tables of both ends of a pair are in step.
+use Rattle.std.proofs.Common.{◌≡◌, ℕ, ◌+◌, ◌≤◌, List, ◌++◌, refl, sym, ap, ◌∙◌, arith, subst}
+use Rattle.hpack.specs.Lists.{empty_table}
+use Rattle.hpack.specs.declared.types.field.Field.{Field}
+use Rattle.hpack.specs.Tables.{Entries}
+use Rattle.h2_block.specs.Grouping.{Item}
+use Rattle.h2_log.specs.declared.role.Role.{Role}
+use Rattle.h2_log.specs.declared.role.Role.TheVariants.{Client, Server}
+use Rattle.h2_log.specs.Acts.{Values}
+use Rattle.h2_log.specs.Items.{total}
+use Rattle.h2_log.specs.Settings.{one_ack, settings_count}
+use Rattle.h2_log.specs.Log.{Log, acked}
+use Rattle.h2_log.specs.Histories.{IsLog}
+use Rattle.h2_log_laws.proofs.LogHistory.{settings_append}
+use Rattle.h2_log_laws.proofs.WindowsOfTwoEnds.{total-append}
+use Rattle.h2_end_laws.specs.Sendings.{settings_received, lists_accepted}
+use Rattle.h2_end_laws.proofs.Sendings.{log_sent}
+use Rattle.h2_pair.specs.Pairs.{Half, HalfStep, calls, takes, loses, IsPair, begins, client_steps}
+use Rattle.h2_pair.specs.Pairs.{server_steps}
+use Rattle.h2_pair.specs.Directions.{AreUnderWay}
+use Rattle.h2_pair.specs.HeaderTables.{DecodeInOrder, TablesInStep}
+use Rattle.h2_pair.proofs.PairLogs.{other_same, both_logs}
+use Rattle.h2_pair.proofs.CarriedItems.{items_both_ways}
+use Rattle.h2_pair.proofs.TablesValues.{pairs_counted, pairs_append}
+use Rattle.h2_pair.proofs.TablesDecoded.{in_parts, one_decoding, lists_counted}
+use Rattle.h2_pair.proofs.TablesWritten.{acks_sent, sent_decodes}
+use Rattle.h2_pair.proofs.TablesLists.{lists_of_log}
+use Rattle.h2_pair.proofs.TablesRead.{HasAwaited, LogInStep, log_in_step, call_in_step}
+use Rattle.h2_pair.proofs.TablesRead.{opened_in_step}
+
+-- An end sends no more acknowledgments than its peer has sent SETTINGS: so many of them, or fewer,
+-- are read.
+few_acks : (role : Role) (values : Values) (writer : Log) (way back received sent : List Item)
+    → IsLog role values writer → writer.sent ≡ way ++ received → sent ≡ back ++ writer.received
+    → total one_ack received ≤ settings_count sent
+few_acks role values writer way back received sent is wrote read =
+    let acks = acks_sent _ _ _ _ (log_sent role values writer is) in
+    let all = ap (total one_ack) wrote in
+    let settings = ap settings_count read in
+    omega (
+      arith,
+      acks,
+      pairs_counted writer.received,
+      all,
+      total-append one_ack way received,
+      settings,
+      settings_append back writer.received,
+    )
+
+-- A step of one end keeps what it has read in step, where no more acknowledgments are read than
+-- SETTINGS were sent.
+half_in_step : (one other : Half) {new new_other : Half} → HalfStep one other new new_other
+    → HasAwaited one.log → total one_ack new.log.received ≤ settings_count one.log.sent
+    → LogInStep one.log → LogInStep new.log
+half_in_step one other (calls act answer typed may) before awaited is =
+    call_in_step one.log act answer before is
+half_in_step one other (takes step rest may none came) before awaited is =
+    log_in_step one.log step none may before awaited is
+half_in_step one other (loses octets rest failed came) before awaited is = is
+
+-- The same of an end of a pair, whose other end has sent what it reads before and after the step.
+end_in_step : (role : Role) (values : Values) (one other : Half) {new new_other : Half}
+    → IsLog role values other.log → HalfStep one other new new_other
+    → ((back : List Item) × AreUnderWay one.log other.log back)
+    → ((way : List Item) × AreUnderWay other.log one.log way)
+    → ((way : List Item) × AreUnderWay new_other.log new.log way)
+    → LogInStep one.log → LogInStep new.log
+end_in_step role values one other {new} {new_other} theirs step back before after is =
+    let same = other_same one other step (λ log. log ≡ other.log) refl in
+    half_in_step one other step
+    (few_acks role values other.log before.0 back.0 one.log.received one.log.sent theirs before.1
+    back.1)
+    (few_acks role values other.log after.0 back.0 new.log.received one.log.sent theirs
+    (sym (ap (λ (log : Log). log.sent) same) ∙ after.1) back.1)
+    is
+
+-- What both ends of a pair have read is in step.
+pub both_in_step : (client_values server_values : Values) (client server : Half)
+    → IsPair client_values server_values client server
+    → LogInStep client.log × LogInStep server.log
+both_in_step client_values server_values _ _ (begins in_range others_in_range) =
+    (opened_in_step Client client_values, opened_in_step Server server_values)
+both_in_step client_values server_values _ _
+    (client_steps {client = client} {server = server} is step) =
+    let before = both_in_step client_values server_values client server is in
+    let ways = items_both_ways client_values server_values client server is in
+    let after = items_both_ways client_values server_values _ _ (client_steps is step) in
+    let logs = both_logs client_values server_values client server is in (
+      end_in_step Server server_values client server logs.server_log step ways.0 ways.1 after.1
+          before.0,
+      other_same client server step LogInStep before.1,
+    )
+both_in_step client_values server_values _ _
+    (server_steps {client = client} {server = server} is step) =
+    let before = both_in_step client_values server_values client server is in
+    let ways = items_both_ways client_values server_values client server is in
+    let after = items_both_ways client_values server_values _ _ (server_steps is step) in
+    let logs = both_logs client_values server_values client server is in (
+      other_same server client step LogInStep before.0,
+      end_in_step Client client_values server client logs.client_log step ways.1 ways.0 after.0
+          before.1,
+    )
+
+-- Where what the reader has read is in step, so are the tables, and its lists are the first of
+-- those that the writer was given.
+pub tables_in_step_of_ends : (role : Role) (values : Values) (writer reader : Log)
+    (way back : List Item) → IsLog role values writer → LogInStep reader
+    → AreUnderWay writer reader way → AreUnderWay reader writer back
+    → TablesInStep writer reader way
+tables_in_step_of_ends role values writer reader way back is reads wrote read =
+    let all = sent_decodes reader.sent writer.sent (settings_received back)
+    (settings_received writer.received) (lists_accepted writer.calls) writer.encoder
+    (ap settings_received read ∙ pairs_append back writer.received)
+    (lists_of_log role values writer is) (log_sent role values writer is) in
+    let first = empty_table 4096 in
+    let lists = lists_accepted writer.calls in
+    let last = writer.encoder.table in
+    let parts = in_parts reader.sent 0 first way reader.received lists last
+    (subst (λ (sent : List Item). DecodeInOrder reader.sent 0 first sent lists last) wrote
+    all.decode) in
+    let same = one_decoding reader.sent 0 first reader.received parts.older_lists reads.read
+    parts.between reader.table parts.decode_older reads.decode in
+    let count : 0 + total one_ack reader.received ≡ acked reader = omega (arith, reads.awaited) in
+    record {
+      read = reads.read;
+      under_way = parts.newer_lists;
+      accepted = parts.joined
+          ∙ ap (λ (older : List (List Field)). parts.newer_lists ++ older) same.same_lists;
+      count = lists_counted reader.sent 0 first reader.received reads.read reader.table
+          reads.decode;
+      decode = subst (λ (table : Entries). DecodeInOrder reader.sent (acked reader) table way
+          parts.newer_lists last) same.same_last
+          (subst (λ (n : ℕ). DecodeInOrder reader.sent n parts.between way parts.newer_lists last)
+          count parts.decode_newer);
+    }
+
+-- The tables of both ends of a pair are in step, whether or not the reader has failed.
+pub tables_to_server : (client_values server_values : Values) (client server : Half)
+    (way : List Item) → IsPair client_values server_values client server
+    → AreUnderWay client.log server.log way → TablesInStep client.log server.log way
+tables_to_server client_values server_values client server way is under_way =
+    let back = (items_both_ways client_values server_values client server is).1 in
+    tables_in_step_of_ends Client client_values client.log server.log way back.0
+    (both_logs client_values server_values client server is).client_log
+    (both_in_step client_values server_values client server is).1 under_way back.1
+
+pub tables_to_client : (client_values server_values : Values) (client server : Half)
+    (way : List Item) → IsPair client_values server_values client server
+    → AreUnderWay server.log client.log way → TablesInStep server.log client.log way
+tables_to_client client_values server_values client server way is under_way =
+    let back = (items_both_ways client_values server_values client server is).0 in
+    tables_in_step_of_ends Server server_values server.log client.log way back.0
+    (both_logs client_values server_values client server is).server_log
+    (both_in_step client_values server_values client server is).0 under_way back.1

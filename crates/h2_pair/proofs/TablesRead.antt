@@ -1,0 +1,310 @@
+-- What an end reads, as long as each acknowledgment that it reads is awaited: each is reported, and
+-- the blocks decode in order, from an empty table on, to the end's table.
+use Rattle.std.proofs.Common.{◌≡◌, ℕ, ◌+◌, ◌≤◌, Bool, true, false, if◌then◌else◌, List}
+use Rattle.std.proofs.Common.{[], ◌∷◌, ◌++◌, Option, Some, None, refl, sym, ◌∙◌, arith, subst}
+use Rattle.std.proofs.lemmas.Bool.{both_ways, lt-ltb}
+use Rattle.hpack.specs.declared.types.field.Field.{Field}
+use Rattle.hpack.specs.Lists.{empty_table}
+use Rattle.hpack.specs.Tables.{Entries}
+use Rattle.hpack.specs.Blocks.{Block}
+use Rattle.h2_frame.specs.declared.code.Code.{Code}
+use Rattle.h2_frame.specs.declared.code.Code.TheVariants.{InternalError}
+use Rattle.h2_frame.specs.Frames.{Frame, Settings}
+use Rattle.h2_block.specs.Grouping.{Item, alone, block}
+use Rattle.h2_log.specs.declared.role.Role.{Role}
+use Rattle.h2_log.specs.Acts.{Values, Act, Answer}
+use Rattle.h2_log.specs.Items.{total}
+use Rattle.h2_log.specs.Events.{Event, UnprocessedEvent, one_acked, reported_total}
+use Rattle.h2_log.specs.Settings.{own_value, one_ack, settings_count}
+use Rattle.h2_log.specs.Log.{Log, acked, settings_wait, next_unprocessed}
+use Rattle.h2_log.specs.View.{View}
+use Rattle.h2_log.specs.LogView.{log_view}
+use Rattle.h2_log.specs.Verdicts.{Verdict, ConnectionFault, StreamFault, NoEvent, Reported}
+use Rattle.h2_log.specs.ItemRules.{Decoded, FrameStep, fails_with, begins_block, completes}
+use Rattle.h2_log.specs.ItemRules.{frame_step, settings_fault, verdict_of_fault}
+use Rattle.h2_log.specs.ItemRules.{verdict_by_rules, verdict_of}
+use Rattle.h2_log.specs.ItemEffects.{events_of}
+use Rattle.h2_log.specs.LogSteps.{read, used, with_sent, with_reported, with_unreturned}
+use Rattle.h2_log.specs.LogSteps.{with_verdict, with_step, with_frame}
+use Rattle.h2_log.specs.LogCalls.{opened, called, with_call}
+use Rattle.h2_log.specs.Histories.{IsDecodedIn}
+use Rattle.h2_log_laws.proofs.ItemLists.{total_one}
+use Rattle.h2_log_laws.proofs.LogHistory.{reported_append}
+use Rattle.h2_end_laws.proofs.ReadVerdicts.{Says, says_of}
+use Rattle.h2_end_laws.proofs.ReadingRules.{IsSeen, rules_see}
+use Rattle.h2_machine_laws.specs.Machines.{Step, uses_part, ends_frame, meets_fault}
+use Rattle.h2_machine_laws.specs.Machines.{runs_out_of_memory, reports_unprocessed, is_called}
+use Rattle.h2_machine_laws.specs.Machines.{MayStep, log_after}
+use Rattle.h2_pair.specs.HeaderTables.{DecodeInOrder}
+use Rattle.h2_pair.proofs.StepsOfLogs.{IsNoCall}
+use Rattle.h2_pair.proofs.TablesDecoded.{decode_more}
+use Rattle.h2_pair.proofs.TablesSteps.{Stays, stays_twice, stays_sent, stays_unreturned}
+use Rattle.h2_pair.proofs.TablesSteps.{stays_failure, stays_used, stays_used_failure, stays_call}
+
+-- What was read, by the parts of a log: each acknowledgment was reported, and the blocks decode.
+pub record ReadsInStep (received sent : List Item) (reported : List Event) (table : Entries)
+    : Type 0 where
+  pub awaited : reported_total one_acked reported ≡ total one_ack received
+  pub read : List (List Field)
+  pub decode : DecodeInOrder sent 0 (empty_table 4096) received read table
+
+-- The same of a log, of which these events are still to be reported.
+abbrev pub PendingInStep : List Event → Log → Type 0
+PendingInStep events log =
+    ReadsInStep log.received log.sent (events ++ log.reported) log.table
+
+-- The same of a log.
+abbrev pub LogInStep : Log → Type 0
+LogInStep log = PendingInStep [] log
+
+-- No more acknowledgments were read than SETTINGS were sent.
+abbrev pub HasAwaited : Log → Type 0
+HasAwaited log = total one_ack log.received ≤ settings_count log.sent
+
+-- Where nothing is read, it stays.
+pub stays_in_step : (events : List Event) (old new : Log) → Stays old new → HasAwaited old
+    → PendingInStep events old → PendingInStep events new
+stays_in_step events old new stays awaited is =
+    rw (stays.received, stays.sent, stays.reported, stays.table) (record {
+      awaited = is.awaited;
+      read = is.read;
+      decode = decode_more stays.items old.sent 0 (empty_table 4096) old.received is.read old.table
+          (omega (arith, awaited)) is.decode;
+    })
+
+-- Events are reported.
+reported_in_step : (log : Log) (events : List Event) → PendingInStep events log
+    → LogInStep (with_reported log events)
+unfolding with_reported
+reported_in_step log [] is = is
+reported_in_step log (event ∷ events) is = is
+
+-- An item that is read keeps it, if its acknowledgment, where it is one, is among its events.
+item_in_step : (log : Log) (decoded : Option Decoded) (item : Item) (events : List Event)
+    → IsDecodedIn log decoded (completes item) → IsSeen decoded item
+    → reported_total one_acked events ≡ one_ack item → LogInStep log
+    → PendingInStep events (read log decoded item)
+item_in_step log decoded (alone frame) events sees seen acks is =
+    record {
+      awaited = omega (
+        arith,
+        is.awaited,
+        acks,
+        reported_append one_acked events log.reported,
+        total_one one_ack (alone frame) log.received,
+      );
+      read = is.read;
+      decode = is.decode;
+    }
+item_in_step log None (block stream end octets) events sees seen acks is = absurd seen
+item_in_step log (Some decoded) (block stream end octets) events sees seen acks is =
+    let count : acked log ≡ 0 + total one_ack log.received = omega (arith, is.awaited) in
+    record {
+      awaited = omega (
+        arith,
+        is.awaited,
+        acks,
+        reported_append one_acked events log.reported,
+        total_one one_ack (block stream end octets) log.received,
+      );
+      read = decoded.fields ∷ is.read;
+      decode = (
+        decoded.fields,
+        is.read,
+        log.table,
+        refl,
+        is.decode,
+        subst (λ (n : ℕ). Block log.table (own_value 1 4096 n log.sent) octets decoded.fields
+            decoded.after) count sees,
+      );
+    }
+
+-- What is said of an acknowledgment: where it is awaited, it is reported.
+abbrev IsSilent : Log → Item → Type 0
+IsSilent log item = (one_ack item ≡ 1 → settings_wait log ≡ true) → one_ack item ≡ 0
+
+abbrev IsTold : Log → Option Decoded → Item → Type 0
+IsTold log decoded item =
+    reported_total one_acked (events_of (log_view log) decoded Reported item) ≡ one_ack item
+
+abbrev SaysAcks : Log → Option Decoded → Item → Verdict → Type 0
+SaysAcks log decoded item =
+    Says (one_ack item ≡ 0) (IsSilent log item) (IsTold log decoded item)
+
+-- Of an item that is none nothing is told of one, whatever the verdict.
+other_acks : (log : Log) (decoded : Option Decoded) (item : Item) (verdict : Verdict)
+    → one_ack item ≡ 0 → IsTold log decoded item → SaysAcks log decoded item verdict
+other_acks log decoded item (ConnectionFault code) none told = tt
+other_acks log decoded item (StreamFault code) none told = none
+other_acks log decoded item NoEvent none told = λ wait. none
+other_acks log decoded item Reported none told = told
+
+-- SETTINGS, by their fault, and an acknowledgment, by the test whether it is awaited.
+settings_acks : (F S T : Type 0) (fault : Option Code) → S → Says F S T (verdict_of_fault fault)
+settings_acks F S T None s = s
+settings_acks F S T (Some code) s = tt
+
+reply_acks : (F T : Type 0) (one : ℕ) (b : Bool) → one ≡ 1 → T
+    → Says F ((one ≡ 1 → b ≡ true) → one ≡ 0) T (if b then Reported else NoEvent)
+reply_acks F T one true is t = t
+reply_acks F T one false is t = λ wait. absurd (both_ways false refl (wait is))
+
+-- It is so by the rules.
+rules_ack : (log : Log) (decoded : Option Decoded) (item : Item)
+    → SaysAcks log decoded item (verdict_by_rules (log_view log) decoded item)
+unfolding verdict_by_rules events_of one_acked reported_total one_ack
+rules_ack log decoded (alone (Settings false pairs)) =
+    settings_acks _ _ _ (settings_fault (log_view log) pairs) (λ wait. refl)
+rules_ack log decoded (alone (Settings true pairs)) =
+    reply_acks _ _ 1 (settings_wait log) refl refl
+rules_ack log decoded (block stream end octets) =
+    let item = block stream end octets in
+    other_acks log decoded item (verdict_by_rules (log_view log) decoded item) refl refl
+rules_ack log decoded (alone frame) =
+    let item = alone frame in
+    other_acks log decoded item (verdict_by_rules (log_view log) decoded item) refl refl
+
+-- An acknowledgment that is read is awaited, where no more are read than SETTINGS were sent.
+ack_waits : (log : Log) (item : Item) → LogInStep log
+    → total one_ack (item ∷ log.received) ≤ settings_count log.sent
+    → one_ack item ≡ 1 → settings_wait log ≡ true
+ack_waits log item is awaited one =
+    lt-ltb (acked log) (settings_count log.sent)
+    (omega (arith, is.awaited, awaited, one, total_one one_ack item log.received))
+
+-- after an item that is read, what is replied to it, what is due, and what is reported
+abbrev replied : Log → Option Decoded → Item → List Item → ℕ → List Event → Log
+replied log decoded item replies more events =
+    with_reported (with_unreturned more (with_sent (read log decoded item) replies)) events
+
+-- The item was received.
+reported_received : (log : Log) (events : List Event)
+    → (with_reported log events).received ≡ log.received
+unfolding with_reported
+reported_received log [] = refl
+reported_received log (event ∷ events) = refl
+
+item_received : (log : Log) (decoded : Option Decoded) (item : Item) (replies : List Item)
+    (more : ℕ) (events : List Event)
+    → (replied log decoded item replies more events).received ≡ item ∷ log.received
+item_received log decoded item replies more events =
+    reported_received _ events ∙ (stays_unreturned more _).received
+    ∙ (stays_sent (read log decoded item) replies).received
+
+-- So it keeps this.
+replied_in_step : (log : Log) (decoded : Option Decoded) (item : Item) (replies : List Item)
+    (more : ℕ) (events : List Event)
+    → total one_ack (replied log decoded item replies more events).received
+    ≤ settings_count log.sent
+    → IsDecodedIn log decoded (completes item) → IsSeen decoded item
+    → (total one_ack (item ∷ log.received) ≤ settings_count log.sent
+    → reported_total one_acked events ≡ one_ack item)
+    → LogInStep log → LogInStep (replied log decoded item replies more events)
+replied_in_step log decoded item replies more events awaited sees seen acks is =
+    let one = read log decoded item in
+    let two = with_sent one replies in
+    let here = subst (λ (items : List Item). total one_ack items ≤ settings_count log.sent)
+    (item_received log decoded item replies more events) awaited in
+    reported_in_step (with_unreturned more two) events
+    (stays_in_step events one _ (stays_twice one two _ (stays_sent one replies)
+    (stays_unreturned more two)) here
+    (item_in_step log decoded item events sees seen (acks here) is))
+
+-- The event of a stream's fault is no acknowledgment.
+fault_acks : (view : View) (decoded : Option Decoded) (code : Code) (item : Item)
+    → one_ack item ≡ 0
+    → reported_total one_acked (events_of view decoded (StreamFault code) item) ≡ one_ack item
+unfolding events_of one_acked reported_total
+fault_acks view decoded code item none = sym none
+
+-- Nor are no events.
+silent_acks : (view : View) (decoded : Option Decoded) (item : Item) → one_ack item ≡ 0
+    → reported_total one_acked (events_of view decoded NoEvent item) ≡ one_ack item
+unfolding events_of one_acked reported_total
+silent_acks view decoded item none = sym none
+
+-- After an item, by its verdict.
+verdict_in_step : (log : Log) (decoded : Option Decoded) (item : Item) (verdict : Verdict)
+    → HasAwaited log
+    → total one_ack (with_verdict log decoded item verdict).received ≤ settings_count log.sent
+    → IsDecodedIn log decoded (completes item)
+    → Says (IsSeen decoded item) (IsSeen decoded item) (IsSeen decoded item) verdict
+    → SaysAcks log decoded item verdict → LogInStep log
+    → LogInStep (with_verdict log decoded item verdict)
+unfolding with_verdict
+verdict_in_step log decoded item (ConnectionFault code) before awaited sees seen says is =
+    stays_in_step [] log _ (stays_failure code _ log) before is
+verdict_in_step log decoded item (StreamFault code) before awaited sees seen says is =
+    replied_in_step log decoded item _ _ _ awaited sees seen
+    (λ here. fault_acks (log_view log) decoded code item says) is
+verdict_in_step log decoded item NoEvent before awaited sees seen says is =
+    replied_in_step log decoded item _ _ _ awaited sees seen
+    (λ here. silent_acks (log_view log) decoded item (says (ack_waits log item is here))) is
+verdict_in_step log decoded item Reported before awaited sees seen says is =
+    replied_in_step log decoded item _ _ _ awaited sees seen (λ here. says) is
+
+-- After what a frame makes of the block that has begun.
+step_in_step : (log : Log) (decoded : Option Decoded) (step : FrameStep) → HasAwaited log
+    → total one_ack (with_step log decoded step).received ≤ settings_count log.sent
+    → IsDecodedIn log decoded step → LogInStep log → LogInStep (with_step log decoded step)
+unfolding with_step
+step_in_step log decoded (fails_with code) before awaited sees is =
+    stays_in_step [] log _ (stays_failure code _ log) before is
+step_in_step log decoded (begins_block begun) before awaited sees is =
+    record { awaited = is.awaited; read = is.read; decode = is.decode }
+step_in_step log decoded (completes item) before awaited sees is =
+    let here = record log { begun = None } in
+    verdict_in_step here decoded item (verdict_of (log_view here) decoded item) before awaited sees
+    (says_of _ _ _ here decoded item (rules_see here decoded item))
+    (says_of _ _ _ here decoded item (rules_ack here decoded item))
+    (record { awaited = is.awaited; read = is.read; decode = is.decode })
+
+-- After a frame.
+frame_in_step : (log : Log) (decoded : Option Decoded) (frame : Frame) → HasAwaited log
+    → total one_ack (with_frame log decoded frame).received ≤ settings_count log.sent
+    → IsDecodedIn log decoded (frame_step (log_view log) frame) → LogInStep log
+    → LogInStep (with_frame log decoded frame)
+unfolding with_frame
+frame_in_step log decoded frame before awaited sees is =
+    step_in_step (record log { frames = log.frames ++ frame ∷ [] }) decoded
+    (frame_step (log_view log) frame) before awaited sees
+    (record { awaited = is.awaited; read = is.read; decode = is.decode })
+
+-- A stream that is reported as unprocessed is no acknowledgment.
+unprocessed_in_step : (log : Log) (id : ℕ) → LogInStep log
+    → PendingInStep (UnprocessedEvent id ∷ []) log
+unfolding one_acked reported_total
+unprocessed_in_step log id is =
+    record { awaited = omega (arith, is.awaited); read = is.read; decode = is.decode }
+
+-- After a step that is no call.
+pub log_in_step : (log : Log) (step : Step) → IsNoCall step → MayStep log step → HasAwaited log
+    → total one_ack (log_after log step).received ≤ settings_count log.sent → LogInStep log
+    → LogInStep (log_after log step)
+unfolding MayStep log_after used frame_step
+log_in_step log (uses_part octets unparsed) none may before awaited is =
+    stays_in_step [] log _ (stays_used log octets unparsed) before is
+log_in_step log (ends_frame octets frame decoded) none (takes, here, sees) before awaited is =
+    frame_in_step (used log octets []) decoded frame before awaited sees is
+log_in_step log (meets_fault octets fault) none may before awaited is =
+    stays_in_step [] log _ (stays_used_failure log octets _ _) before is
+log_in_step log (runs_out_of_memory octets) none may before awaited is =
+    stays_in_step [] log _ (stays_used_failure log octets InternalError _) before is
+log_in_step log reports_unprocessed none may before awaited is =
+    let id = next_unprocessed log in
+    let events : List Event = UnprocessedEvent id ∷ [] in
+    reported_in_step (with_unreturned _ log) events
+    (stays_in_step events log _ (stays_unreturned _ log) before (unprocessed_in_step log id is))
+log_in_step log (is_called act answer) none may before awaited is = absurd (none act answer refl)
+
+-- After a call.
+pub call_in_step : (log : Log) (act : Act) (answer : Answer) → HasAwaited log → LogInStep log
+    → LogInStep (with_call log act answer)
+call_in_step log act answer before is =
+    stays_in_step [] (called log act answer) _ (stays_call log act answer) before
+    (record { awaited = is.awaited; read = is.read; decode = is.decode })
+
+-- A new log has read nothing.
+pub opened_in_step : (role : Role) (values : Values) → LogInStep (opened role values)
+unfolding opened with_sent reported_total total
+opened_in_step role values = record { awaited = refl; read = []; decode = (refl, refl) }

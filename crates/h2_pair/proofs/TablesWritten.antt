@@ -1,0 +1,202 @@
+-- What an end has sent decodes, from an empty table on, to the lists that it was given, and leaves
+-- its encoder's table.
+use Rattle.std.proofs.Common.{◌≡◌, ℕ, ◌+◌, ◌^◌, ◌<◌, ◌==◌, min, Bool, true, false}
+use Rattle.std.proofs.Common.{if◌then◌else◌, List, [], ◌∷◌, ◌++◌, length, refl, sym, ap, ◌∙◌, arith}
+use Rattle.std.proofs.Common.{append_assoc, subst}
+use Rattle.std.specs.List.{AllByRecursion}
+use Rattle.hpack.specs.declared.types.field.Field.{Field}
+use Rattle.hpack.specs.Lists.{EncoderState, empty_table, list_size}
+use Rattle.hpack.specs.Blocks.{Block}
+use Rattle.hpack.specs.Tables.{Entries}
+use Rattle.hpack.specs.Choice.{block_of, after_block}
+use Rattle.hpack.specs.Written.{IsValidEncoder, AreOctets}
+use Rattle.hpack.specs.Limits.{after_limit}
+use Rattle.hpack.proofs.LimitLemmas.{limit_preserves}
+use Rattle.hpack.proofs.WrittenBlocks.{block_encodes, block_goes_on}
+use Rattle.h2_frame.specs.Frames.{Settings}
+use Rattle.h2_block.specs.Grouping.{Item, alone, block}
+use Rattle.h2_log.specs.Items.{total}
+use Rattle.h2_log.specs.ItemEffects.{encoder_after_settings}
+use Rattle.h2_log.specs.Settings.{value_after, own_value, one_ack}
+use Rattle.h2_log_laws.proofs.ItemLists.{total_none, total_one}
+use Rattle.h2_end_laws.specs.Sendings.{settings_received, changes_encoder}
+use Rattle.h2_end_laws.specs.Sendings.{EncodesInOrder, sent_nothing, sent_acknowledgment}
+use Rattle.h2_end_laws.specs.Sendings.{sent_block, sent_other}
+use Rattle.h2_pair.specs.HeaderTables.{DecodeInOrder}
+use Rattle.h2_pair.proofs.TablesValues.{limit_after, limit_in_force}
+
+-- A list that an encoder makes a block of: octets, in strings that integers count.
+pub record IsEncodable (fields : List Field) : Type 0 where
+  pub octets : AreOctets fields
+  pub short : list_size fields < 2 ^ 35
+
+-- An item that leaves the encoder is no acknowledgment.
+no_ack : (item : Item) → changes_encoder item ≡ false → one_ack item ≡ 0
+unfolding one_ack changes_encoder
+no_ack (block stream end octets) same = refl
+no_ack (alone (Settings true pairs)) same = absurd (cc)
+no_ack (alone (Settings false pairs)) same = refl
+no_ack (alone frame) same = refl
+
+-- An acknowledgment is one.
+one_is_ack : (pairs : List (ℕ × ℕ)) → one_ack (alone (Settings true pairs)) ≡ 1
+unfolding one_ack
+one_is_ack pairs = refl
+
+-- A block is none.
+block_is_none : (stream : ℕ) (end : Bool) (octets : List ℕ)
+    → one_ack (block stream end octets) ≡ 0
+unfolding one_ack
+block_is_none stream end octets = refl
+
+-- As many acknowledgments were sent as SETTINGS received.
+pub acks_sent : (sent : List Item) (settings : List (List (ℕ × ℕ))) (lists : List (List Field))
+    (encoder : EncoderState) → EncodesInOrder sent settings lists encoder
+    → total one_ack sent ≡ length settings
+acks_sent _ _ _ _ sent_nothing = total_none one_ack
+acks_sent _ _ _ _ (sent_acknowledgment {sent} {settings} {lists} {encoder} before pairs) =
+    omega (
+      arith,
+      acks_sent sent settings lists encoder before,
+      one_is_ack [],
+      total_one one_ack (alone (Settings true [])) sent,
+    )
+acks_sent _ _ _ _ (sent_block {sent} {settings} {lists} {encoder} before stream end fields) =
+    omega (
+      arith,
+      acks_sent sent settings lists encoder before,
+      block_is_none stream end (block_of encoder fields),
+      total_one one_ack (block stream end (block_of encoder fields)) sent,
+    )
+acks_sent _ _ _ _ (sent_other {sent} {settings} {lists} {encoder} before item same) =
+    omega (
+      arith,
+      acks_sent sent settings lists encoder before,
+      no_ack item same,
+      total_one one_ack item sent,
+    )
+
+-- The encoder is one whose blocks are read, with the limit of the SETTINGS received, 4,096 at most.
+pub record HasLimit (encoder : EncoderState) (limit : ℕ) : Type 0 where
+  pub valid : IsValidEncoder encoder
+  pub least : encoder.limit ≡ min limit 4096
+
+-- After a pair of SETTINGS, by the test whether it names the limit.
+limit_by : (encoder : EncoderState) (limit value : ℕ) (b : Bool) → HasLimit encoder limit
+    → HasLimit (if b then after_limit encoder (min value 4096) else encoder)
+    (if b then value else limit)
+limit_by encoder limit value true has =
+    record {
+      valid = limit_preserves encoder (min value 4096) (omega arith) has.valid;
+      least = refl;
+    }
+limit_by encoder limit value false has = has
+
+-- After SETTINGS.
+settings_limit : (encoder : EncoderState) (limit : ℕ) (pairs : List (ℕ × ℕ))
+    → HasLimit encoder limit
+    → HasLimit (encoder_after_settings encoder pairs) (value_after 1 limit pairs)
+unfolding encoder_after_settings value_after
+settings_limit encoder limit [] has = has
+settings_limit encoder limit (pair ∷ pairs) has =
+    settings_limit (if pair.0 == 1 then after_limit encoder (min pair.1 4096) else encoder)
+    (if pair.0 == 1 then pair.1 else limit) pairs
+    (limit_by encoder limit pair.1 (pair.0 == 1) has)
+
+-- The table stays, whatever the limits are.
+table_by : (encoder : EncoderState) (limit : ℕ) (b : Bool)
+    → (if b then after_limit encoder limit else encoder).table ≡ encoder.table
+table_by encoder limit true = refl
+table_by encoder limit false = refl
+
+settings_table : (encoder : EncoderState) (pairs : List (ℕ × ℕ))
+    → (encoder_after_settings encoder pairs).table ≡ encoder.table
+unfolding encoder_after_settings
+settings_table encoder [] = refl
+settings_table encoder (pair ∷ pairs) =
+    settings_table (if pair.0 == 1 then after_limit encoder (min pair.1 4096) else encoder) pairs
+    ∙ table_by encoder (min pair.1 4096) (pair.0 == 1)
+
+-- After a block.
+block_limit : (encoder : EncoderState) (limit : ℕ) (fields : List Field) → HasLimit encoder limit
+    → HasLimit (after_block encoder fields) limit
+unfolding after_block
+block_limit encoder limit fields has =
+    record { valid = block_goes_on encoder fields has.valid; least = has.least }
+
+-- What was sent decodes, with the limits of a peer's SETTINGS.
+pub record IsDecodable (peer sent : List Item) (settings : List (List (ℕ × ℕ)))
+    (lists : List (List Field)) (encoder : EncoderState) : Type 0 where
+  pub has_limit : HasLimit encoder (limit_after settings)
+  pub decode : DecodeInOrder peer 0 (empty_table 4096) sent lists encoder.table
+
+-- An item that is no block and leaves the encoder changes nothing.
+other_decodes : (peer sent : List Item) (settings : List (List (ℕ × ℕ)))
+    (lists : List (List Field)) (encoder : EncoderState) (item : Item)
+    → changes_encoder item ≡ false → IsDecodable peer sent settings lists encoder
+    → IsDecodable peer (item ∷ sent) settings lists encoder
+unfolding changes_encoder
+other_decodes peer sent settings lists encoder (alone frame) same is =
+    record { has_limit = is.has_limit; decode = is.decode }
+other_decodes peer sent settings lists encoder (block stream end octets) same is = absurd (cc)
+
+-- A block decodes, at as many acknowledgments as SETTINGS.
+block_decodes : (peer sent : List Item) (newer settings : List (List (ℕ × ℕ)))
+    (lists : List (List Field)) (encoder : EncoderState) (fields : List Field)
+    → settings_received peer ≡ newer ++ settings → total one_ack sent ≡ length settings
+    → HasLimit encoder (limit_after settings) → IsEncodable fields
+    → Block encoder.table (own_value 1 4096 (0 + total one_ack sent) peer)
+    (block_of encoder fields) fields (after_block encoder fields).table
+block_decodes peer sent newer settings lists encoder fields joined acks has encodable =
+    let count : 0 + total one_ack sent ≡ length settings = omega (arith, acks) in
+    let limit = ap (λ (n : ℕ). own_value 1 4096 n peer) count
+    ∙ limit_in_force peer newer settings joined in
+    block_encodes encoder (own_value 1 4096 (0 + total one_ack sent) peer) fields has.valid
+    encodable.octets encodable.short (omega (arith, limit, has.least))
+
+-- All that was sent decodes.
+pub sent_decodes : (peer sent : List Item) (newer settings : List (List (ℕ × ℕ)))
+    (lists : List (List Field)) (encoder : EncoderState)
+    → settings_received peer ≡ newer ++ settings → AllByRecursion IsEncodable lists
+    → EncodesInOrder sent settings lists encoder → IsDecodable peer sent settings lists encoder
+sent_decodes peer _ newer _ _ _ joined encodable sent_nothing =
+    record {
+      has_limit = record {
+        valid = record {
+          least = omega arith;
+          limit = omega arith;
+          maximum = omega arith;
+          within = omega arith;
+        };
+        least = refl;
+      };
+      decode = (refl, refl);
+    }
+sent_decodes peer _ newer _ _ _ joined encodable
+    (sent_acknowledgment {sent} {settings} {lists} {encoder} before pairs) =
+    let is = sent_decodes peer sent (newer ++ pairs ∷ []) settings lists encoder
+    (joined ∙ sym (append_assoc newer (pairs ∷ []) settings)) encodable before in
+    record {
+      has_limit = settings_limit encoder (limit_after settings) pairs is.has_limit;
+      decode = subst (λ (last : Entries). DecodeInOrder peer 0 (empty_table 4096) sent lists last)
+          (sym (settings_table encoder pairs)) is.decode;
+    }
+sent_decodes peer _ newer _ _ _ joined encodable
+    (sent_block {sent} {settings} {lists} {encoder} before stream end fields) =
+    let is = sent_decodes peer sent newer settings lists encoder joined encodable.1 before in
+    record {
+      has_limit = block_limit encoder (limit_after settings) fields is.has_limit;
+      decode = (
+        fields,
+        lists,
+        encoder.table,
+        refl,
+        is.decode,
+        block_decodes peer sent newer settings lists encoder fields joined
+            (acks_sent sent settings lists encoder before) is.has_limit encodable.0,
+      );
+    }
+sent_decodes peer _ newer _ _ _ joined encodable
+    (sent_other {sent} {settings} {lists} {encoder} before item same) =
+    other_decodes peer sent settings lists encoder item same
+    (sent_decodes peer sent newer settings lists encoder joined encodable before)
