@@ -11,3 +11,12 @@ pub mod NamedUnprocessed
 pub mod DataOnStreams
 pub mod StreamWindows
 pub mod Arrived
+pub mod FaultsInvariant
+pub mod FaultsOfCalls
+pub mod FaultsOfWire
+pub mod FaultsOfGrouping
+pub mod FaultsOfItems
+pub mod FaultsOfReads
+pub mod FaultsOfPairs
+pub mod WaitingBound
+pub mod TablesOfPairs
