@@ -2,6 +2,8 @@
 use Rattle.h2_pair.proofs.FaultsOfCalls.{call_clean}
 use Rattle.h2_pair.proofs.FaultsOfWire.{no_wire_fault}
 use Rattle.h2_pair.proofs.FaultsOfGrouping.{step_is_next}
+use Rattle.h2_pair.proofs.FaultsOfItems.{item_sound}
+use Rattle.h2_pair.proofs.FaultsOfReads.{step_clean}
 use Rattle.h2_pair.proofs.WaitingBound.{waiting_is_bounded}
 use Rattle.h2_pair.proofs.TablesOfPairs.{acks_are_awaited}
 use Rattle.h2_pair.proofs.faults.no_faults_of_a_pair.Goals as goal
