@@ -1,22 +1,21 @@
 -- What an end of an undisturbed pair keeps: it is up, reports no stream fault, has read each reset
 -- that it reports, was asked for each reset that it wrote, and was given no list that is too large.
-use Rattle.std.proofs.Common.{◌≡◌, ◌⊎◌, inl, inr, ℕ, ◌+◌, ◌≤◌, ◌<◌, nat_lt, ◌&&◌, Bool, true}
-use Rattle.std.proofs.Common.{false, if◌then◌else◌, List, [], ◌∷◌, ◌++◌, length, None, refl, sym, ap}
-use Rattle.std.proofs.Common.{◌∙◌, arith}
+use Rattle.std.proofs.Common.{◌≡◌, ◌⊎◌, inl, inr, ℕ, ◌+◌, ◌≤◌, nat_lt, ◌&&◌, Bool, true, false}
+use Rattle.std.proofs.Common.{List, [], ◌∷◌, ◌++◌, None, refl, arith}
 use Rattle.std.specs.List.{Contains}
-use Rattle.std.proofs.lemmas.List.Elements.{Contains-append_cases, Contains-append_left}
-use Rattle.std.proofs.lemmas.List.Elements.{Contains-append_right, Contains-push_cases}
+use Rattle.std.proofs.lemmas.List.Elements.{Contains-append_cases, Contains-append_right}
+use Rattle.std.proofs.lemmas.List.Elements.{Contains-push_cases}
 use Rattle.hpack.specs.declared.types.field.Field.{Field}
 use Rattle.hpack.specs.Lists.{list_size}
-use Rattle.h2_frame.specs.Frames.{Frame, Reset, WindowUpdate}
+use Rattle.h2_frame.specs.Frames.{Reset, WindowUpdate}
 use Rattle.h2_block.specs.Grouping.{Item, alone}
 use Rattle.h2_log.specs.Acts.{Act, Answer}
 use Rattle.h2_log.specs.Events.{Event, ResetEvent}
 use Rattle.h2_log.specs.Limits.{full_output, max_list}
 use Rattle.h2_log.specs.Log.{Log, waiting}
 use Rattle.h2_log.specs.LogSteps.{with_sent, with_reported, with_unreturned}
-use Rattle.h2_log_laws.proofs.LogHistory.{History, history_of, moved, give, given_by}
-use Rattle.h2_log_laws.proofs.LogHistory.{wrote_view, reports_view, with_unreturned_view}
+use Rattle.h2_log_laws.proofs.LogHistory.{History, history_of, moved, given_by, wrote_view}
+use Rattle.h2_log_laws.proofs.LogHistory.{reports_view, with_unreturned_view}
 use Rattle.h2_end_laws.specs.Sendings.{lists_accepted}
 use Rattle.h2_pair.specs.Undisturbed.{WasAsked}
 

@@ -1,38 +1,36 @@
 -- A call that leaves an end up keeps it without faults: each reset that it writes was asked for.
-use Rattle.std.proofs.Common.{◌≡◌, ◌≢◌, ◌⊎◌, inl, inr, ℕ, zero, suc, ◌≤◌, nat_lt, nat_le, ◌==◌}
-use Rattle.std.proofs.Common.{not, ◌&&◌, Bool, true, false, if◌then◌else◌, List, [], ◌∷◌, ◌++◌}
-use Rattle.std.proofs.Common.{length, take, drop, Option, Some, None, refl, sym, ap, ◌∙◌, arith}
+use Rattle.std.proofs.Common.{◌≡◌, ◌≢◌, inl, inr, ℕ, zero, suc, ◌≤◌, nat_le, ◌==◌, not, ◌&&◌, Bool}
+use Rattle.std.proofs.Common.{true, false, if◌then◌else◌, List, [], ◌∷◌, ◌++◌, length, take, drop}
+use Rattle.std.proofs.Common.{Option, Some, None, sym}
 use Rattle.std.specs.List.{Contains}
 use Rattle.std.proofs.lemmas.Bool.{ltb-false}
 use Rattle.std.proofs.lemmas.List.Elements.{Contains-append_cases}
 use Rattle.hpack.specs.declared.types.field.Field.{Field}
 use Rattle.hpack.specs.Lists.{list_size}
-use Rattle.hpack.specs.Choice.{block_of}
 use Rattle.h2_frame.specs.declared.code.Code.{Code}
-use Rattle.h2_frame.specs.Frames.{Data, Reset, Settings, Ping, GoAway, WindowUpdate}
+use Rattle.h2_frame.specs.Frames.{Data, Reset, WindowUpdate}
 use Rattle.h2_wire.proofs.ReadingLemmas.{none_some}
-use Rattle.h2_block.specs.Grouping.{Item, alone, block}
+use Rattle.h2_block.specs.Grouping.{Item, alone}
 use Rattle.h2_log.specs.declared.refusal.Refusal.{Refusal}
 use Rattle.h2_log.specs.declared.refusal.Refusal.TheVariants.{Memory}
-use Rattle.h2_log.specs.Acts.{Act, Answer, Open, SendFields, SendData, Release, ResetStream}
-use Rattle.h2_log.specs.Acts.{Refuse, SendPing, SendGoAway, PutOut, ChangeSettings, Number, Count}
-use Rattle.h2_log.specs.Acts.{Done, OutOfMemory, Refused}
+use Rattle.h2_log.specs.Acts.{Act, Answer, Open, SendFields, SendData, Release, ResetStream, Refuse}
+use Rattle.h2_log.specs.Acts.{SendPing, SendGoAway, PutOut, ChangeSettings, Count, Done}
+use Rattle.h2_log.specs.Acts.{OutOfMemory, Refused}
 use Rattle.h2_log.specs.Limits.{max_list}
 use Rattle.h2_log.specs.Log.{Log}
 use Rattle.h2_log.specs.LogView.{log_view}
 use Rattle.h2_log.specs.View.{View, ended_in}
 use Rattle.h2_log.specs.LogSteps.{with_credit_returned}
 use Rattle.h2_log.specs.CallRules.{conditions, refusal_of, answer_of, items_of, refuse_fault}
-use Rattle.h2_log.specs.CallRules.{data_frames, data_items, returns_before_put_out, first_of}
+use Rattle.h2_log.specs.CallRules.{data_frames, data_items, returns_before_put_out}
 use Rattle.h2_log.specs.LogCalls.{called, with_items, refused_with, before_put_out, with_call}
 use Rattle.h2_log.specs.LogCalls.{MayAnswer, accepts, refuses, lacks, fails}
 use Rattle.h2_log_laws.proofs.CallConditions.{first_none}
-use Rattle.h2_log_laws.proofs.LogHistory.{history_of, moved}
+use Rattle.h2_log_laws.proofs.LogHistory.{history_of}
 use Rattle.h2_end_laws.specs.Sendings.{lists_accepted}
 use Rattle.h2_pair.specs.Undisturbed.{WasAsked, LeavesUp}
-use Rattle.h2_pair.proofs.FaultsInvariant.{IsClean, LogIsClean, IsCleanMove, clean_moved, clean_sent}
-use Rattle.h2_pair.proofs.FaultsInvariant.{clean_unreturned, none_in, one_in, first_in, later_in}
-use Rattle.h2_pair.proofs.FaultsInvariant.{first_or_later}
+use Rattle.h2_pair.proofs.FaultsInvariant.{LogIsClean, clean_moved, clean_sent, clean_unreturned}
+use Rattle.h2_pair.proofs.FaultsInvariant.{writes_clean, none_in, one_in, first_in, later_in, first_or_later}
 
 -- There is no reset among the items.
 abbrev NoResets : List Item → Type 0
@@ -43,7 +41,7 @@ one_no_reset : (item : Item) → ((id code : ℕ) → item ≡ alone (Reset id c
     → NoResets (item ∷ [])
 one_no_reset item none id code here = none id code (one_in item _ here)
 
--- Nor in two lists.
+-- Nor is one in two lists joined.
 both_no_reset : (one other : List Item) → NoResets one → NoResets other → NoResets (one ++ other)
 both_no_reset one other here there id code is = elim (Contains-append_cases one other _ is) [
   | inl in_one ↦ here id code in_one
@@ -55,18 +53,19 @@ data_no_reset : (id : ℕ) (end : Bool) (octets : List ℕ)
     → NoResets (alone (Data id end octets None) ∷ [])
 data_no_reset id end octets = one_no_reset _ (λ i code is. cc)
 
--- Nor are the frames of a body.
-data_by : (b : Bool) (one other : List Item) → NoResets one → NoResets other
+-- Nor in one of two, by a test.
+either_no_reset : (b : Bool) (one other : List Item) → NoResets one → NoResets other
     → NoResets (if b then one else other)
-data_by true one other here there = here
-data_by false one other here there = there
+either_no_reset true one other here there = here
+either_no_reset false one other here there = there
 
+-- The frames of a body are none.
 frames_no_reset : (count most id : ℕ) (octets : List ℕ) (end : Bool)
     → NoResets (data_frames count most id octets end)
 unfolding data_frames
 frames_no_reset zero most id octets end = λ i code here. none_in _ here
 frames_no_reset (suc count) most id octets end =
-    data_by (nat_le (length octets) most) _ _ (data_no_reset id end octets)
+    either_no_reset (nat_le (length octets) most) _ _ (data_no_reset id end octets)
     (both_no_reset (data_frames count most id (drop most octets) end) _
     (frames_no_reset count most id (drop most octets) end)
     (data_no_reset id false (take most octets)))
@@ -75,14 +74,15 @@ items_no_reset : (most id : ℕ) (octets : List ℕ) (end : Bool) (count : ℕ)
     → NoResets (data_items most id octets end count)
 unfolding data_items
 items_no_reset most id octets end count =
-    data_by (count == 0 && not (length octets == 0 && end)) _ _ (λ i code here. none_in _ here)
+    either_no_reset (count == 0 && not (length octets == 0 && end)) _ _
+    (λ i code here. none_in _ here)
     (frames_no_reset (suc count) most id (take count octets) (end && count == length octets))
 
 -- WINDOW_UPDATE is none.
 update_no_reset : (id count : ℕ) → NoResets (alone (WindowUpdate id count) ∷ [])
 update_no_reset id count = one_no_reset _ (λ i code is. cc)
 
--- What a call writes that is no reset.
+-- Each reset that an accepted call writes was asked for, by that call or before.
 abbrev Asked : (view : View) (act : Act) → List (Act × Answer) → Type 0
 Asked view act calls = (id code : ℕ)
     → Contains (items_of view act (answer_of view act)) (alone (Reset id code))
@@ -109,7 +109,7 @@ same_refusal i c id code calls is =
     let number : c ≡ code = cc in
     rw (stream, number) (first_in (Refuse id code, Done) calls)
 
--- Each reset that a call writes was asked for.
+-- So it is with every call.
 call_asked : (view : View) (act : Act) (calls : List (Act × Answer)) → Asked view act calls
 unfolding items_of
 call_asked view (Open fields end) calls =
@@ -121,7 +121,7 @@ call_asked view (SendData id octets end) calls =
 call_asked view (Release id count) calls =
     none_asked view (Release id count) calls
     (both_no_reset (alone (WindowUpdate 0 count) ∷ []) _ (update_no_reset 0 count)
-    (data_by (ended_in (view.stream id)) _ _ (λ i code here. none_in _ here)
+    (either_no_reset (ended_in (view.stream id)) _ _ (λ i code here. none_in _ here)
     (update_no_reset id count)))
 call_asked view (ResetStream id code) calls =
     λ i c here. inl (same_reset id code i c calls (one_in _ _ here))
@@ -242,13 +242,8 @@ ready_by log false clean = clean
 ready_by log true clean =
     clean_sent (record log { unreturned = 0 }) (alone (WindowUpdate 0 log.unreturned) ∷ [])
     (λ id code here. absurd (update_no_reset 0 log.unreturned id code here))
-    (clean_moved (history_of log) [] [] [] log.calls 0 (record {
-      none = λ id code here. none_in _ here;
-      heard = λ id code here. absurd (none_in _ here);
-      asked = λ id code here. absurd (none_in _ here);
-      still = λ id code was. was;
-      small = λ before. before;
-    }) clean)
+    (clean_moved (history_of log) [] [] [] log.calls 0 (writes_clean log.received [] log.calls
+    (λ id code here. absurd (none_in _ here))) clean)
 
 -- A call that puts output out.
 put_out_clean : (log : Log) (count given : ℕ) → LogIsClean log

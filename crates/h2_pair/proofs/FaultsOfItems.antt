@@ -1,8 +1,7 @@
 -- An item that comes next of those that the other end has written is no fault: its blocks decode,
 -- and what may be written is no fault for its reader.
-use Rattle.std.proofs.Common.{◌≡◌, ◌⊎◌, inl, inr, ℕ, ◌+◌, ◌≤◌, Bool, true, false, List, [], ◌∷◌}
-use Rattle.std.proofs.Common.{◌++◌, Option, Some, None, refl, sym, ap, ◌∙◌, arith, append_assoc}
-use Rattle.std.proofs.Common.{subst}
+use Rattle.std.proofs.Common.{◌≡◌, inl, inr, ℕ, ◌+◌, ◌≤◌, Bool, true, false, List, [], ◌∷◌, ◌++◌}
+use Rattle.std.proofs.Common.{Option, Some, None, refl, sym, ap, ◌∙◌, arith, append_assoc}
 use Rattle.std.specs.List.{Contains, list_any}
 use Rattle.std.proofs.lemmas.Bool.{both_ways}
 use Rattle.std.proofs.lemmas.List.Elements.{Contains-append_left}
@@ -12,7 +11,6 @@ use Rattle.hpack.specs.Blocks.{Block}
 use Rattle.hpack.specs.Lists.{list_size}
 use Rattle.hpack.proofs.BlockLemmas.{one_block_lem}
 use Rattle.h2_frame.specs.declared.code.Code.{Code}
-use Rattle.h2_frame.specs.Frames.{Frame, Settings}
 use Rattle.h2_block.specs.Grouping.{Item, alone, block}
 use Rattle.h2_log.specs.declared.role.Role.{Role}
 use Rattle.h2_log.specs.declared.role.Role.TheVariants.{Client, Server}
@@ -20,13 +18,12 @@ use Rattle.h2_log.specs.Events.{reports_unprocessed}
 use Rattle.h2_log.specs.Items.{total, is_goaway_below}
 use Rattle.h2_log.specs.Limits.{max_list}
 use Rattle.h2_log.specs.Settings.{own_value, one_ack, peer_of, is_server}
-use Rattle.h2_log.specs.CallRules.{opening_pairs}
 use Rattle.h2_log.specs.Log.{Log, acked}
 use Rattle.h2_log.specs.LogView.{log_view}
 use Rattle.h2_log.specs.Verdicts.{is_fault}
 use Rattle.h2_log.specs.ItemRules.{Decoded, completes, verdict_by_rules, verdict_of_fault}
 use Rattle.h2_log.specs.Histories.{IsDecoded, IsDecodedIn, table_limit}
-use Rattle.h2_log.specs.Allowed.{AllowedHistory, Origin, IsOpening, IsReader}
+use Rattle.h2_log.specs.Allowed.{AllowedHistory, IsOpening}
 use Rattle.h2_log_laws.specs.Accepting.{IsDecodable}
 use Rattle.h2_log_laws.proofs.AcceptedSettings.{first_settings_lem}
 use Rattle.h2_log_laws.proofs.AcceptedWrites.{written_lem}

@@ -1,11 +1,10 @@
 -- Neither end of an undisturbed pair faults.
-use Rattle.std.proofs.Common.{◌≡◌, ◌≢◌, ◌⊎◌, inl, inr, ℕ, ◌≤◌, not, Bool, true, false, List, []}
-use Rattle.std.proofs.Common.{◌∷◌, ◌++◌, drop, Option, None, refl, sym, ap, ◌∙◌, append_assoc, subst}
-use Rattle.std.specs.List.{Contains, AllByRecursion}
+use Rattle.std.proofs.Common.{◌≡◌, ◌≢◌, ℕ, ◌≤◌, not, Bool, true, false, List, [], ◌∷◌, ◌++◌, drop}
+use Rattle.std.proofs.Common.{Option, None, refl, sym, ◌∙◌, append_assoc, subst}
+use Rattle.std.specs.List.{AllByRecursion}
 use Rattle.std.proofs.lemmas.Bool.{both_ways}
 use Rattle.std.proofs.lemmas.List.Elements.{Contains-append_right}
 use Rattle.h2_frame.specs.Frames.{Frame, Reset, Settings}
-use Rattle.h2_wire.specs.declared.fault.WireFault.{WireFault}
 use Rattle.h2_block.specs.Grouping.{Item, alone}
 use Rattle.h2_log.specs.declared.role.Role.{Role}
 use Rattle.h2_log.specs.declared.role.Role.TheVariants.{Client, Server}
@@ -18,8 +17,7 @@ use Rattle.h2_log.specs.Limits.{max_frame_size_sent}
 use Rattle.h2_log.specs.Settings.{is_server, peer_of, one_ack}
 use Rattle.h2_log.specs.Log.{Log, acked, waiting, output}
 use Rattle.h2_log.specs.LogView.{log_view}
-use Rattle.h2_log.specs.LogSteps.{used, with_sent, with_unreturned, with_frame}
-use Rattle.h2_log.specs.LogSteps.{took_none}
+use Rattle.h2_log.specs.LogSteps.{used, with_sent, with_unreturned, with_frame, took_none}
 use Rattle.h2_log.specs.LogCalls.{opened}
 use Rattle.h2_log.specs.ItemRules.{Decoded, FrameStep, fails_with, begins_block, completes}
 use Rattle.h2_log.specs.ItemRules.{frame_step}
@@ -27,12 +25,11 @@ use Rattle.h2_log.specs.Histories.{IsDecodedIn, IsDecodedFor, TakesFrame, TakesF
 use Rattle.h2_log.proofs.StreamLemmas.{stream_of_log}
 use Rattle.h2_log_laws.specs.Sending.{IsSendable}
 use Rattle.h2_log_laws.proofs.InvariantLogs.{written_is_allowed}
-use Rattle.h2_log_laws.proofs.LogHistory.{History, history_of, used_view}
+use Rattle.h2_log_laws.proofs.LogHistory.{used_view}
 use Rattle.h2_end_laws.specs.Sendings.{lists_accepted}
 use Rattle.h2_end_laws.proofs.SendableCalls.{written_sendable}
-use Rattle.h2_machine_laws.specs.Machines.{uses_part, ends_frame, meets_fault}
-use Rattle.h2_machine_laws.specs.Machines.{runs_out_of_memory, reports_unprocessed, is_called}
-use Rattle.h2_machine_laws.specs.Machines.{Step, MayStep, log_after}
+use Rattle.h2_machine_laws.specs.Machines.{uses_part, ends_frame, meets_fault, runs_out_of_memory}
+use Rattle.h2_machine_laws.specs.Machines.{reports_unprocessed, is_called, Step, MayStep, log_after}
 use Rattle.h2_pair.specs.Pairs.{Half, HalfStep, calls, takes, loses, IsPair, begins, client_steps}
 use Rattle.h2_pair.specs.Pairs.{server_steps, octets_used}
 use Rattle.h2_pair.specs.Directions.{AreUnderWay, CarriesOctets}
@@ -46,8 +43,8 @@ use Rattle.h2_pair.proofs.CarriedItems.{items_both_ways}
 use Rattle.h2_pair.proofs.NamedUnprocessed.{log_named}
 use Rattle.h2_pair.proofs.WaitingBound.{waiting_is_bounded}
 use Rattle.h2_pair.proofs.TablesOfPairs.{acks_are_awaited, tables_in_step_of_pair}
-use Rattle.h2_pair.proofs.FaultsInvariant.{LogIsClean, clean_unreturned, clean_reported}
-use Rattle.h2_pair.proofs.FaultsInvariant.{none_in, one_in}
+use Rattle.h2_pair.proofs.FaultsInvariant.{LogIsClean, clean_unreturned, clean_reported, none_in}
+use Rattle.h2_pair.proofs.FaultsInvariant.{one_in}
 use Rattle.h2_pair.proofs.FaultsOfCalls.{call_clean}
 use Rattle.h2_pair.proofs.FaultsOfWire.{octets_joined, no_wire_fault, next_frame}
 use Rattle.h2_pair.proofs.FaultsOfGrouping.{IsNextStep, step_is_next}

@@ -1,14 +1,11 @@
 -- An item that is no fault keeps an end without faults, whatever waits of its output within the
 -- bound of a pair.
 use Rattle.std.proofs.Common.{◌≡◌, ℕ, ◌+◌, ◌≤◌, nat_lt, ◌&&◌, Bool, true, false, if◌then◌else◌}
-use Rattle.std.proofs.Common.{List, [], ◌∷◌, ◌++◌, length, Option, Some, None, refl, sym, ap, ◌∙◌}
-use Rattle.std.proofs.Common.{arith, subst}
+use Rattle.std.proofs.Common.{List, [], ◌∷◌, Option, None, refl, sym, ◌∙◌, arith, subst}
 use Rattle.std.specs.List.{Contains}
 use Rattle.std.proofs.lemmas.Bool.{both_ways, le-ltb}
-use Rattle.h2_frame.specs.declared.code.Code.{Code}
 use Rattle.h2_frame.specs.declared.code.Code.TheVariants.{EnhanceYourCalm}
-use Rattle.h2_frame.specs.Frames.{Frame, Data, Headers, Priority, Reset, Settings, Ping, GoAway}
-use Rattle.h2_frame.specs.Frames.{WindowUpdate, Continuation, Unknown}
+use Rattle.h2_frame.specs.Frames.{Data, Reset, Settings, Ping, GoAway}
 use Rattle.h2_frame.specs.Encoding.{payload_of}
 use Rattle.h2_block.specs.Grouping.{Item, alone, block}
 use Rattle.h2_log.specs.Events.{Event, ResetEvent}
@@ -17,7 +14,8 @@ use Rattle.h2_log.specs.Limits.{max_frame_size_sent, max_output}
 use Rattle.h2_log.specs.Log.{Log, waiting}
 use Rattle.h2_log.specs.LogView.{log_view}
 use Rattle.h2_log.specs.View.{View}
-use Rattle.h2_log.specs.Verdicts.{Verdict, ConnectionFault, StreamFault, NoEvent, Reported, is_fault}
+use Rattle.h2_log.specs.Verdicts.{Verdict, ConnectionFault, StreamFault, NoEvent, Reported}
+use Rattle.h2_log.specs.Verdicts.{is_fault}
 use Rattle.h2_log.specs.ItemRules.{Decoded, replies_to, over_limits, verdict_by_rules, verdict_of}
 use Rattle.h2_log.specs.ItemRules.{FrameStep, fails_with, begins_block, completes}
 use Rattle.h2_log.specs.ItemEffects.{events_of}

@@ -1,7 +1,7 @@
 -- The octets that an end of a pair is given begin the output of the other: they are read as the
 -- first of its frames, and hold no fault.
-use Rattle.std.proofs.Common.{◌≡◌, ℕ, ◌≤◌, not, Bool, List, [], ◌∷◌, ◌++◌, length, take, drop}
-use Rattle.std.proofs.Common.{None, refl, sym, ap, ◌∙◌, arith, append_assoc, append-nil, subst}
+use Rattle.std.proofs.Common.{◌≡◌, ℕ, not, Bool, List, [], ◌∷◌, ◌++◌, length, take, drop, sym, ap}
+use Rattle.std.proofs.Common.{◌∙◌, arith, append_assoc, append-nil, subst}
 use Rattle.std.proofs.lemmas.List.{take-append-drop}
 use Rattle.h2_frame.specs.Frames.{Frame}
 use Rattle.h2_wire.specs.declared.fault.WireFault.{WireFault}
