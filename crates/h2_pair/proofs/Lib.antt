@@ -27,3 +27,10 @@ pub mod TablesSteps
 pub mod TablesLists
 pub mod TablesRead
 pub mod TablesOfPairs
+pub mod FaultsInvariant
+pub mod FaultsOfCalls
+pub mod FaultsOfWire
+pub mod FaultsOfGrouping
+pub mod FaultsOfItems
+pub mod FaultsOfReads
+pub mod FaultsOfPairs

@@ -1,6 +1,6 @@
 //! The header tables of both ends.
 
-ghost use Rattle.std.specs.Prelude.{◌≡◌, List, None};
+ghost use Rattle.std.specs.Prelude.{◌≡◌, List};
 ghost use Rattle.h2_block.specs.Grouping.{Item};
 ghost use Rattle.h2_log.specs.Acts.{Values};
 ghost use Rattle.h2_log.specs.Items.{total};
@@ -20,16 +20,16 @@ pub fn acknowledgments_are_awaited()
         → acked client.log ≡ total one_ack client.log.received }
 {}
 
-/// As long as the reader hasn't failed, its header table is the writer's, after the field blocks
-/// under way; and each of these decodes at its place to the list that the writer was given, whatever
-/// limits change meanwhile (RFC 9113, section 4.3).
+/// The reader's header table, after the field blocks under way, is the writer's; and each of these
+/// blocks decodes at its place to the list that the writer was given, whatever limits change
+/// meanwhile, and also once an end has failed (RFC 9113, section 4.3).
 pub fn tables_of_a_pair()
     ensures to_server { (client_values server_values : Values) (client server : Half)
         (way : List Item) → IsPair client_values server_values client server
-        → server.log.failed ≡ None → AreUnderWay client.log server.log way
+        → AreUnderWay client.log server.log way
         → TablesInStep client.log server.log way }
     ensures to_client { (client_values server_values : Values) (client server : Half)
         (way : List Item) → IsPair client_values server_values client server
-        → client.log.failed ≡ None → AreUnderWay server.log client.log way
+        → AreUnderWay server.log client.log way
         → TablesInStep server.log client.log way }
 {}

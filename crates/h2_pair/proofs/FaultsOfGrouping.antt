@@ -1,0 +1,206 @@
+-- The frames that an end of a pair reads group: a frame that it completes is the next of the items
+-- that the other has written.
+use Rattle.std.proofs.Common.{◌≡◌, ℕ, ◌==◌, not, ◌&&◌, Bool, true, false, if◌then◌else◌, List, []}
+use Rattle.std.proofs.Common.{◌∷◌, ◌++◌, length, Option, Some, None, refl, sym, ap, ◌∙◌, arith}
+use Rattle.std.proofs.Common.{append-nil, subst}
+use Rattle.std.proofs.lemmas.Bool.{both_ways, ne_eqb}
+use Rattle.h2_frame.specs.declared.code.Code.TheVariants.{ProtocolError}
+use Rattle.h2_frame.specs.Frames.{Frame, Data, Headers, Priority, Reset, Settings, Ping, GoAway}
+use Rattle.h2_frame.specs.Frames.{WindowUpdate, Continuation, Unknown}
+use Rattle.h2_block.specs.declared.fault.BlockFault.{BlockFault}
+use Rattle.h2_block.specs.declared.fault.BlockFault.TheVariants.{Interrupted, Stray}
+use Rattle.h2_block.specs.Grouping.{Item, alone, block, Begun, Groups, next_fault, fault_outside}
+use Rattle.h2_block.specs.Grouping.{fault_inside}
+use Rattle.h2_block.proofs.GroupLemmas.{step_items, step_begun, none_some, Groups-step}
+use Rattle.h2_block.proofs.RunLemmas.{one_grouping_lem, no_grouping_lem}
+use Rattle.h2_log.specs.declared.role.Role.{Role}
+use Rattle.h2_log.specs.Acts.{Values}
+use Rattle.h2_log.specs.Allowed.{AllowedHistory, starts, reads, writes}
+use Rattle.h2_log.specs.CallRules.{opening_pairs}
+use Rattle.h2_log.specs.Limits.{max_frame_size_sent}
+use Rattle.h2_log.specs.Log.{Log}
+use Rattle.h2_log.specs.LogView.{log_view}
+use Rattle.h2_log.specs.ItemRules.{FrameStep, fails_with, begins_block, completes, frame_step}
+use Rattle.h2_log.specs.ItemRules.{grouping_step, grouped, may_be_first}
+use Rattle.h2_log.specs.Histories.{IsLog}
+use Rattle.h2_log_laws.specs.Sending.{frames_of_item, frames_of_items, oldest_first}
+use Rattle.h2_log_laws.proofs.InvariantLogs.{written_is_allowed}
+use Rattle.h2_log_laws.proofs.OutputRead.{items_grouped as all_grouped}
+use Rattle.h2_end_laws.specs.Grouped.{AreGrouped}
+use Rattle.h2_end_laws.proofs.Grouped.{items_grouped}
+use Rattle.h2_end_laws.proofs.GroupedPrefixes.{prefix_grouped}
+use Rattle.h2_end_laws.proofs.SendableCalls.{written_sendable}
+use Rattle.h2_pair.proofs.ItemsRead.{newest_before}
+use Rattle.h2_pair.proofs.FaultsOfWire.{NextFrame}
+
+-- The first frame that an end writes is SETTINGS that are no acknowledgment.
+pub record BeginsWithSettings (frames : List Frame) : Type 0 where
+  pub pairs : List (ℕ × ℕ)
+  pub others : List Frame
+  pub first : frames ≡ Settings false pairs ∷ others
+
+-- The frames of one item more stand at the end.
+settings_still : (item : Item) (sent : List Item)
+    → BeginsWithSettings (frames_of_items max_frame_size_sent sent)
+    → BeginsWithSettings (frames_of_items max_frame_size_sent (item ∷ sent))
+settings_still item sent before =
+    record {
+      pairs = before.pairs;
+      others = before.others ++ frames_of_item max_frame_size_sent item;
+      first = ap (λ (frames : List Frame). frames ++ frames_of_item max_frame_size_sent item)
+          before.first;
+    }
+
+settings_first : (role : Role) (received sent : List Item) → AllowedHistory role received sent
+    → BeginsWithSettings (frames_of_items max_frame_size_sent sent)
+settings_first role _ _ (starts values ok) =
+    record { pairs = opening_pairs role values; others = []; first = refl }
+settings_first role _ sent (reads {received = received} item before) =
+    settings_first role received sent before
+settings_first role received _ (writes {sent = sent} item before allowed) =
+    settings_still item sent (settings_first role received sent before)
+
+-- SETTINGS may come first.
+first_may : (frame : Frame) (pairs : List (ℕ × ℕ)) → frame ≡ Settings false pairs
+    → may_be_first frame ≡ true
+unfolding may_be_first
+first_may frame pairs is = rw is refl
+
+-- A frame that comes first may do so.
+order_kept : (frames : List Frame) (frame : Frame) (later all : List Frame)
+    → BeginsWithSettings all → all ≡ (frames ++ frame ∷ []) ++ later
+    → (not (not (length frames == 0)) && not (may_be_first frame)) ≡ false
+order_kept [] frame later all first line =
+    let both : Settings false first.pairs ∷ first.others ≡ frame ∷ later = sym first.first ∙ line in
+    let same : frame ≡ Settings false first.pairs = cc in
+    rw (first_may frame first.pairs same) refl
+order_kept (one ∷ frames) frame later all first line =
+    rw (ne_eqb (length (one ∷ frames)) 0 (λ none. omega (arith, none))) refl
+
+-- The item that a frame completes is the next of those that were written.
+abbrev pub IsNextStep : (writer reader : Log) → FrameStep → Type 0
+IsNextStep writer reader (fails_with code) = ⊥
+IsNextStep writer reader (begins_block begun) = Unit {0}
+IsNextStep writer reader (completes item) = (newer : List Item)
+    × (writer.sent ≡ newer ++ item ∷ reader.received)
+
+-- The item that stands after those that were read.
+next_item : (writer reader : Log) (item : Item) (later : List Item)
+    → oldest_first writer.sent ≡ (oldest_first reader.received ++ item ∷ []) ++ later
+    → IsNextStep writer reader (completes item)
+next_item writer reader item later line =
+    (oldest_first later, newest_before writer.sent (item ∷ reader.received) later line)
+
+-- What a frame without fault makes.
+step_next : (writer reader : Log) (begun : Option Begun) (frame : Frame) (later : List Item)
+    → next_fault begun frame ≡ None
+    → oldest_first writer.sent ≡ (oldest_first reader.received ++ step_items begun frame) ++ later
+    → IsNextStep writer reader (grouped begun frame)
+unfolding grouped fault_outside fault_inside
+step_next writer reader None (Headers stream end true fragment pad priority) later sound line =
+    next_item writer reader (block stream end fragment) later line
+step_next writer reader None (Headers stream end false fragment pad priority) later sound line = tt
+step_next writer reader None (Continuation stream whole fragment) later sound line =
+    none_some Stray (sym sound)
+step_next writer reader None (Data stream end octets pad) later sound line =
+    next_item writer reader (alone (Data stream end octets pad)) later line
+step_next writer reader None (Priority stream octets) later sound line =
+    next_item writer reader (alone (Priority stream octets)) later line
+step_next writer reader None (Reset stream code) later sound line =
+    next_item writer reader (alone (Reset stream code)) later line
+step_next writer reader None (Settings ack pairs) later sound line =
+    next_item writer reader (alone (Settings ack pairs)) later line
+step_next writer reader None (Ping ack octets) later sound line =
+    next_item writer reader (alone (Ping ack octets)) later line
+step_next writer reader None (GoAway last code debug) later sound line =
+    next_item writer reader (alone (GoAway last code debug)) later line
+step_next writer reader None (WindowUpdate stream increment) later sound line =
+    next_item writer reader (alone (WindowUpdate stream increment)) later line
+step_next writer reader None (Unknown kind flags stream payload) later sound line =
+    next_item writer reader (alone (Unknown kind flags stream payload)) later line
+step_next writer reader (Some begun) (Continuation stream true fragment) later sound line =
+    next_item writer reader (block begun.stream begun.end (begun.octets ++ fragment)) later line
+step_next writer reader (Some begun) (Continuation stream false fragment) later sound line = tt
+step_next writer reader (Some begun) (Data stream end octets pad) later sound line =
+    none_some Interrupted (sym sound)
+step_next writer reader (Some begun) (Headers stream end whole fragment pad priority) later sound
+    line = none_some Interrupted (sym sound)
+step_next writer reader (Some begun) (Priority stream octets) later sound line =
+    none_some Interrupted (sym sound)
+step_next writer reader (Some begun) (Reset stream code) later sound line =
+    none_some Interrupted (sym sound)
+step_next writer reader (Some begun) (Settings ack pairs) later sound line =
+    none_some Interrupted (sym sound)
+step_next writer reader (Some begun) (Ping ack octets) later sound line =
+    none_some Interrupted (sym sound)
+step_next writer reader (Some begun) (GoAway last code debug) later sound line =
+    none_some Interrupted (sym sound)
+step_next writer reader (Some begun) (WindowUpdate stream increment) later sound line =
+    none_some Interrupted (sym sound)
+step_next writer reader (Some begun) (Unknown kind flags stream payload) later sound line =
+    none_some Interrupted (sym sound)
+
+-- All frames of an end that is up group.
+groups_now : (log : Log) → AreGrouped log → log.failed ≡ None
+    → Groups log.frames (oldest_first log.received) log.begun
+groups_now log are up =
+    let frames : are.preceding ≡ log.frames =
+    sym (append-nil are.preceding)
+    ∙ ap (λ (last : List Frame). are.preceding ++ last) (sym (are.up up).0) ∙ sym are.joined in
+    let first : Groups log.frames (oldest_first log.received) are.begun =
+    subst (λ (line : List Frame). Groups line (oldest_first log.received) are.begun) frames
+    are.groups in
+    subst (λ (begun : Option Begun). Groups log.frames (oldest_first log.received) begun)
+    (sym (are.up up).1) first
+
+-- By the fault of the frame: there is none, since the frames of the items group.
+fault_next : (writer reader : Log) (frame : Frame) (later : List Frame)
+    (fault : Option BlockFault) → next_fault reader.begun frame ≡ fault
+    → Groups reader.frames (oldest_first reader.received) reader.begun
+    → Groups ((reader.frames ++ frame ∷ []) ++ later) (oldest_first writer.sent) None
+    → IsNextStep writer reader (grouping_step reader.begun frame fault)
+unfolding grouping_step
+fault_next writer reader frame later (Some fault) is before all =
+    absurd (no_grouping_lem (reader.frames ++ frame ∷ []) later (oldest_first reader.received)
+    (oldest_first writer.sent) fault None (record {
+      preceding = reader.frames;
+      last = frame;
+      begun = reader.begun;
+      joined = refl;
+      grouped = before;
+      faulty = is;
+    }) all)
+fault_next writer reader frame later None is before all =
+    let prefix = prefix_grouped (reader.frames ++ frame ∷ []) later (oldest_first writer.sent) None
+    all in
+    let now = Groups-step reader.frames (oldest_first reader.received) reader.begun frame before
+    is in
+    let one = one_grouping_lem (reader.frames ++ frame ∷ []) prefix.first
+    (oldest_first reader.received ++ step_items reader.begun frame) prefix.begun
+    (step_begun reader.begun frame) prefix.groups now in
+    step_next writer reader reader.begun frame prefix.later is
+    (prefix.items_are ∙ ap (λ (items : List Item). items ++ prefix.later) one.0)
+
+-- By the test whether it may come.
+test_next : (writer reader : Log) (step : FrameStep) (test : Bool) → test ≡ false
+    → IsNextStep writer reader step
+    → IsNextStep writer reader (if test then fails_with ProtocolError else step)
+test_next writer reader step true may next = absurd (both_ways true may refl)
+test_next writer reader step false may next = next
+
+-- A frame of an end of a pair.
+pub step_is_next : (role other : Role) (values others : Values) (writer reader : Log)
+    (frame : Frame) → IsLog role values writer → IsLog other others reader
+    → reader.failed ≡ None → NextFrame writer reader frame
+    → IsNextStep writer reader (frame_step (log_view reader) frame)
+unfolding frame_step
+step_is_next role other values others writer reader frame wrote came up next =
+    let all = all_grouped max_frame_size_sent writer.sent (omega arith)
+    (written_sendable role values writer wrote) in
+    test_next writer reader _ _ (order_kept reader.frames frame next.later _
+    (settings_first role writer.received writer.sent (written_is_allowed role values writer wrote))
+    next.frames)
+    (fault_next writer reader frame next.later (next_fault reader.begun frame) refl
+    (groups_now reader (items_grouped other others reader came) up)
+    (subst (λ (frames : List Frame). Groups frames (oldest_first writer.sent) None) next.frames
+    all))
