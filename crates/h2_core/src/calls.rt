@@ -40,7 +40,7 @@ impl Endpoint {
     /// C1, C4, C5 (at a server always), C6, C7, C10, and C12 where an allocation was refused, in
     /// this order. Nothing has changed.
     pub fn open(&mut self, fields: &[Field], end: bool) -> Result<u32, Refusal>
-        requires sound { IsSound (end_of self.old) }
+        requires sound { self.old.failed ≡ None → IsSound (end_of self.old) }
         ensures ok { IfOk result (λ id. (id ≡ (end_view (end_of self.old)).next_number)
             × CallAccepted (end_of self.old) (Open fields.now end) (end_of self.new)) }
         ensures err { IfErr result (λ refusal. CallRefused (end_of self.old) (Open fields.now end)
@@ -71,7 +71,7 @@ impl Endpoint {
     ///
     /// C1, C2, C3, C7, C10 and C12, in this order. Nothing has changed.
     pub fn send_fields(&mut self, id: u32, fields: &[Field], end: bool) -> Result<(), Refusal>
-        requires sound { IsSound (end_of self.old) }
+        requires sound { self.old.failed ≡ None → IsSound (end_of self.old) }
         ensures ok { OnOk result (CallAccepted (end_of self.old) (SendFields id fields.now end)
             (end_of self.new)) }
         ensures err { IfErr result (λ refusal. CallRefused (end_of self.old)
@@ -97,7 +97,7 @@ impl Endpoint {
     ///
     /// C1, C2, C3, C7 and C12, in this order. Nothing has changed.
     pub fn send_data(&mut self, id: u32, octets: &[u8], end: bool) -> Result<usize, Refusal>
-        requires sound { IsSound (end_of self.old) }
+        requires sound { self.old.failed ≡ None → IsSound (end_of self.old) }
         ensures ok { IfOk result (λ count. (count ≡ data_count (end_view (end_of self.old))
             (stream_at (end_of self.old) id) (length octets.now))
             × CallAccepted (end_of self.old) (SendData id octets.now end) (end_of self.new)) }
@@ -228,7 +228,7 @@ impl Endpoint {
 
     /// Why a stream cannot be opened with these fields, out of memory put aside.
     fn refusal_of_open(&self, fields: &[Field]) -> Option<Refusal>
-        requires { self.now.highest < 2 ^ 31 }
+        requires { self.now.failed ≡ None → self.now.highest < 2 ^ 31 }
         ensures { (end : Bool)
             → result ≡ refusal_of (end_view (end_of self.now)) (Open fields.now end) }
     {

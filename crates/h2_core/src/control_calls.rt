@@ -25,7 +25,7 @@ impl Endpoint {
     ///
     /// C1, C2, C7, C11 and C12, in this order. Nothing has changed.
     pub fn release(&mut self, id: u32, count: u32) -> Result<(), Refusal>
-        requires sound { IsSound (end_of self.old) }
+        requires sound { self.old.failed ≡ None → IsSound (end_of self.old) }
         ensures ok { OnOk result (CallAccepted (end_of self.old) (Release id count)
             (end_of self.new)) }
         ensures err { IfErr result (λ refusal. CallRefused (end_of self.old) (Release id count)
@@ -65,7 +65,7 @@ impl Endpoint {
     ///
     /// C1, C2, C7, C9 and C12, in this order. Nothing has changed.
     pub fn reset(&mut self, id: u32, code: u32) -> Result<(), Refusal>
-        requires sound { IsSound (end_of self.old) }
+        requires sound { self.old.failed ≡ None → IsSound (end_of self.old) }
         ensures ok { OnOk result (CallAccepted (end_of self.old) (ResetStream id code)
             (end_of self.new)) }
         ensures err { IfErr result (λ refusal. CallRefused (end_of self.old) (ResetStream id code)
@@ -94,7 +94,7 @@ impl Endpoint {
     ///
     /// C1 and, unless the code is 2, C2. Nothing has changed.
     pub fn refuse(&mut self, id: u32, code: u32) -> Result<(), Refusal>
-        requires sound { IsSound (end_of self.old) }
+        requires sound { self.old.failed ≡ None → IsSound (end_of self.old) }
         ensures { CallRefuses (end_of self.old) id code result (end_of self.new) }
     {
         self.check_up()?;
@@ -147,7 +147,7 @@ impl Endpoint {
     ///
     /// C1, C6, C7 and C12, in this order. Nothing has changed.
     pub fn go_away(&mut self) -> Result<(), Refusal>
-        requires sound { IsSound (end_of self.old) }
+        requires sound { self.old.failed ≡ None → IsSound (end_of self.old) }
         ensures ok { OnOk result (CallAccepted (end_of self.old) SendGoAway (end_of self.new)) }
         ensures err { IfErr result (λ refusal. CallRefused (end_of self.old) SendGoAway refusal
             (end_of self.new)) }
