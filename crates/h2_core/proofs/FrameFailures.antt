@@ -290,7 +290,7 @@ block_stopped e mid new id end octets decoded list (Fault code opened) answer sa
 block_stopped e mid new id end octets decoded list OutOfMemory answer says stopped fails =
     inr (record {
       lacks = fails.0;
-      after = rw (fails.1, stopped) (table_alike e decoded.after InternalError
+      after = rw (fails.1, stopped.1) (table_alike e decoded.after InternalError
           e.streams.last_processed);
     })
 
@@ -348,7 +348,7 @@ from_table e state after P same h = subst (λ (s : DecoderState). P (with_decode
 pub stopped_same : (e mid : End) (decoded : Option Decoded) (item : Item) (list : List Field)
     (stop : Stop) → TakesItem e decoded item list (Err stop) mid → mid ≡ e
 stopped_same e mid decoded item list (Fault code opened) h = h.2
-stopped_same e mid decoded item list OutOfMemory h = h
+stopped_same e mid decoded item list OutOfMemory h = h.1
 
 -- What a block opens that stops has a number of 31 bits.
 pub stopped_small : (e mid : End) (decoded : Option Decoded) (id : ℕ) (end : Bool)

@@ -162,7 +162,7 @@ alone_stopped e mid new frame list (Fault code opened) answer is none stopped fa
 alone_stopped e mid new frame list OutOfMemory answer is none stopped fails =
     inr (record {
       lacks = fails.0;
-      after = rw (fails.1, stopped) (same_alike e InternalError e.streams.last_processed);
+      after = rw (fails.1, stopped.1) (same_alike e InternalError e.streams.last_processed);
     })
 
 -- It opens nothing.

@@ -24,7 +24,7 @@ use Rattle.h2_core.specs.DataFrames.{data_of}
 use Rattle.h2_core.specs.Items.{TakesItem, DiscardsData}
 use Rattle.h2_core.proofs.ItemStatuses.{active_state}
 use Rattle.h2_core.proofs.ItemVerdicts.{quiet_verdict, fault_stands, report_stands, ignored_taken}
-use Rattle.h2_core.proofs.ItemVerdicts.{with_waiting}
+use Rattle.h2_core.proofs.ItemVerdicts.{with_waiting, lacks_memory}
 
 -- The flow is the octets of the payload.
 abbrev pub HasFlow : DataFrame → Option ℕ → Type 0
@@ -146,4 +146,6 @@ unfolding after_ignored
 discarded_taken e one pad list (Ok answer) new flow is few h =
     rw h.0 (ignored_taken e (data_of one pad) list new (discarded e one pad flow is few)
     (rw (← flow) h.1))
-discarded_taken e one pad list (Err stop) new flow is few h = rw h.0 h.1
+discarded_taken e one pad list (Err stop) new flow is few h =
+    rw h.0 (lacks_memory e (data_of one pad) list NoEvent new (discarded e one pad flow is few)
+    refl h.1)

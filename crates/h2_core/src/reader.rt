@@ -1,8 +1,10 @@
 //! What an end answers to a frame, and why a step stops.
 
 ghost use Rattle.std.specs.Prelude.{◌≡◌};
+ghost use Rattle.h2_core.specs.declared.reader.Stop.TheVariants.{OutOfMemory};
 
 use h2_frame::Code;
+use std::alloc::AllocError;
 
 /// What is reported of a frame.
 #[derive(Clone, Copy, Debug, PartialEq, Eq)]
@@ -57,6 +59,14 @@ pub(crate) enum Stop {
     Fault { code: Code, opened: u32 },
     /// An allocation was refused.
     OutOfMemory,
+}
+
+impl From<AllocError> for Stop {
+    ghost from_gives = { λ _ stop. stop ≡ OutOfMemory };
+
+    fn from(_error: AllocError) -> Stop {
+        Stop::OutOfMemory
+    }
 }
 
 impl Stop {

@@ -17,6 +17,7 @@ use crate::endpoint::Endpoint;
 use crate::limits::{MAX_OUTPUT, SMALL_FRAME};
 use crate::reader::{Reported, Stop};
 use crate::status::Status;
+use crate::stream_steps::reserve_if_over;
 use h2_frame::{Code, FrameRef};
 use h2_streams::Stream;
 
@@ -60,7 +61,8 @@ impl Endpoint {
             return self.discard_data(frame.flow);
         };
         if stream.state.ended_in {
-            return self.data_after_end(frame, stream);
+            let (id, code) = (frame.stream, Code::StreamClosed);
+            return self.reset_for_fault(id, Some(stream), code, frame.flow, 0);
         }
         if exceeds(frame.flow, stream.recv_window) {
             return Err(Stop::fault(Code::FlowControlError));
@@ -85,13 +87,11 @@ impl Endpoint {
             → TakesItem (end_of self.old) None (alone (data_of frame.entry pad)) self.new.list
             result (end_of self.new) }
     {
-        if self.output.reserve(SMALL_FRAME).is_err() {
-            return Err(Stop::OutOfMemory);
-        }
         let mut changed = stream;
         changed.recv_window -= i64::from(frame.flow);
         changed.owed += frame.flow;
         changed.state.ended_in = frame.end;
+        reserve_if_over(&mut self.output, changed.state)?;
         self.recv_window -= frame.flow;
         self.update_stream(frame.stream, changed);
         Ok(Some(Reported::Data {
@@ -109,48 +109,10 @@ impl Endpoint {
         requires connection { flow ≤ self.old.recv_window }
         ensures { DiscardsData (end_of self.old) flow result (end_of self.new) }
     {
-        if self.output.reserve(SMALL_FRAME).is_err() {
-            return Err(Stop::OutOfMemory);
-        }
+        self.output.reserve(SMALL_FRAME)?;
         self.recv_window -= flow;
         self.add_unreturned(flow);
         Ok(None)
-    }
-
-    /// DATA on an active stream that the peer has ended: a fault of the stream (section 5.1).
-    fn data_after_end<'a>(
-        &mut self,
-        frame: DataFrame<'a>,
-        stream: Stream,
-    ) -> Result<Option<Reported<'a>>, Stop>
-        requires sound { IsSound (end_of self.old) }
-        requires up { self.old.failed ≡ None }
-        requires number { (1 ≤ frame.stream) × (frame.stream < 2 ^ 31) }
-        requires active { stream_at (end_of self.old) frame.stream ≡ Some (stream_view stream) }
-        requires ended { stream.state.ended_in ≡ true }
-        requires connection { frame.flow ≤ self.old.recv_window }
-        ensures { (pad : Option ℕ)
-            → frame.entry.flow ≡ length (payload_of (data_of frame.entry pad))
-            → TakesItem (end_of self.old) None (alone (data_of frame.entry pad)) self.new.list
-            result (end_of self.new) }
-    {
-        if self.is_over_limits() {
-            return Err(Stop::fault(Code::EnhanceYourCalm));
-        }
-        let code = Code::StreamClosed.number();
-        self.recv_window -= frame.flow;
-        if self
-            .reset_stream(frame.stream, Some(stream), code, frame.flow)
-            .is_err()
-        {
-            self.recv_window += frame.flow;
-            return Err(Stop::OutOfMemory);
-        }
-        Ok(Some(Reported::Reset {
-            id: frame.stream,
-            code,
-            ours: true,
-        }))
     }
 
     /// RST_STREAM (section 6.4): it closes an active stream, and is ignored on a closed one.
@@ -168,9 +130,7 @@ impl Endpoint {
             Status::Idle => Err(Stop::fault(Code::ProtocolError)),
             Status::ClosedByUs | Status::Closed => Ok(None),
             Status::Active(stream) => {
-                if self.output.reserve(SMALL_FRAME).is_err() {
-                    return Err(Stop::OutOfMemory);
-                }
+                self.output.reserve(SMALL_FRAME)?;
                 self.close_stream(id, stream, 0);
                 Ok(Some(Reported::Reset {
                     id,
@@ -190,9 +150,7 @@ impl Endpoint {
         if self.output.len() > MAX_OUTPUT - PING {
             return Err(Stop::fault(Code::EnhanceYourCalm));
         }
-        if self.output.reserve(PING).is_err() {
-            return Err(Stop::OutOfMemory);
-        }
+        self.output.reserve(PING)?;
         self.output.add_frame(FrameRef::Ping { ack: true, octets });
         Ok(None)
     }

@@ -40,9 +40,7 @@ impl Endpoint {
         if self.output.len() + HEAD > MAX_OUTPUT {
             return Err(Stop::fault(Code::EnhanceYourCalm));
         }
-        if self.output.reserve(HEAD).is_err() {
-            return Err(Stop::OutOfMemory);
-        }
+        self.output.reserve(HEAD)?;
         limit_encoder(&mut self.encoder, pairs);
         self.output.add_octets(&ACKNOWLEDGMENT);
         self.streams.set_send_initial(settings.initial_window_size);
