@@ -108,7 +108,7 @@ impl Endpoint {
             return Err(self.fail_by(Stop::OutOfMemory));
         }
         if let Some(stream) = self.streams.stream(id) {
-            self.close_stream(id, stream, 0);
+            self.close_stream(id, stream);
         }
         Ok(())
     }

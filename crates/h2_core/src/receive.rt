@@ -131,7 +131,7 @@ impl Endpoint {
             Status::ClosedByUs | Status::Closed => Ok(None),
             Status::Active(stream) => {
                 self.output.reserve(SMALL_FRAME)?;
-                self.close_stream(id, stream, 0);
+                self.close_stream(id, stream);
                 Ok(Some(Reported::Reset {
                     id,
                     code,

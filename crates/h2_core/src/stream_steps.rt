@@ -21,19 +21,19 @@ use h2_streams::Stream;
 use std::alloc::AllocError;
 
 impl Endpoint {
-    /// An active stream is over, and nothing is kept of it; what it owes, and so much more, is
-    /// unreturned. There is room for a WINDOW_UPDATE.
-    pub(crate) fn close_stream(&mut self, id: u32, stream: Stream, more: u32)
+    /// An active stream is over, and nothing is kept of it; what it owes is unreturned. There is
+    /// room for a WINDOW_UPDATE.
+    pub(crate) fn close_stream(&mut self, id: u32, stream: Stream)
         requires up { self.old.failed ≡ None }
         requires active { stream_at (end_of self.old) id ≡ Some (stream_view stream) }
         requires counted { 1 ≤ self.old.active_count }
         requires room { 13 ≤ self.old.output.spare }
-        requires window { WindowHolds self.old (more + stream.owed) }
-        ensures { end_of self.new ≡ close_stream (end_of self.old) id more }
+        requires window { WindowHolds self.old stream.owed }
+        ensures { end_of self.new ≡ close_stream (end_of self.old) id 0 }
     {
         self.streams.close(id);
         self.active_count -= 1;
-        self.add_unreturned(more + stream.owed);
+        self.add_unreturned(stream.owed);
     }
 
     /// An active stream is changed to this one: it is over once both sides have ended it, and then

@@ -20,8 +20,8 @@ returns-in_err-stream-clause-err c =
     let p = err_from_is_err_and c.from_residual.result c.from_residual.ensures.1 in
     rw (p.1, p.2) (refused _ _ _ (first_kept _ (_ ∷ []) _ c.in_err-stream.ensures.err))
 
-pub returns-then-list_size-clause-err : goal.returns-then-list_size-clause-err
-returns-then-list_size-clause-err c =
+pub returns-then-size-clause-err : goal.returns-then-size-clause-err
+returns-then-size-clause-err c =
     let ok = c.in_ok-stream.ensures.ok in
     let e = end_of c.args.self.now in
     refused _ _ _ (fields_large e c.args.id _ c.args.fields.now c.args.end ok.0 ok.1 ok.2 ok.3
