@@ -37,8 +37,8 @@ use Rattle.h2_core.specs.Items.{ItemTaken, TakesItem, events_in, item_events, ne
 use Rattle.h2_core.specs.declared.reader.Reported.{Reported as Answer}
 use Rattle.h2_core.specs.declared.reader.Reported.TheVariants.{Reset, Fields}
 use Rattle.h2_core.specs.declared.endpoint.Endpoint.{Endpoint}
-use Rattle.h2_core.specs.declared.reader.Stop.{Stop}
-use Rattle.h2_core.specs.declared.reader.Stop.TheVariants.{Fault, OutOfMemory}
+use Rattle.h2_core.specs.declared.reader.StepError.{StepError}
+use Rattle.h2_core.specs.declared.reader.StepError.TheVariants.{Fault, OutOfMemory}
 use Rattle.h2_core.specs.Resets.{is_over_limits, ResetsForFault}
 use Rattle.h2_core.proofs.StepStreams.{narrow_none}
 use Rattle.h2_core.proofs.SoundFacts.{absent_above}
@@ -268,7 +268,7 @@ further_opens e id end octets decoded stream is =
 
 -- A fault of a stream that stops.
 pub fault_error : (one new : Endpoint) (id : ℕ) (end : Bool) (octets : List ℕ) (decoded : Decoded)
-    (code : Code) (opened : ℕ) (stop : Stop) (list : List Field)
+    (code : Code) (opened : ℕ) (stop : StepError) (list : List Field)
     → by_block (end_of one) id end octets decoded ≡ StreamFault code
     → opened_by (end_view (end_of one)) (Some decoded) (block id end octets) ≡ opened
     → ResetsForFault one id code 0 opened (Err stop) new
@@ -308,7 +308,7 @@ fault_answer one new id end octets decoded code opened reported list fresh last 
 
 -- A fault of a stream, on a number that isn't fresh.
 pub fault_item : (one new : Endpoint) (id : ℕ) (end : Bool) (octets : List ℕ) (decoded : Decoded)
-    (code : Code) (result : Result (Option Answer) Stop)
+    (code : Code) (result : Result (Option Answer) StepError)
     → by_block (end_of one) id end octets decoded ≡ StreamFault code
     → is_fresh (end_of one) id ≡ false
     → opened_by (end_view (end_of one)) (Some decoded) (block id end octets) ≡ 0

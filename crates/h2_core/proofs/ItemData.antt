@@ -19,7 +19,7 @@ use Rattle.h2_machine.specs.Machine.{after_reported, after_ignored, narrow_recv_
 use Rattle.h2_machine.specs.Machine.{update_stream}
 use Rattle.h2_core.specs.declared.receive.DataFrame.{DataFrame}
 use Rattle.h2_core.specs.declared.reader.Reported.{Reported as Answer}
-use Rattle.h2_core.specs.declared.reader.Stop.{Stop}
+use Rattle.h2_core.specs.declared.reader.StepError.{StepError}
 use Rattle.h2_core.specs.DataFrames.{data_of}
 use Rattle.h2_core.specs.Items.{TakesItem, DiscardsData}
 use Rattle.h2_core.proofs.ItemStatuses.{active_state}
@@ -138,7 +138,7 @@ reported_after e one pad stream window waiting flow active unended is same =
 
 -- What is discarded is taken so.
 pub discarded_taken : (e : End) (one : DataFrame) (pad : Option ℕ) (list : List Field)
-    (result : Result (Option Answer) Stop) (new : End) → HasFlow one pad
+    (result : Result (Option Answer) StepError) (new : End) → HasFlow one pad
     → state_at e one.stream ≡ ClosedByUs → one.flow ≤ e.windows.recv
     → DiscardsData e one.flow result new
     → TakesItem e None (alone (data_of one pad)) list result new

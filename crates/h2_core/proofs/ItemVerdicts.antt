@@ -23,8 +23,8 @@ use Rattle.h2_machine.specs.Machine.{after_stream_fault, reset_stream, queue_out
 use Rattle.h2_machine.specs.Machine.{narrow_recv_window}
 use Rattle.h2_log_laws.proofs.ItemSizes.{size-reset}
 use Rattle.h2_core.specs.declared.reader.Reported.{Reported as Answer}
-use Rattle.h2_core.specs.declared.reader.Stop.{Stop}
-use Rattle.h2_core.specs.declared.reader.Stop.TheVariants.{Fault, OutOfMemory}
+use Rattle.h2_core.specs.declared.reader.StepError.{StepError}
+use Rattle.h2_core.specs.declared.reader.StepError.TheVariants.{Fault, OutOfMemory}
 use Rattle.h2_core.specs.declared.endpoint.Endpoint.{Endpoint}
 use Rattle.h2_core.specs.Endpoint.{end_of}
 use Rattle.h2_core.specs.Resets.{is_over_limits, ResetsForFault}
@@ -73,7 +73,7 @@ pub calm_stands : (e : End) (frame : Frame) (code : Code)
 calm_stands e frame code is full = rw (reset_verdict_is e frame code is, full) refl
 
 -- The connection's fault is answered, and nothing has changed.
-pub fault_taken : (e : End) (frame : Frame) (code : Code) (list : List Field) (stop : Stop)
+pub fault_taken : (e : End) (frame : Frame) (code : Code) (list : List Field) (stop : StepError)
     → stop ≡ Fault code 0 → verdict_of (end_view e) None (alone frame) ≡ ConnectionFault code
     → TakesItem e None (alone frame) list (Err stop) e
 unfolding opened_by
@@ -128,7 +128,7 @@ stream_fault_taken e frame code list answer new verdict after event = record {
 
 -- What resetting a stream for a fault of it makes of an end, and answers.
 pub fault_item : (one new : Endpoint) (frame : Frame) (code : Code) (flow : ℕ)
-    (result : Result (Option Answer) Stop)
+    (result : Result (Option Answer) StepError)
     → verdict_by_rules (end_view (end_of one)) None (alone frame) ≡ StreamFault code
     → after_stream_fault (end_of one) None (alone frame) code
     ≡ reset_stream (queue_output (narrow_recv_window (end_of one) flow)

@@ -30,8 +30,8 @@ use Rattle.h2_machine.specs.Machine.{after_item, after_verdict, after_ignored, a
 use Rattle.h2_machine.specs.Machine.{first_allowed, each_entry, shifted_entry, apply_own_settings}
 use Rattle.h2_core.specs.declared.endpoint.Endpoint.{Endpoint}
 use Rattle.h2_core.specs.declared.reader.Reported.TheVariants.{Acked}
-use Rattle.h2_core.specs.declared.reader.Stop.{Stop}
-use Rattle.h2_core.specs.declared.reader.Stop.TheVariants.{Fault, OutOfMemory}
+use Rattle.h2_core.specs.declared.reader.StepError.{StepError}
+use Rattle.h2_core.specs.declared.reader.StepError.TheVariants.{Fault, OutOfMemory}
 use Rattle.h2_core.specs.Endpoint.{end_of, streams_allowed}
 use Rattle.h2_core.proofs.ItemVerdicts.{lacks_memory}
 use Rattle.h2_core.specs.Items.{TakesItem, ItemTaken}
@@ -133,7 +133,7 @@ nothing_opened : (view : View) (pairs : List (ℕ × ℕ))
 unfolding opened_by
 nothing_opened view pairs = refl
 
-pub settings_stop : (one : Endpoint) (pairs : List (ℕ × ℕ)) (stop : Stop) (list : List Field)
+pub settings_stop : (one : Endpoint) (pairs : List (ℕ × ℕ)) (stop : StepError) (list : List Field)
     → AppliesSettings one pairs (Err stop)
     → TakesItem (end_of one) None (alone (SettingsFrame false pairs)) list (Err stop) (end_of one)
 settings_stop one pairs (Fault code opened) list is = (

@@ -16,8 +16,8 @@ use Rattle.h2_machine.specs.Machine.{after_item, reset_stream, queue_output}
 use Rattle.h2_core.specs.declared.endpoint.Endpoint.{Endpoint}
 use Rattle.h2_core.specs.declared.reader.Reported.{Reported}
 use Rattle.h2_core.specs.declared.reader.Reported.TheVariants.{Reset}
-use Rattle.h2_core.specs.declared.reader.Stop.{Stop}
-use Rattle.h2_core.specs.declared.reader.Stop.TheVariants.{Fault, OutOfMemory}
+use Rattle.h2_core.specs.declared.reader.StepError.{StepError}
+use Rattle.h2_core.specs.declared.reader.StepError.TheVariants.{Fault, OutOfMemory}
 use Rattle.h2_core.specs.Endpoint.{end_of}
 use Rattle.h2_core.specs.Failure.{FailsAlike}
 use Rattle.h2_core.specs.Items.{TakesItem, events_in, item_events}
@@ -25,7 +25,7 @@ use Rattle.h2_core.specs.Frames.{FailsWithoutMemory}
 
 -- A block was decoded, and what it decodes to is the end's table and, unless it is too large, its
 -- list: whatever that is, the step takes the block so.
-abbrev pub TakesDecoded : Endpoint → ℕ → Bool → Bool → Result (Option Reported) Stop → Endpoint
+abbrev pub TakesDecoded : Endpoint → ℕ → Bool → Bool → Result (Option Reported) StepError → Endpoint
     → Type 0
 TakesDecoded one id end too_large result new =
     (decoded : Decoded) (octets : List ℕ) → decoded.after ≡ one.decoder.table

@@ -16,8 +16,8 @@ use Rattle.h2_machine.specs.Machine.{after_item, add_unreturned, narrow_recv_win
 use Rattle.h2_core.specs.declared.reader.Reported.{Reported}
 use Rattle.h2_core.specs.declared.reader.Reported.TheVariants.{Fields, Data, Reset, GoAway, Acked}
 use Rattle.h2_core.specs.declared.reader.Reported.TheVariants.{Pong}
-use Rattle.h2_core.specs.declared.reader.Stop.{Stop}
-use Rattle.h2_core.specs.declared.reader.Stop.TheVariants.{Fault, OutOfMemory}
+use Rattle.h2_core.specs.declared.reader.StepError.{StepError}
+use Rattle.h2_core.specs.declared.reader.StepError.TheVariants.{Fault, OutOfMemory}
 
 -- what is reported, as an event; the fields are those of the list that the end keeps
 abbrev pub event_of : List Field → Reported → Event
@@ -59,7 +59,7 @@ needs_memory ReportedVerdict (block stream end octets) = true
 needs_memory verdict item = false
 
 -- What a step makes of an item. One that is at fault, or out of memory, has changed nothing.
-abbrev pub TakesItem : End → Option Decoded → Item → List Field → Result (Option Reported) Stop
+abbrev pub TakesItem : End → Option Decoded → Item → List Field → Result (Option Reported) StepError
     → End → Type 0
 TakesItem e decoded item list (Ok reported) new = ItemTaken e decoded item list reported new
 TakesItem e decoded item list (Err (Fault code opened)) new =
@@ -70,7 +70,7 @@ TakesItem e decoded item list (Err OutOfMemory) new =
 
 -- DATA of so many octets was discarded, on a stream that this end has closed; or memory was
 -- refused, and nothing has changed.
-abbrev pub DiscardsData : End → ℕ → Result (Option Reported) Stop → End → Type 0
+abbrev pub DiscardsData : End → ℕ → Result (Option Reported) StepError → End → Type 0
 DiscardsData e flow (Ok reported) new =
     (reported ≡ None) × (new ≡ add_unreturned flow (narrow_recv_window e flow))
 DiscardsData e flow (Err stop) new = (stop ≡ OutOfMemory) × (new ≡ e)

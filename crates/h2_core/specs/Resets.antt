@@ -12,8 +12,8 @@ use Rattle.h2_machine.specs.Machine.{reset_stream, queue_output, narrow_recv_win
 use Rattle.h2_core.specs.declared.endpoint.Endpoint.{Endpoint}
 use Rattle.h2_core.specs.declared.reader.Reported.{Reported}
 use Rattle.h2_core.specs.declared.reader.Reported.TheVariants.{Reset}
-use Rattle.h2_core.specs.declared.reader.Stop.{Stop}
-use Rattle.h2_core.specs.declared.reader.Stop.TheVariants.{Fault, OutOfMemory}
+use Rattle.h2_core.specs.declared.reader.StepError.{StepError}
+use Rattle.h2_core.specs.declared.reader.StepError.TheVariants.{Fault, OutOfMemory}
 use Rattle.h2_core.specs.Endpoint.{end_of}
 
 -- Whether a further RST_STREAM is more than an end sends.
@@ -24,7 +24,7 @@ is_over_limits e = nat_le max_resets e.streams.resets || nat_lt max_output (leng
 -- or that is one more RST_STREAM than this end sends, and nothing has changed; or it isn't, but
 -- memory was refused, and nothing has changed.
 abbrev pub ResetsForFault : Endpoint → ℕ → Code → (flow opened : ℕ)
-    → Result (Option Reported) Stop → Endpoint → Type 0
+    → Result (Option Reported) StepError → Endpoint → Type 0
 ResetsForFault one id code flow opened (Ok reported) new =
     (is_over_limits (end_of one) ≡ false) × (reported ≡ Some (Reset id (code_number code) true))
     × (end_of new ≡ reset_stream (queue_output (narrow_recv_window (end_of one) flow)

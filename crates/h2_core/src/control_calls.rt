@@ -10,7 +10,7 @@ ghost use Rattle.h2_core.specs.Calls.{CallRefused, CallAccepted, CallRefuses};
 
 use crate::endpoint::Endpoint;
 use crate::limits::{FULL_OUTPUT, MAX_RESETS, SMALL_FRAME};
-use crate::reader::Stop;
+use crate::reader::StepError;
 use h2_frame::{Code, FrameRef};
 use h2_log::Refusal;
 
@@ -100,18 +100,18 @@ impl Endpoint {
         self.check_up()?;
         let stream = self.streams.stream(id);
         if code == Code::InternalError.number() {
-            self.fail_by(Stop::OutOfMemory);
+            self.fail_by(StepError::OutOfMemory);
             return Ok(());
         }
         let Some(stream) = stream else {
             return Err(Refusal::NoSuchStream);
         };
         if self.is_over_limits() {
-            self.fail_by(Stop::fault(Code::EnhanceYourCalm));
+            self.fail_by(StepError::fault(Code::EnhanceYourCalm));
             return Ok(());
         }
         if self.reset_stream(id, Some(stream), code, 0).is_err() {
-            self.fail_by(Stop::OutOfMemory);
+            self.fail_by(StepError::OutOfMemory);
         }
         Ok(())
     }

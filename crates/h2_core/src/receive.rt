@@ -15,7 +15,7 @@ ghost use Rattle.h2_core.specs.DataFrames.{data_of};
 
 use crate::endpoint::Endpoint;
 use crate::limits::{MAX_OUTPUT, SMALL_FRAME};
-use crate::reader::{Reported, Stop};
+use crate::reader::{Reported, StepError};
 use crate::status::Status;
 use crate::stream_steps::reserve_if_over;
 use h2_frame::{Code, FrameRef};
@@ -39,7 +39,7 @@ impl Endpoint {
     pub(crate) fn take_data<'a>(
         &mut self,
         frame: DataFrame<'a>,
-    ) -> Result<Option<Reported<'a>>, Stop>
+    ) -> Result<Option<Reported<'a>>, StepError>
         requires sound { IsSound (end_of self.old) }
         requires up { self.old.failed ≡ None }
         requires number { (1 ≤ frame.stream) × (frame.stream < 2 ^ 31) }
@@ -49,13 +49,13 @@ impl Endpoint {
             result (end_of self.new) }
     {
         let stream = match self.status(frame.stream) {
-            Status::Idle => return Err(Stop::fault(Code::ProtocolError)),
-            Status::Closed => return Err(Stop::fault(Code::StreamClosed)),
+            Status::Idle => return Err(StepError::fault(Code::ProtocolError)),
+            Status::Closed => return Err(StepError::fault(Code::StreamClosed)),
             Status::ClosedByUs => None,
             Status::Active(stream) => Some(stream),
         };
         if frame.flow > self.recv_window {
-            return Err(Stop::fault(Code::FlowControlError));
+            return Err(StepError::fault(Code::FlowControlError));
         }
         let Some(stream) = stream else {
             return self.discard_data(frame.flow);
@@ -65,7 +65,7 @@ impl Endpoint {
             return self.reset_for_fault(id, Some(stream), code, frame.flow, 0);
         }
         if exceeds(frame.flow, stream.recv_window) {
-            return Err(Stop::fault(Code::FlowControlError));
+            return Err(StepError::fault(Code::FlowControlError));
         }
         self.accept_data(frame, stream)
     }
@@ -75,7 +75,7 @@ impl Endpoint {
         &mut self,
         frame: DataFrame<'a>,
         stream: Stream,
-    ) -> Result<Option<Reported<'a>>, Stop>
+    ) -> Result<Option<Reported<'a>>, StepError>
         requires sound { IsSound (end_of self.old) }
         requires up { self.old.failed ≡ None }
         requires active { stream_at (end_of self.old) frame.stream ≡ Some (stream_view stream) }
@@ -103,7 +103,7 @@ impl Endpoint {
     }
 
     /// DATA on a stream that this end has closed: it is discarded, and its flow is unreturned.
-    fn discard_data<'a>(&mut self, flow: u32) -> Result<Option<Reported<'a>>, Stop>
+    fn discard_data<'a>(&mut self, flow: u32) -> Result<Option<Reported<'a>>, StepError>
         requires sound { IsSound (end_of self.old) }
         requires up { self.old.failed ≡ None }
         requires connection { flow ≤ self.old.recv_window }
@@ -120,14 +120,14 @@ impl Endpoint {
         &mut self,
         id: u32,
         code: u32,
-    ) -> Result<Option<Reported<'a>>, Stop>
+    ) -> Result<Option<Reported<'a>>, StepError>
         requires sound { IsSound (end_of self.old) }
         requires up { self.old.failed ≡ None }
         ensures { TakesItem (end_of self.old) None (alone (ResetFrame id code)) self.new.list
             result (end_of self.new) }
     {
         match self.status(id) {
-            Status::Idle => Err(Stop::fault(Code::ProtocolError)),
+            Status::Idle => Err(StepError::fault(Code::ProtocolError)),
             Status::ClosedByUs | Status::Closed => Ok(None),
             Status::Active(stream) => {
                 self.output.reserve(SMALL_FRAME)?;
@@ -142,13 +142,16 @@ impl Endpoint {
     }
 
     /// PING (section 6.7): it is answered.
-    pub(crate) fn take_ping<'a>(&mut self, octets: [u8; 8]) -> Result<Option<Reported<'a>>, Stop>
+    pub(crate) fn take_ping<'a>(
+        &mut self,
+        octets: [u8; 8],
+    ) -> Result<Option<Reported<'a>>, StepError>
         requires up { self.old.failed ≡ None }
         ensures { TakesItem (end_of self.old) None (alone (Ping false octets)) self.new.list result
             (end_of self.new) }
     {
         if self.output.len() > MAX_OUTPUT - PING {
-            return Err(Stop::fault(Code::EnhanceYourCalm));
+            return Err(StepError::fault(Code::EnhanceYourCalm));
         }
         self.output.reserve(PING)?;
         self.output.add_frame(FrameRef::Ping { ack: true, octets });
@@ -156,7 +159,10 @@ impl Endpoint {
     }
 
     /// The answer to a PING: it is reported if it has the octets that are awaited.
-    pub(crate) fn take_pong<'a>(&mut self, octets: [u8; 8]) -> Result<Option<Reported<'a>>, Stop>
+    pub(crate) fn take_pong<'a>(
+        &mut self,
+        octets: [u8; 8],
+    ) -> Result<Option<Reported<'a>>, StepError>
         requires up { self.old.failed ≡ None }
         ensures { TakesItem (end_of self.old) None (alone (Ping true octets)) self.new.list result
             (end_of self.new) }
@@ -173,7 +179,7 @@ impl Endpoint {
         &mut self,
         last: u32,
         code: u32,
-    ) -> Result<Option<Reported<'a>>, Stop>
+    ) -> Result<Option<Reported<'a>>, StepError>
         requires up { self.old.failed ≡ None }
         ensures { (debug : List ℕ) → TakesItem (end_of self.old) None
             (alone (GoAwayFrame last code debug)) self.new.list result (end_of self.new) }

@@ -11,7 +11,7 @@ ghost use Rattle.h2_core.specs.Blocks.{TakesBlock, TakesDecoded};
 
 use crate::endpoint::Endpoint;
 use crate::limits::MAX_LIST;
-use crate::reader::{Reported, Stop};
+use crate::reader::{Reported, StepError};
 use crate::status::Status;
 use crate::stream_steps::reserve_if_over;
 use h2_flow::StreamState;
@@ -65,7 +65,7 @@ impl Endpoint {
         id: u32,
         end: bool,
         too_large: bool,
-    ) -> Result<Option<Reported<'a>>, Stop>
+    ) -> Result<Option<Reported<'a>>, StepError>
         requires sound { IsSound (end_of self.old) }
         requires up { self.old.failed ≡ None }
         requires number { (1 ≤ id) × (id < 2 ^ 31) }
@@ -73,8 +73,8 @@ impl Endpoint {
     {
         match self.status(id) {
             Status::Idle if self.is_fresh(id) => self.take_opening(id, end, too_large),
-            Status::Idle => Err(Stop::fault(Code::ProtocolError)),
-            Status::Closed => Err(Stop::fault(Code::ProtocolError)),
+            Status::Idle => Err(StepError::fault(Code::ProtocolError)),
+            Status::Closed => Err(StepError::fault(Code::ProtocolError)),
             Status::ClosedByUs => Ok(None),
             Status::Active(stream) => self.take_further(id, end, too_large, stream),
         }
@@ -87,7 +87,7 @@ impl Endpoint {
         end: bool,
         too_large: bool,
         stream: Stream,
-    ) -> Result<Option<Reported<'a>>, Stop>
+    ) -> Result<Option<Reported<'a>>, StepError>
         requires sound { IsSound (end_of self.old) }
         requires up { self.old.failed ≡ None }
         requires number { (1 ≤ id) × (id < 2 ^ 31) }
@@ -115,7 +115,7 @@ impl Endpoint {
         id: u32,
         end: bool,
         too_large: bool,
-    ) -> Result<Option<Reported<'a>>, Stop>
+    ) -> Result<Option<Reported<'a>>, StepError>
         requires sound { IsSound (end_of self.old) }
         requires up { self.old.failed ≡ None }
         requires number { (1 ≤ id) × (id < 2 ^ 31) }

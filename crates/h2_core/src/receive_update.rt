@@ -14,7 +14,7 @@ ghost use Rattle.h2_core.specs.Resets.{is_over_limits, ResetsForFault};
 
 use crate::endpoint::Endpoint;
 use crate::limits::{GREATEST, MAX_OUTPUT, MAX_RESETS, SMALL_FRAME};
-use crate::reader::{Reported, Stop};
+use crate::reader::{Reported, StepError};
 use crate::status::Status;
 use h2_frame::Code;
 use h2_streams::Stream;
@@ -25,7 +25,7 @@ impl Endpoint {
         &mut self,
         id: u32,
         increment: u32,
-    ) -> Result<Option<Reported<'a>>, Stop>
+    ) -> Result<Option<Reported<'a>>, StepError>
         requires sound { IsSound (end_of self.old) }
         requires up { self.old.failed ≡ None }
         requires number { id < 2 ^ 31 }
@@ -37,14 +37,14 @@ impl Endpoint {
             return self.widen_connection(increment);
         }
         match self.status(id) {
-            Status::Idle => Err(Stop::fault(Code::ProtocolError)),
+            Status::Idle => Err(StepError::fault(Code::ProtocolError)),
             Status::ClosedByUs | Status::Closed => Ok(None),
             Status::Active(stream) => self.widen_stream(id, increment, stream),
         }
     }
 
     /// No octets are a fault, and so is a window above 2<sup>31</sup> - 1.
-    fn widen_connection<'a>(&mut self, increment: u32) -> Result<Option<Reported<'a>>, Stop>
+    fn widen_connection<'a>(&mut self, increment: u32) -> Result<Option<Reported<'a>>, StepError>
         requires sound { IsSound (end_of self.old) }
         requires up { self.old.failed ≡ None }
         requires increment { increment < 2 ^ 31 }
@@ -52,10 +52,10 @@ impl Endpoint {
             self.new.list result (end_of self.new) }
     {
         if increment == 0 {
-            return Err(Stop::fault(Code::ProtocolError));
+            return Err(StepError::fault(Code::ProtocolError));
         }
         if increment > GREATEST - self.send_window {
-            return Err(Stop::fault(Code::FlowControlError));
+            return Err(StepError::fault(Code::FlowControlError));
         }
         self.send_window += increment;
         Ok(None)
@@ -67,7 +67,7 @@ impl Endpoint {
         id: u32,
         increment: u32,
         stream: Stream,
-    ) -> Result<Option<Reported<'a>>, Stop>
+    ) -> Result<Option<Reported<'a>>, StepError>
         requires sound { IsSound (end_of self.old) }
         requires up { self.old.failed ≡ None }
         requires number { (1 ≤ id) × (id < 2 ^ 31) }
@@ -100,7 +100,7 @@ impl Endpoint {
         code: Code,
         flow: u32,
         opened: u32,
-    ) -> Result<Option<Reported<'a>>, Stop>
+    ) -> Result<Option<Reported<'a>>, StepError>
         requires sound { IsSound (end_of self.old) }
         requires up { self.old.failed ≡ None }
         requires number { (1 ≤ id) × (id < 2 ^ 31) }
@@ -109,7 +109,7 @@ impl Endpoint {
         ensures { ResetsForFault self.old id code flow opened result self.new }
     {
         if self.is_over_limits() {
-            return Err(Stop::Fault {
+            return Err(StepError::Fault {
                 code: Code::EnhanceYourCalm,
                 opened,
             });
@@ -118,7 +118,7 @@ impl Endpoint {
         self.recv_window -= flow;
         if self.reset_stream(id, stream, code, flow).is_err() {
             self.recv_window += flow;
-            return Err(Stop::OutOfMemory);
+            return Err(StepError::OutOfMemory);
         }
         Ok(Some(Reported::Reset {
             id,

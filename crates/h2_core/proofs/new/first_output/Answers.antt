@@ -38,11 +38,17 @@ returns c =
           let opening = at_client role w.if-eq.ensures in (
             last.ended,
             rw (last.waiting, c.opening_settings.ensures, w.output-is, first, kept, empty, opening)
-            refl,
+                refl,
           )
       | else-eq w ↦ (
         last.ended,
-        rw (last.waiting, c.opening_settings.ensures, w.output-is, kept, empty,
-        at_server role w.if-eq.ensures) refl,
+        rw (
+          last.waiting,
+          c.opening_settings.ensures,
+          w.output-is,
+          kept,
+          empty,
+          at_server role w.if-eq.ensures,
+        ) refl,
       )
     ]

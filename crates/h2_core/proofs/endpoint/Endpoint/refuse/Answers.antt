@@ -6,7 +6,7 @@ use Rattle.h2_frame.specs.declared.code.Code.TheVariants.{InternalError, Enhance
 use Rattle.h2_machine.specs.End.{End}
 use Rattle.h2_machine.specs.Machine.{fail}
 use Rattle.h2_streams.specs.Streams.{stream_view}
-use Rattle.h2_core.specs.declared.reader.Stop.{Stop}
+use Rattle.h2_core.specs.declared.reader.StepError.{StepError}
 use Rattle.h2_core.specs.Endpoint.{end_of}
 use Rattle.h2_core.specs.Stops.{FailsBy}
 use Rattle.h2_core.proofs.SoundFacts.{counted, owed_fits}
@@ -46,7 +46,7 @@ returns-then-is_over_limits c =
     let other : c.args.code ≢ 2 = omega (arith, c.number.ensures, c.if-code-number.false) in
     let last : max e.streams.last_processed 0 ≡ e.streams.last_processed = omega arith in
     let fails =
-    subst (λ (stop : Stop).
+    subst (λ (stop : StepError).
     FailsBy e stop c.fail_by-then-is_over_limits.result
     (end_of c.fail_by-then-is_over_limits.new.self)) c.fault.ensures
     c.fail_by-then-is_over_limits.ensures in
