@@ -1,5 +1,5 @@
 -- What a call makes of the parts of a connection, whatever log they represent.
-use Rattle.std.proofs.Common.{◌≡◌, Bool, true, Some, None, Result, Ok, Err, inl, inr, IfOk, IfErr}
+use Rattle.std.proofs.Common.{◌≡◌, Bool, true, false, is_some, Option, Some, None, Result, Ok, Err, inl, inr, IfOk, IfErr}
 use Rattle.std.proofs.Common.{OnOk, refl, sym, ap, subst, ◌∙◌, List, ◌∷◌, if◌then◌else◌}
 use Rattle.h2_wire.specs.Cutter.{CutterState}
 use Rattle.h2_log.specs.declared.refusal.Refusal.{Refusal}
@@ -9,7 +9,7 @@ use Rattle.h2_log.specs.Acts.{ChangeSettings}
 use Rattle.h2_log.specs.Log.{Log}
 use Rattle.h2_log.specs.LogView.{log_view}
 use Rattle.h2_log.specs.LogCalls.{MayAnswer, accepts, refuses, lacks, with_call}
-use Rattle.h2_log.specs.CallRules.{refusal_of, answer_of, may_lack_memory, first_of}
+use Rattle.h2_log.specs.CallRules.{refusal_of, answer_of, may_lack_memory, first_of, conditions}
 use Rattle.h2_log.proofs.StreamLemmas.{Keeps-call}
 use Rattle.h2_machine.specs.End.{End, end_view}
 use Rattle.h2_machine.specs.Machine.{after_call}
@@ -99,45 +99,71 @@ accepted_with values cutter e new log act answer parts typed is alike free after
           (parts_called values cutter e log act answer parts typed may),
     )
 
--- A call that is accepted by an end that hasn't failed.
+-- What isn't there is nothing.
+nothing : {A : Type 0} (value : Option A) → is_some value ≡ false → value ≡ None
+nothing None is = refl
+nothing (Some x) is = cc
+
+-- Where none of some conditions holds, the first doesn't.
+first_fails : (refusal : Refusal) (others : List (Bool × Refusal)) (test : Bool)
+    → first_of ((test, refusal) ∷ others) ≡ None → test ≡ false
+unfolding first_of
+first_fails refusal others true free = cc
+first_fails refusal others false free = refl
+
+-- whether a call is the one that a failed connection takes
+abbrev pub puts_out : Act → Bool
+puts_out (PutOut count) = true
+puts_out _ = false
+
+-- Where no condition refuses another call, the connection hasn't failed.
+pub up_if_free : (e : End) (act : Act) → puts_out act ≡ false
+    → refusal_of (end_view e) act ≡ None → e.failed ≡ None
+unfolding conditions
+up_if_free e (Open fields end) other free = nothing _ (first_fails _ _ _ free)
+up_if_free e (SendFields id fields end) other free = nothing _ (first_fails _ _ _ free)
+up_if_free e (SendData id octets end) other free = nothing _ (first_fails _ _ _ free)
+up_if_free e (Release id count) other free = nothing _ (first_fails _ _ _ free)
+up_if_free e (ResetStream id code) other free = nothing _ (first_fails _ _ _ free)
+up_if_free e (Refuse id code) other free = nothing _ (first_fails _ _ _ free)
+up_if_free e (SendPing octets) other free = nothing _ (first_fails _ _ _ free)
+up_if_free e SendGoAway other free = nothing _ (first_fails _ _ _ free)
+up_if_free e (PutOut count) other free = cc
+up_if_free e (ChangeSettings values) other free = nothing _ (first_fails _ _ _ free)
+
+-- A call that is accepted, and doesn't put output out.
 pub accepted_answers : (cutter : CutterState) (e new : End) (act : Act) (answer : Answer)
-    → e.failed ≡ None → IsTypedAct act → answer ≡ answer_of (end_view e) act
+    → puts_out act ≡ false → IsTypedAct act → answer ≡ answer_of (end_view e) act
     → CallAccepted e act new → PartsAnswer cutter e act answer new
-accepted_answers cutter e new act answer up typed is accepted values log parts =
+accepted_answers cutter e new act answer other typed is accepted values log parts =
     accepted_with values cutter e new log act answer parts typed is
-    (answer_alike values e log act parts.machine up) accepted.free accepted.after
+    (answer_alike values e log act parts.machine (up_if_free e act other accepted.free))
+    accepted.free accepted.after
 
 -- What a call answers by its result, where its value is the machine's answer.
 pub answers_by : {A : Type 0} (answered : A → Answer) (result : Result A Refusal)
-    (cutter : CutterState) (e new : End) (act : Act) → e.failed ≡ None → IsTypedAct act
+    (cutter : CutterState) (e new : End) (act : Act) → puts_out act ≡ false → IsTypedAct act
     → may_lack_memory act ≡ true
     → IfOk result (λ value. (answered value ≡ answer_of (end_view e) act)
     × CallAccepted e act new)
     → IfErr result (λ refusal. CallRefused e act refusal new)
     → PartsAnswer cutter e act (answer_by answered result) new
-answers_by answered (Ok value) cutter e new act up typed lacking ok err =
-    accepted_answers cutter e new act (answered value) up typed ok.0 ok.1
-answers_by answered (Err refusal) cutter e new act up typed lacking ok err =
+answers_by answered (Ok value) cutter e new act other typed lacking ok err =
+    accepted_answers cutter e new act (answered value) other typed ok.0 ok.1
+answers_by answered (Err refusal) cutter e new act other typed lacking ok err =
     refused_answers cutter e new act refusal typed lacking err
 
 -- The same of calls whose answer is that they are done.
 pub done_by : {A : Type 0} (answer : Answer) (result : Result A Refusal)
-    (cutter : CutterState) (e new : End) (act : Act) → e.failed ≡ None → IsTypedAct act
+    (cutter : CutterState) (e new : End) (act : Act) → puts_out act ≡ false → IsTypedAct act
     → may_lack_memory act ≡ true → answer ≡ answer_of (end_view e) act
     → OnOk result (CallAccepted e act new)
     → IfErr result (λ refusal. CallRefused e act refusal new)
     → PartsAnswer cutter e act (answer_by (λ done. answer) result) new
-done_by answer (Ok value) cutter e new act up typed lacking is ok err =
-    accepted_answers cutter e new act answer up typed is ok
-done_by answer (Err refusal) cutter e new act up typed lacking is ok err =
+done_by answer (Ok value) cutter e new act other typed lacking is ok err =
+    accepted_answers cutter e new act answer other typed is ok
+done_by answer (Err refusal) cutter e new act other typed lacking is ok err =
     refused_answers cutter e new act refusal typed lacking err
-
--- The first condition of a call holds.
-pub first_holds : (refusal : Refusal) (others : List (Bool × Refusal)) (test : Bool)
-    → test ≡ true → first_of ((test, refusal) ∷ others) ≡ Some refusal
-unfolding first_of
-first_holds refusal others test holds =
-    ap (λ (b : Bool). if b then Some refusal else first_of others) holds
 
 -- A call that is refused for the first condition that holds, such as that the connection has
 -- failed.

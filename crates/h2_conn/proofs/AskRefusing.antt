@@ -48,22 +48,15 @@ failing_answers cutter e new id code typed free is values log parts =
 
 -- What it shows.
 pub refusing_shows : (result : Result Unit Refusal) (cutter : CutterState) (e new : End)
-    (id code : ℕ) → e.failed ≡ None → IsTypedAct (Refuse id code)
-    → CallRefuses e id code result new
+    (id code : ℕ) → IsTypedAct (Refuse id code) → CallRefuses e id code result new
     → PartsShow cutter e (Refuse id code) (answer_by (λ done. Done) result) new
-refusing_shows (Ok done) cutter e new id code up typed (inl accepted) =
+refusing_shows (Ok done) cutter e new id code typed (inl accepted) =
     shows_own cutter e new (Refuse id code) Done Done refl
-    (accepted_answers cutter e new (Refuse id code) Done up typed refl accepted)
-refusing_shows (Ok done) cutter e new id code up typed (inr (free, is)) =
+    (accepted_answers cutter e new (Refuse id code) Done refl typed refl accepted)
+refusing_shows (Ok done) cutter e new id code typed (inr (free, is)) =
     shows_own cutter e new (Refuse id code) OutOfMemory Done refl
     (failing_answers cutter e new id code typed free is)
-refusing_shows (Err refusal) cutter e new id code up typed (why, is) =
+refusing_shows (Err refusal) cutter e new id code typed (why, is) =
     shows_own cutter e new (Refuse id code) (Refused refusal) (Refused refusal) refl
     (subst (λ (x : End). PartsAnswer cutter e (Refuse id code) (Refused refusal) x) (sym is)
     (condition_answers cutter e (Refuse id code) refusal typed why))
-
--- A call that is refused shows just that.
-pub refused_shows : (cutter : CutterState) (e : End) (act : Act) (refusal : Refusal)
-    → PartsAnswer cutter e act (Refused refusal) e → PartsShow cutter e act (Refused refusal) e
-refused_shows cutter e act refusal answers =
-    shows_own cutter e e act (Refused refusal) (Refused refusal) refl answers

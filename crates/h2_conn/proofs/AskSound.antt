@@ -17,6 +17,7 @@ use Rattle.h2_machine_laws.proofs.RangesOfSteps.{fits, are_in_range}
 use Rattle.h2_core.specs.Calls.{CallRefused, CallAccepted, CallRefuses}
 use Rattle.h2_core.specs.Endpoint.{IsSound}
 use Rattle.h2_core.specs.Readers.{PutsOut}
+use Rattle.h2_conn.proofs.AskCalls.{puts_out, up_if_free}
 
 -- A call that is accepted leaves an end sound.
 pub accepted_sound : (e : End) (act : Act) → refusal_of (end_view e) act ≡ None → IsTypedAct act
@@ -29,7 +30,26 @@ accepted_sound e act free typed sound =
       counts = is_counted (after_call e act) (call_counts e act free (counted e sound.counts));
     }
 
--- So does a call, whatever it answers.
+-- An end was up before a call after which it is, where the call doesn't put output out.
+pub was_up : {A : Type 0} (result : Result A Refusal) (e new : End) (act : Act)
+    → puts_out act ≡ false → OnOk result (CallAccepted e act new)
+    → IfErr result (λ refusal. CallRefused e act refusal new) → new.failed ≡ None
+    → e.failed ≡ None
+was_up (Ok value) e new act other ok err up = up_if_free e act other ok.free
+was_up (Err refusal) e new act other ok err up =
+    ap (λ (x : End). x.failed) (sym err.same) ∙ up
+
+-- The same of refusing a stream.
+pub was_up_refusing : (result : Result Unit Refusal) (e new : End) (id code : ℕ)
+    → CallRefuses e id code result new → new.failed ≡ None → e.failed ≡ None
+was_up_refusing (Ok done) e new id code (inl accepted) up =
+    up_if_free e (Refuse id code) refl accepted.free
+was_up_refusing (Ok done) e new id code (inr (free, is)) up =
+    up_if_free e (Refuse id code) refl free
+was_up_refusing (Err refusal) e new id code (why, is) up =
+    ap (λ (x : End). x.failed) (sym is) ∙ up
+
+-- A call leaves an end sound, whatever it answers.
 pub sound_by : {A : Type 0} (result : Result A Refusal) (e new : End) (act : Act)
     → IsTypedAct act → IsSound e → OnOk result (CallAccepted e act new)
     → IfErr result (λ refusal. CallRefused e act refusal new) → IsSound new

@@ -1,12 +1,15 @@
 //! The calls of a connection.
 
-ghost use Rattle.std.specs.Prelude.{◌≡◌, is_some, true, None, IfOk, IfErr, OnOk, OnErr};
+ghost use Rattle.std.specs.Prelude.{◌≡◌, IfOk, OnErr};
 ghost use Rattle.hpack.specs.Written.{AreOctets};
 ghost use Rattle.h2_log.specs.Acts.{Open, SendFields, SendData, Release, ResetStream, Refuse};
-ghost use Rattle.h2_log.specs.Acts.{SendPing, SendGoAway, PutOut, Number, Count, Done};
+ghost use Rattle.h2_log.specs.Acts.{SendPing, SendGoAway, ChangeSettings, PutOut};
+ghost use Rattle.h2_log.specs.Acts.{Number, Count, Done};
+ghost use Rattle.h2_config.specs.ConfigValues.{values_of};
 ghost use Rattle.h2_conn.specs.Conn.{ConnAnswers, ConnShows, GivesOut, answer_by};
 
 use crate::conn::Conn;
+use h2_config::Config;
 use h2_log::Refusal;
 use hpack::{Field, list_size};
 
@@ -22,7 +25,6 @@ impl Conn {
             self.new }
     {
         check_octets(fields);
-        self.check_up()?;
         self.inner.end.open(fields, end)
     }
 
@@ -36,7 +38,6 @@ impl Conn {
             (answer_by (λ done. Done) result) self.new }
     {
         check_octets(fields);
-        self.check_up()?;
         self.inner.end.send_fields(id, fields, end)
     }
 
@@ -51,7 +52,6 @@ impl Conn {
         ensures { ConnAnswers self.old (SendData id octets.now end)
             (answer_by (λ count. Count count) result) self.new }
     {
-        self.check_up()?;
         self.inner.end.send_data(id, octets, end)
     }
 
@@ -65,7 +65,6 @@ impl Conn {
         ensures { ConnAnswers self.old (Release id count) (answer_by (λ done. Done) result)
             self.new }
     {
-        self.check_up()?;
         self.inner.end.release(id, count)
     }
 
@@ -78,7 +77,6 @@ impl Conn {
         ensures { ConnAnswers self.old (ResetStream id code) (answer_by (λ done. Done) result)
             self.new }
     {
-        self.check_up()?;
         self.inner.end.reset(id, code)
     }
 
@@ -94,7 +92,6 @@ impl Conn {
     pub fn refuse(&mut self, id: u32, code: u32) -> Result<(), Refusal>
         ensures { ConnShows self.old (Refuse id code) (answer_by (λ done. Done) result) self.new }
     {
-        self.check_up()?;
         self.inner.end.refuse(id, code)
     }
 
@@ -107,7 +104,6 @@ impl Conn {
         ensures { ConnAnswers self.old (SendPing octets) (answer_by (λ done. Done) result)
             self.new }
     {
-        self.check_up()?;
         self.inner.end.ping(octets)
     }
 
@@ -120,8 +116,22 @@ impl Conn {
     pub fn go_away(&mut self) -> Result<(), Refusal>
         ensures { ConnAnswers self.old SendGoAway (answer_by (λ done. Done) result) self.new }
     {
-        self.check_up()?;
         self.inner.end.go_away()
+    }
+
+    /// Changes this end's settings (section 6.5): SETTINGS with the header table's limit, the
+    /// initial window and, at a server, the number of streams joins the output. The values hold
+    /// from the peer's acknowledgment on, of which [`Event::Acked`] tells.
+    ///
+    /// # Errors
+    ///
+    /// C1, C7, C13 where own SETTINGS, the first included, await their acknowledgment, and C12, in
+    /// this order. Nothing has changed.
+    pub fn change_settings(&mut self, config: Config) -> Result<(), Refusal>
+        ensures { ConnAnswers self.old (ChangeSettings (values_of config))
+            (answer_by (λ done. Done) result) self.new }
+    {
+        self.inner.end.change_settings(config)
     }
 
     /// Appends as many octets of the output as wait, and at most `count`, to `out`, and takes them
@@ -139,18 +149,6 @@ impl Conn {
         ensures err { OnErr result (out.new.items ≡ out.old.items) }
     {
         self.inner.end.put_out(count, out)
-    }
-
-    /// C1: the connection has failed.
-    fn check_up(&self) -> Result<(), Refusal>
-        ensures ok { OnOk result (self.now.inner.end.failed ≡ None) }
-        ensures err { IfErr result (λ refusal. (refusal ≡ Refusal.Closed)
-            × (is_some self.now.inner.end.failed ≡ true)) }
-    {
-        if self.inner.end.failed().is_some() {
-            return Err(Refusal::Closed);
-        }
-        Ok(())
     }
 }
 

@@ -40,8 +40,8 @@ use Rattle.h2_core.specs.Frames.{FailsWithoutMemory}
 use Rattle.h2_core.specs.Blocks.{BlockTaken, BlockFails, TakesBlock, IsDecodedOf}
 use Rattle.h2_core.specs.Stops.{IsSmall, FailsBy}
 use Rattle.h2_core.specs.declared.reader.Reported.{Reported as Answer}
-use Rattle.h2_core.specs.declared.reader.Stop.{Stop}
-use Rattle.h2_core.specs.declared.reader.Stop.TheVariants.{Fault, OutOfMemory}
+use Rattle.h2_core.specs.declared.reader.StepError.{StepError}
+use Rattle.h2_core.specs.declared.reader.StepError.TheVariants.{Fault, OutOfMemory}
 use Rattle.h2_core.proofs.FrameTables.{block_within}
 
 -- Credit that is returned fails nothing.
@@ -261,7 +261,7 @@ no_block_fails e new id end octets none failed =
 
 -- What stops a block fails the connection.
 pub block_stopped : (e mid new : End) (id : ℕ) (end : Bool) (octets : List ℕ) (decoded : Decoded)
-    (list : List Field) (stop : Stop) (answer : Code)
+    (list : List Field) (stop : StepError) (answer : Code)
     → BlockSays e.reading.table e.own.in_force.table_limit octets decoded.fields decoded.after
     → TakesItem (with_table e decoded.after) (Some decoded) (block id end octets) list (Err stop)
     mid
@@ -290,7 +290,7 @@ block_stopped e mid new id end octets decoded list (Fault code opened) answer sa
 block_stopped e mid new id end octets decoded list OutOfMemory answer says stopped fails =
     inr (record {
       lacks = fails.0;
-      after = rw (fails.1, stopped) (table_alike e decoded.after InternalError
+      after = rw (fails.1, stopped.1) (table_alike e decoded.after InternalError
           e.streams.last_processed);
     })
 
@@ -346,13 +346,13 @@ from_table e state after P same h = subst (λ (s : DecoderState). P (with_decode
 
 -- What stops a step has changed nothing.
 pub stopped_same : (e mid : End) (decoded : Option Decoded) (item : Item) (list : List Field)
-    (stop : Stop) → TakesItem e decoded item list (Err stop) mid → mid ≡ e
+    (stop : StepError) → TakesItem e decoded item list (Err stop) mid → mid ≡ e
 stopped_same e mid decoded item list (Fault code opened) h = h.2
-stopped_same e mid decoded item list OutOfMemory h = h
+stopped_same e mid decoded item list OutOfMemory h = h.1
 
 -- What a block opens that stops has a number of 31 bits.
 pub stopped_small : (e mid : End) (decoded : Option Decoded) (id : ℕ) (end : Bool)
-    (octets : List ℕ) (list : List Field) (stop : Stop) → id < 2 ^ 31
+    (octets : List ℕ) (list : List Field) (stop : StepError) → id < 2 ^ 31
     → TakesItem e decoded (block id end octets) list (Err stop) mid → IsSmall stop
 stopped_small e mid decoded id end octets list (Fault code opened) small h =
     subst (λ (n : ℕ). n < 2 ^ 31) (sym h.1) (opens_small e id end octets decoded small)

@@ -25,8 +25,8 @@ use Rattle.h2_core.specs.Frames.{IsDecodedBy, step_events}
 use Rattle.h2_core.specs.Blocks.{BlockTaken, BlockFails, TakesBlock, IsDecodedOf}
 use Rattle.h2_core.specs.Stops.{IsSmall, FailsBy}
 use Rattle.h2_core.specs.declared.reader.Reported.{Reported as Answer}
-use Rattle.h2_core.specs.declared.reader.Stop.{Stop}
-use Rattle.h2_core.specs.declared.reader.Stop.TheVariants.{Fault, OutOfMemory}
+use Rattle.h2_core.specs.declared.reader.StepError.{StepError}
+use Rattle.h2_core.specs.declared.reader.StepError.TheVariants.{Fault, OutOfMemory}
 use Rattle.h2_core.proofs.FrameFailures.{verdict_up}
 
 -- An end that no longer has a block which has begun is sound.
@@ -139,7 +139,7 @@ same_alike e code last =
     }
 
 -- What stops one fails the connection.
-pub alone_stopped : (e mid new : End) (frame : Frame) (list : List Field) (stop : Stop)
+pub alone_stopped : (e mid new : End) (frame : Frame) (list : List Field) (stop : StepError)
     (answer : Code) → frame_step (end_view e) frame ≡ completes (alone frame)
     → e.reading.begun ≡ None → TakesItem e None (alone frame) list (Err stop) mid
     → FailsBy mid stop answer new → FrameFails e frame answer new ⊎ FailsWithoutMemory e answer new
@@ -162,11 +162,11 @@ alone_stopped e mid new frame list (Fault code opened) answer is none stopped fa
 alone_stopped e mid new frame list OutOfMemory answer is none stopped fails =
     inr (record {
       lacks = fails.0;
-      after = rw (fails.1, stopped) (same_alike e InternalError e.streams.last_processed);
+      after = rw (fails.1, stopped.1) (same_alike e InternalError e.streams.last_processed);
     })
 
 -- It opens nothing.
-pub alone_small : (e mid : End) (frame : Frame) (list : List Field) (stop : Stop)
+pub alone_small : (e mid : End) (frame : Frame) (list : List Field) (stop : StepError)
     → TakesItem e None (alone frame) list (Err stop) mid → IsSmall stop
 unfolding opened_by
 alone_small e mid frame list (Fault code opened) h = omega (arith, h.1)
@@ -238,12 +238,12 @@ early_step : (e : End) (frame : Frame)
 unfolding frame_step
 early_step e frame early = rw early refl
 
-pub early_fails : (e new : End) (frame : Frame) (stop : Stop) (answer : Code)
+pub early_fails : (e new : End) (frame : Frame) (stop : StepError) (answer : Code)
     → (not e.reading.started && not (may_be_first frame)) ≡ true
     → stop ≡ Fault ProtocolError 0 → FailsBy e stop answer new → FrameFails e frame answer new
 early_fails e new frame stop answer early is fails =
     let by : FailsBy e (Fault ProtocolError 0) answer new =
-    subst (λ (s : Stop). FailsBy e s answer new) is fails in
+    subst (λ (s : StepError). FailsBy e s answer new) is fails in
     let last : max e.streams.last_processed 0 ≡ e.streams.last_processed = omega arith in
     let became : new ≡ fail answer e.streams.last_processed e =
     by.1

@@ -33,13 +33,14 @@ use Rattle.h2_machine.specs.Machine.{return_credit, more_unreturned, mark_used, 
 use Rattle.h2_machine.specs.Machine.{queue_output, is_one, is_calm, receive_block, update_stream}
 use Rattle.h2_log.specs.CallRules.{returns_credit}
 use Rattle.h2_core.specs.Endpoint.{end_of, IsSound}
-use Rattle.h2_core.specs.Items.{ItemTaken, TakesItem, events_in, item_events}
+use Rattle.h2_core.specs.Items.{ItemTaken, TakesItem, events_in, item_events, needs_memory}
 use Rattle.h2_core.specs.declared.reader.Reported.{Reported as Answer}
 use Rattle.h2_core.specs.declared.reader.Reported.TheVariants.{Reset, Fields}
 use Rattle.h2_core.specs.declared.endpoint.Endpoint.{Endpoint}
-use Rattle.h2_core.specs.declared.reader.Stop.{Stop}
-use Rattle.h2_core.specs.declared.reader.Stop.TheVariants.{Fault, OutOfMemory}
-use Rattle.h2_core.specs.Blocks.{ResetsForBlock}
+use Rattle.h2_core.specs.declared.reader.StepError.{StepError}
+use Rattle.h2_core.specs.declared.reader.StepError.TheVariants.{Fault, OutOfMemory}
+use Rattle.h2_core.specs.Resets.{is_over_limits, ResetsForFault}
+use Rattle.h2_core.proofs.StepStreams.{narrow_none}
 use Rattle.h2_core.proofs.SoundFacts.{absent_above}
 
 -- a block that was decoded
@@ -73,10 +74,6 @@ limits_leave e id end octets decoded (StreamFault code) quiet is = cc
 limits_leave e id end octets decoded NoEvent quiet is = rw is refl
 limits_leave e id end octets decoded Reported quiet is = rw is refl
 
--- whether one RST_STREAM more is too much
-abbrev pub is_over : End → Bool
-is_over e = nat_le max_resets e.streams.resets || nat_lt max_output (length e.output.waiting + 13)
-
 -- the verdict of a fault of a stream
 abbrev pub limited : Bool → Code → Verdict
 limited over code = if over then ConnectionFault EnhanceYourCalm else StreamFault code
@@ -90,7 +87,7 @@ limits_by_size resets waiting size code is = rw is refl
 -- A fault of a stream is one within the limits.
 pub limits_of_fault : (e : End) (id : ℕ) (end : Bool) (octets : List ℕ) (decoded : Decoded)
     (code : Code) → by_block e id end octets decoded ≡ StreamFault code
-    → verdict_of (end_view e) (Some decoded) (block id end octets) ≡ limited (is_over e) code
+    → verdict_of (end_view e) (Some decoded) (block id end octets) ≡ limited (is_over_limits e) code
 unfolding verdict_of replies_to stream_of_item
 limits_of_fault e id end octets decoded code is =
     ap (λ (v : Verdict). over_limits e.streams.resets (length e.output.waiting)
@@ -215,7 +212,7 @@ after_fault e id end octets decoded code same =
 pub fault_taken : (e : End) (id : ℕ) (end : Bool) (octets : List ℕ) (decoded : Decoded)
     (code : Code) (list : List Field) (new : End)
     → by_block e id end octets decoded ≡ StreamFault code
-    → is_over e ≡ false
+    → is_over_limits e ≡ false
     → new ≡ after_stream_fault e (Some decoded) (block id end octets) code
     → ItemTaken e (Some decoded) (block id end octets) list
     (Some (Reset id (code_number code) true)) new
@@ -232,7 +229,7 @@ fault_taken e id end octets decoded code list new is few after =
 
 -- One that is over the limits is a fault of the connection.
 pub fault_over : (e : End) (id : ℕ) (end : Bool) (octets : List ℕ) (decoded : Decoded)
-    (code : Code) → by_block e id end octets decoded ≡ StreamFault code → is_over e ≡ true
+    (code : Code) → by_block e id end octets decoded ≡ StreamFault code → is_over_limits e ≡ true
     → verdict_of (end_view e) (Some decoded) (block id end octets)
     ≡ ConnectionFault EnhanceYourCalm
 fault_over e id end octets decoded code is much =
@@ -271,10 +268,10 @@ further_opens e id end octets decoded stream is =
 
 -- A fault of a stream that stops.
 pub fault_error : (one new : Endpoint) (id : ℕ) (end : Bool) (octets : List ℕ) (decoded : Decoded)
-    (code : Code) (opened : ℕ) (stop : Stop) (list : List Field)
+    (code : Code) (opened : ℕ) (stop : StepError) (list : List Field)
     → by_block (end_of one) id end octets decoded ≡ StreamFault code
     → opened_by (end_view (end_of one)) (Some decoded) (block id end octets) ≡ opened
-    → ResetsForBlock one id code opened (Err stop) new
+    → ResetsForFault one id code 0 opened (Err stop) new
     → TakesItem (end_of one) (Some decoded) (block id end octets) list (Err stop) (end_of new)
 fault_error one new id end octets decoded code opened (Fault fault stream) list is opens h = (
   fault_over (end_of one) id end octets decoded code is h.0
@@ -282,14 +279,19 @@ fault_error one new id end octets decoded code opened (Fault fault stream) list 
   h.2 ∙ sym opens,
   h.3,
 )
-fault_error one new id end octets decoded code opened OutOfMemory list is opens h = h
+fault_error one new id end octets decoded code opened OutOfMemory list is opens h =
+    let verdict : verdict_of (end_view (end_of one)) (Some decoded) (block id end octets)
+    ≡ StreamFault code =
+    limits_of_fault (end_of one) id end octets decoded code is
+    ∙ ap (λ (b : Bool). limited b code) h.0 in
+    (ap (λ (v : Verdict). needs_memory v (block id end octets)) verdict, h.1)
 
 -- One that is answered, on a number that is fresh or not.
 pub fault_answer : (one new : Endpoint) (id : ℕ) (end : Bool) (octets : List ℕ) (decoded : Decoded)
     (code : Code) (opened : ℕ) (reported : Option Answer) (list : List Field) (fresh : Bool)
     (last : End) → by_block (end_of one) id end octets decoded ≡ StreamFault code
     → is_fresh (end_of one) id ≡ fresh → decoded.after ≡ one.decoder.table
-    → ResetsForBlock one id code opened (Ok reported) new
+    → ResetsForFault one id code 0 opened (Ok reported) new
     → last ≡ mark_used (end_of new) id fresh (fresh && is_calm code)
     → ItemTaken (end_of one) (Some decoded) (block id end octets) list reported last
 fault_answer one new id end octets decoded code opened reported list fresh last is number same h
@@ -298,18 +300,20 @@ fault_answer one new id end octets decoded code opened reported list fresh last 
     (alone (ResetFrame id (code_number code)) ∷ [])) id 0 in
     rw h.1 (fault_taken (end_of one) id end octets decoded code list last is h.0
     (marked
-    ∙ ap (λ (x : End). mark_used x id fresh (fresh && is_calm code)) h.2
+    ∙ ap (λ (x : End). mark_used x id fresh (fresh && is_calm code))
+    (h.2 ∙ ap (λ (x : End). reset_stream (queue_output x
+    (alone (ResetFrame id (code_number code)) ∷ [])) id 0) (narrow_none (end_of one)))
     ∙ ap (λ (b : Bool). mark_used reset id b (b && is_calm code)) (sym number)
     ∙ sym (after_fault (end_of one) id end octets decoded code same)))
 
 -- A fault of a stream, on a number that isn't fresh.
 pub fault_item : (one new : Endpoint) (id : ℕ) (end : Bool) (octets : List ℕ) (decoded : Decoded)
-    (code : Code) (result : Result (Option Answer) Stop)
+    (code : Code) (result : Result (Option Answer) StepError)
     → by_block (end_of one) id end octets decoded ≡ StreamFault code
     → is_fresh (end_of one) id ≡ false
     → opened_by (end_view (end_of one)) (Some decoded) (block id end octets) ≡ 0
     → decoded.after ≡ one.decoder.table
-    → ResetsForBlock one id code 0 result new
+    → ResetsForFault one id code 0 0 result new
     → TakesItem (end_of one) (Some decoded) (block id end octets) new.list result (end_of new)
 fault_item one new id end octets decoded code (Ok reported) is stale opens same h =
     fault_answer one new id end octets decoded code 0 reported new.list false (end_of new) is stale
@@ -335,6 +339,16 @@ reported_taken e id end octets decoded list new is whole same after =
       events = ap (λ (x : List Field). FieldsEvent id x end ∷ []) whole
           ∙ sym (events_by e id end octets decoded Reported verdict);
     }
+
+-- A block that would be reported, for which memory was refused.
+pub report_lacks : (e : End) (id : ℕ) (end : Bool) (octets : List ℕ) (decoded : Decoded)
+    (list : List Field) (new : End) → by_block e id end octets decoded ≡ Reported → new ≡ e
+    → TakesItem e (Some decoded) (block id end octets) list (Err OutOfMemory) new
+report_lacks e id end octets decoded list new is same = (
+  ap (λ (v : Verdict). needs_memory v (block id end octets))
+      (limits_leave e id end octets decoded Reported refl is),
+  same,
+)
 
 -- A block that is ignored.
 pub ignored_taken : (e : End) (id : ℕ) (end : Bool) (octets : List ℕ) (decoded : Decoded)

@@ -19,12 +19,12 @@ use Rattle.h2_machine.specs.Machine.{after_reported, after_ignored, narrow_recv_
 use Rattle.h2_machine.specs.Machine.{update_stream}
 use Rattle.h2_core.specs.declared.receive.DataFrame.{DataFrame}
 use Rattle.h2_core.specs.declared.reader.Reported.{Reported as Answer}
-use Rattle.h2_core.specs.declared.reader.Stop.{Stop}
+use Rattle.h2_core.specs.declared.reader.StepError.{StepError}
 use Rattle.h2_core.specs.DataFrames.{data_of}
 use Rattle.h2_core.specs.Items.{TakesItem, DiscardsData}
 use Rattle.h2_core.proofs.ItemStatuses.{active_state}
 use Rattle.h2_core.proofs.ItemVerdicts.{quiet_verdict, fault_stands, report_stands, ignored_taken}
-use Rattle.h2_core.proofs.ItemVerdicts.{with_waiting}
+use Rattle.h2_core.proofs.ItemVerdicts.{with_waiting, lacks_memory}
 
 -- The flow is the octets of the payload.
 abbrev pub HasFlow : DataFrame → Option ℕ → Type 0
@@ -138,7 +138,7 @@ reported_after e one pad stream window waiting flow active unended is same =
 
 -- What is discarded is taken so.
 pub discarded_taken : (e : End) (one : DataFrame) (pad : Option ℕ) (list : List Field)
-    (result : Result (Option Answer) Stop) (new : End) → HasFlow one pad
+    (result : Result (Option Answer) StepError) (new : End) → HasFlow one pad
     → state_at e one.stream ≡ ClosedByUs → one.flow ≤ e.windows.recv
     → DiscardsData e one.flow result new
     → TakesItem e None (alone (data_of one pad)) list result new
@@ -146,4 +146,6 @@ unfolding after_ignored
 discarded_taken e one pad list (Ok answer) new flow is few h =
     rw h.0 (ignored_taken e (data_of one pad) list new (discarded e one pad flow is few)
     (rw (← flow) h.1))
-discarded_taken e one pad list (Err stop) new flow is few h = rw h.0 h.1
+discarded_taken e one pad list (Err stop) new flow is few h =
+    rw h.0 (lacks_memory e (data_of one pad) list NoEvent new (discarded e one pad flow is few)
+    refl h.1)

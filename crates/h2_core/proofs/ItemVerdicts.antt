@@ -1,12 +1,12 @@
 -- What a step makes of a frame alone, by its verdict.
 use Rattle.std.proofs.Common.{◌≡◌, ℕ, ◌+◌, nat_le, nat_lt, ◌||◌, Bool, true, false}
 use Rattle.std.proofs.Common.{if◌then◌else◌, List, [], ◌∷◌, length, Some, None, Err, refl}
-use Rattle.std.proofs.Common.{ap}
+use Rattle.std.proofs.Common.{ap, sym, ◌∙◌, Option, Result, Ok}
 use Rattle.hpack.specs.declared.types.field.Field.{Field}
 use Rattle.h2_frame.specs.declared.code.Code.{Code}
 use Rattle.h2_frame.specs.declared.code.Code.TheVariants.{EnhanceYourCalm}
 use Rattle.h2_frame.specs.Codes.{code_number}
-use Rattle.h2_frame.specs.Frames.{Frame}
+use Rattle.h2_frame.specs.Frames.{Frame, Reset as ResetFrame}
 use Rattle.h2_block.specs.Grouping.{alone}
 use Rattle.h2_log.specs.Items.{encoding_of_items, stream_of_item}
 use Rattle.h2_log.specs.Events.{Event, ResetEvent}
@@ -19,16 +19,16 @@ use Rattle.h2_log.specs.ItemEffects.{events_of}
 use Rattle.h2_streams.specs.Table.{TableState}
 use Rattle.h2_machine.specs.End.{End, end_view}
 use Rattle.h2_machine.specs.Machine.{after_verdict, after_ignored, after_reported}
-use Rattle.h2_machine.specs.Machine.{after_stream_fault}
+use Rattle.h2_machine.specs.Machine.{after_stream_fault, reset_stream, queue_output}
+use Rattle.h2_machine.specs.Machine.{narrow_recv_window}
 use Rattle.h2_log_laws.proofs.ItemSizes.{size-reset}
 use Rattle.h2_core.specs.declared.reader.Reported.{Reported as Answer}
-use Rattle.h2_core.specs.declared.reader.Stop.{Stop}
-use Rattle.h2_core.specs.declared.reader.Stop.TheVariants.{Fault}
-use Rattle.h2_core.specs.Items.{TakesItem, ItemTaken, event_of}
-
--- Whether a further RST_STREAM is more than an end sends.
-abbrev pub is_full : End → Bool
-is_full e = nat_le max_resets e.streams.resets || nat_lt max_output (length e.output.waiting + 13)
+use Rattle.h2_core.specs.declared.reader.StepError.{StepError}
+use Rattle.h2_core.specs.declared.reader.StepError.TheVariants.{Fault, OutOfMemory}
+use Rattle.h2_core.specs.declared.endpoint.Endpoint.{Endpoint}
+use Rattle.h2_core.specs.Endpoint.{end_of}
+use Rattle.h2_core.specs.Resets.{is_over_limits, ResetsForFault}
+use Rattle.h2_core.specs.Items.{TakesItem, ItemTaken, event_of, needs_memory}
 
 -- A verdict to which nothing is replied stands.
 pub quiet_verdict : (view : View) (frame : Frame) (verdict : Verdict)
@@ -55,29 +55,37 @@ report_stands view frame is = quiet_verdict view frame Reported is refl refl
 pub reset_verdict_is : (e : End) (frame : Frame) (code : Code)
     → verdict_by_rules (end_view e) None (alone frame) ≡ StreamFault code
     → verdict_of (end_view e) None (alone frame)
-    ≡ (if is_full e then ConnectionFault EnhanceYourCalm else StreamFault code)
+    ≡ (if is_over_limits e then ConnectionFault EnhanceYourCalm else StreamFault code)
 unfolding verdict_of over_limits replies_to
 reset_verdict_is e frame code is =
     rw (is, size-reset (stream_of_item (alone frame)) (code_number code)) refl
 
 -- It is replied.
 pub reset_stands : (e : End) (frame : Frame) (code : Code)
-    → verdict_by_rules (end_view e) None (alone frame) ≡ StreamFault code → is_full e ≡ false
+    → verdict_by_rules (end_view e) None (alone frame) ≡ StreamFault code → is_over_limits e ≡ false
     → verdict_of (end_view e) None (alone frame) ≡ StreamFault code
 reset_stands e frame code is room = rw (reset_verdict_is e frame code is, room) refl
 
 -- It is too much.
 pub calm_stands : (e : End) (frame : Frame) (code : Code)
-    → verdict_by_rules (end_view e) None (alone frame) ≡ StreamFault code → is_full e ≡ true
+    → verdict_by_rules (end_view e) None (alone frame) ≡ StreamFault code → is_over_limits e ≡ true
     → verdict_of (end_view e) None (alone frame) ≡ ConnectionFault EnhanceYourCalm
 calm_stands e frame code is full = rw (reset_verdict_is e frame code is, full) refl
 
 -- The connection's fault is answered, and nothing has changed.
-pub fault_taken : (e : End) (frame : Frame) (code : Code) (list : List Field) (stop : Stop)
+pub fault_taken : (e : End) (frame : Frame) (code : Code) (list : List Field) (stop : StepError)
     → stop ≡ Fault code 0 → verdict_of (end_view e) None (alone frame) ≡ ConnectionFault code
     → TakesItem e None (alone frame) list (Err stop) e
 unfolding opened_by
 fault_taken e frame code list stop is verdict = rw is (verdict, refl, refl)
+
+-- Memory was refused, where the verdict needs some.
+pub lacks_memory : (e : End) (frame : Frame) (list : List Field) (verdict : Verdict) (new : End)
+    → verdict_of (end_view e) None (alone frame) ≡ verdict
+    → needs_memory verdict (alone frame) ≡ true → new ≡ e
+    → TakesItem e None (alone frame) list (Err OutOfMemory) new
+lacks_memory e frame list verdict new is needed same =
+    (ap (λ (v : Verdict). needs_memory v (alone frame)) is ∙ needed, same)
 
 -- What has no event is taken.
 pub ignored_taken : (e : End) (frame : Frame) (list : List Field) (new : End)
@@ -117,6 +125,29 @@ stream_fault_taken e frame code list answer new verdict after event = record {
   after = rw verdict after;
   events = rw verdict (ap (λ (one : Event). one ∷ []) event);
 }
+
+-- What resetting a stream for a fault of it makes of an end, and answers.
+pub fault_item : (one new : Endpoint) (frame : Frame) (code : Code) (flow : ℕ)
+    (result : Result (Option Answer) StepError)
+    → verdict_by_rules (end_view (end_of one)) None (alone frame) ≡ StreamFault code
+    → after_stream_fault (end_of one) None (alone frame) code
+    ≡ reset_stream (queue_output (narrow_recv_window (end_of one) flow)
+    (alone (ResetFrame (stream_of_item (alone frame)) (code_number code)) ∷ []))
+    (stream_of_item (alone frame)) flow
+    → ResetsForFault one (stream_of_item (alone frame)) code flow 0 result new
+    → TakesItem (end_of one) None (alone frame) new.list result (end_of new)
+unfolding opened_by
+fault_item one new frame code flow (Ok reported) is made h =
+    rw h.1 (stream_fault_taken (end_of one) frame code new.list _ (end_of new)
+    (reset_stands (end_of one) frame code is h.0) (h.2 ∙ sym made) refl)
+fault_item one new frame code flow (Err (Fault fault stream)) is made h = (
+  calm_stands (end_of one) frame code is h.0 ∙ ap ConnectionFault (sym h.1),
+  h.2,
+  h.3,
+)
+fault_item one new frame code flow (Err OutOfMemory) is made h =
+    lacks_memory (end_of one) frame new.list (StreamFault code) (end_of new)
+    (reset_stands (end_of one) frame code is h.0) refl h.1
 
 -- an end with other output
 abbrev pub with_waiting : End → List ℕ → End

@@ -30,9 +30,10 @@ use Rattle.h2_machine.specs.Machine.{after_item, after_verdict, after_ignored, a
 use Rattle.h2_machine.specs.Machine.{first_allowed, each_entry, shifted_entry, apply_own_settings}
 use Rattle.h2_core.specs.declared.endpoint.Endpoint.{Endpoint}
 use Rattle.h2_core.specs.declared.reader.Reported.TheVariants.{Acked}
-use Rattle.h2_core.specs.declared.reader.Stop.{Stop}
-use Rattle.h2_core.specs.declared.reader.Stop.TheVariants.{Fault, OutOfMemory}
+use Rattle.h2_core.specs.declared.reader.StepError.{StepError}
+use Rattle.h2_core.specs.declared.reader.StepError.TheVariants.{Fault, OutOfMemory}
 use Rattle.h2_core.specs.Endpoint.{end_of, streams_allowed}
+use Rattle.h2_core.proofs.ItemVerdicts.{lacks_memory}
 use Rattle.h2_core.specs.Items.{TakesItem, ItemTaken}
 use Rattle.h2_core.specs.Settings.{AppliesSettings, with_values}
 
@@ -132,7 +133,7 @@ nothing_opened : (view : View) (pairs : List (ℕ × ℕ))
 unfolding opened_by
 nothing_opened view pairs = refl
 
-pub settings_stop : (one : Endpoint) (pairs : List (ℕ × ℕ)) (stop : Stop) (list : List Field)
+pub settings_stop : (one : Endpoint) (pairs : List (ℕ × ℕ)) (stop : StepError) (list : List Field)
     → AppliesSettings one pairs (Err stop)
     → TakesItem (end_of one) None (alone (SettingsFrame false pairs)) list (Err stop) (end_of one)
 settings_stop one pairs (Fault code opened) list is = (
@@ -173,6 +174,15 @@ settings_over e pairs list good over = (
   nothing_opened (end_view e) pairs,
   refl,
 )
+
+-- SETTINGS without a fault, for whose acknowledgment memory was refused.
+pub settings_lacks : (e : End) (pairs : List (ℕ × ℕ)) (list : List Field) (new : End)
+    → settings_fault (end_view e) pairs ≡ None → length e.output.waiting + 9 ≤ 262144 → new ≡ e
+    → TakesItem e None (alone (SettingsFrame false pairs)) list (Err OutOfMemory) new
+settings_lacks e pairs list new good within same =
+    lacks_memory e (SettingsFrame false pairs) list NoEvent new
+    (good_verdict (end_view e) pairs good
+    ∙ within_verdict e.streams.resets (length e.output.waiting) (le-ltb _ _ within)) refl same
 
 -- Verdicts differ.
 no_fault : (code : Code) → NoEvent ≢ ConnectionFault code

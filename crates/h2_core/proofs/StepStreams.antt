@@ -7,7 +7,7 @@ use Rattle.h2_log.specs.View.{StreamView}
 use Rattle.h2_machine.specs.End.{Entry, active_entry, reset_entry, StreamMap, End}
 use Rattle.h2_machine.specs.End.{stream_in, stream_at, owed_entry}
 use Rattle.h2_machine.specs.Machine.{add_unreturned, close_stream, reset_stream, update_stream}
-use Rattle.h2_machine.specs.Machine.{set_stream, is_one}
+use Rattle.h2_machine.specs.Machine.{set_stream, is_one, narrow_recv_window}
 
 -- what a stream owes, where there is one
 abbrev owed_of : Option StreamView → ℕ
@@ -20,6 +20,12 @@ none_more n = omega arith
 
 none_less : (n : ℕ) → n - 0 ≡ n
 none_less n = omega arith
+
+-- A window that nothing is taken of.
+pub narrow_none : (e : End) → narrow_recv_window e 0 ≡ e
+narrow_none e =
+    ap (λ (recv : ℕ). record e { windows = record e.windows { recv = recv } })
+    (none_less e.windows.recv)
 
 -- What an entry owes is what its stream owes.
 owed_in : (entry : Option Entry) → owed_entry entry ≡ owed_of (stream_in entry)

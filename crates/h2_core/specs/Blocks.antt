@@ -10,14 +10,14 @@ use Rattle.h2_frame.specs.Codes.{code_number}
 use Rattle.h2_frame.specs.Frames.{Reset as ResetFrame}
 use Rattle.h2_block.specs.Grouping.{alone, block}
 use Rattle.h2_log.specs.ItemRules.{Decoded}
-use Rattle.h2_log.specs.Limits.{max_list, max_resets, max_output}
+use Rattle.h2_log.specs.Limits.{max_list}
 use Rattle.h2_machine.specs.End.{End}
 use Rattle.h2_machine.specs.Machine.{after_item, reset_stream, queue_output}
 use Rattle.h2_core.specs.declared.endpoint.Endpoint.{Endpoint}
 use Rattle.h2_core.specs.declared.reader.Reported.{Reported}
 use Rattle.h2_core.specs.declared.reader.Reported.TheVariants.{Reset}
-use Rattle.h2_core.specs.declared.reader.Stop.{Stop}
-use Rattle.h2_core.specs.declared.reader.Stop.TheVariants.{Fault, OutOfMemory}
+use Rattle.h2_core.specs.declared.reader.StepError.{StepError}
+use Rattle.h2_core.specs.declared.reader.StepError.TheVariants.{Fault, OutOfMemory}
 use Rattle.h2_core.specs.Endpoint.{end_of}
 use Rattle.h2_core.specs.Failure.{FailsAlike}
 use Rattle.h2_core.specs.Items.{TakesItem, events_in, item_events}
@@ -25,27 +25,13 @@ use Rattle.h2_core.specs.Frames.{FailsWithoutMemory}
 
 -- A block was decoded, and what it decodes to is the end's table and, unless it is too large, its
 -- list: whatever that is, the step takes the block so.
-abbrev pub TakesDecoded : Endpoint → ℕ → Bool → Bool → Result (Option Reported) Stop → Endpoint
+abbrev pub TakesDecoded : Endpoint → ℕ → Bool → Bool → Result (Option Reported) StepError → Endpoint
     → Type 0
 TakesDecoded one id end too_large result new =
     (decoded : Decoded) (octets : List ℕ) → decoded.after ≡ one.decoder.table
     → nat_lt max_list (list_size decoded.fields) ≡ too_large
     → (too_large ≡ false → one.list ≡ decoded.fields)
     → TakesItem (end_of one) (Some decoded) (block id end octets) new.list result (end_of new)
-
--- A block resets its stream with the code; or that is one more RST_STREAM than this end sends, and
--- nothing has changed; or memory was refused.
-abbrev pub ResetsForBlock : Endpoint → ℕ → Code → ℕ → Result (Option Reported) Stop → Endpoint
-    → Type 0
-ResetsForBlock one id code opened (Ok reported) new =
-    ((nat_le max_resets one.resets || nat_lt max_output (length one.output.waiting + 13)) ≡ false)
-    × (reported ≡ Some (Reset id (code_number code) true))
-    × (end_of new ≡ reset_stream (queue_output (end_of one) (alone (ResetFrame id
-    (code_number code)) ∷ [])) id 0)
-ResetsForBlock one id code opened (Err (Fault fault stream)) new =
-    ((nat_le max_resets one.resets || nat_lt max_output (length one.output.waiting + 13)) ≡ true)
-    × (fault ≡ EnhanceYourCalm) × (stream ≡ opened) × (end_of new ≡ end_of one)
-ResetsForBlock one id code opened (Err OutOfMemory) new = end_of new ≡ end_of one
 
 -- What was seen of the block is what it says at the end's table and limit, or nothing where it says
 -- nothing.

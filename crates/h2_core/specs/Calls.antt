@@ -1,6 +1,10 @@
 -- What a call makes of an end, and when it is refused.
 use Rattle.std.specs.Prelude.{◌≡◌, ◌⊎◌, ℕ, not, nat_le, is_some, [], ◌∷◌, length, None, Some}
-use Rattle.std.specs.Prelude.{Result, Ok, Err}
+use Rattle.std.specs.Prelude.{Result, Ok, Err, ◌≤◌, ◌-◌, ◌^◌, min, Bool, List}
+use Rattle.hpack.specs.declared.types.field.Field.{Field}
+use Rattle.hpack.specs.Choice.{block_of}
+use Rattle.hpack.specs.Lists.{EncoderState, list_size}
+use Rattle.h2_block.specs.Spread.{max_payload, spread_frames, encoding_of_frames}
 use Rattle.h2_log.specs.declared.refusal.Refusal.{Refusal}
 use Rattle.h2_log.specs.declared.refusal.Refusal.TheVariants.{Memory, Closed, NoSuchStream, Ended}
 use Rattle.h2_log.specs.declared.refusal.Refusal.TheVariants.{OutputFull}
@@ -44,3 +48,12 @@ CallRefuses e id code (Ok done) new = CallAccepted e (Refuse id code) new
     × (new ≡ fail InternalError e.streams.last_processed e))
 CallRefuses e id code (Err refusal) new =
     (refusal_of (end_view e) (Refuse id code) ≡ Some refusal) × (new ≡ e)
+
+-- It is the size of the list, or the greatest number where that is less.
+abbrev pub IsSizeOf : ℕ → List Field → Type 0
+IsSizeOf size fields = size ≡ min (list_size fields) (2 ^ 64 - 1)
+
+-- A list's field block takes so many octets at most in frames, at any encoder.
+abbrev pub FramesFit : List Field → ℕ → Type 0
+FramesFit fields room = (encoder : EncoderState) (id : ℕ) (end : Bool) → length (encoding_of_frames
+    (spread_frames max_payload id end (block_of encoder fields))) ≤ room

@@ -1,11 +1,14 @@
 -- What a step makes of an item that is received, and what it answers.
-use Rattle.std.specs.Prelude.{◌≡◌, ◌≢◌, ℕ, List, [], ◌∷◌, Option, Some, None, Result, Ok, Err}
+use Rattle.std.specs.Prelude.{◌≡◌, ◌≢◌, ℕ, Bool, true, false, List, [], ◌∷◌, Option, Some, None, Result, Ok, Err}
 use Rattle.hpack.specs.declared.types.field.Field.{Field}
 use Rattle.h2_frame.specs.declared.code.Code.{Code}
-use Rattle.h2_block.specs.Grouping.{Item}
+use Rattle.h2_frame.specs.Frames.{Data as DataFrame, Settings as SettingsFrame, Ping}
+use Rattle.h2_frame.specs.Frames.{Reset as ResetFrame}
+use Rattle.h2_block.specs.Grouping.{Item, alone, block}
 use Rattle.h2_log.specs.Events.{Event, FieldsEvent, DataEvent, ResetEvent, GoAwayEvent, AckedEvent}
 use Rattle.h2_log.specs.Events.{PongEvent}
-use Rattle.h2_log.specs.Verdicts.{Verdict, ConnectionFault}
+use Rattle.h2_log.specs.Verdicts.{Verdict, ConnectionFault, StreamFault, NoEvent}
+use Rattle.h2_log.specs.Verdicts.{Reported as ReportedVerdict}
 use Rattle.h2_log.specs.ItemRules.{Decoded, verdict_of, opened_by}
 use Rattle.h2_log.specs.ItemEffects.{events_of}
 use Rattle.h2_machine.specs.End.{End, end_view}
@@ -13,8 +16,8 @@ use Rattle.h2_machine.specs.Machine.{after_item, add_unreturned, narrow_recv_win
 use Rattle.h2_core.specs.declared.reader.Reported.{Reported}
 use Rattle.h2_core.specs.declared.reader.Reported.TheVariants.{Fields, Data, Reset, GoAway, Acked}
 use Rattle.h2_core.specs.declared.reader.Reported.TheVariants.{Pong}
-use Rattle.h2_core.specs.declared.reader.Stop.{Stop}
-use Rattle.h2_core.specs.declared.reader.Stop.TheVariants.{Fault, OutOfMemory}
+use Rattle.h2_core.specs.declared.reader.StepError.{StepError}
+use Rattle.h2_core.specs.declared.reader.StepError.TheVariants.{Fault, OutOfMemory}
 
 -- what is reported, as an event; the fields are those of the list that the end keeps
 abbrev pub event_of : List Field → Reported → Event
@@ -42,18 +45,32 @@ pub record ItemTaken (e : End) (decoded : Option Decoded) (item : Item) (list : 
   pub after : new ≡ after_item e decoded item
   pub events : events_in list reported ≡ item_events e decoded item
 
+-- Whether a step may take memory for an item with this verdict: where the item is replied to, a
+-- stream is opened, reset or over, or credit is returned for DATA that is discarded. A fault of the
+-- connection takes none, so that want of memory hides none.
+abbrev pub needs_memory : Verdict → Item → Bool
+needs_memory (StreamFault code) item = true
+needs_memory NoEvent (alone (DataFrame stream end octets pad)) = true
+needs_memory NoEvent (alone (SettingsFrame false pairs)) = true
+needs_memory NoEvent (alone (Ping false octets)) = true
+needs_memory ReportedVerdict (alone (DataFrame stream end octets pad)) = end
+needs_memory ReportedVerdict (alone (ResetFrame stream code)) = true
+needs_memory ReportedVerdict (block stream end octets) = true
+needs_memory verdict item = false
+
 -- What a step makes of an item. One that is at fault, or out of memory, has changed nothing.
-abbrev pub TakesItem : End → Option Decoded → Item → List Field → Result (Option Reported) Stop
+abbrev pub TakesItem : End → Option Decoded → Item → List Field → Result (Option Reported) StepError
     → End → Type 0
 TakesItem e decoded item list (Ok reported) new = ItemTaken e decoded item list reported new
 TakesItem e decoded item list (Err (Fault code opened)) new =
     (verdict_of (end_view e) decoded item ≡ ConnectionFault code)
     × (opened ≡ opened_by (end_view e) decoded item) × (new ≡ e)
-TakesItem e decoded item list (Err OutOfMemory) new = new ≡ e
+TakesItem e decoded item list (Err OutOfMemory) new =
+    (needs_memory (verdict_of (end_view e) decoded item) item ≡ true) × (new ≡ e)
 
 -- DATA of so many octets was discarded, on a stream that this end has closed; or memory was
 -- refused, and nothing has changed.
-abbrev pub DiscardsData : End → ℕ → Result (Option Reported) Stop → End → Type 0
+abbrev pub DiscardsData : End → ℕ → Result (Option Reported) StepError → End → Type 0
 DiscardsData e flow (Ok reported) new =
     (reported ≡ None) × (new ≡ add_unreturned flow (narrow_recv_window e flow))
 DiscardsData e flow (Err stop) new = (stop ≡ OutOfMemory) × (new ≡ e)

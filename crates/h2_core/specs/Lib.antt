@@ -3,6 +3,7 @@ pub mod Endpoint
 pub mod Failure
 pub mod Items
 pub mod Frames
+pub mod Resets
 pub mod Blocks
 pub mod Calls
 pub mod Readers

@@ -8,8 +8,8 @@ use Rattle.h2_machine.specs.End.{end_view, any_above}
 use Rattle.h2_streams.specs.Streams.{is_above_by_shift}
 use Rattle.h2_streams.specs.Table.{TableState}
 use Rattle.h2_core.specs.declared.endpoint.Endpoint.{Endpoint}
-use Rattle.h2_core.specs.declared.reader.Stop.{Stop}
-use Rattle.h2_core.specs.declared.reader.Stop.TheVariants.{Fault, OutOfMemory}
+use Rattle.h2_core.specs.declared.reader.StepError.{StepError}
+use Rattle.h2_core.specs.declared.reader.StepError.TheVariants.{Fault, OutOfMemory}
 use Rattle.h2_core.specs.Endpoint.{end_of}
 
 -- settings with these values, in order
@@ -18,7 +18,7 @@ with_values settings [] = settings
 with_values settings (pair ∷ pairs) = with_values (with_value settings pair) pairs
 
 -- the settings after the pairs, or the first fault of one
-abbrev pub AppliesSettings : Endpoint → List (ℕ × ℕ) → Result Settings Stop → Type 0
+abbrev pub AppliesSettings : Endpoint → List (ℕ × ℕ) → Result Settings StepError → Type 0
 AppliesSettings one pairs (Ok settings) =
     (settings_fault (end_view (end_of one)) pairs ≡ None) × (settings ≡ with_values one.peer pairs)
 AppliesSettings one pairs (Err (Fault code opened)) =

@@ -4,16 +4,16 @@ use Rattle.h2_frame.specs.declared.code.Code.{Code}
 use Rattle.h2_frame.specs.declared.code.Code.TheVariants.{InternalError}
 use Rattle.h2_machine.specs.End.{End}
 use Rattle.h2_machine.specs.Machine.{fail}
-use Rattle.h2_core.specs.declared.reader.Stop.{Stop}
-use Rattle.h2_core.specs.declared.reader.Stop.TheVariants.{Fault, OutOfMemory}
+use Rattle.h2_core.specs.declared.reader.StepError.{StepError}
+use Rattle.h2_core.specs.declared.reader.StepError.TheVariants.{Fault, OutOfMemory}
 
 -- The stream that a frame at fault opens has a number of 31 bits.
-abbrev pub IsSmall : Stop → Type 0
+abbrev pub IsSmall : StepError → Type 0
 IsSmall (Fault code opened) = opened < 2 ^ 31
 IsSmall OutOfMemory = Unit {0}
 
 -- The connection fails for the cause, with its code.
-abbrev pub FailsBy : End → Stop → Code → End → Type 0
+abbrev pub FailsBy : End → StepError → Code → End → Type 0
 FailsBy e (Fault code opened) answer new =
     (answer ≡ code) × (new ≡ fail code (max e.streams.last_processed opened) e)
 FailsBy e OutOfMemory answer new =

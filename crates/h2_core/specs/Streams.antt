@@ -1,5 +1,6 @@
 -- What a step on a stream asks of it.
-use Rattle.std.specs.Prelude.{◌≡◌, ◌<◌, ◌^◌, ℕ, ◌+◌, false, Option, Some, None}
+use Rattle.std.specs.Prelude.{◌≡◌, ◌<◌, ◌^◌, ℕ, ◌+◌, ◌&&◌, Bool, false, Option, Some, None}
+use Rattle.h2_flow.specs.declared.stream_state.StreamState.{StreamState}
 use Rattle.h2_streams.specs.Streams.{is_far}
 use Rattle.h2_streams.specs.declared.entry.Stream.{Stream}
 use Rattle.h2_core.specs.declared.endpoint.Endpoint.{Endpoint}
@@ -12,6 +13,10 @@ pub record IsNear (stream : Stream) : Type 0 where
 -- so much more of the connection's window can be returned
 abbrev pub WindowHolds : Endpoint → ℕ → Type 0
 WindowHolds one more = one.recv_window + (one.unreturned + more) < 2 ^ 31
+
+-- Whether both sides of a stream have ended: it is over.
+abbrev pub is_over : StreamState → Bool
+is_over state = state.ended_in && state.ended_out
 
 -- what a stream owes, where there is one
 abbrev pub owed_by : Option Stream → ℕ

@@ -1,10 +1,12 @@
 //! Calls that send messages: field blocks and DATA (RFC 9113, sections 6.1, 6.2 and 8.1).
 
-ghost use Rattle.std.specs.Prelude.{◌≡◌, ℕ, ◌+◌, ◌-◌, ◌*◌, ◌/◌, ◌≤◌, ◌<◌, ◌^◌, ◌==◌, Bool, [], ◌∷◌};
+ghost use Rattle.std.specs.Prelude.{◌≡◌, ℕ, ◌+◌, ◌-◌, ◌*◌, ◌/◌, ◌≤◌, ◌<◌, ◌^◌, ◌==◌, Bool, List, [], ◌∷◌};
 ghost use Rattle.std.specs.Prelude.{pos, ◌-ℤ◌, not, ◌&&◌, length, None};
 ghost use Rattle.std.specs.Prelude.{Some, false, is_some, ◌||◌, ◌++◌, IfOk, IfErr, OnOk, OnErr};
 ghost use Rattle.hpack.specs.Choice.{block_of, after_block};
-ghost use Rattle.hpack.specs.Lists.{EncoderState, list_size};
+ghost use Rattle.hpack.specs.Lists.{list_size};
+ghost use Rattle.hpack.specs.Written.{AreOctets};
+ghost use Rattle.hpack.specs.declared.types.field.Field.{Field};
 ghost use Rattle.h2_block.specs.Grouping.{block};
 ghost use Rattle.h2_block.specs.Spread.{max_payload, spread_frames, encoding_of_frames};
 ghost use Rattle.h2_log.specs.Acts.{Open, SendFields, SendData};
@@ -16,7 +18,7 @@ ghost use Rattle.h2_streams.specs.Streams.{stream_view, is_far};
 ghost use Rattle.h2_machine.specs.End.{end_view, stream_at, number_after};
 ghost use Rattle.h2_machine.specs.Machine.{queue_output, with_encoder, update_stream};
 ghost use Rattle.h2_core.specs.Endpoint.{end_of, IsSound};
-ghost use Rattle.h2_core.specs.Calls.{CallRefused, CallAccepted, NotSendable};
+ghost use Rattle.h2_core.specs.Calls.{CallRefused, CallAccepted, NotSendable, FramesFit, IsSizeOf};
 
 use crate::endpoint::Endpoint;
 use crate::limits::{
@@ -40,13 +42,15 @@ impl Endpoint {
     /// C1, C4, C5 (at a server always), C6, C7, C10, and C12 where an allocation was refused, in
     /// this order. Nothing has changed.
     pub fn open(&mut self, fields: &[Field], end: bool) -> Result<u32, Refusal>
-        requires sound { IsSound (end_of self.old) }
+        requires sound { self.old.failed ≡ None → IsSound (end_of self.old) }
         ensures ok { IfOk result (λ id. (id ≡ (end_view (end_of self.old)).next_number)
             × CallAccepted (end_of self.old) (Open fields.now end) (end_of self.new)) }
         ensures err { IfErr result (λ refusal. CallRefused (end_of self.old) (Open fields.now end)
             refusal (end_of self.new)) }
+        ensures octets { AreOctets fields.now }
     {
-        if let Some(refusal) = self.refusal_of_open(fields) {
+        let size = list_size(fields);
+        if let Some(refusal) = self.refusal_of_open(size) {
             return Err(refusal);
         }
         let id = self.next_number();
@@ -56,7 +60,7 @@ impl Endpoint {
         if self.streams.open(id, stream).is_err() {
             return Err(Refusal::Memory);
         }
-        if self.write_block(id, end, fields).is_err() {
+        if self.write_block(id, end, fields, size).is_err() {
             self.streams.close(id);
             return Err(Refusal::Memory);
         }
@@ -71,17 +75,19 @@ impl Endpoint {
     ///
     /// C1, C2, C3, C7, C10 and C12, in this order. Nothing has changed.
     pub fn send_fields(&mut self, id: u32, fields: &[Field], end: bool) -> Result<(), Refusal>
-        requires sound { IsSound (end_of self.old) }
+        requires sound { self.old.failed ≡ None → IsSound (end_of self.old) }
         ensures ok { OnOk result (CallAccepted (end_of self.old) (SendFields id fields.now end)
             (end_of self.new)) }
         ensures err { IfErr result (λ refusal. CallRefused (end_of self.old)
             (SendFields id fields.now end) refusal (end_of self.new)) }
+        ensures octets { AreOctets fields.now }
     {
+        let size = list_size(fields);
         let mut stream = self.sendable(id)?;
-        if list_size(fields) > MAX_LIST as usize {
+        if size > MAX_LIST as usize {
             return Err(Refusal::ListTooLarge);
         }
-        if self.write_block(id, end, fields).is_err() {
+        if self.write_block(id, end, fields, size).is_err() {
             return Err(Refusal::Memory);
         }
         stream.state.ended_out = end;
@@ -97,7 +103,7 @@ impl Endpoint {
     ///
     /// C1, C2, C3, C7 and C12, in this order. Nothing has changed.
     pub fn send_data(&mut self, id: u32, octets: &[u8], end: bool) -> Result<usize, Refusal>
-        requires sound { IsSound (end_of self.old) }
+        requires sound { self.old.failed ≡ None → IsSound (end_of self.old) }
         ensures ok { IfOk result (λ count. (count ≡ data_count (end_view (end_of self.old))
             (stream_at (end_of self.old) id) (length octets.now))
             × CallAccepted (end_of self.old) (SendData id octets.now end) (end_of self.new)) }
@@ -197,28 +203,37 @@ impl Endpoint {
         add_data_frames(&mut self.output, id, octets, end);
     }
 
-    /// Encodes a field block and adds its frames, with room for a WINDOW_UPDATE after them.
+    /// Encodes a field block, of a list of this size, and adds its frames, with room for a
+    /// WINDOW_UPDATE after them.
     ///
     /// # Errors
     ///
     /// [`AllocError`] where an allocation was refused; nothing has changed.
-    fn write_block(&mut self, id: u32, end: bool, fields: &[Field]) -> Result<(), AllocError>
+    fn write_block(
+        &mut self,
+        id: u32,
+        end: bool,
+        fields: &[Field],
+        size: usize,
+    ) -> Result<(), AllocError>
         requires up { self.old.failed ≡ None }
         requires number { (1 ≤ id) × (id < 2 ^ 31) }
-        requires size { list_size fields.now ≤ max_list }
+        requires size { size ≡ list_size fields.now }
+        requires small { size ≤ max_list }
         ensures ok { OnOk result ((end_of self.new ≡ queue_output (with_encoder (end_of self.old)
             (after_block self.old.encoder fields.now))
             (block id end (block_of self.old.encoder fields.now) ∷ []))
             × (13 ≤ self.new.output.spare)) }
         ensures err { OnErr result (end_of self.new ≡ end_of self.old) }
     {
-        let room = frames_room(fields);
+        let room = frames_room(size);
         self.output.reserve(room + SMALL_FRAME)?;
         encode_frames(
             &mut self.encoder,
             id,
             end,
             fields,
+            room,
             &mut self.block,
             &mut self.block_frames,
         )?;
@@ -226,11 +241,11 @@ impl Endpoint {
         Ok(())
     }
 
-    /// Why a stream cannot be opened with these fields, out of memory put aside.
-    fn refusal_of_open(&self, fields: &[Field]) -> Option<Refusal>
-        requires { self.now.highest < 2 ^ 31 }
-        ensures { (end : Bool)
-            → result ≡ refusal_of (end_view (end_of self.now)) (Open fields.now end) }
+    /// Why a stream cannot be opened with a list of this size, out of memory put aside.
+    fn refusal_of_open(&self, size: usize) -> Option<Refusal>
+        requires { self.now.failed ≡ None → self.now.highest < 2 ^ 31 }
+        ensures { (fields : List Field) (end : Bool) → IsSizeOf size fields
+            → result ≡ refusal_of (end_view (end_of self.now)) (Open fields end) }
     {
         if self.failed.is_some() {
             Some(Refusal::Closed)
@@ -242,7 +257,7 @@ impl Endpoint {
             Some(Refusal::GoingAway)
         } else if self.output.len() >= FULL_OUTPUT {
             Some(Refusal::OutputFull)
-        } else if list_size(fields) > MAX_LIST as usize {
+        } else if size > MAX_LIST as usize {
             Some(Refusal::ListTooLarge)
         } else {
             None
@@ -311,18 +326,18 @@ fn sends_nothing(octets: &[u8], end: bool, count: usize) -> bool
     count == 0 && !(octets.is_empty() && end)
 }
 
-/// The most octets of a field block's frames.
-fn frames_room(fields: &[Field]) -> usize
-    requires { list_size fields.now ≤ max_list }
-    ensures enough { (encoder : EncoderState) (id : ℕ) (end : Bool) → length (encoding_of_frames
-        (spread_frames max_payload id end (block_of encoder fields.now))) ≤ result }
+/// The most octets of a field block's frames, by the size of its list.
+fn frames_room(size: usize) -> usize
+    requires { size ≤ max_list }
+    ensures enough { (fields : List Field) → list_size fields ≡ size → FramesFit fields result }
     ensures small { result < 2 ^ 17 }
 {
-    let octets = list_size(fields) + 12;
+    let octets = size + 12;
     octets + HEAD * (1 + octets / MAX_PAYLOAD)
 }
 
-/// Encodes a field block, and puts its frames in place of what `frames` has.
+/// Encodes a field block, whose frames have `room` octets at most, and puts these in place of what
+/// `frames` has.
 ///
 /// # Errors
 ///
@@ -332,11 +347,13 @@ fn encode_frames(
     id: u32,
     end: bool,
     fields: &[Field],
+    room: usize,
     block: &mut Vec<u8>,
     frames: &mut Vec<u8>,
 ) -> Result<(), AllocError>
     requires number { (1 ≤ id) × (id < 2 ^ 31) }
     requires size { list_size fields.now ≤ max_list }
+    requires room { FramesFit fields.now room }
     ensures ok { OnOk result ((frames.new.items ≡ encoding_of_frames (spread_frames max_payload id
         end (block_of encoder.old fields.now)))
         × (encoder.new ≡ after_block encoder.old fields.now)) }
@@ -344,7 +361,7 @@ fn encode_frames(
 {
     block.clear();
     frames.clear();
-    frames.reserve(frames_room(fields))?;
+    frames.reserve(room)?;
     if encoder.encode(fields, block).is_err() {
         return Err(AllocError);
     }

@@ -10,7 +10,7 @@ ghost use Rattle.h2_core.specs.Calls.{CallRefused, CallAccepted, CallRefuses};
 
 use crate::endpoint::Endpoint;
 use crate::limits::{FULL_OUTPUT, MAX_RESETS, SMALL_FRAME};
-use crate::reader::Stop;
+use crate::reader::StepError;
 use h2_frame::{Code, FrameRef};
 use h2_log::Refusal;
 
@@ -25,7 +25,7 @@ impl Endpoint {
     ///
     /// C1, C2, C7, C11 and C12, in this order. Nothing has changed.
     pub fn release(&mut self, id: u32, count: u32) -> Result<(), Refusal>
-        requires sound { IsSound (end_of self.old) }
+        requires sound { self.old.failed ≡ None → IsSound (end_of self.old) }
         ensures ok { OnOk result (CallAccepted (end_of self.old) (Release id count)
             (end_of self.new)) }
         ensures err { IfErr result (λ refusal. CallRefused (end_of self.old) (Release id count)
@@ -65,7 +65,7 @@ impl Endpoint {
     ///
     /// C1, C2, C7, C9 and C12, in this order. Nothing has changed.
     pub fn reset(&mut self, id: u32, code: u32) -> Result<(), Refusal>
-        requires sound { IsSound (end_of self.old) }
+        requires sound { self.old.failed ≡ None → IsSound (end_of self.old) }
         ensures ok { OnOk result (CallAccepted (end_of self.old) (ResetStream id code)
             (end_of self.new)) }
         ensures err { IfErr result (λ refusal. CallRefused (end_of self.old) (ResetStream id code)
@@ -94,24 +94,24 @@ impl Endpoint {
     ///
     /// C1 and, unless the code is 2, C2. Nothing has changed.
     pub fn refuse(&mut self, id: u32, code: u32) -> Result<(), Refusal>
-        requires sound { IsSound (end_of self.old) }
+        requires sound { self.old.failed ≡ None → IsSound (end_of self.old) }
         ensures { CallRefuses (end_of self.old) id code result (end_of self.new) }
     {
         self.check_up()?;
         let stream = self.streams.stream(id);
         if code == Code::InternalError.number() {
-            self.fail_by(Stop::OutOfMemory);
+            self.fail_by(StepError::OutOfMemory);
             return Ok(());
         }
         let Some(stream) = stream else {
             return Err(Refusal::NoSuchStream);
         };
         if self.is_over_limits() {
-            self.fail_by(Stop::fault(Code::EnhanceYourCalm));
+            self.fail_by(StepError::fault(Code::EnhanceYourCalm));
             return Ok(());
         }
         if self.reset_stream(id, Some(stream), code, 0).is_err() {
-            self.fail_by(Stop::OutOfMemory);
+            self.fail_by(StepError::OutOfMemory);
         }
         Ok(())
     }
@@ -147,7 +147,7 @@ impl Endpoint {
     ///
     /// C1, C6, C7 and C12, in this order. Nothing has changed.
     pub fn go_away(&mut self) -> Result<(), Refusal>
-        requires sound { IsSound (end_of self.old) }
+        requires sound { self.old.failed ≡ None → IsSound (end_of self.old) }
         ensures ok { OnOk result (CallAccepted (end_of self.old) SendGoAway (end_of self.new)) }
         ensures err { IfErr result (λ refusal. CallRefused (end_of self.old) SendGoAway refusal
             (end_of self.new)) }

@@ -13,7 +13,7 @@ ghost use Rattle.h2_core.specs.Stops.{FailsBy, IsSmall};
 
 use crate::endpoint::Endpoint;
 use crate::limits::MAX_BLOCK;
-use crate::reader::{Reported, Stop};
+use crate::reader::{Reported, StepError};
 use crate::receive::DataFrame;
 use h2_block::Gathered;
 use h2_frame::{Code, FrameRef};
@@ -34,7 +34,7 @@ impl Endpoint {
             (end_of self.new) }
     {
         if self.is_too_early(frame) {
-            return Err(self.fail_by(Stop::fault(Code::ProtocolError)));
+            return Err(self.fail_by(StepError::fault(Code::ProtocolError)));
         }
         match frame {
             FrameRef::Headers {
@@ -97,7 +97,7 @@ impl Endpoint {
     }
 
     /// A frame that is no part of a block, outside blocks.
-    fn take_alone<'a>(&mut self, frame: FrameRef<'a>) -> Result<Option<Reported<'a>>, Stop>
+    fn take_alone<'a>(&mut self, frame: FrameRef<'a>) -> Result<Option<Reported<'a>>, StepError>
         requires sound { IsSound (end_of self.old) }
         requires up { self.old.failed ≡ None }
         requires good { refusal (frame_of frame) ≡ None }
@@ -134,15 +134,15 @@ impl Endpoint {
     }
 
     /// The connection fails for this cause, and its code is answered.
-    pub(crate) fn fail_by(&mut self, stop: Stop) -> Code
+    pub(crate) fn fail_by(&mut self, stop: StepError) -> Code
         requires sound { IsSound (end_of self.old) }
         requires up { self.old.failed ≡ None }
         requires opened { IsSmall stop }
         ensures { FailsBy (end_of self.old) stop result (end_of self.new) }
     {
         let (code, last) = match stop {
-            Stop::Fault { code, opened } => (code, opened.max(self.last_processed)),
-            Stop::OutOfMemory => (Code::InternalError, self.last_processed),
+            StepError::Fault { code, opened } => (code, opened.max(self.last_processed)),
+            StepError::OutOfMemory => (Code::InternalError, self.last_processed),
         };
         self.fail(code, last);
         code

@@ -12,7 +12,7 @@ ghost use Rattle.h2_core.specs.Endpoint.{end_of};
 
 use crate::endpoint::Endpoint;
 use crate::limits::FIRST_WINDOW;
-use crate::settings_frame::{opening_settings, settings_frame};
+use crate::settings_frame::{add_settings, opening_settings};
 use h2_block::Gather;
 use h2_config::Config;
 use h2_flow::Settings;
@@ -24,6 +24,9 @@ use std::alloc::{AllocError, Global};
 
 /// The client's preface (RFC 9113, section 3.4).
 const PREFACE: [u8; 24] = *b"PRI * HTTP/2.0\r\n\r\nSM\r\n\r\n";
+
+/// The octets of the first SETTINGS: a head and four pairs.
+const OPENING_SETTINGS: usize = 33;
 
 /// The octets of a header table at first (RFC 9113, section 6.5.2).
 const FIRST_TABLE: u32 = 4_096;
@@ -84,11 +87,10 @@ fn first_output(alloc: Global, role: Role, config: Config) -> Result<Output, All
         (opening_pairs role (values_of config))))) }
 {
     let mut output = Output::new(alloc)?;
-    let settings = settings_frame(alloc, &opening_settings(role, config))?;
-    output.reserve(PREFACE.len() + settings.len())?;
+    output.reserve(PREFACE.len() + OPENING_SETTINGS)?;
     if role == Role::Client {
         output.add_octets(&PREFACE);
     }
-    output.add_octets(&settings);
+    add_settings(&mut output, &opening_settings(role, config));
     Ok(output)
 }

@@ -15,7 +15,7 @@ ghost use Rattle.h2_core.specs.Readers.{PutsOut, room_of, owed_of};
 
 use crate::endpoint::Endpoint;
 use crate::limits::{FULL_OUTPUT, SMALL_FRAME};
-use crate::reader::Stop;
+use crate::reader::StepError;
 use h2_frame::Code;
 use h2_log::{Refusal, Role};
 use hpack::FieldList;
@@ -105,10 +105,10 @@ impl Endpoint {
             (end_of self.new)) }
     {
         if self.output.reserve(SMALL_FRAME).is_err() {
-            return Err(self.fail_by(Stop::OutOfMemory));
+            return Err(self.fail_by(StepError::OutOfMemory));
         }
         if let Some(stream) = self.streams.stream(id) {
-            self.close_stream(id, stream, 0);
+            self.close_stream(id, stream);
         }
         Ok(())
     }

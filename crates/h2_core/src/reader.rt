@@ -1,8 +1,10 @@
 //! What an end answers to a frame, and why a step stops.
 
 ghost use Rattle.std.specs.Prelude.{◌≡◌};
+ghost use Rattle.h2_core.specs.declared.reader.StepError.TheVariants.{OutOfMemory};
 
 use h2_frame::Code;
+use std::alloc::AllocError;
 
 /// What is reported of a frame.
 #[derive(Clone, Copy, Debug, PartialEq, Eq)]
@@ -52,18 +54,26 @@ pub enum Reported<'a> {
 
 /// Why a step stops. It has changed nothing.
 #[derive(Clone, Copy, Debug, PartialEq, Eq)]
-pub(crate) enum Stop {
+pub(crate) enum StepError {
     /// The connection fails with this code. The frame opens this stream, or none (0).
     Fault { code: Code, opened: u32 },
     /// An allocation was refused.
     OutOfMemory,
 }
 
-impl Stop {
+impl From<AllocError> for StepError {
+    ghost from_gives = { λ _ stop. stop ≡ OutOfMemory };
+
+    fn from(_error: AllocError) -> StepError {
+        StepError::OutOfMemory
+    }
+}
+
+impl StepError {
     /// A fault of a frame that opens no stream.
-    pub(crate) fn fault(code: Code) -> Stop
-        ensures { result ≡ Stop.Fault code 0 }
+    pub(crate) fn fault(code: Code) -> StepError
+        ensures { result ≡ StepError.Fault code 0 }
     {
-        Stop::Fault { code, opened: 0 }
+        StepError::Fault { code, opened: 0 }
     }
 }

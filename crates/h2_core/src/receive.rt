@@ -15,8 +15,9 @@ ghost use Rattle.h2_core.specs.DataFrames.{data_of};
 
 use crate::endpoint::Endpoint;
 use crate::limits::{MAX_OUTPUT, SMALL_FRAME};
-use crate::reader::{Reported, Stop};
+use crate::reader::{Reported, StepError};
 use crate::status::Status;
+use crate::stream_steps::reserve_if_over;
 use h2_frame::{Code, FrameRef};
 use h2_streams::Stream;
 
@@ -38,7 +39,7 @@ impl Endpoint {
     pub(crate) fn take_data<'a>(
         &mut self,
         frame: DataFrame<'a>,
-    ) -> Result<Option<Reported<'a>>, Stop>
+    ) -> Result<Option<Reported<'a>>, StepError>
         requires sound { IsSound (end_of self.old) }
         requires up { self.old.failed ≡ None }
         requires number { (1 ≤ frame.stream) × (frame.stream < 2 ^ 31) }
@@ -48,22 +49,23 @@ impl Endpoint {
             result (end_of self.new) }
     {
         let stream = match self.status(frame.stream) {
-            Status::Idle => return Err(Stop::fault(Code::ProtocolError)),
-            Status::Closed => return Err(Stop::fault(Code::StreamClosed)),
+            Status::Idle => return Err(StepError::fault(Code::ProtocolError)),
+            Status::Closed => return Err(StepError::fault(Code::StreamClosed)),
             Status::ClosedByUs => None,
             Status::Active(stream) => Some(stream),
         };
         if frame.flow > self.recv_window {
-            return Err(Stop::fault(Code::FlowControlError));
+            return Err(StepError::fault(Code::FlowControlError));
         }
         let Some(stream) = stream else {
             return self.discard_data(frame.flow);
         };
         if stream.state.ended_in {
-            return self.data_after_end(frame, stream);
+            let (id, code) = (frame.stream, Code::StreamClosed);
+            return self.reset_for_fault(id, Some(stream), code, frame.flow, 0);
         }
         if exceeds(frame.flow, stream.recv_window) {
-            return Err(Stop::fault(Code::FlowControlError));
+            return Err(StepError::fault(Code::FlowControlError));
         }
         self.accept_data(frame, stream)
     }
@@ -73,7 +75,7 @@ impl Endpoint {
         &mut self,
         frame: DataFrame<'a>,
         stream: Stream,
-    ) -> Result<Option<Reported<'a>>, Stop>
+    ) -> Result<Option<Reported<'a>>, StepError>
         requires sound { IsSound (end_of self.old) }
         requires up { self.old.failed ≡ None }
         requires active { stream_at (end_of self.old) frame.stream ≡ Some (stream_view stream) }
@@ -85,13 +87,11 @@ impl Endpoint {
             → TakesItem (end_of self.old) None (alone (data_of frame.entry pad)) self.new.list
             result (end_of self.new) }
     {
-        if self.output.reserve(SMALL_FRAME).is_err() {
-            return Err(Stop::OutOfMemory);
-        }
         let mut changed = stream;
         changed.recv_window -= i64::from(frame.flow);
         changed.owed += frame.flow;
         changed.state.ended_in = frame.end;
+        reserve_if_over(&mut self.output, changed.state)?;
         self.recv_window -= frame.flow;
         self.update_stream(frame.stream, changed);
         Ok(Some(Reported::Data {
@@ -103,54 +103,16 @@ impl Endpoint {
     }
 
     /// DATA on a stream that this end has closed: it is discarded, and its flow is unreturned.
-    fn discard_data<'a>(&mut self, flow: u32) -> Result<Option<Reported<'a>>, Stop>
+    fn discard_data<'a>(&mut self, flow: u32) -> Result<Option<Reported<'a>>, StepError>
         requires sound { IsSound (end_of self.old) }
         requires up { self.old.failed ≡ None }
         requires connection { flow ≤ self.old.recv_window }
         ensures { DiscardsData (end_of self.old) flow result (end_of self.new) }
     {
-        if self.output.reserve(SMALL_FRAME).is_err() {
-            return Err(Stop::OutOfMemory);
-        }
+        self.output.reserve(SMALL_FRAME)?;
         self.recv_window -= flow;
         self.add_unreturned(flow);
         Ok(None)
-    }
-
-    /// DATA on an active stream that the peer has ended: a fault of the stream (section 5.1).
-    fn data_after_end<'a>(
-        &mut self,
-        frame: DataFrame<'a>,
-        stream: Stream,
-    ) -> Result<Option<Reported<'a>>, Stop>
-        requires sound { IsSound (end_of self.old) }
-        requires up { self.old.failed ≡ None }
-        requires number { (1 ≤ frame.stream) × (frame.stream < 2 ^ 31) }
-        requires active { stream_at (end_of self.old) frame.stream ≡ Some (stream_view stream) }
-        requires ended { stream.state.ended_in ≡ true }
-        requires connection { frame.flow ≤ self.old.recv_window }
-        ensures { (pad : Option ℕ)
-            → frame.entry.flow ≡ length (payload_of (data_of frame.entry pad))
-            → TakesItem (end_of self.old) None (alone (data_of frame.entry pad)) self.new.list
-            result (end_of self.new) }
-    {
-        if self.is_over_limits() {
-            return Err(Stop::fault(Code::EnhanceYourCalm));
-        }
-        let code = Code::StreamClosed.number();
-        self.recv_window -= frame.flow;
-        if self
-            .reset_stream(frame.stream, Some(stream), code, frame.flow)
-            .is_err()
-        {
-            self.recv_window += frame.flow;
-            return Err(Stop::OutOfMemory);
-        }
-        Ok(Some(Reported::Reset {
-            id: frame.stream,
-            code,
-            ours: true,
-        }))
     }
 
     /// RST_STREAM (section 6.4): it closes an active stream, and is ignored on a closed one.
@@ -158,20 +120,18 @@ impl Endpoint {
         &mut self,
         id: u32,
         code: u32,
-    ) -> Result<Option<Reported<'a>>, Stop>
+    ) -> Result<Option<Reported<'a>>, StepError>
         requires sound { IsSound (end_of self.old) }
         requires up { self.old.failed ≡ None }
         ensures { TakesItem (end_of self.old) None (alone (ResetFrame id code)) self.new.list
             result (end_of self.new) }
     {
         match self.status(id) {
-            Status::Idle => Err(Stop::fault(Code::ProtocolError)),
+            Status::Idle => Err(StepError::fault(Code::ProtocolError)),
             Status::ClosedByUs | Status::Closed => Ok(None),
             Status::Active(stream) => {
-                if self.output.reserve(SMALL_FRAME).is_err() {
-                    return Err(Stop::OutOfMemory);
-                }
-                self.close_stream(id, stream, 0);
+                self.output.reserve(SMALL_FRAME)?;
+                self.close_stream(id, stream);
                 Ok(Some(Reported::Reset {
                     id,
                     code,
@@ -182,23 +142,27 @@ impl Endpoint {
     }
 
     /// PING (section 6.7): it is answered.
-    pub(crate) fn take_ping<'a>(&mut self, octets: [u8; 8]) -> Result<Option<Reported<'a>>, Stop>
+    pub(crate) fn take_ping<'a>(
+        &mut self,
+        octets: [u8; 8],
+    ) -> Result<Option<Reported<'a>>, StepError>
         requires up { self.old.failed ≡ None }
         ensures { TakesItem (end_of self.old) None (alone (Ping false octets)) self.new.list result
             (end_of self.new) }
     {
         if self.output.len() > MAX_OUTPUT - PING {
-            return Err(Stop::fault(Code::EnhanceYourCalm));
+            return Err(StepError::fault(Code::EnhanceYourCalm));
         }
-        if self.output.reserve(PING).is_err() {
-            return Err(Stop::OutOfMemory);
-        }
+        self.output.reserve(PING)?;
         self.output.add_frame(FrameRef::Ping { ack: true, octets });
         Ok(None)
     }
 
     /// The answer to a PING: it is reported if it has the octets that are awaited.
-    pub(crate) fn take_pong<'a>(&mut self, octets: [u8; 8]) -> Result<Option<Reported<'a>>, Stop>
+    pub(crate) fn take_pong<'a>(
+        &mut self,
+        octets: [u8; 8],
+    ) -> Result<Option<Reported<'a>>, StepError>
         requires up { self.old.failed ≡ None }
         ensures { TakesItem (end_of self.old) None (alone (Ping true octets)) self.new.list result
             (end_of self.new) }
@@ -215,7 +179,7 @@ impl Endpoint {
         &mut self,
         last: u32,
         code: u32,
-    ) -> Result<Option<Reported<'a>>, Stop>
+    ) -> Result<Option<Reported<'a>>, StepError>
         requires up { self.old.failed ≡ None }
         ensures { (debug : List ℕ) → TakesItem (end_of self.old) None
             (alone (GoAwayFrame last code debug)) self.new.list result (end_of self.new) }

@@ -7,12 +7,13 @@ ghost use Rattle.h2_machine.specs.End.{stream_at};
 ghost use Rattle.h2_machine.specs.Machine.{is_fresh, new_stream};
 ghost use Rattle.std.specs.Option.{option_map};
 ghost use Rattle.h2_core.specs.Endpoint.{end_of, IsSound};
-ghost use Rattle.h2_core.specs.Blocks.{TakesBlock, TakesDecoded, ResetsForBlock};
+ghost use Rattle.h2_core.specs.Blocks.{TakesBlock, TakesDecoded};
 
 use crate::endpoint::Endpoint;
-use crate::limits::{MAX_LIST, SMALL_FRAME};
-use crate::reader::{Reported, Stop};
+use crate::limits::MAX_LIST;
+use crate::reader::{Reported, StepError};
 use crate::status::Status;
+use crate::stream_steps::reserve_if_over;
 use h2_flow::StreamState;
 use h2_frame::Code;
 use h2_streams::Stream;
@@ -64,7 +65,7 @@ impl Endpoint {
         id: u32,
         end: bool,
         too_large: bool,
-    ) -> Result<Option<Reported<'a>>, Stop>
+    ) -> Result<Option<Reported<'a>>, StepError>
         requires sound { IsSound (end_of self.old) }
         requires up { self.old.failed ≡ None }
         requires number { (1 ≤ id) × (id < 2 ^ 31) }
@@ -72,8 +73,8 @@ impl Endpoint {
     {
         match self.status(id) {
             Status::Idle if self.is_fresh(id) => self.take_opening(id, end, too_large),
-            Status::Idle => Err(Stop::fault(Code::ProtocolError)),
-            Status::Closed => Err(Stop::fault(Code::ProtocolError)),
+            Status::Idle => Err(StepError::fault(Code::ProtocolError)),
+            Status::Closed => Err(StepError::fault(Code::ProtocolError)),
             Status::ClosedByUs => Ok(None),
             Status::Active(stream) => self.take_further(id, end, too_large, stream),
         }
@@ -86,7 +87,7 @@ impl Endpoint {
         end: bool,
         too_large: bool,
         stream: Stream,
-    ) -> Result<Option<Reported<'a>>, Stop>
+    ) -> Result<Option<Reported<'a>>, StepError>
         requires sound { IsSound (end_of self.old) }
         requires up { self.old.failed ≡ None }
         requires number { (1 ≤ id) × (id < 2 ^ 31) }
@@ -99,13 +100,11 @@ impl Endpoint {
             } else {
                 Code::EnhanceYourCalm
             };
-            return self.reset_for_block(id, Some(stream), code, 0);
-        }
-        if self.output.reserve(SMALL_FRAME).is_err() {
-            return Err(Stop::OutOfMemory);
+            return self.reset_for_fault(id, Some(stream), code, 0, 0);
         }
         let mut changed = stream;
         changed.state.ended_in = end;
+        reserve_if_over(&mut self.output, changed.state)?;
         self.update_stream(id, changed);
         Ok(Some(Reported::Fields { id, end }))
     }
@@ -116,7 +115,7 @@ impl Endpoint {
         id: u32,
         end: bool,
         too_large: bool,
-    ) -> Result<Option<Reported<'a>>, Stop>
+    ) -> Result<Option<Reported<'a>>, StepError>
         requires sound { IsSound (end_of self.old) }
         requires up { self.old.failed ≡ None }
         requires number { (1 ≤ id) × (id < 2 ^ 31) }
@@ -128,12 +127,12 @@ impl Endpoint {
             return Ok(None);
         }
         if self.is_at_capacity() {
-            let reported = self.reset_for_block(id, None, Code::RefusedStream, 0)?;
+            let reported = self.reset_for_fault(id, None, Code::RefusedStream, 0, 0)?;
             self.highest = id;
             return Ok(reported);
         }
         if too_large {
-            let reported = self.reset_for_block(id, None, Code::EnhanceYourCalm, id)?;
+            let reported = self.reset_for_fault(id, None, Code::EnhanceYourCalm, 0, id)?;
             self.highest = id;
             self.last_processed = id;
             return Ok(reported);
@@ -141,44 +140,11 @@ impl Endpoint {
         let mut state = StreamState::open();
         state.ended_in = end;
         let stream = self.new_stream(state);
-        if self.streams.open(id, stream).is_err() {
-            return Err(Stop::OutOfMemory);
-        }
+        self.streams.open(id, stream)?;
         self.active_count += 1;
         self.highest = id;
         self.last_processed = id;
         Ok(Some(Reported::Fields { id, end }))
-    }
-
-    /// A block is a fault of its stream; it opens the stream `opened`, or none (0).
-    fn reset_for_block<'a>(
-        &mut self,
-        id: u32,
-        stream: Option<Stream>,
-        code: Code,
-        opened: u32,
-    ) -> Result<Option<Reported<'a>>, Stop>
-        requires sound { IsSound (end_of self.old) }
-        requires up { self.old.failed ≡ None }
-        requires number { (1 ≤ id) × (id < 2 ^ 31) }
-        requires active { stream_at (end_of self.old) id ≡ option_map stream_view stream }
-        ensures { ResetsForBlock self.old id code opened result self.new }
-    {
-        if self.is_over_limits() {
-            return Err(Stop::Fault {
-                code: Code::EnhanceYourCalm,
-                opened,
-            });
-        }
-        let code = code.number();
-        if self.reset_stream(id, stream, code, 0).is_err() {
-            return Err(Stop::OutOfMemory);
-        }
-        Ok(Some(Reported::Reset {
-            id,
-            code,
-            ours: true,
-        }))
     }
 
     /// A stream that is opened now, with these sides.

@@ -15,7 +15,7 @@ ghost use Rattle.h2_core.specs.Settings.{AppliesSettings, KnowsGreatest};
 
 use crate::endpoint::Endpoint;
 use crate::limits::{GREATEST, HEAD, MAX_OUTPUT};
-use crate::reader::{Reported, Stop};
+use crate::reader::{Reported, StepError};
 use h2_flow::Settings;
 use h2_frame::{Code, Pairs};
 use h2_log::Role;
@@ -29,7 +29,7 @@ impl Endpoint {
     pub(crate) fn take_settings<'a>(
         &mut self,
         pairs: Pairs<'_>,
-    ) -> Result<Option<Reported<'a>>, Stop>
+    ) -> Result<Option<Reported<'a>>, StepError>
         requires sound { IsSound (end_of self.old) }
         requires up { self.old.failed ≡ None }
         ensures { TakesItem (end_of self.old) None
@@ -38,11 +38,9 @@ impl Endpoint {
     {
         let settings = self.settings_after(pairs)?;
         if self.output.len() + HEAD > MAX_OUTPUT {
-            return Err(Stop::fault(Code::EnhanceYourCalm));
+            return Err(StepError::fault(Code::EnhanceYourCalm));
         }
-        if self.output.reserve(HEAD).is_err() {
-            return Err(Stop::OutOfMemory);
-        }
+        self.output.reserve(HEAD)?;
         limit_encoder(&mut self.encoder, pairs);
         self.output.add_octets(&ACKNOWLEDGMENT);
         self.streams.set_send_initial(settings.initial_window_size);
@@ -54,17 +52,17 @@ impl Endpoint {
     /// The settings after all pairs, or the fault of the first that has one: a value's own, or an
     /// initial window that would bring a stream's send window above 2<sup>31</sup> - 1 (section
     /// 6.9.2). It goes over the active streams once at most.
-    fn settings_after(&self, pairs: Pairs<'_>) -> Result<Settings, Stop>
+    fn settings_after(&self, pairs: Pairs<'_>) -> Result<Settings, StepError>
         ensures { AppliesSettings self.now (lent_pairs pairs.entry) result }
     {
         let mut settings = self.peer;
         let mut greatest = None;
         for (id, value) in pairs.iter() {
             if let Err(bad) = settings.apply(self.peer_role(), id, value) {
-                return Err(Stop::fault(bad.0));
+                return Err(StepError::fault(bad.0));
             }
             if self.overflows(id, value, &mut greatest) {
-                return Err(Stop::fault(Code::FlowControlError));
+                return Err(StepError::fault(Code::FlowControlError));
             }
         }
         Ok(settings)
@@ -100,7 +98,7 @@ impl Endpoint {
     }
 
     /// The acknowledgment of own SETTINGS: those that await it come into force (section 6.5.3).
-    pub(crate) fn take_acknowledgment<'a>(&mut self) -> Result<Option<Reported<'a>>, Stop>
+    pub(crate) fn take_acknowledgment<'a>(&mut self) -> Result<Option<Reported<'a>>, StepError>
         requires sound { IsSound (end_of self.old) }
         requires up { self.old.failed ≡ None }
         ensures { (pairs : List (ℕ × ℕ)) → TakesItem (end_of self.old) None

@@ -3,17 +3,18 @@
 ghost use Rattle.std.specs.Prelude.{◌≡◌, ◌||◌, ◌+◌, ◌<◌, ◌^◌, nat_le, nat_lt, None, Some};
 ghost use Rattle.std.specs.Prelude.{◌≤◌};
 ghost use Rattle.std.specs.Prelude.{length};
+ghost use Rattle.std.specs.Option.{option_map};
 ghost use Rattle.h2_block.specs.Grouping.{alone};
 ghost use Rattle.h2_frame.specs.Frames.{WindowUpdate};
-ghost use Rattle.h2_log.specs.Limits.{max_resets, max_output};
 ghost use Rattle.h2_streams.specs.Streams.{stream_view};
 ghost use Rattle.h2_machine.specs.End.{stream_at};
 ghost use Rattle.h2_core.specs.Endpoint.{end_of, IsSound};
 ghost use Rattle.h2_core.specs.Items.{TakesItem};
+ghost use Rattle.h2_core.specs.Resets.{is_over_limits, ResetsForFault};
 
 use crate::endpoint::Endpoint;
 use crate::limits::{GREATEST, MAX_OUTPUT, MAX_RESETS, SMALL_FRAME};
-use crate::reader::{Reported, Stop};
+use crate::reader::{Reported, StepError};
 use crate::status::Status;
 use h2_frame::Code;
 use h2_streams::Stream;
@@ -24,7 +25,7 @@ impl Endpoint {
         &mut self,
         id: u32,
         increment: u32,
-    ) -> Result<Option<Reported<'a>>, Stop>
+    ) -> Result<Option<Reported<'a>>, StepError>
         requires sound { IsSound (end_of self.old) }
         requires up { self.old.failed ≡ None }
         requires number { id < 2 ^ 31 }
@@ -36,14 +37,14 @@ impl Endpoint {
             return self.widen_connection(increment);
         }
         match self.status(id) {
-            Status::Idle => Err(Stop::fault(Code::ProtocolError)),
+            Status::Idle => Err(StepError::fault(Code::ProtocolError)),
             Status::ClosedByUs | Status::Closed => Ok(None),
             Status::Active(stream) => self.widen_stream(id, increment, stream),
         }
     }
 
     /// No octets are a fault, and so is a window above 2<sup>31</sup> - 1.
-    fn widen_connection<'a>(&mut self, increment: u32) -> Result<Option<Reported<'a>>, Stop>
+    fn widen_connection<'a>(&mut self, increment: u32) -> Result<Option<Reported<'a>>, StepError>
         requires sound { IsSound (end_of self.old) }
         requires up { self.old.failed ≡ None }
         requires increment { increment < 2 ^ 31 }
@@ -51,10 +52,10 @@ impl Endpoint {
             self.new.list result (end_of self.new) }
     {
         if increment == 0 {
-            return Err(Stop::fault(Code::ProtocolError));
+            return Err(StepError::fault(Code::ProtocolError));
         }
         if increment > GREATEST - self.send_window {
-            return Err(Stop::fault(Code::FlowControlError));
+            return Err(StepError::fault(Code::FlowControlError));
         }
         self.send_window += increment;
         Ok(None)
@@ -66,7 +67,7 @@ impl Endpoint {
         id: u32,
         increment: u32,
         stream: Stream,
-    ) -> Result<Option<Reported<'a>>, Stop>
+    ) -> Result<Option<Reported<'a>>, StepError>
         requires sound { IsSound (end_of self.old) }
         requires up { self.old.failed ≡ None }
         requires number { (1 ≤ id) × (id < 2 ^ 31) }
@@ -86,12 +87,38 @@ impl Endpoint {
             self.streams.set(id, changed);
             return Ok(None);
         };
+        self.reset_for_fault(id, Some(stream), code, 0, 0)
+    }
+
+    /// A fault of a stream: it is reset with the code, and what it owes is unreturned. An item at
+    /// fault has taken `flow` octets of the connection's window, which are unreturned too, and
+    /// opens the stream `opened`, or none (0).
+    pub(crate) fn reset_for_fault<'a>(
+        &mut self,
+        id: u32,
+        stream: Option<Stream>,
+        code: Code,
+        flow: u32,
+        opened: u32,
+    ) -> Result<Option<Reported<'a>>, StepError>
+        requires sound { IsSound (end_of self.old) }
+        requires up { self.old.failed ≡ None }
+        requires number { (1 ≤ id) × (id < 2 ^ 31) }
+        requires active { stream_at (end_of self.old) id ≡ option_map stream_view stream }
+        requires connection { flow ≤ self.old.recv_window }
+        ensures { ResetsForFault self.old id code flow opened result self.new }
+    {
         if self.is_over_limits() {
-            return Err(Stop::fault(Code::EnhanceYourCalm));
+            return Err(StepError::Fault {
+                code: Code::EnhanceYourCalm,
+                opened,
+            });
         }
         let code = code.number();
-        if self.reset_stream(id, Some(stream), code, 0).is_err() {
-            return Err(Stop::OutOfMemory);
+        self.recv_window -= flow;
+        if self.reset_stream(id, stream, code, flow).is_err() {
+            self.recv_window += flow;
+            return Err(StepError::OutOfMemory);
         }
         Ok(Some(Reported::Reset {
             id,
@@ -103,8 +130,7 @@ impl Endpoint {
     /// Whether a further RST_STREAM is more than this end sends: the 1,001st reset, or octets that
     /// would bring the waiting output above its limit (own; section 10.5).
     pub(crate) fn is_over_limits(&self) -> bool
-        ensures { result ≡ (nat_le max_resets self.now.resets
-            || nat_lt max_output (length self.now.output.waiting + 13)) }
+        ensures { result ≡ is_over_limits (end_of self.now) }
     {
         self.resets >= MAX_RESETS || self.output.len() > MAX_OUTPUT - SMALL_FRAME
     }

@@ -1,8 +1,10 @@
 //! Own SETTINGS (RFC 9113, section 6.5).
 
-ghost use Rattle.std.specs.Prelude.{◌≡◌, ◌≤◌, length, false, IfOk, OnOk, IfErr};
+ghost use Rattle.std.specs.Prelude.{◌≡◌, ◌≤◌, ◌<◌, ◌^◌, ◌+◌, ◌*◌, ◌++◌, [], ◌∷◌, length, false, OnOk};
+ghost use Rattle.std.specs.Prelude.{IfErr};
+ghost use Rattle.byteorder.specs.Endian.{big_bytes};
 ghost use Rattle.h2_frame.specs.Frames.{Settings};
-ghost use Rattle.h2_frame.specs.Encoding.{encoding_of};
+ghost use Rattle.h2_frame.specs.Encoding.{encoding_of, pair_octets};
 ghost use Rattle.h2_config.specs.ConfigValues.{values_of};
 ghost use Rattle.h2_log.specs.Acts.{ChangeSettings};
 ghost use Rattle.h2_log.specs.CallRules.{opening_pairs, changed_pairs};
@@ -10,11 +12,17 @@ ghost use Rattle.h2_core.specs.Endpoint.{end_of, IsSound};
 ghost use Rattle.h2_core.specs.Calls.{CallRefused, CallAccepted};
 
 use crate::endpoint::Endpoint;
-use crate::limits::MAX_LIST;
+use crate::limits::{HEAD, MAX_LIST};
+use byteorder::{BigEndian, ByteOrder};
 use h2_config::Config;
-use h2_frame::{Frame, write};
 use h2_log::{Refusal, Role};
-use std::alloc::{AllocError, Global};
+use h2_output::Output;
+
+/// The octets of a pair (section 6.5.1).
+const PAIR: usize = 6;
+
+/// The octets of SETTINGS that change an end's values, at most.
+const MAX_SETTINGS: usize = 27;
 
 /// The pairs of an end's first SETTINGS: a client says that it takes no push, both say how large a
 /// list may be.
@@ -33,24 +41,41 @@ pub(crate) fn opening_settings(role: Role, config: Config) -> [(u16, u32); 4]
     ]
 }
 
-/// The octets of SETTINGS with these pairs.
-///
-/// # Errors
-///
-/// [`AllocError`] where an allocation was refused.
-pub(crate) fn settings_frame(alloc: Global, pairs: &[(u16, u32)]) -> Result<Vec<u8>, AllocError>
-    requires { length pairs.now ≤ 5 }
-    ensures { IfOk result (λ octets. octets.items ≡ encoding_of (Settings false pairs.now)) }
+/// Adds own SETTINGS with these pairs, for which there is room. It takes no memory.
+pub(crate) fn add_settings(output: &mut Output, pairs: &[(u16, u32)])
+    requires up { output.old.ended ≡ false }
+    requires few { length pairs.now ≤ 4 }
+    requires room { 9 + 6 * length pairs.now ≤ output.old.spare }
+    ensures waiting { output.new.waiting
+        ≡ output.old.waiting ++ encoding_of (Settings false pairs.now) }
+    ensures ended { output.new.ended ≡ false }
 {
-    let mut octets = Vec::new(alloc);
-    let frame = Frame::Settings {
-        ack: false,
-        pairs: Vec::from_slice(alloc, pairs)?,
-    };
-    if write(&frame, &mut octets).is_err() {
-        return Err(AllocError);
+    output.add_octets(&settings_head((PAIR * pairs.len()) as u32));
+    for pair in pairs {
+        output.add_octets(&pair_octets(*pair));
     }
-    Ok(octets)
+}
+
+/// The head of SETTINGS with so many octets of pairs (sections 4.1 and 6.5).
+fn settings_head(length: u32) -> [u8; HEAD]
+    requires { length < 2 ^ 24 }
+    ensures { result ≡ big_bytes 3 length ++ (4 ∷ 0 ∷ 0 ∷ 0 ∷ 0 ∷ 0 ∷ []) }
+{
+    let mut head = [0; HEAD];
+    BigEndian::write_u24(&mut head, length);
+    head[3] = 4;
+    head
+}
+
+/// The octets of a pair: 16 bits of identifier and 32 of value (section 6.5.1).
+fn pair_octets(pair: (u16, u32)) -> [u8; PAIR]
+    ensures { result ≡ pair_octets pair }
+{
+    let (id, value) = pair;
+    let mut octets = [0; PAIR];
+    BigEndian::write_u16(&mut octets, id);
+    BigEndian::write_u32(&mut octets[2..], value);
+    octets
 }
 
 impl Endpoint {
@@ -61,7 +86,7 @@ impl Endpoint {
     ///
     /// C1, C7, C13 where own SETTINGS, the first included, await their acknowledgment, and C12, in
     /// this order. Nothing has changed.
-    pub fn change_settings(&mut self, alloc: Global, config: Config) -> Result<(), Refusal>
+    pub fn change_settings(&mut self, config: Config) -> Result<(), Refusal>
         ensures ok { OnOk result (CallAccepted (end_of self.old)
             (ChangeSettings (values_of config)) (end_of self.new)) }
         ensures err { IfErr result (λ refusal. CallRefused (end_of self.old)
@@ -72,27 +97,27 @@ impl Endpoint {
         if self.awaited.is_some() {
             return Err(Refusal::SettingsWait);
         }
-        let Ok(octets) = changed_settings(alloc, self.role, config) else {
-            return Err(Refusal::Memory);
-        };
-        if self.output.reserve(octets.len()).is_err() {
+        if self.output.reserve(MAX_SETTINGS).is_err() {
             return Err(Refusal::Memory);
         }
-        self.output.add_octets(&octets);
+        add_changed_settings(&mut self.output, self.role, config);
         self.awaited = Some(config);
         Ok(())
     }
 }
 
-/// The octets of SETTINGS that change an end's values.
-fn changed_settings(alloc: Global, role: Role, config: Config) -> Result<Vec<u8>, AllocError>
-    ensures { IfOk result (λ octets. octets.items
-        ≡ encoding_of (Settings false (changed_pairs role (values_of config)))) }
+/// Adds SETTINGS that change an end's values, for which there is room. It takes no memory.
+fn add_changed_settings(output: &mut Output, role: Role, config: Config)
+    requires up { output.old.ended ≡ false }
+    requires room { 27 ≤ output.old.spare }
+    ensures waiting { output.new.waiting ≡ output.old.waiting
+        ++ encoding_of (Settings false (changed_pairs role (values_of config))) }
+    ensures ended { output.new.ended ≡ false }
 {
     let limit = (1, config.table_limit());
     let window = (4, config.initial_window());
     match role {
-        Role::Client => settings_frame(alloc, &[limit, window]),
-        Role::Server => settings_frame(alloc, &[limit, (3, config.max_streams()), window]),
+        Role::Client => add_settings(output, &[limit, window]),
+        Role::Server => add_settings(output, &[limit, (3, config.max_streams()), window]),
     }
 }

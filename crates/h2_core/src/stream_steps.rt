@@ -1,7 +1,7 @@
 //! What becomes of a stream: it is changed, over, or reset (RFC 9113, section 5.1).
 
 ghost use Rattle.std.specs.Prelude.{◌≡◌, ◌≢◌, ◌+◌, ◌≤◌, ◌<◌, ◌^◌, [], ◌∷◌};
-ghost use Rattle.std.specs.Prelude.{None, Some, OnOk, OnErr};
+ghost use Rattle.std.specs.Prelude.{None, Some, OnOk, OnErr, true};
 ghost use Rattle.std.specs.Option.{option_map};
 ghost use Rattle.h2_block.specs.Grouping.{alone};
 ghost use Rattle.h2_frame.specs.Frames.{Reset as ResetFrame};
@@ -10,38 +10,40 @@ ghost use Rattle.h2_machine.specs.End.{stream_at};
 ghost use Rattle.h2_machine.specs.Machine.{close_stream, reset_stream, update_stream};
 ghost use Rattle.h2_machine.specs.Machine.{queue_output};
 ghost use Rattle.h2_core.specs.Endpoint.{end_of};
-ghost use Rattle.h2_core.specs.Streams.{IsNear, WindowHolds, owed_by};
+ghost use Rattle.h2_core.specs.Streams.{IsNear, WindowHolds, is_over, owed_by};
 
 use crate::endpoint::Endpoint;
 use crate::limits::SMALL_FRAME;
+use h2_flow::StreamState;
 use h2_frame::FrameRef;
+use h2_output::Output;
 use h2_streams::Stream;
 use std::alloc::AllocError;
 
 impl Endpoint {
-    /// An active stream is over, and nothing is kept of it; what it owes, and so much more, is
-    /// unreturned. There is room for a WINDOW_UPDATE.
-    pub(crate) fn close_stream(&mut self, id: u32, stream: Stream, more: u32)
+    /// An active stream is over, and nothing is kept of it; what it owes is unreturned. There is
+    /// room for a WINDOW_UPDATE.
+    pub(crate) fn close_stream(&mut self, id: u32, stream: Stream)
         requires up { self.old.failed ≡ None }
         requires active { stream_at (end_of self.old) id ≡ Some (stream_view stream) }
         requires counted { 1 ≤ self.old.active_count }
         requires room { 13 ≤ self.old.output.spare }
-        requires window { WindowHolds self.old (more + stream.owed) }
-        ensures { end_of self.new ≡ close_stream (end_of self.old) id more }
+        requires window { WindowHolds self.old stream.owed }
+        ensures { end_of self.new ≡ close_stream (end_of self.old) id 0 }
     {
         self.streams.close(id);
         self.active_count -= 1;
-        self.add_unreturned(more + stream.owed);
+        self.add_unreturned(stream.owed);
     }
 
-    /// An active stream is changed to this one: it is over once both sides have ended it. There is
-    /// room for a WINDOW_UPDATE.
+    /// An active stream is changed to this one: it is over once both sides have ended it, and then
+    /// there is room for a WINDOW_UPDATE.
     pub(crate) fn update_stream(&mut self, id: u32, stream: Stream)
         requires up { self.old.failed ≡ None }
         requires active { stream_at (end_of self.old) id ≢ None }
         requires near { IsNear stream }
         requires counted { 1 ≤ self.old.active_count }
-        requires room { 13 ≤ self.old.output.spare }
+        requires room { is_over stream.state ≡ true → 13 ≤ self.old.output.spare }
         requires window { WindowHolds self.old stream.owed }
         ensures after { end_of self.new
             ≡ update_stream (end_of self.old) id (stream_view stream) }
@@ -91,4 +93,21 @@ impl Endpoint {
         self.add_unreturned(more + owed);
         Ok(())
     }
+}
+
+/// Makes room for a WINDOW_UPDATE where a stream with these sides is over.
+///
+/// # Errors
+///
+/// [`AllocError`] where it is, and an allocation was refused; nothing has changed.
+pub(crate) fn reserve_if_over(output: &mut Output, state: StreamState) -> Result<(), AllocError>
+    ensures waiting { output.new.waiting ≡ output.old.waiting }
+    ensures ended { output.new.ended ≡ output.old.ended }
+    ensures ok { OnOk result (is_over state ≡ true → 13 ≤ output.new.spare) }
+    ensures err { OnErr result (is_over state ≡ true) }
+{
+    if state.closed() {
+        output.reserve(SMALL_FRAME)?;
+    }
+    Ok(())
 }

@@ -1,35 +1,29 @@
 -- By the lemmas on a call's answer.
-use Rattle.std.proofs.Common.{refl, rules}
-use Rattle.std.proofs.lemmas.Result.{err_from_is_err_and}
+use Rattle.std.proofs.Common.{◌≡◌, None, refl, rules}
 use Rattle.h2_log.specs.Acts.{SendFields, Done, IsTypedAct}
-use Rattle.h2_log.specs.CallRules.{conditions, may_lack_memory}
+use Rattle.h2_log.specs.CallRules.{may_lack_memory}
 use Rattle.h2_core.specs.Endpoint.{end_of}
-use Rattle.h2_conn.proofs.AskCalls.{done_by, condition_answers, first_holds}
-use Rattle.h2_conn.proofs.AskSound.{sound_by}
+use Rattle.h2_conn.proofs.AskCalls.{done_by}
+use Rattle.h2_conn.proofs.AskSound.{was_up, sound_by}
 use Rattle.h2_conn.proofs.conn.Conn.fields.Goals as goal
-
-pub returns-in_err-check_up : goal.returns-in_err-check_up
-unfolding IsTypedAct conditions
-returns-in_err-check_up c =
-    let p = err_from_is_err_and c.from_residual.result c.from_residual.ensures.1 in
-    rw (p.1, p.2, c.in_err-check_up.ensures.err.0)
-    (condition_answers _ _ _ _ (c.ranges.id.fits, c.check_octets.ensures)
-    (first_holds _ _ _ c.in_err-check_up.ensures.err.1))
 
 pub invariant_of-self : goal.invariant_of-self
 unfolding IsTypedAct
 invariant_of-self c =
+    let e = end_of c.args.self.now.inner.end in
+    let new = end_of c.send_fields.new.self in
+    let act = SendFields c.args.id c.args.fields.now c.args.end in
+    let was = was_up c.send_fields.result e new act refl c.send_fields.ensures.ok c.send_fields.ensures.err in
     record {
-      sound = λ up. sound_by c.send_fields.result (end_of c.args.self.now.inner.end)
-          (end_of c.send_fields.new.self) (SendFields c.args.id c.args.fields.now c.args.end)
-          (c.ranges.id.fits, c.check_octets.ensures) (search rules)
+      sound = λ up. let before : e.failed ≡ None = was up in
+          sound_by c.send_fields.result e new act (c.ranges.id.fits, c.check_octets.ensures) (search rules)
           c.send_fields.ensures.ok c.send_fields.ensures.err;
-      cuts = λ up. search rules;
+      cuts = λ up. let before : e.failed ≡ None = was up in search rules;
     }
 
 pub returns : goal.returns
 unfolding IsTypedAct may_lack_memory
 returns c =
-    done_by Done c.send_fields.result _ _ _ _ c.in_ok-check_up.ensures.ok
+    done_by Done c.send_fields.result _ _ _ _ refl
     (c.ranges.id.fits, c.check_octets.ensures) refl refl
     c.send_fields.ensures.ok c.send_fields.ensures.err

@@ -7,7 +7,10 @@ use Rattle.h2_streams.specs.Streams.{stream_view}
 use Rattle.h2_core.specs.DataFrames.{data_of}
 use Rattle.h2_core.specs.Endpoint.{end_of}
 use Rattle.h2_core.proofs.SoundFacts.{counted, owed_fits, send_near, recv_near}
-use Rattle.h2_core.proofs.ItemVerdicts.{report_taken}
+use Rattle.std.proofs.lemmas.Bool.{and_parts}
+use Rattle.std.proofs.lemmas.Result.{err_from_is_err_and}
+use Rattle.h2_log.specs.Verdicts.{Reported}
+use Rattle.h2_core.proofs.ItemVerdicts.{report_taken, lacks_memory, with_waiting}
 use Rattle.h2_core.proofs.ItemWindows.{narrowed_is, narrowed_near}
 use Rattle.h2_core.proofs.ItemData.{HasFlow, reported_data, reported_after}
 use Rattle.h2_core.proofs.endpoint.Endpoint.accept_data.Goals as goal
@@ -21,12 +24,22 @@ overflow_add-changed c =
       c.requires.connection,
     )
 
+pub invariant_of-self : goal.invariant_of-self
+invariant_of-self c =
+    record {
+      gathers = c.args.self.now.gathers;
+      decodes = c.args.self.now.decodes;
+      writes = λ up. c.reserve_if_over.ensures.ended ∙ c.args.self.now.writes up;
+      initial = c.args.self.now.initial;
+      unsaid = c.args.self.now.unsaid;
+    }
+
 pub invariant_of-self-2 : goal.invariant_of-self-2
 invariant_of-self-2 c =
     record {
       gathers = c.args.self.now.gathers;
       decodes = c.args.self.now.decodes;
-      writes = λ up. c.reserve.ensures.ended ∙ c.args.self.now.writes up;
+      writes = λ up. c.reserve_if_over.ensures.ended ∙ c.args.self.now.writes up;
       initial = c.args.self.now.initial;
       unsaid = c.args.self.now.unsaid;
     }
@@ -64,6 +77,17 @@ update_stream-requires-clause-window c =
       c.requires.connection,
     )
 
+pub returns-in_err-reserve_if_over : goal.returns-in_err-reserve_if_over
+returns-in_err-reserve_if_over c =
+    let e = end_of c.args.self.now in
+    let p = err_from_is_err_and c.from_residual.result c.from_residual.ensures.1 in
+    let over = and_parts _ _ c.in_err-reserve_if_over.ensures.err in
+    λ (pad : Option ℕ) (flow : HasFlow c.args.frame pad).
+    rw (p.1, p.2) (lacks_memory e (data_of c.args.frame pad) c.args.self.now.list Reported _
+    (reported_data e c.args.frame pad (stream_view c.args.stream) flow c.requires.active
+    c.requires.open c.requires.connection c.requires.within) over.0
+    (ap (with_waiting e) c.reserve_if_over.ensures.waiting))
+
 pub returns : goal.returns
 unfolding events_of
 returns c =
@@ -84,5 +108,5 @@ returns c =
       owed_fits e id stream c.requires.sound
           c.requires.active,
     )))
-    c.reserve.ensures.waiting)
+    c.reserve_if_over.ensures.waiting)
     (ap (λ (count : ℕ). DataEvent id c.args.frame.octets.now count c.args.frame.end ∷ []) flow)

@@ -37,13 +37,6 @@ returns-then-is_some-clause-err c =
     refused _ _ _ (others_decide _ _ _ _ up (others_decide _ _ _ _ c.in_ok-check_room.ensures.ok
     (holds_first _ _ _ (is_some_mapped values_of _ ∙ sym c.if-is_some.ensures))))
 
-pub returns-in_default-clause-err : goal.returns-in_default-clause-err
-unfolding conditions first_of
-returns-in_default-clause-err c =
-    let none_waits = is_some_mapped values_of c.args.self.now.awaited ∙ sym c.if-is_some.ensures in
-    lacks_memory _ _ _
-    (rw (c.in_ok-check_up.ensures.ok, c.in_ok-check_room.ensures.ok, none_waits)) refl
-
 pub returns-then-is_err-clause-err : goal.returns-then-is_err-clause-err
 unfolding conditions first_of
 returns-then-is_err-clause-err c =
@@ -58,14 +51,9 @@ returns-clause-ok c =
     let none_waits = is_some_mapped values_of c.args.self.now.awaited ∙ sym c.if-is_some.ensures in
     let e = end_of c.args.self.now in
     let values = values_of c.args.config in
-    let written : c.add_octets.new.self.waiting
+    let written : c.add_changed_settings.new.output.waiting
     ≡ e.output.waiting ++ encoding_of (Settings false (changed_pairs e.role values)) =
-    rw (
-      c.add_octets.ensures.waiting,
-      c.reserve.ensures.waiting,
-      c.deref.ensures.value,
-      c.in-Ok.ensures,
-    ) in
+    rw (c.add_changed_settings.ensures.waiting, c.reserve.ensures.waiting) refl in
     record {
       free = rw (c.in_ok-check_up.ensures.ok, c.in_ok-check_room.ensures.ok, none_waits);
       after = ap (with_waiting (record e { own = record e.own { awaited = Some values } }))

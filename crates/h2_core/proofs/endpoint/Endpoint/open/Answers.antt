@@ -1,12 +1,12 @@
 -- Where no condition refuses, a stream is added to the table, and taken away again where the block
 -- cannot be written.
-use Rattle.std.proofs.Common.{◌≡◌, false, ap, sym, ◌∙◌, arith}
+use Rattle.std.proofs.Common.{◌≡◌, false, ap, sym, ◌∙◌, arith, rules}
 use Rattle.h2_flow.specs.declared.stream_state.StreamState.{StreamState}
 use Rattle.h2_streams.specs.Streams.{stream_view}
 use Rattle.h2_streams.specs.Table.{TableState}
 use Rattle.h2_machine.specs.End.{End, end_view, active_entry}
 use Rattle.h2_machine.specs.Machine.{new_stream}
-use Rattle.h2_core.specs.Endpoint.{end_of}
+use Rattle.h2_core.specs.Endpoint.{end_of, IsSound}
 use Rattle.h2_core.proofs.CallConditions.{lacks_memory, unless_err, if_err}
 use Rattle.h2_core.proofs.CallMaps.{get_set_same}
 use Rattle.h2_core.proofs.CallOpen.{may_open, number_above, with_table, with_stream, without}
@@ -14,15 +14,46 @@ use Rattle.h2_core.proofs.CallOpen.{table_of, taken_away, with_count, opened}
 use Rattle.h2_core.proofs.SoundFacts.{absent_above}
 use Rattle.h2_core.proofs.endpoint.Endpoint.open.Goals as goal
 
+pub next_number-id-requires : goal.next_number-id-requires
+next_number-id-requires c =
+    let free = sym (c.refusal_of_open.ensures c.args.fields.now c.args.end c.list_size-size.ensures.size) ∙ c.in_default.is in
+    let up = (may_open (end_of c.args.self.now) c.args.fields.now c.args.end free).up in
+    let sound : IsSound (end_of c.args.self.now) = c.requires.sound up in
+    search rules
+
+pub open-requires-clause-absent : goal.open-requires-clause-absent
+open-requires-clause-absent c =
+    let free = sym (c.refusal_of_open.ensures c.args.fields.now c.args.end c.list_size-size.ensures.size) ∙ c.in_default.is in
+    let up = (may_open (end_of c.args.self.now) c.args.fields.now c.args.end free).up in
+    absent_above (end_of c.args.self.now) c.next_number-id.result (c.requires.sound up) (omega (
+      arith,
+      c.next_number-id.ensures,
+      (number_above c.args.self.now.highest).1,
+    ))
+
+pub open-requires-clause-recv : goal.open-requires-clause-recv
+open-requires-clause-recv c =
+    let free = sym (c.refusal_of_open.ensures c.args.fields.now c.args.end c.list_size-size.ensures.size) ∙ c.in_default.is in
+    let up = (may_open (end_of c.args.self.now) c.args.fields.now c.args.end free).up in
+    let sound : IsSound (end_of c.args.self.now) = c.requires.sound up in
+    search rules
+
+pub overflow_add-self : goal.overflow_add-self
+overflow_add-self c =
+    let free = sym (c.refusal_of_open.ensures c.args.fields.now c.args.end c.list_size-size.ensures.size) ∙ c.in_default.is in
+    let up = (may_open (end_of c.args.self.now) c.args.fields.now c.args.end free).up in
+    let sound : IsSound (end_of c.args.self.now) = c.requires.sound up in
+    search rules
+
 pub write_block-requires-clause-up : goal.write_block-requires-clause-up
 write_block-requires-clause-up c =
     (may_open (end_of c.args.self.now) c.args.fields.now c.args.end
-    (sym (c.refusal_of_open.ensures c.args.end) ∙ c.in_default.is)).up
+    (sym (c.refusal_of_open.ensures c.args.fields.now c.args.end c.list_size-size.ensures.size) ∙ c.in_default.is)).up
 
 pub write_block-requires-clause-number : goal.write_block-requires-clause-number
 write_block-requires-clause-number c =
     let may = may_open (end_of c.args.self.now) c.args.fields.now c.args.end
-    (sym (c.refusal_of_open.ensures c.args.end) ∙ c.in_default.is) in
+    (sym (c.refusal_of_open.ensures c.args.fields.now c.args.end c.list_size-size.ensures.size) ∙ c.in_default.is) in
     let above = number_above c.args.self.now.highest in (
       omega (arith, c.next_number-id.ensures, above.0),
       omega (arith, c.next_number-id.ensures, may.number),
@@ -30,8 +61,17 @@ write_block-requires-clause-number c =
 
 pub write_block-requires-clause-size : goal.write_block-requires-clause-size
 write_block-requires-clause-size c =
-    (may_open (end_of c.args.self.now) c.args.fields.now c.args.end
-    (sym (c.refusal_of_open.ensures c.args.end) ∙ c.in_default.is)).small
+    let may = may_open (end_of c.args.self.now) c.args.fields.now c.args.end
+    (sym (c.refusal_of_open.ensures c.args.fields.now c.args.end c.list_size-size.ensures.size)
+    ∙ c.in_default.is) in
+    omega (arith, c.list_size-size.ensures.size, may.small)
+
+pub write_block-requires-clause-small : goal.write_block-requires-clause-small
+write_block-requires-clause-small c =
+    let may = may_open (end_of c.args.self.now) c.args.fields.now c.args.end
+    (sym (c.refusal_of_open.ensures c.args.fields.now c.args.end c.list_size-size.ensures.size)
+    ∙ c.in_default.is) in
+    omega (arith, c.list_size-size.ensures.size, may.small)
 
 pub close-requires : goal.close-requires
 close-requires c =
@@ -50,11 +90,12 @@ pub returns-then-is_err-2-clause-err : goal.returns-then-is_err-2-clause-err
 returns-then-is_err-2-clause-err c =
     let e = end_of c.args.self.now in
     let id = c.next_number-id.result in
-    let free = sym (c.refusal_of_open.ensures c.args.end) ∙ c.in_default.is in
+    let free = sym (c.refusal_of_open.ensures c.args.fields.now c.args.end c.list_size-size.ensures.size) ∙ c.in_default.is in
     let added = unless_err c.open.result (cc c.is_err.ensures.value) c.open.ensures.ok in
     let same = if_err c.write_block.result (cc c.is_err-2.ensures.value)
     c.write_block.ensures.err in
-    let none = absent_above e id c.requires.sound (omega (
+    let up = (may_open e c.args.fields.now c.args.end free).up in
+    let none = absent_above e id (c.requires.sound up) (omega (
       arith,
       c.next_number-id.ensures,
       (number_above c.args.self.now.highest).1,
@@ -72,7 +113,7 @@ pub returns-clause-ok : goal.returns-clause-ok
 returns-clause-ok c =
     let e = end_of c.args.self.now in
     let id = c.next_number-id.result in
-    let free = sym (c.refusal_of_open.ensures c.args.end) ∙ c.in_default.is in
+    let free = sym (c.refusal_of_open.ensures c.args.fields.now c.args.end c.list_size-size.ensures.size) ∙ c.in_default.is in
     let may = may_open e c.args.fields.now c.args.end free in
     let number : id ≡ (end_view e).next_number = rw may.client c.next_number-id.ensures in
     let added = unless_err c.open.result (cc c.is_err.ensures.value) c.open.ensures.ok in

@@ -9,51 +9,52 @@ use Rattle.h2_core.proofs.endpoint.Endpoint.refusal_of_open.Goals as goal
 
 pub returns-then-is_some : goal.returns-then-is_some
 unfolding conditions
-returns-then-is_some c = λ end. sym (holds_first _ _ _ (cc))
+returns-then-is_some c = λ fields end is. sym (holds_first _ _ _ (cc))
 
 pub returns-then-has_all_streams : goal.returns-then-has_all_streams
 unfolding conditions
-returns-then-has_all_streams c = λ end. sym
+returns-then-has_all_streams c = λ fields end is. sym
     (others_decide _ _ _ _ (cc) (holds_first _ _ _ (sym c.if-has_all_streams.ensures)))
 
 pub returns-then-has_no_number : goal.returns-then-has_no_number
 unfolding conditions
-returns-then-has_no_number c = λ end. sym
+returns-then-has_no_number c = λ fields end is. sym
     (others_decide _ _ _ _ (cc) (others_decide _ _ _ _ (sym c.if-has_all_streams.ensures)
     (holds_first _ _ _ (sym c.if-has_no_number.ensures))))
 
 pub returns-then-is_going_away : goal.returns-then-is_going_away
 unfolding conditions
-returns-then-is_going_away c = λ end. sym
+returns-then-is_going_away c = λ fields end is. sym
     (others_decide _ _ _ _ (cc) (others_decide _ _ _ _ (sym c.if-has_all_streams.ensures)
     (others_decide _ _ _ _ (sym c.if-has_no_number.ensures)
     (holds_first _ _ _ (sym c.if-is_going_away.ensures)))))
 
 pub returns-then-len-ge-FULL_OUTPUT : goal.returns-then-len-ge-FULL_OUTPUT
 unfolding conditions
-returns-then-len-ge-FULL_OUTPUT c = λ end. sym
+returns-then-len-ge-FULL_OUTPUT c = λ fields end is. sym
     (others_decide _ _ _ _ (cc) (others_decide _ _ _ _ (sym c.if-has_all_streams.ensures)
     (others_decide _ _ _ _ (sym c.if-has_no_number.ensures)
     (others_decide _ _ _ _ (sym c.if-is_going_away.ensures)
     (holds_first _ _ _ (le-leb _ _ (omega arith)))))))
 
-pub returns-then-list_size : goal.returns-then-list_size
+pub returns-then-size : goal.returns-then-size
 unfolding conditions
-returns-then-list_size c = λ end. sym
+returns-then-size c = λ fields end is. sym
     (others_decide _ _ _ _ (cc) (others_decide _ _ _ _ (sym c.if-has_all_streams.ensures)
     (others_decide _ _ _ _ (sym c.if-has_no_number.ensures)
     (others_decide _ _ _ _ (sym c.if-is_going_away.ensures)
     (others_decide _ _ _ _ (lt-leb _ _ (omega arith))
     (holds_first _ _ _ (lt-ltb _ _ (omega arith))))))))
 
-pub returns-else-list_size : goal.returns-else-list_size
+pub returns-else-size : goal.returns-else-size
 unfolding conditions first_of
-returns-else-list_size c =
+returns-else-size c =
     let up : is_some c.args.self.now.failed ≡ false = cc in
     let room : nat_le 65536 (length c.args.self.now.output.waiting) ≡ false =
     lt-leb _ _ (omega arith) in
-    let small : nat_lt 65536 (list_size c.args.fields.now) ≡ false = le-ltb _ _ (omega arith) in
-    λ end. rw (
+    λ fields end is.
+    let small : nat_lt 65536 (list_size fields) ≡ false = le-ltb _ _ (omega arith) in
+    rw (
       up,
       ← c.if-has_all_streams.ensures,
       ← c.if-has_no_number.ensures,

@@ -6,7 +6,7 @@ use Rattle.h2_frame.specs.declared.code.Code.TheVariants.{InternalError, Enhance
 use Rattle.h2_machine.specs.End.{End}
 use Rattle.h2_machine.specs.Machine.{fail}
 use Rattle.h2_streams.specs.Streams.{stream_view}
-use Rattle.h2_core.specs.declared.reader.Stop.{Stop}
+use Rattle.h2_core.specs.declared.reader.StepError.{StepError}
 use Rattle.h2_core.specs.Endpoint.{end_of}
 use Rattle.h2_core.specs.Stops.{FailsBy}
 use Rattle.h2_core.proofs.SoundFacts.{counted, owed_fits}
@@ -46,7 +46,7 @@ returns-then-is_over_limits c =
     let other : c.args.code ≢ 2 = omega (arith, c.number.ensures, c.if-code-number.false) in
     let last : max e.streams.last_processed 0 ≡ e.streams.last_processed = omega arith in
     let fails =
-    subst (λ (stop : Stop).
+    subst (λ (stop : StepError).
     FailsBy e stop c.fail_by-then-is_over_limits.result
     (end_of c.fail_by-then-is_over_limits.new.self)) c.fault.ensures
     c.fail_by-then-is_over_limits.ensures in
@@ -61,7 +61,7 @@ returns-then-is_over_limits c =
 
 pub reset_stream-requires-clause-counted : goal.reset_stream-requires-clause-counted
 reset_stream-requires-clause-counted c = λ _.
-    counted (end_of c.args.self.now) c.args.id (stream_view c.in-Some.stream) c.requires.sound
+    counted (end_of c.args.self.now) c.args.id (stream_view c.in-Some.stream) (c.requires.sound c.in_ok-check_up.ensures.ok)
     (sym c.in-Some.ensures)
 
 pub reset_stream-requires-clause-window : goal.reset_stream-requires-clause-window
@@ -69,7 +69,7 @@ reset_stream-requires-clause-window c =
     let e = end_of c.args.self.now in
     let stream = stream_view c.in-Some.stream in
     let fits : e.windows.recv + (e.windows.unreturned + stream.owed) ≤ 65535 =
-    owed_fits e c.args.id stream c.requires.sound (sym c.in-Some.ensures) in
+    owed_fits e c.args.id stream (c.requires.sound c.in_ok-check_up.ensures.ok) (sym c.in-Some.ensures) in
     omega (arith, fits)
 
 pub returns-then-is_err : goal.returns-then-is_err

@@ -84,9 +84,9 @@ add_frame-requires-clause-writable c =
     let e = end_of c.args.self.now in
     let stream = stream_view c.in-Some.stream in
     let fits : e.windows.recv + (e.windows.unreturned + stream.owed) ≤ 65535 =
-    owed_fits e c.args.id stream c.requires.sound (sym c.in-Some.ensures) in
+    owed_fits e c.args.id stream (c.requires.sound c.in_ok-check_up.ensures.ok) (sym c.in-Some.ensures) in
     update-written c.args.id c.args.count
-    (active-number e c.args.id stream c.requires.sound (sym c.in-Some.ensures))
+    (active-number e c.args.id stream (c.requires.sound c.in_ok-check_up.ensures.ok) (sym c.in-Some.ensures))
     (omega (arith, fits))
 
 pub add_frame-requires-clause-short : goal.add_frame-requires-clause-short
@@ -106,17 +106,17 @@ overflow_add-stream c =
     let stream = stream_view c.in-Some.stream in
     let active = sym c.in-Some.ensures in
     let fits : e.windows.recv + (e.windows.unreturned + stream.owed) ≤ 65535 =
-    owed_fits e c.args.id stream c.requires.sound active in
+    owed_fits e c.args.id stream (c.requires.sound c.in_ok-check_up.ensures.ok) active in
     widened-fits stream.recv_window c.from.result c.args.count
-    (recv_near e c.args.id stream c.requires.sound active) c.from.ensures (omega (arith, fits))
-    (widened-near e c.args.id stream c.args.count c.requires.sound active (omega arith))
+    (recv_near e c.args.id stream (c.requires.sound c.in_ok-check_up.ensures.ok) active) c.from.ensures (omega (arith, fits))
+    (widened-near e c.args.id stream c.args.count (c.requires.sound c.in_ok-check_up.ensures.ok) active (omega arith))
 
 pub add_frame-requires-2-clause-writable : goal.add_frame-requires-2-clause-writable
 add_frame-requires-2-clause-writable c =
     let e = end_of c.args.self.now in
     let stream = stream_view c.in-Some.stream in
     let fits : e.windows.recv + (e.windows.unreturned + stream.owed) ≤ 65535 =
-    owed_fits e c.args.id stream c.requires.sound (sym c.in-Some.ensures) in
+    owed_fits e c.args.id stream (c.requires.sound c.in_ok-check_up.ensures.ok) (sym c.in-Some.ensures) in
     update-written 0 c.args.count (omega arith) (omega (arith, fits))
 
 pub add_frame-requires-2-clause-short : goal.add_frame-requires-2-clause-short
@@ -143,7 +143,7 @@ pub set-requires-clause-send : goal.set-requires-clause-send
 set-requires-clause-send c =
     let e = end_of c.args.self.now in
     let near =
-    send_near e c.args.id (stream_view c.in-Some.stream) c.requires.sound (sym c.in-Some.ensures) in
+    send_near e c.args.id (stream_view c.in-Some.stream) (c.requires.sound c.in_ok-check_up.ensures.ok) (sym c.in-Some.ensures) in
     elim c.if-not-stream.branch [
       | then-not-stream w ↦ ap (λ (stream : Stream). is_far stream.send_window) w.stream-is ∙ near
       | else-not-stream w ↦ ap (λ (stream : Stream). is_far stream.send_window) w.stream-is ∙ near
@@ -155,11 +155,11 @@ set-requires-clause-recv c =
     let stream = stream_view c.in-Some.stream in
     let active = sym c.in-Some.ensures in
     let fits : e.windows.recv + (e.windows.unreturned + stream.owed) ≤ 65535 =
-    owed_fits e c.args.id stream c.requires.sound active in
+    owed_fits e c.args.id stream (c.requires.sound c.in_ok-check_up.ensures.ok) active in
     let small : c.args.count ≤ 65535 = omega (arith, fits) in
-    let near = recv_near e c.args.id stream c.requires.sound active in
+    let near = recv_near e c.args.id stream (c.requires.sound c.in_ok-check_up.ensures.ok) active in
     let wide =
-    widened-near e c.args.id stream c.args.count c.requires.sound active (omega arith) in
+    widened-near e c.args.id stream c.args.count (c.requires.sound c.in_ok-check_up.ensures.ok) active (omega arith) in
     elim c.if-not-stream.branch [
       | then-not-stream w ↦
           ap (λ (stream : Stream). is_far stream.recv_window) w.stream-is
@@ -174,7 +174,7 @@ overflow_add-self c =
     let e = end_of c.args.self.now in
     let stream = stream_view c.in-Some.stream in
     let fits : e.windows.recv + (e.windows.unreturned + stream.owed) ≤ 65535 =
-    owed_fits e c.args.id stream c.requires.sound (sym c.in-Some.ensures) in
+    owed_fits e c.args.id stream (c.requires.sound c.in_ok-check_up.ensures.ok) (sym c.in-Some.ensures) in
     omega (arith, fits)
 
 -- an end to which the peer may send so many octets more
@@ -193,10 +193,10 @@ returns-clause-ok c =
     let count = c.args.count in
     let active = sym c.in-Some.ensures in
     let fits : e.windows.recv + (e.windows.unreturned + stream.owed) ≤ 65535 =
-    owed_fits e c.args.id stream c.requires.sound active in
+    owed_fits e c.args.id stream (c.requires.sound c.in_ok-check_up.ensures.ok) active in
     let small : c.args.count ≤ 65535 = omega (arith, fits) in
-    let near = recv_near e c.args.id stream c.requires.sound active in
-    let wide = widened-near e c.args.id stream count c.requires.sound active (omega arith) in
+    let near = recv_near e c.args.id stream (c.requires.sound c.in_ok-check_up.ensures.ok) active in
+    let wide = widened-near e c.args.id stream count (c.requires.sound c.in_ok-check_up.ensures.ok) active (omega arith) in
     let table =
     ap (λ (table : TableState).
     with_table (with_waiting (with_recv e count) c.add_frame-2.new.self.waiting) table)

@@ -54,7 +54,7 @@ returns-then-self-ge-MAX_RESETS-clause-err c =
 
 pub reset_stream-requires-clause-counted : goal.reset_stream-requires-clause-counted
 reset_stream-requires-clause-counted c = λ _.
-    counted (end_of c.args.self.now) c.args.id (stream_view c.in-Some.stream) c.requires.sound
+    counted (end_of c.args.self.now) c.args.id (stream_view c.in-Some.stream) (c.requires.sound c.in_ok-check_up.ensures.ok)
     (sym c.in-Some.ensures)
 
 pub reset_stream-requires-clause-window : goal.reset_stream-requires-clause-window
@@ -62,7 +62,7 @@ reset_stream-requires-clause-window c =
     let e = end_of c.args.self.now in
     let stream = stream_view c.in-Some.stream in
     let fits : e.windows.recv + (e.windows.unreturned + stream.owed) ≤ 65535 =
-    owed_fits e c.args.id stream c.requires.sound (sym c.in-Some.ensures) in
+    owed_fits e c.args.id stream (c.requires.sound c.in_ok-check_up.ensures.ok) (sym c.in-Some.ensures) in
     omega (arith, fits)
 
 pub returns-then-is_err-clause-err : goal.returns-then-is_err-clause-err

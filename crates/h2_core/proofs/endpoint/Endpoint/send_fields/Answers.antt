@@ -20,8 +20,8 @@ returns-in_err-stream-clause-err c =
     let p = err_from_is_err_and c.from_residual.result c.from_residual.ensures.1 in
     rw (p.1, p.2) (refused _ _ _ (first_kept _ (_ ∷ []) _ c.in_err-stream.ensures.err))
 
-pub returns-then-list_size-clause-err : goal.returns-then-list_size-clause-err
-returns-then-list_size-clause-err c =
+pub returns-then-size-clause-err : goal.returns-then-size-clause-err
+returns-then-size-clause-err c =
     let ok = c.in_ok-stream.ensures.ok in
     let e = end_of c.args.self.now in
     refused _ _ _ (fields_large e c.args.id _ c.args.fields.now c.args.end ok.0 ok.1 ok.2 ok.3
@@ -39,8 +39,8 @@ pub update_stream-requires-clause-near : goal.update_stream-requires-clause-near
 update_stream-requires-clause-near c =
     let active = c.in_ok-stream.ensures.ok.1 in
     record {
-      send = send_near (end_of c.args.self.now) c.args.id _ c.requires.sound active;
-      recv = recv_near (end_of c.args.self.now) c.args.id _ c.requires.sound active;
+      send = send_near (end_of c.args.self.now) c.args.id _ (c.requires.sound c.in_ok-stream.ensures.ok.0) active;
+      recv = recv_near (end_of c.args.self.now) c.args.id _ (c.requires.sound c.in_ok-stream.ensures.ok.0) active;
     }
 
 pub update_stream-requires-clause-counted : goal.update_stream-requires-clause-counted
@@ -50,7 +50,7 @@ update_stream-requires-clause-counted c =
     omega (
       arith,
       ap (λ (e : End). e.streams.active_count) wrote.0,
-      counted (end_of c.args.self.now) c.args.id _ c.requires.sound c.in_ok-stream.ensures.ok.1,
+      counted (end_of c.args.self.now) c.args.id _ (c.requires.sound c.in_ok-stream.ensures.ok.0) c.in_ok-stream.ensures.ok.1,
     )
 
 pub update_stream-requires-clause-window : goal.update_stream-requires-clause-window
@@ -61,7 +61,7 @@ update_stream-requires-clause-window c =
       arith,
       ap (λ (e : End). e.windows.recv) wrote.0,
       ap (λ (e : End). e.windows.unreturned) wrote.0,
-      owed_fits (end_of c.args.self.now) c.args.id _ c.requires.sound c.in_ok-stream.ensures.ok.1,
+      owed_fits (end_of c.args.self.now) c.args.id _ (c.requires.sound c.in_ok-stream.ensures.ok.0) c.in_ok-stream.ensures.ok.1,
     )
 
 pub returns-clause-ok : goal.returns-clause-ok

@@ -1,20 +1,23 @@
 -- DATA by the state of its stream, and within both windows.
-use Rattle.std.proofs.Common.{◌≡◌, ◌⊎◌, ℕ, Option, Some, sym, ap, ◌∙◌, inl, inr}
+use Rattle.std.proofs.Common.{◌≡◌, ◌⊎◌, ℕ, Option, Some, sym, ap, ◌∙◌, inl, inr, refl}
 use Rattle.std.proofs.Common.{true}
 use Rattle.h2_frame.specs.declared.code.Code.TheVariants.{ProtocolError, FlowControlError}
 use Rattle.h2_frame.specs.declared.code.Code.TheVariants.{StreamClosed}
 use Rattle.h2_log.specs.States.{Active, ClosedByUs}
 use Rattle.h2_log.specs.ItemRules.{exceeds}
+use Rattle.h2_frame.specs.Encoding.{stream_of}
+use Rattle.h2_log.specs.Items.{stream_of_item}
 use Rattle.h2_streams.specs.Streams.{stream_view}
+use Rattle.h2_machine.specs.Machine.{after_stream_fault}
 use Rattle.h2_machine.specs.End.{state_at, stream_at}
 use Rattle.h2_core.specs.DataFrames.{data_of}
 use Rattle.h2_core.specs.Endpoint.{end_of}
 use Rattle.h2_streams.specs.declared.entry.Stream.{Stream}
 use Rattle.h2_core.proofs.SoundFacts.{recv_near}
 use Rattle.h2_core.proofs.ItemWindows.{kept_is}
-use Rattle.h2_core.proofs.ItemVerdicts.{fault_taken}
+use Rattle.h2_core.proofs.ItemVerdicts.{fault_taken, fault_item}
 use Rattle.h2_core.proofs.ItemData.{HasFlow, idle_data, past_data, beyond_connection}
-use Rattle.h2_core.proofs.ItemData.{beyond_stream, discarded_taken}
+use Rattle.h2_core.proofs.ItemData.{beyond_stream, discarded_taken, late_data}
 use Rattle.h2_core.proofs.endpoint.Endpoint.take_data.Goals as goal
 use Rattle.h2_core.proofs.endpoint.Endpoint.take_data.Goals.{in-ClosedByUs, in-Active}
 
@@ -81,3 +84,23 @@ returns-then-exceeds c =
     c.fault-then-exceeds.result c.fault-then-exceeds.ensures
     (beyond_stream e c.args.frame pad stream flow active c.if-stream.false c.if-frame-self.false
     much)
+
+pub returns-then-stream : goal.returns-then-stream
+unfolding after_stream_fault stream_of_item stream_of
+returns-then-stream c =
+    let e = end_of c.args.self.now in
+    let stream = stream_view c.in-Some.stream in
+    let is = c.in-Some.is in
+    let active : stream_at e c.args.frame.stream ≡ Some stream =
+    elim c.match-status.branch [
+      | in-ClosedByUs w ↦ (let none = w.stream-is in cc)
+      | in-Active w ↦
+          (let some = w.stream-is in
+          let same : w.in-Active.stream ≡ c.in-Some.stream = cc in
+          sym w.in-Active.ensures.stream ∙ ap (λ (one : Stream). Some (stream_view one)) same)
+    ] in
+    λ (pad : Option ℕ) (flow : HasFlow c.args.frame pad).
+    fault_item c.args.self.now c.reset_for_fault.new.self (data_of c.args.frame pad) StreamClosed
+    c.args.frame.flow c.reset_for_fault.result
+    (late_data e c.args.frame pad stream flow active c.if-stream.true c.if-frame-self.false)
+    (rw flow refl) c.reset_for_fault.ensures

@@ -13,6 +13,8 @@ use Rattle.h2_core.specs.Endpoint.{end_of}
 use Rattle.h2_core.proofs.SoundFacts.{counted, owed_fits, send_near, recv_near}
 use Rattle.h2_core.proofs.FrameVerdicts.{active_stale, by_block, is_too_large, further_rule}
 use Rattle.h2_core.proofs.FrameVerdicts.{further_opens, fault_item, reported_taken}
+use Rattle.h2_core.proofs.FrameVerdicts.{report_lacks}
+use Rattle.std.proofs.lemmas.Result.{err_from_is_err_and}
 use Rattle.h2_core.proofs.endpoint.Endpoint.take_further.Goals as goal
 use Rattle.h2_core.proofs.endpoint.Endpoint.take_further.Goals.{then-stream-2, else-stream-2}
 
@@ -41,15 +43,15 @@ returns-then-stream c =
       | then-stream-2 w ↦ w.code-is ∙ (rw w.if-stream-2.true refl)
       | else-stream-2 w ↦ w.code-is ∙ (rw w.if-stream-2.false refl)
     ] in
-    fault_item c.args.self.now c.reset_for_block.new.self c.args.id c.args.end octets decoded
-    c.if-stream-2.code c.reset_for_block.result
+    fault_item c.args.self.now c.reset_for_fault.new.self c.args.id c.args.end octets decoded
+    c.if-stream-2.code c.reset_for_fault.result
     (at_fault e c.args.id c.args.end octets decoded (stream_view c.args.stream)
     c.args.stream.state.ended_in c.args.too_large c.requires.active refl large
     c.then-stream.either ∙ ap StreamFault (sym code))
     (active_stale e c.args.id (stream_view c.args.stream) c.requires.sound c.requires.active)
     (further_opens e c.args.id c.args.end octets decoded (stream_view c.args.stream)
     c.requires.active)
-    same c.reset_for_block.ensures
+    same c.reset_for_fault.ensures
 
 pub update_stream-requires-clause-near : goal.update_stream-requires-clause-near
 update_stream-requires-clause-near c =
@@ -96,6 +98,16 @@ reported : (e : End) (id : ℕ) (end : Bool) (octets : List ℕ) (decoded : Deco
 reported e id end octets decoded stream active unended small =
     further_rule e id end octets decoded stream active ∙ (rw (unended, small) refl)
 
+pub returns-in_err-reserve_if_over : goal.returns-in_err-reserve_if_over
+returns-in_err-reserve_if_over c =
+    λ decoded octets same large whole.
+    let e : End = end_of c.args.self.now in
+    let p = err_from_is_err_and c.from_residual.result c.from_residual.ensures.1 in
+    rw (p.1, p.2) (report_lacks e c.args.id c.args.end octets decoded c.args.self.now.list _
+    (reported e c.args.id c.args.end octets decoded (stream_view c.args.stream) c.requires.active
+    c.if-stream.false (large ∙ c.if-too_large.false))
+    (ap (with_waiting e) c.reserve_if_over.ensures.waiting))
+
 pub returns : goal.returns
 returns c =
     λ decoded octets same large whole.
@@ -106,6 +118,6 @@ returns c =
     c.if-stream.false (large ∙ c.if-too_large.false))
     (c.update_stream.ensures.list ∙ whole c.if-too_large.false)
     same
-    (received e c.args.id c.args.end (stream_view c.args.stream) c.reserve.new.self.waiting
+    (received e c.args.id c.args.end (stream_view c.args.stream) c.reserve_if_over.new.output.waiting
     (end_of c.update_stream.new.self) c.requires.active c.if-stream.false
-    c.reserve.ensures.waiting c.update_stream.ensures.after)
+    c.reserve_if_over.ensures.waiting c.update_stream.ensures.after)

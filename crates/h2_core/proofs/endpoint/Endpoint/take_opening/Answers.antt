@@ -18,7 +18,8 @@ use Rattle.h2_core.specs.declared.endpoint.Endpoint.{Endpoint}
 use Rattle.h2_core.specs.Endpoint.{end_of}
 use Rattle.h2_core.proofs.FrameVerdicts.{by_block, is_too_large, Fresh, fresh_of, fresh_no_stream}
 use Rattle.h2_core.proofs.FrameVerdicts.{opening_rule, fresh_opens, fault_error, fault_answer}
-use Rattle.h2_core.proofs.FrameVerdicts.{ignored_taken, reported_taken}
+use Rattle.h2_core.proofs.FrameVerdicts.{ignored_taken, reported_taken, report_lacks}
+use Rattle.h2_core.proofs.ItemVerdicts.{with_table}
 use Rattle.h2_core.proofs.endpoint.Endpoint.take_opening.Goals as goal
 
 -- the rule, by what is known of the end
@@ -75,8 +76,8 @@ returns-in_err-reported c =
     let stays = sym c.is_some.ensures ∙ c.if-is_some.false in
     let full = sym (c.is_at_capacity.ensures fresh.server) ∙ c.if-is_at_capacity.true in
     let p = err_from_is_err_and c.from_residual.result c.from_residual.ensures.1 in
-    rw (p.1, p.2) (fault_error c.args.self.now c.reset_for_block.new.self c.args.id c.args.end
-    octets decoded RefusedStream 0 c.in_err-reported.field-0.0 c.reset_for_block.new.self.list
+    rw (p.1, p.2) (fault_error c.args.self.now c.reset_for_fault.new.self c.args.id c.args.end
+    octets decoded RefusedStream 0 c.in_err-reported.field-0.0 c.reset_for_fault.new.self.list
     (full_rule e c.args.id c.args.end octets decoded fresh stays full)
     (opens_by e c.args.id c.args.end octets decoded true fresh stays full)
     c.in_err-reported.ensures)
@@ -88,10 +89,10 @@ returns-then-is_at_capacity c =
     let fresh = fresh_of e c.args.id c.requires.sound c.requires.fresh in
     let stays = sym c.is_some.ensures ∙ c.if-is_some.false in
     let full = sym (c.is_at_capacity.ensures fresh.server) ∙ c.if-is_at_capacity.true in
-    fault_answer c.args.self.now c.reset_for_block.new.self c.args.id c.args.end octets decoded
-    RefusedStream 0 c.in_ok-reported.reported c.reset_for_block.new.self.list true _
+    fault_answer c.args.self.now c.reset_for_fault.new.self c.args.id c.args.end octets decoded
+    RefusedStream 0 c.in_ok-reported.reported c.reset_for_fault.new.self.list true _
     (full_rule e c.args.id c.args.end octets decoded fresh stays full)
-    c.requires.fresh same (rw c.in_ok-reported.was at c.reset_for_block.ensures) refl
+    c.requires.fresh same (rw c.in_ok-reported.was at c.reset_for_fault.ensures) refl
 
 pub returns-in_err-reported-2 : goal.returns-in_err-reported-2
 returns-in_err-reported-2 c =
@@ -102,9 +103,9 @@ returns-in_err-reported-2 c =
     let room = sym (c.is_at_capacity.ensures fresh.server) ∙ c.if-is_at_capacity.false in
     let result = c.from_residual-in_err-reported-2.result in
     let p = err_from_is_err_and result c.from_residual-in_err-reported-2.ensures.1 in
-    rw (p.1, p.2) (fault_error c.args.self.now c.reset_for_block-then-too_large.new.self c.args.id
+    rw (p.1, p.2) (fault_error c.args.self.now c.reset_for_fault-then-too_large.new.self c.args.id
     c.args.end octets decoded EnhanceYourCalm c.args.id c.in_err-reported-2.field-0.0
-    c.reset_for_block-then-too_large.new.self.list
+    c.reset_for_fault-then-too_large.new.self.list
     (large_rule e c.args.id c.args.end octets decoded fresh stays room
     (large ∙ c.if-too_large.true))
     (opens_by e c.args.id c.args.end octets decoded false fresh stays room)
@@ -117,18 +118,13 @@ returns-then-too_large c =
     let fresh = fresh_of e c.args.id c.requires.sound c.requires.fresh in
     let stays = sym c.is_some.ensures ∙ c.if-is_some.false in
     let room = sym (c.is_at_capacity.ensures fresh.server) ∙ c.if-is_at_capacity.false in
-    fault_answer c.args.self.now c.reset_for_block-then-too_large.new.self c.args.id c.args.end
+    fault_answer c.args.self.now c.reset_for_fault-then-too_large.new.self c.args.id c.args.end
     octets decoded EnhanceYourCalm c.args.id c.in_ok-reported-2.reported
-    c.reset_for_block-then-too_large.new.self.list true _
+    c.reset_for_fault-then-too_large.new.self.list true _
     (large_rule e c.args.id c.args.end octets decoded fresh stays room
     (large ∙ c.if-too_large.true))
     c.requires.fresh same
-    (rw c.in_ok-reported-2.was at c.reset_for_block-then-too_large.ensures) refl
-
--- What holds where a result is none of an error.
-from_ok : {A B P : Type 0} → (result : Result A B) → is_err result ≡ false → OnOk result P → P
-from_ok (Ok x) is h = h
-from_ok (Err x) is h = cc
+    (rw c.in_ok-reported-2.was at c.reset_for_fault-then-too_large.ensures) refl
 
 -- an end with a table of streams in which one was opened
 abbrev opened_end : Endpoint → ℕ → TableState → End
@@ -178,6 +174,20 @@ returns c =
     (large ∙ c.if-too_large.false))
     (whole c.if-too_large.false) same
     (received c.args.self.now c.args.id c.args.end c.open.new.self _ fresh
-    (from_ok c.open.result (sym c.is_err.ensures.value ∙ c.if-is_err.false) c.open.ensures.ok)
+    c.in_ok-open.ensures.ok
     (c.new_stream-stream.ensures
     ∙ ap (λ (s : StreamState). new_stream e c.args.end s.ended_out) c.open-state.ensures))
+
+pub returns-in_err-open : goal.returns-in_err-open
+returns-in_err-open c =
+    λ decoded octets same large whole.
+    let e : End = end_of c.args.self.now in
+    let fresh = fresh_of e c.args.id c.requires.sound c.requires.fresh in
+    let stays = sym c.is_some.ensures ∙ c.if-is_some.false in
+    let room = sym (c.is_at_capacity.ensures fresh.server) ∙ c.if-is_at_capacity.false in
+    let result = c.from_residual-in_err-open.result in
+    let p = err_from_is_err_and result c.from_residual-in_err-open.ensures.1 in
+    rw (p.1, p.2) (report_lacks e c.args.id c.args.end octets decoded c.args.self.now.list _
+    (open_rule e c.args.id c.args.end octets decoded fresh stays room
+    (large ∙ c.if-too_large.false))
+    (ap (with_table e) c.in_err-open.ensures.err))

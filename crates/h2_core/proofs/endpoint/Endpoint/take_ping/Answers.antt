@@ -1,5 +1,5 @@
 -- PING is answered.
-use Rattle.std.proofs.Common.{◌≤◌, ◌++◌, ℕ, List, true, false, arith, ap, sym, ◌∙◌}
+use Rattle.std.proofs.Common.{◌≤◌, ◌++◌, ℕ, List, true, false, refl, arith, ap, sym, ◌∙◌}
 use Rattle.h2_frame.specs.Frames.{Ping}
 use Rattle.h2_frame.specs.Encoding.{encoding_of}
 use Rattle.h2_frame.specs.declared.code.Code.TheVariants.{EnhanceYourCalm}
@@ -7,9 +7,10 @@ use Rattle.h2_log.specs.Items.{encoding_of_items, encoding_of_item}
 use Rattle.h2_machine.specs.Machine.{after_ignored}
 use Rattle.h2_core.specs.Endpoint.{end_of}
 use Rattle.h2_core.proofs.StepFrames.{ping-written, length-ping}
-use Rattle.h2_core.proofs.ItemResults.{when_ok}
+use Rattle.std.proofs.lemmas.Result.{err_from_is_err_and}
+use Rattle.h2_log.specs.Verdicts.{NoEvent}
 use Rattle.h2_core.proofs.ItemPings.{ping_too_much, ping_answered}
-use Rattle.h2_core.proofs.ItemVerdicts.{fault_taken, ignored_taken, with_waiting}
+use Rattle.h2_core.proofs.ItemVerdicts.{fault_taken, ignored_taken, with_waiting, lacks_memory}
 use Rattle.h2_core.proofs.endpoint.Endpoint.take_ping.Goals as goal
 
 pub returns-then-len : goal.returns-then-len
@@ -28,8 +29,7 @@ add_frame-requires-clause-short c = omega (arith, length-ping true c.args.octets
 pub add_frame-requires-clause-room : goal.add_frame-requires-clause-room
 add_frame-requires-clause-room c =
     let room : 17 ≤ c.reserve.new.self.spare =
-    when_ok c.reserve.result (sym c.is_err.ensures.value ∙ c.if-is_err.false)
-    c.reserve.ensures.ok in
+    c.in_ok-reserve.ensures.ok in
     omega (arith, room, length-ping true c.args.octets (omega arith))
 
 pub returns : goal.returns
@@ -42,3 +42,11 @@ returns c =
     (ap (with_waiting e) (c.add_frame.ensures.waiting
     ∙ ap (λ (waiting : List ℕ). waiting ++ encoding_of (Ping true c.args.octets))
     c.reserve.ensures.waiting))
+
+pub returns-in_err-reserve : goal.returns-in_err-reserve
+returns-in_err-reserve c =
+    let e = end_of c.args.self.now in
+    let p = err_from_is_err_and c.from_residual.result c.from_residual.ensures.1 in
+    rw (p.1, p.2) (lacks_memory e (Ping false c.args.octets) c.args.self.now.list NoEvent _
+    (ping_answered e c.args.octets (omega arith) (omega arith)) refl
+    (ap (with_waiting e) c.reserve.ensures.waiting))

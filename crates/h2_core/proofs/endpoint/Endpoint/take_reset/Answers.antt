@@ -9,6 +9,9 @@ use Rattle.h2_machine.specs.Machine.{after_ignored, after_reported, close_stream
 use Rattle.h2_core.specs.Endpoint.{end_of}
 use Rattle.h2_core.proofs.SoundFacts.{counted, owed_fits}
 use Rattle.h2_core.proofs.ItemVerdicts.{fault_taken, ignored_taken, report_taken, with_waiting}
+use Rattle.h2_core.proofs.ItemVerdicts.{lacks_memory}
+use Rattle.std.proofs.lemmas.Result.{err_from_is_err_and}
+use Rattle.h2_log.specs.Verdicts.{Reported}
 use Rattle.h2_core.proofs.ItemStatuses.{closed_state}
 use Rattle.h2_core.proofs.ItemResets.{idle_reset, active_reset, closed_reset}
 use Rattle.h2_core.proofs.endpoint.Endpoint.take_reset.Goals as goal
@@ -41,9 +44,9 @@ returns-in-ClosedByUs c =
     (closed_state c.status.result (state_at e c.args.id) c.status.ensures.state c.in-ClosedByUs.is))
     refl
 
-pub returns-else-is_err : goal.returns-else-is_err
+pub returns-in_ok-reserve-in-Active : goal.returns-in_ok-reserve-in-Active
 unfolding after_reported events_of
-returns-else-is_err c =
+returns-in_ok-reserve-in-Active c =
     let e = end_of c.args.self.now in
     report_taken e (Reset c.args.id c.args.code) c.close_stream.new.self.list _ _
     (active_reset e c.args.id c.args.code c.in-Active.ensures.state)
@@ -51,3 +54,11 @@ returns-else-is_err c =
     ∙ ap (λ (waiting : List ℕ). close_stream (with_waiting e waiting) c.args.id 0)
     c.reserve.ensures.waiting)
     refl
+
+pub returns-in_err-reserve-in-Active : goal.returns-in_err-reserve-in-Active
+returns-in_err-reserve-in-Active c =
+    let e = end_of c.args.self.now in
+    let p = err_from_is_err_and c.from_residual.result c.from_residual.ensures.1 in
+    rw (p.1, p.2) (lacks_memory e (Reset c.args.id c.args.code) c.args.self.now.list Reported _
+    (active_reset e c.args.id c.args.code c.in-Active.ensures.state) refl
+    (ap (with_waiting e) c.reserve.ensures.waiting))

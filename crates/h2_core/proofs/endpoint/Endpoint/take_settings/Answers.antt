@@ -1,5 +1,5 @@
 -- By the lemmas on SETTINGS as an item.
-use Rattle.std.proofs.Common.{◌≡◌, ◌+◌, ◌<◌, ◌≤◌, length, min, true, arith}
+use Rattle.std.proofs.Common.{◌≡◌, ◌+◌, ◌<◌, ◌≤◌, length, min, true, ap, arith}
 use Rattle.std.proofs.lemmas.Result.{err_from_is_err_and}
 use Rattle.h2_frame.specs.Pairs.{lent_pairs}
 use Rattle.h2_log.specs.Settings.{value_after}
@@ -7,7 +7,8 @@ use Rattle.h2_machine.specs.Machine.{first_allowed}
 use Rattle.h2_core.specs.Endpoint.{end_of, streams_allowed}
 use Rattle.h2_core.specs.Settings.{with_values}
 use Rattle.h2_core.proofs.OwnItems.{settings_stop, settings_over, settings_taken, window_after}
-use Rattle.h2_core.proofs.OwnItems.{streams_after}
+use Rattle.h2_core.proofs.OwnItems.{streams_after, settings_lacks}
+use Rattle.h2_core.proofs.ItemVerdicts.{with_waiting}
 use Rattle.h2_core.proofs.endpoint.Endpoint.take_settings.Goals as goal
 
 pub returns-in_err-settings : goal.returns-in_err-settings
@@ -45,3 +46,12 @@ returns c =
     )
     (settings_taken (end_of one) pairs one.list _ _ c.in_ok-settings.ensures.0 within window
     allowed)
+
+pub returns-in_err-reserve : goal.returns-in_err-reserve
+returns-in_err-reserve c =
+    let one = c.args.self.now in
+    let result = c.from_residual-in_err-reserve.result in
+    let p = err_from_is_err_and result c.from_residual-in_err-reserve.ensures.1 in
+    let within : length one.output.waiting + 9 ≤ 262144 = omega (arith, c.len.ensures) in
+    rw (p.1, p.2) (settings_lacks (end_of one) (lent_pairs c.args.pairs) one.list _
+    c.in_ok-settings.ensures.0 within (ap (with_waiting (end_of one)) c.reserve.ensures.waiting))

@@ -1,7 +1,7 @@
 -- WINDOW_UPDATE of an active stream widens its window, or resets it.
 use Rattle.std.proofs.Common.{◌≡◌, ◌≢◌, ℤ, false, true, arith}
-use Rattle.std.proofs.Common.{ℕ, None, sym, ap, ◌∙◌}
-use Rattle.h2_frame.specs.Frames.{WindowUpdate}
+use Rattle.std.proofs.Common.{ℕ, None, sym, ap, ◌∙◌, [], ◌∷◌}
+use Rattle.h2_frame.specs.Frames.{WindowUpdate, Reset}
 use Rattle.h2_frame.specs.Encoding.{stream_of}
 use Rattle.h2_frame.specs.declared.code.Code.TheVariants.{EnhanceYourCalm}
 use Rattle.h2_block.specs.Grouping.{alone}
@@ -9,15 +9,15 @@ use Rattle.h2_log.specs.Items.{stream_of_item}
 use Rattle.h2_log.specs.Verdicts.{StreamFault}
 use Rattle.h2_log.specs.ItemRules.{verdict_by_rules, overflows_by}
 use Rattle.h2_streams.specs.Streams.{stream_view, is_far}
-use Rattle.h2_machine.specs.End.{end_view}
+use Rattle.h2_machine.specs.End.{End, end_view}
 use Rattle.h2_machine.specs.Machine.{after_ignored, after_stream_fault, set_stream}
 use Rattle.h2_machine.specs.Machine.{widen_send_window}
-use Rattle.h2_log.specs.Events.{ResetEvent}
+use Rattle.h2_machine.specs.Machine.{reset_stream, queue_output}
+use Rattle.h2_frame.specs.Codes.{code_number}
 use Rattle.h2_core.specs.Endpoint.{end_of}
 use Rattle.h2_core.proofs.SoundFacts.{counted, owed_fits, send_near, recv_near}
-use Rattle.h2_core.proofs.ItemResults.{when_ok}
-use Rattle.h2_core.proofs.ItemVerdicts.{fault_taken, ignored_taken, stream_fault_taken}
-use Rattle.h2_core.proofs.ItemVerdicts.{calm_stands, reset_stands, with_table}
+use Rattle.h2_core.proofs.ItemVerdicts.{ignored_taken, fault_item, with_table}
+use Rattle.h2_core.proofs.StepStreams.{narrow_none}
 use Rattle.h2_core.proofs.ItemWindows.{widened_fits, widened_is, widened_near, passes_as}
 use Rattle.h2_core.proofs.ItemUpdates.{empty_resets, great_resets, widens_stream}
 use Rattle.h2_core.proofs.endpoint.Endpoint.widen_stream.Goals as goal
@@ -67,46 +67,6 @@ returns-else-window-from c =
     (widened_is stream.send_window c.from.result more near c.from.ensures c.requires.increment)
     ∙ sym (ap (widen_send_window e id more) c.requires.active))
 
-pub returns-then-is_over_limits : goal.returns-then-is_over_limits
-returns-then-is_over_limits c =
-    let e = end_of c.args.self.now in
-    let id = c.args.id in
-    let more = c.args.increment in
-    let stream = stream_view c.args.stream in
-    let code = c.if-increment-eq0.code in
-    let some : id ≢ 0 = omega arith in
-    let near : is_far stream.send_window ≡ false = send_near e id stream c.requires.sound
-    c.requires.active in
-    let rule : verdict_by_rules (end_view e) None (alone (WindowUpdate id more))
-    ≡ StreamFault code =
-    elim c.if-increment-eq0.branch [
-      | then-increment-eq0 w ↦
-          empty_resets e id more stream code some c.requires.active w.if-increment-eq0.true
-          w.code-is
-      | else-increment-eq0+then-window-from w ↦
-          great_resets e id more stream code some c.requires.active w.if-increment-eq0.false
-          (passes_as stream.send_window c.from.result w.from-else-increment-eq0.result more true
-          near c.from.ensures c.requires.increment w.from-else-increment-eq0.ensures
-          w.if-window-from.true)
-          w.code-is
-    ] in
-    fault_taken e (WindowUpdate id more) EnhanceYourCalm c.args.self.now.list c.fault.result
-    c.fault.ensures (calm_stands e (WindowUpdate id more) code rule
-    (sym c.is_over_limits.ensures ∙ c.if-is_over_limits.true))
-
-pub reset_stream-requires-clause-counted : goal.reset_stream-requires-clause-counted
-reset_stream-requires-clause-counted c =
-    λ some. counted (end_of c.args.self.now) c.args.id (stream_view c.args.stream) c.requires.sound
-    c.requires.active
-
-pub reset_stream-requires-clause-window : goal.reset_stream-requires-clause-window
-reset_stream-requires-clause-window c =
-    omega (
-      arith,
-      owed_fits (end_of c.args.self.now) c.args.id (stream_view c.args.stream) c.requires.sound
-          c.requires.active,
-    )
-
 pub returns : goal.returns
 unfolding after_stream_fault stream_of_item stream_of
 returns c =
@@ -131,10 +91,8 @@ returns c =
           w.if-window-from.true)
           w.code-is
     ] in
-    let done = when_ok c.reset_stream.result (sym c.is_err.ensures.value ∙ c.if-is_err.false)
-    c.reset_stream.ensures.ok in
-    stream_fault_taken e (WindowUpdate id more) code c.reset_stream.new.self.list _ _
-    (reset_stands e (WindowUpdate id more) code rule
-    (sym c.is_over_limits.ensures ∙ c.if-is_over_limits.false))
-    (rw (← c.number-code.ensures) done)
-    (ap (λ (number : ℕ). ResetEvent id number true) c.number-code.ensures)
+    fault_item c.args.self.now c.reset_for_fault.new.self (WindowUpdate id more) code 0
+    c.reset_for_fault.result rule
+    (ap (λ (x : End). reset_stream (queue_output x
+    (alone (Reset id (code_number code)) ∷ [])) id 0) (sym (narrow_none e)))
+    c.reset_for_fault.ensures

@@ -1,5 +1,5 @@
 -- The frames of the block join the output, and the encoder is the one after it.
-use Rattle.std.proofs.Common.{◌≡◌, ◌∷◌, [], ◌++◌, length, ap, ◌∙◌, arith}
+use Rattle.std.proofs.Common.{◌≡◌, ◌∷◌, [], ◌++◌, length, ap, sym, ◌∙◌, arith}
 use Rattle.hpack.specs.Choice.{block_of, after_block}
 use Rattle.h2_block.specs.Grouping.{block}
 use Rattle.h2_log.specs.Items.{encoding_of_items}
@@ -13,7 +13,8 @@ returns-clause-ok c =
     let e = end_of c.args.self.now in
     let encoded = c.in_ok-encode_frames.ensures.ok in
     let octets = block_of e.output.encoder c.args.fields.now in
-    let fits = c.frames_room-room.ensures.enough e.output.encoder c.args.id c.args.end in
+    let fits = c.frames_room-room.ensures.enough c.args.fields.now (sym c.requires.size)
+    e.output.encoder c.args.id c.args.end in
     let joined : c.deref.result.now
     ≡ encoding_of_items 16384 (block c.args.id c.args.end octets ∷ []) =
     rw (c.deref.ensures.value, encoded.0, octets_of_block 16384 c.args.id c.args.end octets) in
@@ -32,3 +33,7 @@ returns-clause-ok c =
         ap length encoded.0,
       ),
     )
+
+pub encode_frames-requires-clause-room : goal.encode_frames-requires-clause-room
+encode_frames-requires-clause-room c =
+    c.frames_room-room.ensures.enough c.args.fields.now (sym c.requires.size)

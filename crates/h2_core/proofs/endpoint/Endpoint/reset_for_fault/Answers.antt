@@ -6,7 +6,7 @@ use Rattle.h2_machine.specs.End.{End, stream_at}
 use Rattle.h2_core.specs.Endpoint.{end_of, IsSound}
 use Rattle.h2_core.specs.Streams.{owed_by}
 use Rattle.h2_core.proofs.SoundFacts.{counted, owed_fits, connection_fits}
-use Rattle.h2_core.proofs.endpoint.Endpoint.reset_for_block.Goals as goal
+use Rattle.h2_core.proofs.endpoint.Endpoint.reset_for_fault.Goals as goal
 
 counted_for : (e : End) (id : ℕ) (stream : Option Stream) → IsSound e
     → stream_at e id ≡ option_map stream_view stream → stream ≢ None → 1 ≤ e.streams.active_count
@@ -26,4 +26,9 @@ reset_stream-requires-clause-counted c =
 
 pub reset_stream-requires-clause-window : goal.reset_stream-requires-clause-window
 reset_stream-requires-clause-window c =
-    window_for (end_of c.args.self.now) c.args.id c.args.stream c.requires.sound c.requires.active
+    omega (
+      arith,
+      c.requires.connection,
+      window_for (end_of c.args.self.now) c.args.id c.args.stream c.requires.sound
+          c.requires.active,
+    )
