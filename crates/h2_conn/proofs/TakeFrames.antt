@@ -1,19 +1,20 @@
--- What has happened by a frame is what the end reports of it: the octets that are kept are those of
--- the event.
-use Rattle.std.proofs.Common.{◌≡◌, ◌≢◌, ℕ, Bool, List, [], ◌∷◌, Option, Some, None}
-use Rattle.std.proofs.Common.{refl, sym, ap, ◌∙◌}
-use Rattle.std.proofs.Common.{Bor}
-use Rattle.h2_frame.specs.declared.frame.FrameRef.{FrameRef}
-use Rattle.h2_frame.specs.declared.frame.FrameRef.TheVariants as refs
-use Rattle.h2_frame.specs.Frames.{frame_of}
+-- What has happened by a frame is what the end reports of it: the octets of its body are those of the
+-- event.
+use Rattle.std.proofs.Common.{◌≡◌, ℕ, Bool, List, [], ◌∷◌, Option, Some, None, Ok}
+use Rattle.std.proofs.Common.{refl, sym, ap, subst, ◌∙◌}
+use Rattle.std.specs.Option.{option_map}
+use Rattle.h2_frame.specs.Frames.{Encodes}
+use Rattle.h2_frame.proofs.FrameLemmas.{one_frame_lem}
+use Rattle.h2_wire.specs.declared.cut.Complete.{Complete}
+use Rattle.h2_wire.specs.Cutter.{CutterState, HasFrame, octets_of}
 use Rattle.h2_conn.specs.declared.happened.Happened.{Happened}
-use Rattle.std.specs.Option.{option_map, MatchOption, IsSomeAnd}
+use Rattle.h2_conn.specs.declared.happened.Happened.TheVariants as happenings
+use Rattle.h2_conn.specs.Events.{happened_value}
 use Rattle.hpack.specs.declared.types.field.Field.{Field}
-use Rattle.h2_frame.specs.declared.code.Code.{Code}
 use Rattle.h2_frame.specs.Frames.{Frame, Data, Headers, Priority, Reset, Settings, Ping, GoAway}
 use Rattle.h2_frame.specs.Frames.{WindowUpdate, Continuation, Unknown}
-use Rattle.h2_block.specs.Grouping.{Item, alone, block}
-use Rattle.h2_log.specs.Events.{Event, DataEvent}
+use Rattle.h2_block.specs.Grouping.{alone, block}
+use Rattle.h2_log.specs.Events.{DataEvent}
 use Rattle.h2_log.specs.View.{View}
 use Rattle.h2_log.specs.Verdicts.{Verdict, ConnectionFault, StreamFault, NoEvent, Reported}
 use Rattle.h2_log.specs.ItemRules.{Decoded, FrameStep, fails_with, begins_block, completes}
@@ -27,7 +28,7 @@ use Rattle.h2_core.specs.declared.reader.Reported.TheVariants as reports
 use Rattle.h2_core.specs.Items.{events_in}
 use Rattle.h2_core.specs.Frames.{step_events, frame_events, FrameTaken}
 use Rattle.h2_conn.specs.Inner.{happened_events, FrameHappens}
-use Rattle.h2_conn.specs.Loans.{without_lent, octets_in}
+use Rattle.h2_conn.specs.Loans.{without_lent, octets_in, IsOf, LiesThere, IsBodyOf}
 
 -- An event of DATA has the octets of the frame.
 data_of_item : (view : View) (decoded : Option Decoded) (verdict : Verdict) (frame : Frame) (id : ℕ)
@@ -78,59 +79,84 @@ data_of_step e decoded frame (completes (alone lone)) id octets flow end step is
     (verdict_of (end_view (with_begun e None)) decoded (alone lone)) lone id octets flow end is
     ∙ ap octets_in (sym (completes_frame (end_view e) frame lone step))
 
--- So what happened is what is reported, where the octets that are kept are the frame's.
-happened_same : (e : End) (decoded : Option Decoded) (frame : Frame) (list : List Field)
-    (octets : List ℕ) (reported : Option Answer) → octets ≡ octets_in frame
+-- So what happened is what is reported.
+happened_same : (complete : Complete) (e : End) (decoded : Option Decoded) (frame : Frame)
+    (list : List Field) (reported : Option Answer)
     → events_in list reported ≡ frame_events e decoded frame
-    → happened_events list octets (option_map without_lent reported)
+    → happened_events list (octets_in frame) (option_map (without_lent complete) reported)
     ≡ events_in list reported
-happened_same e decoded frame list octets None kept is = refl
-happened_same e decoded frame list octets (Some (reports.Fields id end)) kept is = refl
-happened_same e decoded frame list octets (Some (reports.Data id lent flow end)) kept is =
+happened_same complete e decoded frame list None is = refl
+happened_same complete e decoded frame list (Some (reports.Fields id end)) is = refl
+happened_same complete e decoded frame list (Some (reports.Data id lent flow end)) is =
     ap (λ (o : List ℕ). DataEvent id o flow end ∷ [])
-    (kept
-    ∙ sym (data_of_step e decoded frame (frame_step (end_view e) frame) id lent.now flow end refl
+    (sym (data_of_step e decoded frame (frame_step (end_view e) frame) id lent.now flow end refl
     is))
-happened_same e decoded frame list octets (Some (reports.Reset id code ours)) kept is = refl
-happened_same e decoded frame list octets (Some (reports.GoAway last code)) kept is = refl
-happened_same e decoded frame list octets (Some reports.Acked) kept is = refl
-happened_same e decoded frame list octets (Some (reports.Pong pong)) kept is = refl
+happened_same complete e decoded frame list (Some (reports.Reset id code ours)) is = refl
+happened_same complete e decoded frame list (Some (reports.GoAway last code)) is = refl
+happened_same complete e decoded frame list (Some reports.Acked) is = refl
+happened_same complete e decoded frame list (Some (reports.Pong pong)) is = refl
 
 -- A frame that was taken has happened.
-pub frame_happens : (e new : End) (frame : Frame) (list : List Field) (octets : List ℕ)
-    (reported : Option Answer) → octets ≡ octets_in frame → FrameTaken e frame list reported new
-    → FrameHappens e frame list octets (option_map without_lent reported) new
-frame_happens e new frame list octets reported kept taken =
+pub frame_happens : (complete : Complete) (e new : End) (frame : Frame) (list : List Field)
+    (reported : Option Answer) → FrameTaken e frame list reported new
+    → FrameHappens e frame list (octets_in frame) (option_map (without_lent complete) reported) new
+frame_happens complete e new frame list reported taken =
     record {
       decoded = taken.decoded;
       says = taken.says;
       after = taken.after;
       up = taken.up;
-      events = happened_same e taken.decoded frame list octets reported kept taken.events
+      events = happened_same complete e taken.decoded frame list reported taken.events
           ∙ taken.events;
     }
 
--- Other frames have no octets of a body.
-pub none_kept : (frame : FrameRef)
-    → ((stream : ℕ) (end : Bool) (octets : Bor (List ℕ)) (pad : Option ℕ)
-    → frame ≢ refs.Data stream end octets pad) → octets_in (frame_of frame) ≡ []
-none_kept (refs.Data stream end octets pad) other = absurd (other stream end octets pad refl)
-none_kept (refs.Headers stream end whole fragment pad priority) other = refl
-none_kept (refs.Priority stream octets) other = refl
-none_kept (refs.Reset stream code) other = refl
-none_kept (refs.Settings ack pairs) other = refl
-none_kept (refs.Ping ack octets) other = refl
-none_kept (refs.GoAway last code debug) other = refl
-none_kept (refs.WindowUpdate stream increment) other = refl
-none_kept (refs.Continuation stream whole fragment) other = refl
-none_kept (refs.Unknown kind flags stream payload) other = refl
+-- A body that is reported of a frame is that frame's.
+pub is_of : (complete : Complete) (reported : Answer)
+    → IsOf complete (Some (without_lent complete reported))
+is_of complete (reports.Fields id end) = tt
+is_of complete (reports.Data id lent flow end) = refl
+is_of complete (reports.Reset id code ours) = tt
+is_of complete (reports.GoAway last code) = tt
+is_of complete reports.Acked = tt
+is_of complete (reports.Pong pong) = tt
 
--- What `map` answers of what is reported.
-pub mapped : (P : Answer → Happened → Type 0) (reported : Option Answer)
-    (result : Option Happened) → ((one : Answer) (other : Happened) → P one other
-    → other ≡ without_lent one)
-    → MatchOption reported (result ≡ None) (λ one. IsSomeAnd result (P one))
-    → result ≡ option_map without_lent reported
-mapped P None result says h = h
-mapped P (Some one) (Some other) says h = ap Some (says one other h)
-mapped P (Some one) None says h = absurd h
+-- So it lies there.
+pub lies_there : (cutter : CutterState) (piece : List ℕ) (complete : Complete) (count : ℕ)
+    (happened : Option Happened) → HasFrame cutter piece complete → IsOf complete happened
+    → LiesThere cutter piece (Ok (record { used = count; happened = happened }))
+lies_there cutter piece complete count None has is = tt
+lies_there cutter piece complete count (Some (happenings.Fields id end)) has is = tt
+lies_there cutter piece complete count (Some (happenings.Data id frame flow end)) has is =
+    subst (λ (f : Complete). HasFrame cutter piece f) (sym is) has
+lies_there cutter piece complete count (Some (happenings.Reset id code ours)) has is = tt
+lies_there cutter piece complete count (Some (happenings.GoAway last code)) has is = tt
+lies_there cutter piece complete count (Some (happenings.Unprocessed id)) has is = tt
+lies_there cutter piece complete count (Some happenings.Acked) has is = tt
+lies_there cutter piece complete count (Some (happenings.Pong pong)) has is = tt
+
+-- And its octets are those of the frame that was taken.
+pub same_body : (cutter : CutterState) (piece : List ℕ) (complete : Complete) (value : Frame)
+    (list : List Field) (octets : List ℕ) (count : ℕ) (happened : Option Happened)
+    → Encodes value (octets_of cutter piece complete) → IsOf complete happened
+    → IsBodyOf cutter piece octets (Ok (record { used = count; happened = happened }))
+    → option_map (happened_value list octets) happened
+    ≡ option_map (happened_value list (octets_in value)) happened
+same_body cutter piece complete value list octets count None encodes is body = refl
+same_body cutter piece complete value list octets count (Some (happenings.Fields id end)) encodes
+    is body = refl
+same_body cutter piece complete value list octets count (Some (happenings.Data id frame flow end))
+    encodes is (other, again, same) =
+    let lent : Encodes other (octets_of cutter piece complete) =
+    subst (λ (f : Complete). Encodes other (octets_of cutter piece f)) is again in
+    ap (λ (o : List ℕ). Some (DataEvent id o flow end))
+    (same ∙ ap octets_in (one_frame_lem other value (octets_of cutter piece complete) lent encodes))
+same_body cutter piece complete value list octets count (Some (happenings.Reset id code ours))
+    encodes is body = refl
+same_body cutter piece complete value list octets count (Some (happenings.GoAway last code)) encodes
+    is body = refl
+same_body cutter piece complete value list octets count (Some (happenings.Unprocessed id)) encodes
+    is body = refl
+same_body cutter piece complete value list octets count (Some happenings.Acked) encodes is body =
+    refl
+same_body cutter piece complete value list octets count (Some (happenings.Pong pong)) encodes is
+    body = refl

@@ -24,13 +24,13 @@ use Rattle.h2_log.specs.Settings.{is_server}
 use Rattle.h2_log.specs.Log.{Log, next_unprocessed}
 use Rattle.h2_log.specs.LogSteps.{limits_from, used, took_part, took_frame, took_fault, took_none}
 use Rattle.h2_log.specs.LogSteps.{took_out_of_memory}
-use Rattle.h2_log.specs.Histories.{IsLog, TakesOctets, TakesPart, TakesFrame, TakesFault}
+use Rattle.h2_log.specs.Histories.{IsLog, TakesOctets, TakesFrame}
 use Rattle.h2_log.specs.Histories.{IsDecodedFor, MayRunOutOfMemory, with_none, with_frame}
 use Rattle.h2_log.proofs.StreamLemmas.{Keeps-frame, Keeps-none}
 use Rattle.h2_machine.specs.End.{End}
 use Rattle.h2_machine.specs.Machine.{after_frame, fail, close_unprocessed, unprocessed_of_end}
 use Rattle.h2_machine.specs.Represents.{Represents, RepresentsOutput, RepresentsStreams}
-use Rattle.h2_machine_laws.specs.Machines.{Step, uses_part, ends_frame as a_frame}
+use Rattle.h2_machine_laws.specs.Machines.{uses_part}
 use Rattle.h2_machine_laws.specs.Machines.{meets_fault as a_fault, runs_out_of_memory as no_memory}
 use Rattle.h2_machine_laws.specs.Machines.{reports_unprocessed as one_unprocessed, MayStep}
 use Rattle.h2_machine_laws.specs.Machines.{log_after, machine_after}
@@ -41,7 +41,7 @@ use Rattle.h2_end_laws.specs.Takes.{has_failed, reports_unprocessed, ends_no_fra
 use Rattle.h2_end_laws.specs.Takes.{meets_fault, runs_out_of_memory}
 use Rattle.h2_end_laws.proofs.PayloadLimits.{limits_to_come}
 use Rattle.h2_core.specs.Failure.{FailsAlike}
-use Rattle.h2_core.specs.Frames.{FrameFails, FailsWithoutMemory, frame_events}
+use Rattle.h2_core.specs.Frames.{FrameFails, FailsWithoutMemory}
 use Rattle.h2_conn.specs.declared.happened.Happened.{Happened}
 use Rattle.h2_conn.specs.Events.{happened_value}
 use Rattle.h2_conn.specs.Inner.{PartsRepresent, happened_events, FrameHappens}

@@ -1,11 +1,8 @@
 -- What a log reports of a frame is what the machine that represents it does.
 use Rattle.std.proofs.Common.{◌≡◌, ℕ, List, [], ◌∷◌, ◌++◌, Option, Some, None, refl, ap, sym}
 use Rattle.std.proofs.Common.{subst, ◌∙◌}
-use Rattle.h2_frame.specs.declared.code.Code.{Code}
 use Rattle.h2_frame.specs.Frames.{Frame}
 use Rattle.h2_wire.proofs.ReadingLemmas.{none_some}
-use Rattle.hpack.specs.Blocks.{Block}
-use Rattle.hpack.specs.Lists.{NoBlock}
 use Rattle.h2_block.specs.Grouping.{Item, alone, block}
 use Rattle.h2_log.specs.Acts.{Values}
 use Rattle.h2_log.specs.Events.{Event}

@@ -1,5 +1,5 @@
 -- The values of an end are sound after each step that taking octets makes.
-use Rattle.std.proofs.Common.{◌≡◌, ◌≢◌, ℕ, ◌≤◌, List, Option, Some, None, refl, ap, sym, subst}
+use Rattle.std.proofs.Common.{◌≡◌, ◌≢◌, ℕ, ◌≤◌, List, Option, None, sym, subst}
 use Rattle.std.proofs.Common.{◌∙◌, arith, Result, Ok, Err}
 use Rattle.std.specs.Result.{OnOk, IfErr}
 use Rattle.h2_frame.specs.declared.code.Code.{Code}

@@ -1,5 +1,5 @@
 -- What a call of `take` answers, as events and answers of a log.
-use Rattle.std.specs.Prelude.{ℕ, List, Option, Some, None, Result, Ok, Err}
+use Rattle.std.specs.Prelude.{ℕ, List, Result, Ok, Err}
 use Rattle.std.specs.Option.{option_map}
 use Rattle.hpack.specs.declared.types.field.Field.{Field}
 use Rattle.h2_frame.specs.declared.code.Code.{Code}
@@ -16,17 +16,17 @@ use Rattle.h2_conn.specs.declared.happened.Progress.{Progress}
 -- an event, without where its fields and octets lie
 abbrev pub event_value : Event → log.Event
 event_value (events.Fields id list end) = log.FieldsEvent id list.now end
-event_value (events.Data id octets flow end) = log.DataEvent id octets.now flow end
+event_value (events.Data id bytes flow end) = log.DataEvent id bytes.now flow end
 event_value (events.Reset id code ours) = log.ResetEvent id code ours
 event_value (events.GoAway last code) = log.GoAwayEvent last code
 event_value (events.Unprocessed id) = log.UnprocessedEvent id
 event_value events.Acked = log.AckedEvent
 event_value (events.Pong octets) = log.PongEvent octets
 
--- the same of what has happened, with the fields and the octets that are kept
+-- the same of what has happened, with the fields that are kept and the octets of the body
 abbrev pub happened_value : List Field → List ℕ → Happened → log.Event
 happened_value list octets (happenings.Fields id end) = log.FieldsEvent id list end
-happened_value list octets (happenings.Data id flow end) = log.DataEvent id octets flow end
+happened_value list octets (happenings.Data id frame flow end) = log.DataEvent id octets flow end
 happened_value list octets (happenings.Reset id code ours) = log.ResetEvent id code ours
 happened_value list octets (happenings.GoAway last code) = log.GoAwayEvent last code
 happened_value list octets (happenings.Unprocessed id) = log.UnprocessedEvent id

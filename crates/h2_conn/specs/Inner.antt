@@ -37,7 +37,7 @@ PartsTake cutter e piece list octets result new_cutter new =
     → (after : Log) × MayTake log piece (answer_progress list octets result) after
     × PartsRepresent values new_cutter new after
 
--- what has happened, as events, with the fields and the octets that are kept
+-- what has happened, as events, with the fields that are kept and the octets of the body
 abbrev pub happened_events : List Field → List ℕ → Option Happened → List Event
 happened_events list octets None = []
 happened_events list octets (Some happened) = happened_value list octets happened ∷ []

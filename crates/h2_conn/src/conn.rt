@@ -3,12 +3,14 @@
 ghost use Rattle.std.specs.Prelude.{◌≡◌, ◌≤◌, length, IfOk, IfErr};
 ghost use Rattle.std.specs.Borrow.{sem};
 ghost use Rattle.std.specs.Io.BufRead.{Rests};
+ghost use Rattle.h2_frame.specs.Frames.{frame_of};
 ghost use Rattle.h2_config.specs.ConfigValues.{values_of};
 ghost use Rattle.h2_log.specs.declared.role.Role.TheVariants.{Client, Server};
 ghost use Rattle.h2_log.specs.LogCalls.{opened};
 ghost use Rattle.h2_core.specs.Endpoint.{end_of};
 ghost use Rattle.h2_conn.specs.Inner.{PartsRepresent};
 ghost use Rattle.h2_conn.specs.Conn.{ConnRepresents, ConnTakes};
+ghost use Rattle.h2_conn.specs.Loans.{octets_in};
 ghost use Rattle.h2_conn.specs.contracts.conn.Conn.{the_row};
 
 use crate::event::{ConnFault, Event, Taken};
@@ -16,6 +18,7 @@ use crate::happened::Happened;
 use crate::inner::Inner;
 use h2_config::Config;
 use h2_core::Endpoint;
+use h2_frame::FrameRef;
 use h2_log::{Refusal, Role};
 use h2_wire::Cutter;
 use std::alloc::Global;
@@ -93,9 +96,14 @@ impl Conn {
                 list: self.inner.end.fields(),
                 end,
             },
-            Happened::Data { id, flow, end } => Event::Data {
+            Happened::Data {
                 id,
-                octets: &self.inner.octets[..],
+                frame,
+                flow,
+                end,
+            } => Event::Data {
+                id,
+                bytes: body(self.inner.cutter.frame(piece, frame)),
                 flow,
                 end,
             },
@@ -121,6 +129,15 @@ fn new_inner(alloc: Global, role: Role, config: Config) -> Result<Inner, Refusal
     Ok(Inner {
         cutter: Cutter::new(alloc, MAX_PAYLOAD, role == Role::Server),
         end: Endpoint::new(alloc, role, config)?,
-        octets: Vec::new(alloc),
     })
+}
+
+/// The octets of a frame's body; only DATA has any.
+fn body<'a>(frame: FrameRef<'a>) -> &'a [u8]
+    ensures { result.now ≡ octets_in (frame_of frame.entry) }
+{
+    match frame {
+        FrameRef::Data { octets, .. } => octets,
+        _ => &[],
+    }
 }

@@ -4,8 +4,9 @@ use h2_frame::Code;
 use hpack::FieldList;
 use thiserror::Error;
 
-/// What an end reports. Its fields and octets are lent from the connection until the next call.
-#[derive(Clone, Copy)]
+/// What an end reports. Its fields are lent from the connection until the next call; the octets of a
+/// body are lent from the piece, or from the connection where their frame was cut in two.
+#[derive(Clone, Copy, Debug)]
 pub enum Event<'a> {
     /// A field block has come (RFC 9113, section 8.1).
     Fields {
@@ -21,7 +22,7 @@ pub enum Event<'a> {
         /// The stream.
         id: u32,
         /// The octets, without padding.
-        octets: &'a [u8],
+        bytes: &'a [u8],
         /// What they took of the windows, padding included: so much is owed on the stream.
         flow: u32,
         /// Whether nothing follows on the stream (END_STREAM).
@@ -58,7 +59,7 @@ pub enum Event<'a> {
 }
 
 /// What a call of [`Conn::take`](crate::Conn::take) made of its piece.
-#[derive(Clone, Copy)]
+#[derive(Clone, Copy, Debug)]
 pub struct Taken<'a> {
     /// How many octets of the piece were used: up to the end of one frame, or else all of them.
     pub used: usize,

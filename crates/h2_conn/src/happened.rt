@@ -1,15 +1,36 @@
 //! What a call of `take` reports, before anything is lent.
 
-/// What is reported, without the fields and the octets that are kept.
+use h2_wire::Complete;
+
+/// What is reported, without the fields, and with the frame of DATA in place of its octets.
 #[derive(Clone, Copy, Debug)]
 pub(crate) enum Happened {
-    Fields { id: u32, end: bool },
-    Data { id: u32, flow: u32, end: bool },
-    Reset { id: u32, code: u32, ours: bool },
-    GoAway { last: u32, code: u32 },
-    Unprocessed { id: u32 },
+    Fields {
+        id: u32,
+        end: bool,
+    },
+    Data {
+        id: u32,
+        frame: Complete,
+        flow: u32,
+        end: bool,
+    },
+    Reset {
+        id: u32,
+        code: u32,
+        ours: bool,
+    },
+    GoAway {
+        last: u32,
+        code: u32,
+    },
+    Unprocessed {
+        id: u32,
+    },
     Acked,
-    Pong { octets: [u8; 8] },
+    Pong {
+        octets: [u8; 8],
+    },
 }
 
 /// What one call made of its piece.

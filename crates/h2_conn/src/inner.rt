@@ -13,8 +13,6 @@ pub(crate) struct Inner {
     pub(crate) cutter: Cutter,
     /// The end.
     pub(crate) end: Endpoint,
-    /// The octets of the DATA that was reported last.
-    pub(crate) octets: Vec<u8>,
     // As long as the connection has not failed, its values are sound and the cutter has not failed.
     ghost sound: { end.failed ≡ None → IsSound (end_of end) },
     ghost cuts: { end.failed ≡ None → cutter.fault ≡ None },

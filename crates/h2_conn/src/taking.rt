@@ -1,25 +1,27 @@
 //! Taking octets, before anything is lent.
 
-ghost use Rattle.std.specs.Prelude.{◌≡◌, ◌≤◌, None, IfOk, length};
+ghost use Rattle.std.specs.Prelude.{◌≡◌, ℕ, ◌≤◌, List, None, IfOk, length};
 ghost use Rattle.h2_frame.specs.Frames.{frame_of};
 ghost use Rattle.h2_frame.specs.Encoding.{refusal};
 ghost use Rattle.h2_machine.specs.Machine.{unprocessed_of_end};
 ghost use Rattle.h2_core.specs.Endpoint.{end_of, IsSound};
 ghost use Rattle.h2_conn.specs.Inner.{PartsTake, HappensByFrame};
-ghost use Rattle.h2_conn.specs.Loans.{without_lent};
+ghost use Rattle.h2_conn.specs.Loans.{without_lent, octets_in, IsOf, LiesThere, IsBodyOf};
 
 use crate::happened::{Happened, Progress};
 use crate::inner::Inner;
 use h2_core::{Endpoint, Reported};
 use h2_frame::{Code, FrameRef};
-use h2_wire::{Cutter, WireFault};
+use h2_wire::{Complete, Cutter, WireFault};
 
 impl Inner {
     /// Takes octets of the piece, up to the end of one frame or else all of them.
     pub(crate) fn take(&mut self, piece: &[u8]) -> Result<Progress, Code>
         ensures used { IfOk result (λ progress. progress.used ≤ length piece.now) }
-        ensures takes { PartsTake self.old.cutter (end_of self.old.end) piece.now self.new.end.list
-            self.new.octets.items result self.new.cutter (end_of self.new.end) }
+        ensures lies { LiesThere self.new.cutter piece.now result }
+        ensures takes { (octets : List ℕ) → IsBodyOf self.new.cutter piece.now octets result
+            → PartsTake self.old.cutter (end_of self.old.end) piece.now self.new.end.list octets
+            result self.new.cutter (end_of self.new.end) }
     {
         if let Some(code) = self.end.failed() {
             return Err(code);
@@ -31,17 +33,12 @@ impl Inner {
                 happened: Some(Happened::Unprocessed { id }),
             });
         }
-        take_piece(&mut self.cutter, &mut self.end, &mut self.octets, piece)
+        take_piece(&mut self.cutter, &mut self.end, piece)
     }
 }
 
 /// Cuts the piece, and takes the frame that it completes.
-fn take_piece(
-    cutter: &mut Cutter,
-    end: &mut Endpoint,
-    octets: &mut Vec<u8>,
-    piece: &[u8],
-) -> Result<Progress, Code>
+fn take_piece(cutter: &mut Cutter, end: &mut Endpoint, piece: &[u8]) -> Result<Progress, Code>
     requires up { end.old.failed ≡ None }
     requires sound { IsSound (end_of end.old) }
     requires cuts { cutter.old.fault ≡ None }
@@ -50,11 +47,13 @@ fn take_piece(
     ensures used { IfOk result (λ progress. progress.used ≤ length piece.now) }
     ensures sound { end.new.failed ≡ None → IsSound (end_of end.new) }
     ensures cuts { end.new.failed ≡ None → cutter.new.fault ≡ None }
-    ensures takes { PartsTake cutter.old (end_of end.old) piece.now end.new.list octets.new.items
-        result cutter.new (end_of end.new) }
+    ensures lies { LiesThere cutter.new piece.now result }
+    ensures takes { (octets : List ℕ) → IsBodyOf cutter.new piece.now octets result
+        → PartsTake cutter.old (end_of end.old) piece.now end.new.list octets result cutter.new
+        (end_of end.new) }
 {
-    let cut = match cutter.cut(piece) {
-        Ok(cut) => cut,
+    let advance = match cutter.advance(piece) {
+        Ok(advance) => advance,
         Err(fault) => {
             let code = match fault {
                 WireFault::BadPreface => Code::ProtocolError,
@@ -65,49 +64,50 @@ fn take_piece(
             return Err(code);
         }
     };
-    let used = cut.used;
-    let Some(frame) = cut.frame else {
+    let used = advance.used;
+    let Some(complete) = advance.frame else {
         return Ok(Progress {
             used,
             happened: None,
         });
     };
-    match take_frame(end, octets, frame) {
+    match take_frame(end, cutter.frame(piece, complete), complete) {
         Ok(happened) => Ok(Progress { used, happened }),
         Err(code) => Err(code),
     }
 }
 
-/// Takes a frame; octets of DATA are kept.
+/// Takes a frame, which lies there.
 fn take_frame(
     end: &mut Endpoint,
-    octets: &mut Vec<u8>,
     frame: FrameRef<'_>,
+    complete: Complete,
 ) -> Result<Option<Happened>, Code>
     requires up { end.old.failed ≡ None }
     requires sound { IsSound (end_of end.old) }
     requires good { refusal (frame_of frame) ≡ None }
-    ensures { HappensByFrame (end_of end.old) (frame_of frame.entry) end.new.list octets.new.items
-        result (end_of end.new) }
+    ensures lies { IfOk result (λ happened. IsOf complete happened) }
+    ensures happens { HappensByFrame (end_of end.old) (frame_of frame.entry) end.new.list
+        (octets_in (frame_of frame.entry)) result (end_of end.new) }
 {
-    octets.clear();
-    if let FrameRef::Data { octets: lent, .. } = frame {
-        if octets.extend_from_slice(lent).is_err() {
-            end.fail_with(Code::InternalError);
-            return Err(Code::InternalError);
-        }
+    match end.take_frame(frame)? {
+        Some(reported) => Ok(Some(without_loan(reported, complete))),
+        None => Ok(None),
     }
-    let reported = end.take_frame(frame)?;
-    Ok(reported.map(without_loan))
 }
 
-/// What is reported, without what is lent.
-fn without_loan(reported: Reported<'_>) -> Happened
-    ensures { result ≡ without_lent reported.entry }
+/// What is reported of a frame, without what is lent.
+fn without_loan(reported: Reported<'_>, frame: Complete) -> Happened
+    ensures { result ≡ without_lent frame reported.entry }
 {
     match reported {
         Reported::Fields { id, end } => Happened::Fields { id, end },
-        Reported::Data { id, flow, end, .. } => Happened::Data { id, flow, end },
+        Reported::Data { id, flow, end, .. } => Happened::Data {
+            id,
+            frame,
+            flow,
+            end,
+        },
         Reported::Reset { id, code, ours } => Happened::Reset { id, code, ours },
         Reported::GoAway { last, code } => Happened::GoAway { last, code },
         Reported::Acked => Happened::Acked,

@@ -1,7 +1,8 @@
 -- What the steps of a call make of a buffer's state.
-use Rattle.std.proofs.Common.{◌≡◌, ℕ, ◌+◌, ◌-◌, ◌<◌, ◌≤◌, Bool, false, true, List, [], ◌++◌, length}
+use Rattle.std.proofs.Common.{◌≡◌, ℕ, ◌+◌, ◌-◌, ◌<◌, ◌≤◌, Bool, false, List, ◌++◌, length}
 use Rattle.std.proofs.Common.{take, drop}
-use Rattle.std.proofs.Common.{Option, None, Some, MatchOption, refl, arith, length-append}
+use Rattle.std.proofs.Common.{Option, None, Some, MatchOption, Result, Ok, Err, refl, arith}
+use Rattle.std.proofs.Common.{length-append}
 use Rattle.std.proofs.Common.{length-take, length-drop}
 use Rattle.std.proofs.Common.{append_assoc, subst, ap, sym, ◌∙◌}
 use Rattle.std.proofs.lemmas.List.{take_rest, take-append-drop}
@@ -12,16 +13,20 @@ use Rattle.h2_wire.specs.declared.buffer.Buffer.{Buffer}
 use Rattle.h2_wire.specs.declared.buffer.Phase.{Phase}
 use Rattle.h2_wire.specs.declared.buffer.Phase.TheVariants as phases
 use Rattle.h2_frame.specs.declared.heads.Head.{Head}
-use Rattle.h2_frame.specs.Heads.{head_of, head_fault, form_fault}
-use Rattle.h2_frame.specs.Frames.{Frame, Carries, payload_fault}
-use Rattle.h2_frame.proofs.HeadLemmas.{head_of-append}
+use Rattle.h2_frame.specs.Heads.{head_of, head_fault}
+use Rattle.h2_frame.specs.Frames.{Frame, Encodes, payload_fault}
+use Rattle.h2_frame.proofs.HeadLemmas.{head_of-append, form_fault-head_fault}
 use Rattle.h2_wire.specs.Streams.{preface, BeginsWithPreface, Limits, IsAfterPreface, IsPartial}
 use Rattle.h2_wire.specs.Cutter.{CutterState, saturated, CutterRepresents, CutterFaults}
-use Rattle.h2_wire.specs.Cutter.{CutterFails}
+use Rattle.h2_wire.specs.Cutter.{CutterFails, CutterPasses, CutterCompletes, octets_of}
+use Rattle.h2_wire.specs.declared.cut.Complete.{Complete}
+use Rattle.h2_wire.specs.declared.cut.Advance.{Advance}
 use Rattle.h2_wire.specs.Buffer.{state_of, unparsed_of, fault_of, is_in_preface, BufferInvariant}
 use Rattle.h2_wire.specs.Buffer.{IsPartialPayload}
-use Rattle.h2_wire.specs.Step.{BufferContinues, BufferCompletes, StartsFrame, StartsPayload}
+use Rattle.h2_wire.specs.Step.{StartsFrame, StartsPayload, EndsFrame, BufferTakes}
+use Rattle.h2_wire.proofs.CallLemmas.{fails_at}
 use Rattle.h2_wire.proofs.StepLemmas.{continues_partial, completes_frame, head_of-take, opens_past}
+use Rattle.h2_wire.proofs.StepLemmas.{wrong_payload}
 
 -- where there is no fault yet, what is said of a first one
 pub if_first : (fault : Option WireFault) (First : Type 0) (Known : WireFault → Type 0)
@@ -61,7 +66,7 @@ pub keeps_piece : (old appended new : Buffer) (piece : List ℕ) (start : ℕ) (
     → CutterRepresents (state_of old) expects limits stream so_far
     → (past : IsAfterPreface expects limits (stream ++ take start piece) so_far old.octets.items)
     × IsPartial (limits (length past.part + 9)) (old.octets.items ++ drop start piece))
-    → BufferContinues (state_of old) piece (length piece) new
+    → CutterPasses (state_of old) piece (length piece) (state_of new)
 keeps_piece old appended new piece start phase same changed items sound after kept opens =
     rw changed (record {
       all = refl;
@@ -111,43 +116,46 @@ length-complete partial more missing_octets head counted enough =
     length-append partial (take missing_octets more)
     ∙ ap (λ (n : ℕ). length partial + n) (length-take missing_octets more) ∙ omega arith
 
--- The frame is complete with the octets that are kept now, and without fault.
-pub completes : (old appended new : Buffer) (piece : List ℕ) (start missing_octets : ℕ)
-    (head : Head)
-    → appended ≡ record old { octets = appended.octets }
-    → new ≡ record appended {
+-- The frame is complete, where it lies, and without fault.
+completes : (old kept new : Buffer) (piece : List ℕ) (start missing_octets : ℕ) (frame : Complete)
+    → kept ≡ record old { octets = kept.octets }
+    → new ≡ record kept {
       phase = phases.Lent;
-      place = saturated (appended.place + (start + missing_octets));
+      place = saturated (kept.place + (start + missing_octets));
     }
-    → appended.octets.items ≡ old.octets.items ++ take missing_octets (drop start piece)
-    → StartsPayload old piece start head
-    → length old.octets.items + missing_octets ≡ 9 + head.length
-    → missing_octets ≤ length (drop start piece) → form_fault head ≡ None
-    → payload_fault head (drop 9 appended.octets.items) ≡ None
-    → BufferCompletes (state_of old) piece (start + missing_octets) head new
-completes old appended new piece start missing_octets head same changed items starts counted enough
-    form sound_payload =
+    → octets_of (state_of kept) piece frame
+    ≡ old.octets.items ++ take missing_octets (drop start piece)
+    → StartsPayload old piece start frame.head
+    → length old.octets.items + missing_octets ≡ 9 + frame.head.length
+    → missing_octets ≤ length (drop start piece)
+    → payload_fault frame.head (drop 9 (octets_of (state_of kept) piece frame)) ≡ None
+    → CutterCompletes (state_of old) piece (start + missing_octets) frame (state_of new)
+completes old kept new piece start missing_octets frame same changed items starts counted enough
+    sound_payload =
     let following : List ℕ = drop start piece in
-    let complete : length (old.octets.items ++ take missing_octets following) ≡ 9 + head.length =
-    length-complete old.octets.items following missing_octets head counted enough in
-    let prefix : head ≡ head_of (old.octets.items ++ take missing_octets following) =
+    let complete : length (old.octets.items ++ take missing_octets following)
+    ≡ 9 + frame.head.length =
+    length-complete old.octets.items following missing_octets frame.head counted enough in
+    let prefix : frame.head ≡ head_of (old.octets.items ++ take missing_octets following) =
     starts.is_head
     ∙ complete_head old.octets.items following missing_octets (omega (arith, complete)) in
     let within : start ≤ length piece = starts.within in
-    let short : length old.octets.items < 9 + head.length = starts.short in
+    let short : length old.octets.items < 9 + frame.head.length = starts.short in
     let all_within : start + missing_octets ≤ length piece =
     omega (arith, enough, length-drop start piece) in
     rw changed (record {
       within = all_within;
       some = omega (arith, counted, short);
-      complete = ap length items ∙ complete;
-      is_head = prefix ∙ ap head_of (sym items);
-      bounded = starts.bounded;
-      form = form;
-      sound = sound_payload;
+      lies = record {
+        complete = ap length items ∙ complete;
+        is_head = prefix ∙ ap head_of (sym items);
+        bounded = starts.bounded;
+        form = form_fault-head_fault frame.head old.limit starts.sound_head;
+        sound = sound_payload;
+      };
       none_unparsed = refl;
-      continues = λ frame carried.
-          completes_frame (state_of old) _ piece old.octets.items start missing_octets frame refl
+      continues = λ value encodes.
+          completes_frame (state_of old) _ piece old.octets.items start missing_octets value refl
           refl
           (ap (λ (b : Buffer). b.limit) same)
           (ap (λ (b : Buffer). saturated (b.place + (start + missing_octets))) same) all_within refl
@@ -155,18 +163,54 @@ completes old appended new piece start missing_octets head same changed items st
           let (past, sound_head) = starts.opens expects limits stream so_far represented in (
             past,
             record {
-              encodes = record {
-                complete = rw (← prefix) complete;
-                carried =
-                    subst (λ (h : Head).
-                    Carries h (drop 9 (old.octets.items ++ take missing_octets following))
-                    frame) prefix (rw items at carried);
-              };
+              encodes =
+                  subst (λ (octets : List ℕ). Encodes value octets) items encodes;
               sound_head = rw (← prefix) sound_head;
               sound_payload = rw (← prefix) (rw items at sound_payload);
             },
           ));
     })
+
+-- So what `end_frame` answers is what the call makes of the buffer.
+pub ends_frame : (old kept new : Buffer) (piece : List ℕ) (start missing_octets : ℕ)
+    (frame : Complete) (result : Result Advance WireFault)
+    → kept ≡ record old { octets = kept.octets }
+    → octets_of (state_of kept) piece frame
+    ≡ old.octets.items ++ take missing_octets (drop start piece)
+    → StartsPayload old piece start frame.head
+    → length old.octets.items + missing_octets ≡ 9 + frame.head.length
+    → missing_octets ≤ length (drop start piece)
+    → EndsFrame kept piece (start + missing_octets) frame result new
+    → BufferTakes (state_of old) piece result new
+ends_frame old kept new piece start missing_octets frame (Ok advance) same items starts counted
+    enough (sound, answer, changed) =
+    rw answer (record {
+      invariant = rw changed tt;
+      makes =
+          completes old kept new piece start missing_octets frame same changed items starts counted
+          enough sound;
+    })
+ends_frame old kept new piece start missing_octets frame (Err fault) same items starts counted
+    enough (code, faulty, is, changed) =
+    let following : List ℕ = drop start piece in
+    let complete : length (old.octets.items ++ take missing_octets following)
+    ≡ 9 + frame.head.length =
+    length-complete old.octets.items following missing_octets frame.head counted enough in
+    let prefix : frame.head ≡ head_of (old.octets.items ++ take missing_octets following) =
+    starts.is_head
+    ∙ complete_head old.octets.items following missing_octets (omega (arith, complete)) in
+    let within : start ≤ length piece = starts.within in
+    record {
+      invariant = rw changed tt;
+      makes = rw (is, changed, is)
+          (fails_payload (state_of old) piece code _ starts.sound
+          (fails_at (state_of old) _ piece (faults.PayloadFault code) (start + missing_octets)
+          refl refl refl (ap (λ (b : Buffer). b.limit) same)
+          (omega (arith, enough, within, length-drop start piece))
+          (ap (λ (b : Buffer). saturated (b.place + (start + missing_octets))) same)
+          (wrong_payload (state_of old) piece old.octets.items start missing_octets frame.head code
+          starts.opens prefix complete (rw items at faulty))));
+    }
 
 -- A head begins or continues.
 pub starts_head : (buffer : Buffer) (piece : List ℕ) → buffer.phase ≡ phases.Head

@@ -1,37 +1,47 @@
 -- What a call answers, from what it made of its buffer.
-use Rattle.std.proofs.Common.{◌≡◌, ℕ, Bool, true, false, List, [], drop, Option, None, Some, IfSome}
+use Rattle.std.proofs.Common.{◌≡◌, ℕ, ◌+◌, ◌^◌, ◌<◌, length, length-drop, Bool, true, false, List, [], drop, Option, None, Some, IfSome}
 use Rattle.std.proofs.Common.{Result, Ok, Err, refl, ap, arith, inl, inr, lit<}
 use Rattle.std.proofs.lemmas.List.{take_all}
 use Rattle.h2_frame.specs.declared.heads.Head.{Head}
 use Rattle.h2_frame.specs.declared.frame.FrameRef.{FrameRef}
-use Rattle.h2_frame.specs.Frames.{frame_of, Carries}
-use Rattle.h2_wire.specs.declared.buffer.Buffer.{Buffer}
+use Rattle.h2_frame.specs.Heads.{head_of}
+use Rattle.h2_frame.specs.Frames.{Frame, frame_of, Carries, Encodes}
+use Rattle.h2_frame.specs.Encoding.{refusal}
+use Rattle.h2_frame.proofs.RefusalLemmas.{refusal-carried}
+use Rattle.h2_wire.specs.declared.cut.Complete.{Complete}
 use Rattle.h2_frame.specs.declared.code.Code.{Code}
 use Rattle.h2_wire.specs.declared.fault.WireFault.{WireFault}
 use Rattle.h2_wire.specs.declared.fault.WireFault.TheVariants as faults
 use Rattle.h2_wire.specs.Streams.{preface, expected_preface}
-use Rattle.h2_wire.specs.Cutter.{CutterState, CutterRepresents, CutterAdvances}
+use Rattle.h2_wire.specs.Cutter.{CutterState, CutterRepresents, CutterAdvances, CutterPasses}
+use Rattle.h2_wire.specs.Cutter.{CutterCompletes, octets_of}
 use Rattle.h2_wire.proofs.StreamLemmas.{IsPartial-empty}
-use Rattle.h2_wire.specs.Buffer.{state_of}
-use Rattle.h2_wire.specs.Step.{BufferContinues, BufferCompletes}
+
+-- A complete frame is one that can be written.
+pub good_frame : (octets : List ℕ) (head : Head) (value : Frame) → head ≡ head_of octets
+    → head.length < 2 ^ 24 → length octets ≡ 9 + head.length → Carries head (drop 9 octets) value
+    → refusal value ≡ None
+good_frame octets head value is bounded complete carried =
+    refusal-carried octets (drop 9 octets) value (rw is at bounded)
+    (rw (← is) (omega (arith, complete, length-drop 9 octets))) (rw is at carried)
 
 -- all of the piece was used
-pub advances_none : (old : CutterState) (piece : List ℕ) (used : ℕ) (new : Buffer)
-    → BufferContinues old piece used new
-    → CutterAdvances old piece (record { used = used; frame = None }) (state_of new)
+pub advances_none : (old : CutterState) (piece : List ℕ) (used : ℕ) (new : CutterState)
+    → CutterPasses old piece used new
+    → CutterAdvances old piece (record { used = used; frame = None }) new
 advances_none old piece used new more = record {
   continues = rw (take_all used piece (omega (arith, more.all))) more.continues;
   none_unparsed_after_a_frame = λ some. (cc);
 }
 
 -- a frame is lent
-pub advances_some : (old : CutterState) (piece : List ℕ) (used : ℕ) (head : Head) (frame : FrameRef)
-    (new : Buffer) → BufferCompletes old piece used head new
-    → Carries head (drop 9 new.octets.items) (frame_of frame)
-    → CutterAdvances old piece (record { used = used; frame = Some frame }) (state_of new)
-advances_some old piece used head frame new complete carried = record {
-  continues = complete.continues (frame_of frame) carried;
-  none_unparsed_after_a_frame = λ some. complete.none_unparsed;
+pub advances_some : (old : CutterState) (piece : List ℕ) (used : ℕ) (complete : Complete)
+    (frame : FrameRef) (new : CutterState) → CutterCompletes old piece used complete new
+    → Encodes (frame_of frame) (octets_of new piece complete)
+    → CutterAdvances old piece (record { used = used; frame = Some frame }) new
+advances_some old piece used complete frame new ends encodes = record {
+  continues = ends.continues (frame_of frame) encodes;
+  none_unparsed_after_a_frame = λ some. ends.none_unparsed;
 }
 
 -- Where a call answered otherwise than by a fault there was none before.
@@ -79,6 +89,7 @@ pub represents_empty : (expects : Bool) (limit : ℕ)
       limit = limit;
       in_preface = expects;
       unparsed = [];
+      kept = [];
       place = 0;
       fault = None;
     }) expects (λ _. limit) [] []

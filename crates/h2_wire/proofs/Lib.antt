@@ -5,3 +5,4 @@ pub mod ReadingLemmas
 pub mod CutLemmas
 pub mod FaultLemmas
 pub mod StepLemmas
+pub mod KeptLemmas

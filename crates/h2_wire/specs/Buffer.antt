@@ -42,6 +42,7 @@ state_of buffer =
       limit = buffer.limit;
       in_preface = is_in_preface buffer.phase;
       unparsed = unparsed_of buffer.phase buffer.octets.items;
+      kept = buffer.octets.items;
       place = buffer.place;
       fault = fault_of buffer.phase;
     }

@@ -1,13 +1,17 @@
 -- What a cutter is between calls, and what each call makes of it, whatever the stream has been so
 -- far.
-use Rattle.std.specs.Prelude.{◌≡◌, ℕ, ◌-◌, ◌^◌, ◌<◌, min, nat_lt, ◌&&◌, Bool, List, [], ◌∷◌, ◌++◌}
-use Rattle.std.specs.Prelude.{length, take, Option, None, Some, MatchOption, IsSome, Result, Ok}
-use Rattle.std.specs.Prelude.{Err, false, ◌≤◌}
+use Rattle.std.specs.Prelude.{◌≡◌, ℕ, ◌+◌, ◌-◌, ◌^◌, ◌<◌, min, nat_lt, ◌&&◌, Bool, List, [], ◌∷◌}
+use Rattle.std.specs.Prelude.{◌++◌, length, take, drop, Option, None, Some, MatchOption, IsSome}
+use Rattle.std.specs.Prelude.{Result, Ok, Err, false, ◌≤◌}
 use Rattle.h2_frame.specs.declared.code.Code.{Code}
-use Rattle.h2_frame.specs.Heads.{head_of, head_fault}
-use Rattle.h2_frame.specs.Frames.{Frame, frame_of}
+use Rattle.h2_frame.specs.Heads.{head_of, form_fault, head_fault}
+use Rattle.h2_frame.specs.Frames.{Frame, Encodes, frame_of, payload_fault}
 use Rattle.h2_wire.specs.declared.fault.WireFault.{WireFault}
 use Rattle.h2_wire.specs.declared.fault.WireFault.TheVariants as faults
+use Rattle.h2_wire.specs.declared.cut.Source.{Source}
+use Rattle.h2_wire.specs.declared.cut.Source.TheVariants as sources
+use Rattle.h2_wire.specs.declared.cut.Complete.{Complete}
+use Rattle.h2_wire.specs.declared.cut.Advance.{Advance}
 use Rattle.h2_wire.specs.declared.cut.Cut.{Cut}
 use Rattle.h2_frame.specs.declared.frame.FrameRef.{FrameRef}
 use Rattle.h2_wire.specs.Faults.{is_bad_preface}
@@ -21,6 +25,9 @@ pub record CutterState : Type 0 where
   pub in_preface : Bool
   -- what was used and isn't part of a frame that was answered
   pub unparsed : List ℕ
+  -- the octets that it keeps: of a frame that isn't complete, or of the one that was answered last,
+  -- if that one was cut in two
+  pub kept : List ℕ
   -- the place of the last octet that was used, or of the fault
   pub place : ℕ
   -- the fault that ended the stream
@@ -77,15 +84,41 @@ pub record FaultsAtHead (old : CutterState) (piece : List ℕ) (code : Code) : T
   pub begun : length old.unparsed < 9
   pub head : IsFaultyHead (old.unparsed ++ piece) old.limit code
 
+-- After the preface, with no fault so far and nothing unparsed, the piece begins with a frame: a head
+-- and as many octets as it asks for.
+pub record BeginsWithFrame (old : CutterState) (piece : List ℕ) : Type 0 where
+  pub sound : old.fault ≡ None
+  pub after_preface : old.in_preface ≡ false
+  pub none_unparsed : old.unparsed ≡ []
+  pub nine : 9 ≤ length piece
+  pub whole : 9 + (head_of piece).length ≤ length piece
+
+-- the octets of a complete frame, where they lie
+abbrev pub octets_at : List ℕ → List ℕ → ℕ → Source → List ℕ
+octets_at kept piece count (sources.Piece start) = take count (drop start piece)
+octets_at kept piece count sources.Kept = kept
+
+abbrev pub octets_of : CutterState → List ℕ → Complete → List ℕ
+octets_of cutter piece frame =
+    octets_at cutter.kept piece (9 + frame.head.length) frame.source
+
+-- The complete frame lies in the piece, or in the cutter, with its head and without fault.
+pub record HasFrame (cutter : CutterState) (piece : List ℕ) (frame : Complete) : Type 0 where
+  pub complete : length (octets_of cutter piece frame) ≡ 9 + frame.head.length
+  pub is_head : frame.head ≡ head_of (octets_of cutter piece frame)
+  pub bounded : frame.head.length < 2 ^ 24
+  pub form : form_fault frame.head ≡ None
+  pub sound : payload_fault frame.head (drop 9 (octets_of cutter piece frame)) ≡ None
+
 -- the frames that a call answered: one or none
 abbrev pub cut_frames : Option FrameRef → List Frame
 cut_frames None = []
 cut_frames (Some frame) = frame_of frame ∷ []
 
--- What a call that fails leaves. Lack of memory changes nothing, and after a fault the cutter stays
--- as it is.
+-- What a call that fails leaves. Lack of memory changes nothing, but the frame that was answered last
+-- need not be kept. After a fault the cutter stays as it is.
 abbrev pub CutterFails : CutterState → List ℕ → WireFault → CutterState → Type 0
-CutterFails old piece faults.Memory new = new ≡ old
+CutterFails old piece faults.Memory new = new ≡ record old { kept = new.kept }
 CutterFails old piece faults.BadPreface new =
     MatchOption old.fault (CutterFaults old piece faults.BadPreface new) (λ known. new ≡ old)
 CutterFails old piece (faults.HeadFault code) new =
@@ -104,3 +137,26 @@ pub record CutterAdvances (old : CutterState) (piece : List ℕ) (cut : Cut)
 abbrev pub Cuts : CutterState → List ℕ → Result Cut WireFault → CutterState → Type 0
 Cuts old piece (Ok cut) new = CutterAdvances old piece cut new
 Cuts old piece (Err fault) new = CutterFails old piece fault new
+
+-- A call that used all of the piece, in which no frame is complete.
+pub record CutterPasses (old : CutterState) (piece : List ℕ) (used : ℕ) (new : CutterState) : Type 0
+  where
+    pub all : used ≡ length piece
+    pub continues : CutterContinues old piece [] new
+
+-- A call that used the piece up to the end of this frame, which isn't lent yet.
+pub record CutterCompletes (old : CutterState) (piece : List ℕ) (used : ℕ) (frame : Complete)
+    (new : CutterState) : Type 0 where
+  pub within : used ≤ length piece
+  pub some : 0 < used
+  pub lies : HasFrame new piece frame
+  pub none_unparsed : new.unparsed ≡ []
+  pub continues : (value : Frame) → Encodes value (octets_of new piece frame)
+      → CutterContinues old (take used piece) (value ∷ []) new
+
+-- what a call that lends nothing makes of the cutter
+abbrev pub Advances : CutterState → List ℕ → Result Advance WireFault → CutterState → Type 0
+Advances old piece (Ok advance) new =
+    MatchOption advance.frame (CutterPasses old piece advance.used new)
+    (λ frame. CutterCompletes old piece advance.used frame new)
+Advances old piece (Err fault) new = CutterFails old piece fault new

@@ -1,14 +1,18 @@
 -- What the steps of one call make of a buffer, for every stream that it represented.
-use Rattle.std.specs.Prelude.{◌≡◌, ℕ, ◌+◌, ◌^◌, ◌<◌, ◌≤◌, Bool, List, [], ◌∷◌, ◌++◌, length, take}
-use Rattle.std.specs.Prelude.{drop, None, MatchOption, Result, Ok, Err}
+use Rattle.std.specs.Prelude.{◌≡◌, ℕ, ◌+◌, ◌^◌, ◌<◌, ◌≤◌, Bool, List, ◌++◌, length, take, drop}
+use Rattle.std.specs.Prelude.{None, Some, Result, Ok, Err}
+use Rattle.h2_frame.specs.declared.code.Code.{Code}
 use Rattle.h2_frame.specs.declared.heads.Head.{Head}
-use Rattle.h2_frame.specs.Heads.{head_of, form_fault, head_fault}
-use Rattle.h2_frame.specs.Frames.{Frame, Carries, payload_fault}
+use Rattle.h2_frame.specs.Heads.{head_of, head_fault}
+use Rattle.h2_frame.specs.Frames.{Frame, payload_fault}
 use Rattle.h2_wire.specs.declared.fault.WireFault.{WireFault}
+use Rattle.h2_wire.specs.declared.fault.WireFault.TheVariants as faults
 use Rattle.h2_wire.specs.declared.buffer.Buffer.{Buffer}
-use Rattle.h2_wire.specs.declared.buffer.Step.{Step}
+use Rattle.h2_wire.specs.declared.buffer.Phase.TheVariants as phases
+use Rattle.h2_wire.specs.declared.cut.Complete.{Complete}
+use Rattle.h2_wire.specs.declared.cut.Advance.{Advance}
 use Rattle.h2_wire.specs.Streams.{Limits, IsAfterPreface}
-use Rattle.h2_wire.specs.Cutter.{CutterState, CutterRepresents, CutterContinues, CutterFails}
+use Rattle.h2_wire.specs.Cutter.{CutterState, saturated, CutterRepresents, octets_of, Advances}
 use Rattle.h2_wire.specs.Buffer.{state_of, BufferInvariant}
 
 -- Whatever the stream was: with these octets appended, exactly the partial frame follows its
@@ -48,36 +52,20 @@ pub record StartsPayload (old : Buffer) (piece : List ℕ) (start : ℕ) (head :
   pub sound_head : head_fault head old.limit ≡ None
   pub opens : OpensSoundly (state_of old) (take start piece) old.octets.items head
 
--- The piece was used, and no frame is complete.
-pub record BufferContinues (old : CutterState) (piece : List ℕ) (used : ℕ) (new : Buffer)
-    : Type 0 where
-  pub all : used ≡ length piece
-  pub continues : CutterContinues old piece [] (state_of new)
-
--- The octets that are kept are a frame with this head, without fault, and the piece was used up to
--- its end.
-pub record BufferCompletes (old : CutterState) (piece : List ℕ) (used : ℕ) (head : Head)
-    (new : Buffer) : Type 0 where
-  pub within : used ≤ length piece
-  pub some : 0 < used
-  pub complete : length new.octets.items ≡ 9 + head.length
-  pub is_head : head ≡ head_of new.octets.items
-  pub bounded : head.length < 2 ^ 24
-  pub form : form_fault head ≡ None
-  pub sound : payload_fault head (drop 9 new.octets.items) ≡ None
-  pub none_unparsed : (state_of new).unparsed ≡ []
-  pub continues : (frame : Frame) → Carries head (drop 9 new.octets.items) frame
-      → CutterContinues old (take used piece) (frame ∷ []) (state_of new)
-
--- what a call made of the stream; the frame isn't lent yet
-abbrev pub StepMakes : CutterState → List ℕ → Result Step WireFault → Buffer → Type 0
-StepMakes old piece (Ok step) new =
-    MatchOption step.head (BufferContinues old piece step.used new)
-    (λ head. BufferCompletes old piece step.used head new)
-StepMakes old piece (Err fault) new = CutterFails old piece fault (state_of new)
+-- The frame is complete with so many octets of the piece, or its payload is at fault.
+abbrev pub EndsFrame : Buffer → List ℕ → ℕ → Complete → Result Advance WireFault → Buffer → Type 0
+EndsFrame old piece used frame (Ok advance) new =
+    (payload_fault frame.head (drop 9 (octets_of (state_of old) piece frame)) ≡ None)
+    × (advance ≡ record { used = used; frame = Some frame })
+    × (new ≡ record old { phase = phases.Lent; place = saturated (old.place + used) })
+EndsFrame old piece used frame (Err fault) new =
+    (code : Code)
+    × (payload_fault frame.head (drop 9 (octets_of (state_of old) piece frame)) ≡ Some code)
+    × (fault ≡ faults.PayloadFault code)
+    × (new ≡ record old { phase = phases.Failed fault; place = saturated (old.place + used) })
 
 -- what a call made of the buffer
-pub record BufferTakes (old : CutterState) (piece : List ℕ) (result : Result Step WireFault)
+pub record BufferTakes (old : CutterState) (piece : List ℕ) (result : Result Advance WireFault)
     (new : Buffer) : Type 0 where
   pub invariant : BufferInvariant new
-  pub makes : StepMakes old piece result new
+  pub makes : Advances old piece result (state_of new)

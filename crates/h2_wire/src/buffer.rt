@@ -1,15 +1,18 @@
 //! What a cutter keeps between calls.
 
-ghost use Rattle.std.specs.Prelude.{◌≡◌, ◌+◌, ◌<◌, ◌≤◌, ◌++◌, [], length, take, drop, vec_len};
+ghost use Rattle.std.specs.Prelude.{◌≡◌, ◌≢◌, ◌+◌, ◌<◌, ◌≤◌, ◌++◌, [], length, take, drop, vec_len};
 ghost use Rattle.std.specs.Prelude.{IfSome};
 ghost use Rattle.std.specs.Prelude.{IfNone, IfErr, OnOk, None, Some, not, true, false};
 ghost use Rattle.h2_frame.specs.declared.code.Code.{Code as AnyCode};
-ghost use Rattle.h2_wire.specs.Cutter.{saturated, IsFaultyHead, FaultsAtHead};
+ghost use Rattle.h2_frame.specs.Heads.{head_of, form_fault};
+ghost use Rattle.h2_wire.specs.Cutter.{saturated, IsFaultyHead, FaultsAtHead, BeginsWithFrame};
+ghost use Rattle.h2_wire.specs.Cutter.{octets_of};
 ghost use Rattle.h2_wire.specs.Buffer.{state_of, fault_of, is_in_preface, unparsed_of};
 ghost use Rattle.h2_wire.specs.Buffer.{BufferInvariant};
-ghost use Rattle.h2_wire.specs.Step.{BufferTakes, StartsFrame, StartsPayload};
+ghost use Rattle.h2_wire.specs.Step.{BufferTakes, StartsFrame, StartsPayload, EndsFrame};
 ghost use Rattle.h2_wire.specs.Streams.{BeginsWithPreface};
 
+use crate::cut::{Advance, Complete, Source};
 use crate::fault::WireFault;
 use crate::preface::{self, PREFACE};
 use h2_frame::{Head, head, head_fault, payload_fault};
@@ -27,7 +30,7 @@ pub(crate) enum Phase {
     Head,
     /// What is missing of a payload after this head, which has no fault.
     Payload(Head),
-    /// A head; the octets that are kept are those of the frame that was lent last.
+    /// A head; octets that are kept are those of the frame that was answered last.
     Lent,
     /// Nothing, since the stream is at fault.
     Failed(WireFault),
@@ -40,19 +43,11 @@ pub(crate) struct Buffer {
     pub(crate) limit: u32,
     /// What is expected next.
     pub(crate) phase: Phase,
-    /// The octets of the frame that has begun, or of the one that was lent last.
+    /// The octets of the frame that has begun, or of the one that was answered last if it was cut
+    /// in two.
     pub(crate) octets: Vec<u8>,
     /// How many octets were used, up to the greatest number, or the place of the fault.
     pub(crate) place: u64,
-}
-
-/// What one call made of a piece; the frame isn't lent yet.
-#[derive(Clone, Copy)]
-pub(crate) struct Step {
-    /// How many octets of the piece were used.
-    pub(crate) used: usize,
-    /// The head of the frame that is complete now; its octets are kept.
-    pub(crate) head: Option<Head>,
 }
 
 impl Buffer {
@@ -62,6 +57,7 @@ impl Buffer {
           limit = limit;
           in_preface = expect_preface;
           unparsed = [];
+          kept = [];
           place = 0;
           fault = None;
         } }
@@ -80,13 +76,15 @@ impl Buffer {
     }
 
     /// Takes octets of the piece, up to the end of a frame or all of them.
-    pub(crate) fn take(&mut self, piece: &[u8]) -> Result<Step, WireFault>
+    pub(crate) fn take(&mut self, piece: &[u8]) -> Result<Advance, WireFault>
         requires { BufferInvariant self.old }
         ensures failed { IfSome (fault_of self.old.phase) (λ fault. result ≡ Err fault) }
         ensures checked { (code : AnyCode) → FaultsAtHead (state_of self.old) piece.now code
             → result ≡ Err (WireFault.HeadFault code) }
         ensures preface { is_in_preface self.old.phase ≡ true → result ≡ Err WireFault.Memory
             → BeginsWithPreface (unparsed_of self.old.phase self.old.octets.items ++ piece.now) }
+        ensures lent { BeginsWithFrame (state_of self.old) piece.now
+            → result ≢ Err WireFault.Memory }
         ensures takes { BufferTakes (state_of self.old) piece.now result self.new }
     {
         match self.phase {
@@ -126,7 +124,7 @@ impl Buffer {
         }
     }
 
-    // The frame that was lent is kept no longer.
+    // The frame that was answered last is kept no longer.
     fn forget(&mut self)
         ensures none { self.new.octets.items ≡ [] }
         ensures after { self.new ≡ record self.old {
@@ -139,7 +137,7 @@ impl Buffer {
     }
 
     // Takes octets inside the preface, of which so many were matched.
-    fn take_preface(&mut self, matched: usize, piece: &[u8]) -> Result<Step, WireFault>
+    fn take_preface(&mut self, matched: usize, piece: &[u8]) -> Result<Advance, WireFault>
         requires phase { self.old.phase ≡ Phase.Preface matched }
         requires invariant { BufferInvariant self.old }
         ensures preface { result ≡ Err WireFault.Memory
@@ -154,27 +152,30 @@ impl Buffer {
             return Err(self.fail(WireFault::BadPreface, count + 1));
         }
         self.pass(Phase::Preface(matched + count), count);
-        Ok(Step {
+        Ok(Advance {
             used: count,
-            head: None,
+            frame: None,
         })
     }
 
     // A head begins or continues after so many octets of the piece.
-    fn take_head(&mut self, piece: &[u8], start: usize) -> Result<Step, WireFault>
+    fn take_head(&mut self, piece: &[u8], start: usize) -> Result<Advance, WireFault>
         requires starts { StartsFrame self.old piece.now start }
         ensures checked { (code : AnyCode)
             → IsFaultyHead (self.old.octets.items ++ drop start piece.now) self.old.limit code
             → result ≡ Err (WireFault.HeadFault code) }
+        ensures lent { self.old.octets.items ≡ [] → 9 ≤ length (drop start piece.now)
+            → 9 + (head_of (drop start piece.now)).length ≤ length (drop start piece.now)
+            → result ≢ Err WireFault.Memory }
         ensures takes { BufferTakes (state_of self.old) piece.now result self.new }
     {
         let following = &piece[start..];
         let Some(octets) = nine(&self.octets, following) else {
             self.append(following)?;
             self.pass(Phase::Head, piece.len());
-            return Ok(Step {
+            return Ok(Advance {
                 used: piece.len(),
-                head: None,
+                frame: None,
             });
         };
         let head = head(&octets);
@@ -186,8 +187,10 @@ impl Buffer {
     }
 
     // The head has no fault, and its frame begins or continues after so many octets of the piece.
-    fn take_payload(&mut self, piece: &[u8], start: usize, head: Head) -> Result<Step, WireFault>
+    fn take_payload(&mut self, piece: &[u8], start: usize, head: Head) -> Result<Advance, WireFault>
         requires starts { StartsPayload self.old piece.now start head }
+        ensures lent { self.old.octets.items ≡ []
+            → 9 + head.length ≤ length (drop start piece.now) → result ≢ Err WireFault.Memory }
         ensures takes { BufferTakes (state_of self.old) piece.now result self.new }
     {
         let following = &piece[start..];
@@ -195,21 +198,52 @@ impl Buffer {
         if following.len() < missing {
             self.append(following)?;
             self.pass(Phase::Payload(head), piece.len());
-            return Ok(Step {
+            return Ok(Advance {
                 used: piece.len(),
-                head: None,
+                frame: None,
             });
         }
-        self.append(&following[..missing])?;
         let used = start + missing;
-        if let Some(code) = payload_fault(&head, &self.octets[HEAD..]) {
+        if self.octets.is_empty() {
+            let source = Source::Piece(start);
+            return self.end_frame(piece, used, Complete { head, source });
+        }
+        self.append(&following[..missing])?;
+        let source = Source::Kept;
+        self.end_frame(piece, used, Complete { head, source })
+    }
+
+    // So many octets of the piece complete this frame, which may have a fault of its payload.
+    fn end_frame(
+        &mut self,
+        piece: &[u8],
+        used: usize,
+        frame: Complete,
+    ) -> Result<Advance, WireFault>
+        requires form { form_fault frame.head ≡ None }
+        requires complete { length (octets_of (state_of self.old) piece.now frame)
+            ≡ 9 + frame.head.length }
+        ensures { EndsFrame self.old piece.now used frame result self.new }
+    {
+        if let Some(code) = payload_fault(&frame.head, self.payload(piece, frame)) {
             return Err(self.fail(WireFault::PayloadFault(code), used));
         }
         self.pass(Phase::Lent, used);
-        Ok(Step {
+        Ok(Advance {
             used,
-            head: Some(head),
+            frame: Some(frame),
         })
+    }
+
+    /// The payload of a complete frame, where it lies.
+    pub(crate) fn payload<'a>(&'a self, piece: &'a [u8], frame: Complete) -> &'a [u8]
+        requires { length (octets_of (state_of self.now) piece.now frame) ≡ 9 + frame.head.length }
+        ensures { result.now ≡ drop 9 (octets_of (state_of self.entry.now) piece.entry.now frame) }
+    {
+        match frame.source {
+            Source::Piece(start) => &piece[start + HEAD..start + HEAD + frame.head.length as usize],
+            Source::Kept => &self.octets[HEAD..],
+        }
     }
 
     // Appends these octets, or changes nothing.

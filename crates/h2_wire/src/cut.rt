@@ -1,6 +1,33 @@
 //! What one call cuts.
 
-use h2_frame::FrameRef;
+use h2_frame::{FrameRef, Head};
+
+/// Where the octets of a complete frame lie.
+#[derive(Clone, Copy, Debug, PartialEq, Eq)]
+pub(crate) enum Source {
+    /// In the piece, after so many of its octets.
+    Piece(usize),
+    /// In the cutter, which keeps a frame that was cut in two.
+    Kept,
+}
+
+/// A complete frame: its head, and whether it lies in the piece that completed it, or in the cutter,
+/// which keeps a frame that was cut in two. [`Cutter::frame`](crate::Cutter::frame) lends it.
+#[derive(Clone, Copy, Debug, PartialEq, Eq)]
+pub struct Complete {
+    pub(crate) head: Head,
+    pub(crate) source: Source,
+}
+
+/// What one call of [`Cutter::advance`](crate::Cutter::advance) made of its piece; nothing is lent.
+#[derive(Clone, Copy, Debug, PartialEq, Eq)]
+pub struct Advance {
+    /// How many octets of the piece were used: up to the end of the frame, or all of them where
+    /// there is none.
+    pub used: usize,
+    /// The frame that is complete now.
+    pub frame: Option<Complete>,
+}
 
 /// What one call of [`Cutter::cut`](crate::Cutter::cut) made of its piece.
 #[derive(Clone, Copy, Debug, PartialEq, Eq)]

@@ -1,21 +1,22 @@
 //! The cutter.
 
-ghost use Rattle.std.specs.Prelude.{◌≡◌, ◌+◌, ◌<◌, ◌≤◌, ◌++◌, [], length, not, true, false, None};
+ghost use Rattle.std.specs.Prelude.{◌≡◌, ◌≢◌, ◌+◌, ◌<◌, ◌≤◌, ◌++◌, [], length, not, true, false, None};
 ghost use Rattle.std.specs.Prelude.{Some, IfOk};
 ghost use Rattle.std.specs.Prelude.{IsSome, IfSome};
 ghost use Rattle.std.specs.Borrow.{sem};
 ghost use Rattle.std.specs.Io.BufRead.{Rests};
 ghost use Rattle.h2_frame.specs.declared.code.Code.{Code};
-ghost use Rattle.h2_frame.specs.Frames.{frame_of};
+ghost use Rattle.h2_frame.specs.Frames.{frame_of, Encodes};
 ghost use Rattle.h2_frame.specs.Encoding.{refusal};
-ghost use Rattle.h2_wire.specs.Cutter.{CutterRepresents, Cuts, FaultsAtHead};
+ghost use Rattle.h2_wire.specs.Cutter.{CutterRepresents, Cuts, FaultsAtHead, BeginsWithFrame};
+ghost use Rattle.h2_wire.specs.Cutter.{HasFrame, Advances, octets_of};
 ghost use Rattle.h2_wire.specs.Streams.{BeginsWithPreface};
 ghost use Rattle.h2_wire.specs.contracts.cutter.Cutter.{the_row};
 
-use crate::buffer::{Buffer, HEAD};
-use crate::cut::Cut;
+use crate::buffer::Buffer;
+use crate::cut::{Advance, Complete, Cut};
 use crate::fault::WireFault;
-use h2_frame::payload_frame;
+use h2_frame::{FrameRef, payload_frame};
 use std::alloc::Global;
 use std::marker::Model;
 
@@ -51,8 +52,9 @@ impl Cutter {
         }
     }
 
-    /// Uses octets of the piece, up to the end of one frame, and lends that frame; or uses all of
-    /// them, where they complete no frame. The octets that follow a frame are for the next call.
+    /// Uses octets of the piece, up to the end of one frame, and says where that frame lies; or uses
+    /// all of them, where they complete no frame. The octets that follow a frame are for the next
+    /// call. [`Cutter::frame`] lends the frame, until the next call.
     ///
     /// # Errors
     ///
@@ -61,6 +63,48 @@ impl Cutter {
     /// last octet of a payload. [`Cutter::place`] says where, and every call from then on answers
     /// the same fault. [`WireFault::Memory`] comes where an allocation is refused: nothing was
     /// used, and the call may be made again.
+    pub fn advance(&mut self, piece: &[u8]) -> Result<Advance, WireFault>
+        // A fault is answered again.
+        ensures failed { IfSome self.old.fault (λ fault. result ≡ Err fault) }
+
+        // A head at fault is reported with its ninth octet, whatever memory there is, in a call
+        // that begins after the preface.
+        ensures checked { (code : Code) → FaultsAtHead self.old piece.now code
+            → result ≡ Err (WireFault.HeadFault code) }
+
+        // Memory is refused inside the preface only where the piece completes it.
+        ensures preface { self.old.in_preface ≡ true → result ≡ Err WireFault.Memory
+            → BeginsWithPreface (self.old.unparsed ++ piece.now) }
+
+        // A frame that isn't cut in two needs no memory.
+        ensures lent { BeginsWithFrame self.old piece.now → result ≢ Err WireFault.Memory }
+
+        // Where the cutter represented a stream and its frames, it does with what was used, and
+        // with the frame that is complete, which lies where the answer says; or the stream is at
+        // fault.
+        ensures advances { Advances self.old piece.now result self.new }
+    {
+        self.buffer.take(piece)
+    }
+
+    /// Lends the frame that the last call of [`Cutter::advance`] answered; `piece` is the one that
+    /// it was given. It allocates nothing.
+    pub fn frame<'a>(&'a self, piece: &'a [u8], frame: Complete) -> FrameRef<'a>
+        requires { HasFrame self.now piece.now frame }
+        ensures value { Encodes (frame_of result) (octets_of self.now piece.now frame) }
+
+        // It is one that can be written: its numbers have the bits that their places have, and its
+        // stream and values are allowed for its kind.
+        ensures good { refusal (frame_of result) ≡ None }
+    {
+        payload_frame(&frame.head, self.buffer.payload(piece, frame))
+    }
+
+    /// Both at once: [`Cutter::advance`], and then [`Cutter::frame`] where a frame is complete.
+    ///
+    /// # Errors
+    ///
+    /// Those of [`Cutter::advance`].
     pub fn cut<'a>(&'a mut self, piece: &'a [u8]) -> Result<Cut<'a>, WireFault>
         ensures used { IfOk result (λ cut. cut.used ≤ length piece.now) }
         ensures all { IfOk result (λ cut. cut.frame ≡ None → cut.used ≡ length piece.now) }
@@ -83,19 +127,22 @@ impl Cutter {
         ensures preface { self.old.in_preface ≡ true → result ≡ Err WireFault.Memory
             → BeginsWithPreface (self.old.unparsed ++ piece.now) }
 
+        // A frame that isn't cut in two needs no memory.
+        ensures lent { BeginsWithFrame self.old piece.now → result ≢ Err WireFault.Memory }
+
         // After the borrow ends: if the cutter represented `stream` and `frames`, it now represents
         // `stream ++ piece[..used]` and `frames` with this one appended; or `stream ++ piece` is at
         // fault at `place`, right after `frames`.
         ensures* after { sem 𝓛 (Rests the_row self.entry
             (λ new. Cuts self.old piece.now result new)) }
     {
-        let step = self.buffer.take(piece)?;
-        let frame = match step.head {
+        let advance = self.advance(piece)?;
+        let frame = match advance.frame {
             None => None,
-            Some(head) => Some(payload_frame(&head, &self.buffer.octets[HEAD..])),
+            Some(frame) => Some(self.frame(piece, frame)),
         };
         Ok(Cut {
-            used: step.used,
+            used: advance.used,
             frame,
         })
     }

@@ -14,7 +14,7 @@ mod preface;
 #[cfg(test)]
 mod tests;
 
-pub use cut::Cut;
+pub use cut::{Advance, Complete, Cut};
 pub use cutter::Cutter;
 pub use fault::WireFault;
 pub use laws::{no_reading_past_a_fault, nothing_in_a_partial_frame, one_fault, one_reading};

@@ -1,3 +1,4 @@
 //! Streams by examples.
 
+mod lending;
 mod streams;

@@ -1,5 +1,5 @@
 -- A new end represents the log of one.
-use Rattle.std.proofs.Common.{◌≡◌, ◌∙◌, Bool, [], subst}
+use Rattle.std.proofs.Common.{◌∙◌, Bool, [], subst}
 use Rattle.h2_wire.specs.Cutter.{CutterRepresents}
 use Rattle.h2_log.specs.Settings.{is_server}
 use Rattle.h2_config.specs.ConfigValues.{values_of}

@@ -1,21 +1,21 @@
 -- A piece is a step of each log that the parts represent: by the lemmas on each.
-use Rattle.std.proofs.Common.{◌≡◌, ◌∙◌, refl, sym, ap, None, List}
+use Rattle.std.proofs.Common.{◌≡◌, ◌∙◌, sym, ap, ℕ, take}
+use Rattle.std.proofs.Math.Seq.{take-length}
 use Rattle.h2_frame.specs.Frames.{frame_of}
-use Rattle.h2_wire.specs.declared.fault.WireFault.{WireFault}
 use Rattle.h2_wire.specs.Faults.{wire_fault_code}
 use Rattle.h2_core.specs.Endpoint.{end_of}
 use Rattle.h2_machine.specs.Machine.{fail}
-use Rattle.h2_end_laws.specs.Takes.{Failed}
+use Rattle.h2_conn.proofs.TakeFrames.{lies_there, same_body}
 use Rattle.h2_conn.proofs.TakeParts.{no_frame_taken, takes_octets, frame_taken, frame_stops}
-use Rattle.h2_conn.proofs.TakeParts.{cut_stopped, code_of}
+use Rattle.h2_conn.proofs.TakeParts.{cut_stopped, code_of, said_so}
 use Rattle.h2_conn.proofs.TakeSound.{frame_sound}
 use Rattle.h2_conn.proofs.taking.take_piece.Goals as goal
 use Rattle.h2_conn.proofs.taking.take_piece.Goals.{in-BadPreface, in-Memory}
 use Rattle.h2_conn.proofs.taking.take_piece.Goals.{in-HeadFault, in-HeadFault-2}
 
 pub returns-in-Err-clause-takes : goal.returns-in-Err-clause-takes
-returns-in-Err-clause-takes c = λ values log p.
-    let fails = rw c.in-Err.is at c.cut.follows.holds-at-none in
+returns-in-Err-clause-takes c = λ octets body values log p.
+    let fails = c.in-Err.ensures.advances in
     let code : c.match-fault.code ≡ wire_fault_code c.in-Err.fault =
     elim c.match-fault.branch [
       | in-BadPreface w ↦ w.code-is ∙ sym (ap wire_fault_code w.in-BadPreface.is)
@@ -29,45 +29,59 @@ returns-in-Err-clause-takes c = λ values log p.
     ∙ ap (λ x. fail x c.args.end.now.last_processed (end_of c.args.end.now)) code))
 
 pub returns-in_default-clause-takes : goal.returns-in_default-clause-takes
-returns-in_default-clause-takes c = λ values log p.
-    let advances = rw c.in-Ok.is at c.cut.follows.holds-at-none in
-    no_frame_taken values _ _ _ log c.args.piece.now c.in-Ok.cut.used p
-    (takes_octets values _ log p.machine c.requires.up c.requires.reported) c.requires.up
-    (c.in-Ok.ensures.all c.in_default.is) (rw c.in_default.is at advances.continues)
+returns-in_default-clause-takes c = λ octets body values log p.
+    let passes = rw c.in_default.is at c.in-Ok.ensures.advances in
+    let piece = c.args.piece.now in
+    let all_of : take c.in-Ok.advance.used piece ≡ piece =
+    ap (λ (n : ℕ). take n piece) passes.all ∙ take-length piece in
+    no_frame_taken values _ _ _ log piece c.in-Ok.advance.used p
+    (takes_octets values _ log p.machine c.requires.up c.requires.reported) c.requires.up passes.all
+    (rw all_of passes.continues)
 
 pub returns-in-Ok-take_frame-clause-sound : goal.returns-in-Ok-take_frame-clause-sound
 returns-in-Ok-take_frame-clause-sound c = λ up.
     frame_sound _ _ _ _ _ c.in-Ok-take_frame.happened c.requires.sound c.requires.up
-    (rw c.in-Some.is at c.in-Ok.ensures.good) c.in-Ok-take_frame.ensures
+    c.frame.ensures.good c.in-Ok-take_frame.ensures.happens
+
+pub returns-in-Ok-take_frame-clause-lies : goal.returns-in-Ok-take_frame-clause-lies
+returns-in-Ok-take_frame-clause-lies c =
+    let ends = rw c.in-Some.is at c.in-Ok.ensures.advances in
+    lies_there _ c.args.piece.now c.in-Some.complete c.in-Ok.advance.used
+    c.in-Ok-take_frame.happened ends.lies c.in-Ok-take_frame.ensures.lies
 
 pub returns-in-Ok-take_frame-clause-takes : goal.returns-in-Ok-take_frame-clause-takes
-returns-in-Ok-take_frame-clause-takes c = λ values log p.
-    let advances = rw c.in-Ok.is at c.cut.follows.holds-at-none in
-    frame_taken values _ _ _ _ log c.args.piece.now c.in-Ok.cut.used (frame_of c.in-Some.frame) _ _
-    c.in-Ok-take_frame.happened p
+returns-in-Ok-take_frame-clause-takes c = λ octets body values log p.
+    let ends = rw c.in-Some.is at c.in-Ok.ensures.advances in
+    said_so values log c.args.piece.now c.in-Ok.advance.used _ _ _ _
+    (same_body c.advance.new.self c.args.piece.now c.in-Some.complete (frame_of c.frame.result) _ octets
+    c.in-Ok.advance.used c.in-Ok-take_frame.happened c.frame.ensures.value
+    c.in-Ok-take_frame.ensures.lies body)
+    (frame_taken values _ _ _ _ log c.args.piece.now c.in-Ok.advance.used (frame_of c.frame.result)
+    _ _ c.in-Ok-take_frame.happened p
     (takes_octets values _ log p.machine c.requires.up c.requires.reported) c.requires.up
     (record {
-      continues = rw c.in-Some.is at advances.continues;
-      within = c.in-Ok.ensures.used;
-      none = (rw c.in-Some.is at advances.none_unparsed_after_a_frame) refl;
-    }) c.in-Ok-take_frame.ensures
+      continues = ends.continues (frame_of c.frame.result) c.frame.ensures.value;
+      within = ends.within;
+      none = ends.none_unparsed;
+    }) c.in-Ok-take_frame.ensures.happens)
 
 pub returns-in-Err-take_frame-clause-takes : goal.returns-in-Err-take_frame-clause-takes
-returns-in-Err-take_frame-clause-takes c = λ values log p.
-    let advances = rw c.in-Ok.is at c.cut.follows.holds-at-none in
-    frame_stops values _ _ _ _ log c.args.piece.now c.in-Ok.cut.used (frame_of c.in-Some.frame)
+returns-in-Err-take_frame-clause-takes c = λ octets body values log p.
+    let ends = rw c.in-Some.is at c.in-Ok.ensures.advances in
+    frame_stops values _ _ _ _ log c.args.piece.now c.in-Ok.advance.used (frame_of c.frame.result)
     c.in-Err-take_frame.code p
     (takes_octets values _ log p.machine c.requires.up c.requires.reported) c.requires.up
     (record {
-      continues = rw c.in-Some.is at advances.continues;
-      within = c.in-Ok.ensures.used;
-      none = (rw c.in-Some.is at advances.none_unparsed_after_a_frame) refl;
-    }) c.in-Err-take_frame.ensures
+      continues = ends.continues (frame_of c.frame.result) c.frame.ensures.value;
+      within = ends.within;
+      none = ends.none_unparsed;
+    }) c.in-Err-take_frame.ensures.happens
 
 pub returns-in_default-clause-cuts : goal.returns-in_default-clause-cuts
 returns-in_default-clause-cuts c = λ up.
-    (rw c.in-Ok.is at c.cut.follows.holds-at-none).continues.sound
+    (rw c.in_default.is at c.in-Ok.ensures.advances).continues.sound
 
 pub returns-in-Ok-take_frame-clause-cuts : goal.returns-in-Ok-take_frame-clause-cuts
 returns-in-Ok-take_frame-clause-cuts c = λ up.
-    (rw c.in-Ok.is at c.cut.follows.holds-at-none).continues.sound
+    let ends = rw c.in-Some.is at c.in-Ok.ensures.advances in
+    (ends.continues (frame_of c.frame.result) c.frame.ensures.value).sound

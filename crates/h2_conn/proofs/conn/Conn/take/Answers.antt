@@ -1,23 +1,31 @@
 -- What is lent is what has happened.
-use Rattle.std.proofs.Common.{◌≡◌, ◌∙◌, ℕ, refl, sym, ap, Option, None, Some, List}
+use Rattle.std.proofs.Common.{◌∙◌, ℕ, refl, sym, ap, Some, List, []}
 use Rattle.std.specs.Option.{option_map}
 use Rattle.hpack.specs.declared.types.field.Field.{Field}
-use Rattle.h2_log.specs.Events.{FieldsEvent, DataEvent}
+use Rattle.h2_frame.specs.Frames.{frame_of}
+use Rattle.h2_log.specs.Events.{FieldsEvent}
 use Rattle.h2_conn.specs.Events.{happened_value}
 use Rattle.h2_conn.proofs.TakeParts.{said_so}
 use Rattle.h2_conn.proofs.conn.Conn.take.Goals as goal
 use Rattle.h2_conn.proofs.conn.Conn.take.Goals.{in-Fields, in-Data, in-Reset, in-GoAway}
 use Rattle.h2_conn.proofs.conn.Conn.take.Goals.{in-Unprocessed, in-Acked, in-Pong}
 
+pub returns-in-Err : goal.returns-in-Err
+returns-in-Err c = (
+  (refl, λ _. tt, λ values log p. c.in-Err.ensures.takes [] tt values log p),
+  record { used = tt; after = tt },
+)
+
 pub returns-in_default : goal.returns-in_default
 returns-in_default c =
     let value = option_map (happened_value c.take.new.self.end.list
-    c.take.new.self.octets.items) in (
+    []) in (
       (
         refl,
         λ _. tt,
         λ values log p. said_so values log c.args.piece.now c.in-Ok.progress.used _ _ _ _
-            (sym (ap value c.in_default.is)) (c.in-Ok.ensures.takes values log p),
+            (sym (ap value c.in_default.is))
+            (c.in-Ok.ensures.takes [] (rw c.in_default.is tt) values log p),
       ),
       record { used = c.in-Ok.ensures.used; after = tt },
     )
@@ -25,7 +33,7 @@ returns-in_default c =
 pub returns : goal.returns
 returns c =
     let value = option_map (happened_value c.take.new.self.end.list
-    c.take.new.self.octets.items) in
+    []) in
     elim c.match-happened.branch [
       | in-Fields w ↦
           rw (w.self-is, w.event-is) (
@@ -36,20 +44,24 @@ returns c =
                   (ap (λ (l : List Field). Some (FieldsEvent w.in-Fields.id l w.in-Fields.end))
                   w.fields.ensures
                   ∙ sym (ap value (c.in-Some.is ∙ ap Some w.in-Fields.is)))
-                  (c.in-Ok.ensures.takes values log p),
+                  (c.in-Ok.ensures.takes []
+                  (rw (c.in-Some.is ∙ ap Some w.in-Fields.is) tt) values log p),
             ),
             record { used = c.in-Ok.ensures.used; after = tt },
           )
       | in-Data w ↦
+          let lent : List ℕ = w.body.result.now in
           rw (w.self-is, w.event-is) (
             (
               refl,
               λ _. tt,
               λ values log p. said_so values log c.args.piece.now c.in-Ok.progress.used _ _ _ _
-                  (ap (λ (o : List ℕ). Some (DataEvent w.in-Data.id o w.in-Data.flow
-                  w.in-Data.end)) w.deref.ensures.value
-                  ∙ sym (ap value (c.in-Some.is ∙ ap Some w.in-Data.is)))
-                  (c.in-Ok.ensures.takes values log p),
+                  (sym (ap (option_map (happened_value c.take.new.self.end.list lent))
+                  (c.in-Some.is ∙ ap Some w.in-Data.is)))
+                  (c.in-Ok.ensures.takes lent
+                  (rw (c.in-Some.is ∙ ap Some w.in-Data.is)
+                  (frame_of w.frame.result, w.frame.ensures.value, w.body.ensures))
+                  values log p),
             ),
             record { used = c.in-Ok.ensures.used; after = tt },
           )
@@ -60,7 +72,8 @@ returns c =
               λ _. tt,
               λ values log p. said_so values log c.args.piece.now c.in-Ok.progress.used _ _ _ _
                   (sym (ap value (c.in-Some.is ∙ ap Some w.in-Reset.is)))
-                  (c.in-Ok.ensures.takes values log p),
+                  (c.in-Ok.ensures.takes []
+                  (rw (c.in-Some.is ∙ ap Some w.in-Reset.is) tt) values log p),
             ),
             record { used = c.in-Ok.ensures.used; after = tt },
           )
@@ -71,7 +84,8 @@ returns c =
               λ _. tt,
               λ values log p. said_so values log c.args.piece.now c.in-Ok.progress.used _ _ _ _
                   (sym (ap value (c.in-Some.is ∙ ap Some w.in-GoAway.is)))
-                  (c.in-Ok.ensures.takes values log p),
+                  (c.in-Ok.ensures.takes []
+                  (rw (c.in-Some.is ∙ ap Some w.in-GoAway.is) tt) values log p),
             ),
             record { used = c.in-Ok.ensures.used; after = tt },
           )
@@ -82,7 +96,8 @@ returns c =
               λ _. tt,
               λ values log p. said_so values log c.args.piece.now c.in-Ok.progress.used _ _ _ _
                   (sym (ap value (c.in-Some.is ∙ ap Some w.in-Unprocessed.is)))
-                  (c.in-Ok.ensures.takes values log p),
+                  (c.in-Ok.ensures.takes []
+                  (rw (c.in-Some.is ∙ ap Some w.in-Unprocessed.is) tt) values log p),
             ),
             record { used = c.in-Ok.ensures.used; after = tt },
           )
@@ -93,7 +108,8 @@ returns c =
               λ _. tt,
               λ values log p. said_so values log c.args.piece.now c.in-Ok.progress.used _ _ _ _
                   (sym (ap value (c.in-Some.is ∙ ap Some w.in-Acked.is)))
-                  (c.in-Ok.ensures.takes values log p),
+                  (c.in-Ok.ensures.takes []
+                  (rw (c.in-Some.is ∙ ap Some w.in-Acked.is) tt) values log p),
             ),
             record { used = c.in-Ok.ensures.used; after = tt },
           )
@@ -104,7 +120,8 @@ returns c =
               λ _. tt,
               λ values log p. said_so values log c.args.piece.now c.in-Ok.progress.used _ _ _ _
                   (sym (ap value (c.in-Some.is ∙ ap Some w.in-Pong.is)))
-                  (c.in-Ok.ensures.takes values log p),
+                  (c.in-Ok.ensures.takes []
+                  (rw (c.in-Some.is ∙ ap Some w.in-Pong.is) tt) values log p),
             ),
             record { used = c.in-Ok.ensures.used; after = tt },
           )

@@ -1,7 +1,9 @@
 -- By the phase.
-use Rattle.std.proofs.Common.{◌<◌, length, arith, ap}
+use Rattle.std.proofs.Common.{◌≡◌, ◌<◌, length, arith, ap, refl, None}
 use Rattle.h2_wire.specs.declared.buffer.Buffer.{Buffer}
+use Rattle.h2_wire.specs.Buffer.{state_of, fault_of}
 use Rattle.h2_wire.proofs.BufferLemmas.{starts_head, starts_payload}
+use Rattle.h2_wire.proofs.KeptLemmas.{takes_forgotten}
 use Rattle.h2_wire.proofs.buffer.Buffer.take.Goals as goal
 
 pub take_head-requires : goal.take_head-requires
@@ -24,3 +26,22 @@ take_head-requires-in-Lent c =
       starts = starts_head c.forget.new.self c.args.piece.now (ap (λ (b : Buffer). b.phase) after)
           (rw (ap (λ (b : Buffer). b.phase) after) few);
     }
+
+pub returns-in-Head-clause-checked : goal.returns-in-Head-clause-checked
+returns-in-Head-clause-checked c = λ code faulty.
+    c.take_head.ensures.checked code (rw c.in-Head.is at faulty.head)
+
+pub returns-in-Lent-clause-checked : goal.returns-in-Lent-clause-checked
+returns-in-Lent-clause-checked c = λ code faulty.
+    let limit = ap (λ (b : Buffer). b.limit) c.forget.ensures.after in
+    c.take_head-in-Lent.ensures.checked code
+    (rw (c.forget.ensures.none, limit) (rw c.in-Lent.is at faulty.head))
+
+pub returns-in-Lent-clause-takes : goal.returns-in-Lent-clause-takes
+returns-in-Lent-clause-takes c =
+    let after = c.forget.ensures.after in
+    let sound : fault_of c.forget.new.self.phase ≡ None =
+    rw (ap (λ (b : Buffer). b.phase) after) refl in
+    takes_forgotten (state_of c.args.self.now) (state_of c.forget.new.self) c.args.piece.now
+    c.take_head-in-Lent.result c.take_head-in-Lent.new.self (rw (after, c.forget.ensures.none, c.in-Lent.is) refl) sound
+    c.take_head-in-Lent.ensures.takes

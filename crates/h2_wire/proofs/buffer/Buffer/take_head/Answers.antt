@@ -120,3 +120,13 @@ returns-clause-checked c = λ code faulty.
     let found : head_fault c.head-head.result old.limit ≡ Some code =
     ap (λ (head : Head). head_fault head old.limit) is_head ∙ faulty.faulty in
     none_some code (sym (sym c.head_fault.ensures.value ∙ c.in_default-head_fault.is) ∙ found)
+
+pub returns-clause-lent : goal.returns-clause-lent
+returns-clause-lent c = λ none nine enough.
+    let old = c.args.self.now in
+    let some = c.in-Some.ensures.some in
+    let is_head =
+    (read_head old.octets.items c.deref.result.now c.args.piece.now c.in-Some.octets
+    c.args.start c.head-head.result c.deref.ensures.value some.0 some.1
+    c.head-head.ensures.value).1 in
+    c.take_payload.ensures.lent none (rw (is_head, none) enough)
