@@ -6,6 +6,7 @@ mod cutting;
 mod decoding;
 mod encoding;
 mod input;
+mod serving;
 
 use counts::Counts;
 use std::alloc::Global;
@@ -59,4 +60,15 @@ pub extern "C" fn measure_cut(
     counts: &mut Counts,
 ) -> i32 {
     cutting::cut_rounds(alloc, octets, piece, rounds, counts)
+}
+
+/// Serves a client's octets, in pieces of so many: each request is answered as it ends.
+#[unsafe(no_mangle)]
+pub extern "C" fn measure_serve(
+    alloc: Global,
+    octets: &[u8],
+    piece: usize,
+    counts: &mut Counts,
+) -> i32 {
+    serving::serve_octets(alloc, octets, piece, counts)
 }
