@@ -4,15 +4,18 @@
  * post      one with a body of 1,000 octets
  * ping      PING
  * settings  SETTINGS of 2,730 pairs, whose initial windows alternate
+ * setting   SETTINGS of one pair, an initial window
  * reset     a request that it resets
- * closed    DATA of 100 octets on a stream that the server has reset */
+ * closed    DATA of 100 octets on a stream that the server has reset
+ * upload    DATA of 16,384 octets on one stream */
 #include <stdint.h>
 #include <stdio.h>
 #include <stdlib.h>
 #include <string.h>
 
 enum { DATA = 0, HEADERS = 1, RST_STREAM = 3, SETTINGS = 4, PING = 6, WINDOW_UPDATE = 8 };
-enum { NONE = 0, END_STREAM = 1, ACK = 1, END_HEADERS = 4, PAIRS = 2730, BODY = 1000, DISCARDED = 100 };
+enum { NONE = 0, END_STREAM = 1, ACK = 1, END_HEADERS = 4 };
+enum { PAIRS = 2730, BODY = 1000, DISCARDED = 100, FULL = 16384 };
 
 static uint32_t next_stream = 1;
 
@@ -52,17 +55,17 @@ static uint32_t request(int flags) {
   return stream;
 }
 
-static void settings(void) {
+static void settings(uint32_t pairs) {
   uint32_t pair;
-  head(6 * PAIRS, SETTINGS, NONE, 0);
-  for (pair = 0; pair < PAIRS; pair++) {
+  head(6 * pairs, SETTINGS, NONE, 0);
+  for (pair = 0; pair < pairs; pair++) {
     putchar(0);
     putchar(4);
     put32(pair % 2 ? 65535 : 70000);
   }
 }
 
-static int put(const char *kind, uint32_t closed) {
+static int put(const char *kind, uint32_t opened) {
   if (!strcmp(kind, "get")) {
     request(END_STREAM);
   } else if (!strcmp(kind, "post")) {
@@ -71,13 +74,17 @@ static int put(const char *kind, uint32_t closed) {
     head(8, PING, NONE, 0);
     fputs("belkjoef", stdout);
   } else if (!strcmp(kind, "settings")) {
-    settings();
+    settings(PAIRS);
+  } else if (!strcmp(kind, "setting")) {
+    settings(1);
   } else if (!strcmp(kind, "reset")) {
     uint32_t stream = request(NONE);
     head(4, RST_STREAM, NONE, stream);
     put32(8);
   } else if (!strcmp(kind, "closed")) {
-    data(closed, NONE, DISCARDED);
+    data(opened, NONE, DISCARDED);
+  } else if (!strcmp(kind, "upload")) {
+    data(opened, NONE, FULL);
   } else {
     return 2;
   }
@@ -85,7 +92,7 @@ static int put(const char *kind, uint32_t closed) {
 }
 
 int main(int argc, char **argv) {
-  uint32_t live, count, closed = 0;
+  uint32_t live, count, opened = 0;
   if (argc != 4) return 2;
   live = (uint32_t)atoi(argv[2]);
   count = (uint32_t)atoi(argv[3]);
@@ -93,12 +100,10 @@ int main(int argc, char **argv) {
   head(0, SETTINGS, NONE, 0);
   head(0, SETTINGS, ACK, 0);
   window_update(0, 2147483647 - 65535);
-  if (!strcmp(argv[1], "closed")) {
-    closed = request(NONE);
-    window_update(closed, 0); /* a fault of the stream: it is reset */
-  }
+  if (!strcmp(argv[1], "closed") || !strcmp(argv[1], "upload")) opened = request(NONE);
+  if (!strcmp(argv[1], "closed")) window_update(opened, 0); /* for which the server resets it */
   while (live--) request(NONE);
   while (count--)
-    if (put(argv[1], closed)) return 2;
+    if (put(argv[1], opened)) return 2;
   return ferror(stdout);
 }

@@ -6,6 +6,7 @@ mod cutting;
 mod decoding;
 mod encoding;
 mod input;
+mod server;
 mod serving;
 
 use counts::Counts;
@@ -71,4 +72,15 @@ pub extern "C" fn measure_serve(
     counts: &mut Counts,
 ) -> i32 {
     serving::serve_octets(alloc, octets, piece, counts)
+}
+
+/// Serves a client's octets with the README's server. The octets that are counted are those of the
+/// output.
+#[unsafe(no_mangle)]
+pub extern "C" fn measure_server(alloc: Global, octets: &[u8], counts: &mut Counts) -> i32 {
+    let mut from = octets;
+    let mut to = Vec::new(alloc);
+    let served = server::serve(alloc, &mut from, &mut to);
+    counts.add_octets(to.len());
+    if served.is_err() { 1 } else { 0 }
 }
