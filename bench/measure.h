@@ -27,3 +27,5 @@ int measure_cut(const uint8_t *octets, size_t n, size_t piece, uint32_t rounds,
  * yet, and that all octets were served. */
 enum { MARK = 0xbe1c0e };
 int measure_serve(const uint8_t *octets, size_t n, size_t piece, struct counts *out);
+/* Serves a client's octets with the README's server, whose answers are smaller. No units. */
+int measure_server(const uint8_t *octets, size_t n, struct counts *out);

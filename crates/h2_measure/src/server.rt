@@ -6,17 +6,17 @@ use hpack::{Field, Octets};
 use std::alloc::Global;
 use std::io::{Read, Write};
 
-/// An answer, and what of its body is not sent yet.
+/// What of the body of an answer is not sent yet.
 #[derive(Clone, Copy)]
-struct Answer {
+struct Unsent {
     id: u32,
-    unsent: &'static [u8],
+    body: &'static [u8],
 }
 
 /// Answers each request on a connection with the same text, until its input ends.
 pub(crate) fn serve<R: Read, W: Write>(alloc: Global, from: &mut R, to: &mut W) -> Result<()> {
     let mut conn = Conn::server(alloc, Config::default())?;
-    let mut answers = Vec::new(alloc);
+    let mut unsent = Vec::new(alloc);
     let mut input = vec![in alloc; 0u8; 16_384]?;
     put_out(alloc, &mut conn, to)?; // SETTINGS
     for _ in 0..u64::MAX {
@@ -24,27 +24,24 @@ pub(crate) fn serve<R: Read, W: Write>(alloc: Global, from: &mut R, to: &mut W) 
         if count == 0 {
             break;
         }
-        let taken = take_piece(alloc, &mut conn, &input[..count], &mut answers);
-        put_out(alloc, &mut conn, to)?; // where the connection has failed, GOAWAY is the last
+        let taken = take_piece(alloc, &mut conn, &input[..count], &mut unsent);
+        put_out(alloc, &mut conn, to)?; // its last frame is GOAWAY, where the connection failed
         taken?;
     }
     Ok(())
 }
 
-/// Takes what was read, and sends what the windows let through of answers.
+/// Takes what was read, and answers the requests that end in it.
 fn take_piece(
     alloc: Global,
     conn: &mut Conn,
     piece: &[u8],
-    answers: &mut Vec<Answer>,
+    unsent: &mut Vec<Unsent>,
 ) -> Result<()> {
-    let mut used = 0;
+    let mut unused = piece;
     for _ in 0..piece.len() {
-        if used >= piece.len() {
-            break;
-        }
-        let taken = conn.take(&piece[used..])?; // up to the end of one frame
-        used += taken.used;
+        let taken = conn.take(unused)?;
+        unused = &unused[taken.used..];
         let (id, end) = match taken.event {
             Some(Event::Fields { id, end, .. }) => (id, end),
             Some(Event::Data { id, flow, end, .. }) => {
@@ -53,22 +50,29 @@ fn take_piece(
                 }
                 (id, end)
             }
-            _ => continue,
+            Some(_) => continue,
+            None if unused.is_empty() => break,
+            None => continue,
         };
         if end {
             conn.fields(id, &[field(alloc, b":status", b"200")?], false)?;
-            let unsent = b"hello\n";
-            answers.push(Answer { id, unsent })?;
+            let body = b"hello\n";
+            unsent.push(Unsent { id, body })?;
         }
     }
-    for answer in answers.iter_mut() {
-        answer.unsent = match conn.data(answer.id, answer.unsent, true) {
-            Ok(count) => answer.unsent.get(count..).unwrap_or(&[]),
+    send(conn, unsent)
+}
+
+/// Sends what the windows let through of bodies.
+fn send(conn: &mut Conn, unsent: &mut Vec<Unsent>) -> Result<()> {
+    for Unsent { id, body } in unsent.iter_mut() {
+        *body = match conn.data(*id, body, true) {
+            Ok(count) => body.get(count..).unwrap_or(&[]),
             Err(Refusal::NoSuchStream) => &[], // the client has reset it
             Err(refusal) => return Err(refusal.into()),
         };
     }
-    answers.retain(|answer| !answer.unsent.is_empty());
+    unsent.retain(|one| !one.body.is_empty());
     Ok(())
 }
 

@@ -60,12 +60,7 @@ struct Answers {
 }
 
 /// Serves the octets.
-pub(crate) fn serve_octets(
-    alloc: Global,
-    octets: &[u8],
-    piece: usize,
-    counts: &mut Counts,
-) -> i32 {
+pub(crate) fn serve_octets(alloc: Global, octets: &[u8], piece: usize, counts: &mut Counts) -> i32 {
     match serve(alloc, octets, piece, counts) {
         Ok(()) => 0,
         Err(_) => 1,
