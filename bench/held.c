@@ -1,5 +1,5 @@
-/* Counts what is allocated, by what was asked for, and prints at the end what the end of a connection
- * held between the two marks (measure.h). Linked beside driver.c with --wrap=malloc, realloc, free. */
+/* Counts what is allocated, by what was asked for, and prints what was added between the two marks
+ * (measure.h): what a server's end holds. Linked with --wrap=malloc, realloc and free. */
 #include <stdio.h>
 #include <string.h>
 #include "measure.h"
