@@ -1,6 +1,10 @@
 /* driver encode LISTS ROUNDS | decode BLOCKS ROUNDS | decode_into BLOCKS ROUNDS
  *        | cut WIRE PIECE ROUNDS
  * makes the rounds, and prints how many fields or frames they had.
+ * driver serve CLIENT PIECE
+ * serves what a client sends, and prints how many answers it had and the octets of the output.
+ * driver server CLIENT
+ * serves it with the README's server, and prints how many octets of output it had.
  * driver blocks LISTS | wire BLOCKS
  * writes the blocks of lists, and a client's octets with the blocks, each in a HEADERS frame. */
 #include <stdio.h>
@@ -68,6 +72,11 @@ int main(int argc, char **argv) {
   if (argc < 3) return 2;
   octets = read_all(argv[2], &n);
 #ifdef MAKES_INPUT
+  if (!strcmp(argv[1], "server")) {
+    failed = measure_server(octets, n, &counts);
+    printf("%llu\n", (unsigned long long)counts.octets);
+    return failed;
+  }
   if (!strcmp(argv[1], "blocks")) return write_blocks(octets, n);
   if (!strcmp(argv[1], "wire")) return write_wire(octets, n);
 #endif
@@ -80,6 +89,8 @@ int main(int argc, char **argv) {
     failed = measure_decode_into(octets, n, (uint32_t)atoi(argv[3]), &counts);
   else if (!strcmp(argv[1], "cut") && argc == 5)
     failed = measure_cut(octets, n, (size_t)atol(argv[3]), (uint32_t)atoi(argv[4]), &counts);
+  else if (!strcmp(argv[1], "serve"))
+    failed = measure_serve(octets, n, (size_t)atol(argv[3]), &counts);
   else
     return 2;
   printf("%llu %llu\n", (unsigned long long)counts.units, (unsigned long long)counts.octets);

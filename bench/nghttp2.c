@@ -115,3 +115,55 @@ int measure_cut(const uint8_t *octets, size_t n, size_t piece, uint32_t rounds,
   nghttp2_option_del(option);
   return 0;
 }
+
+enum { ANSWER = 1000 };
+
+static ssize_t read_answer(nghttp2_session *session, int32_t stream, uint8_t *octets, size_t room,
+                           uint32_t *flags, nghttp2_data_source *source, void *counts) {
+  (void)session;
+  (void)stream;
+  (void)source;
+  (void)counts;
+  if (room < ANSWER) return NGHTTP2_ERR_CALLBACK_FAILURE;
+  memset(octets, 'a', ANSWER);
+  *flags |= NGHTTP2_DATA_FLAG_EOF;
+  return ANSWER;
+}
+
+#define FIELD(name, value) \
+  {(uint8_t *)name, (uint8_t *)value, sizeof name - 1, sizeof value - 1, NGHTTP2_NV_FLAG_NONE}
+
+static int on_request(nghttp2_session *session, const nghttp2_frame *frame, void *counts) {
+  static const nghttp2_nv fields[] = {FIELD(":status", "200"), FIELD("content-type", "text/plain"),
+                                      FIELD("content-length", "1000")};
+  nghttp2_data_provider provider = {{0}, read_answer};
+  if (frame->hd.type != NGHTTP2_HEADERS && frame->hd.type != NGHTTP2_DATA) return 0;
+  if (!(frame->hd.flags & NGHTTP2_FLAG_END_STREAM)) return 0;
+  ((struct counts *)counts)->units++;
+  return nghttp2_submit_response(session, frame->hd.stream_id, fields, 3, &provider);
+}
+
+/* Output is put out after each piece alone: a callback can't. */
+int measure_serve(const uint8_t *octets, size_t n, size_t piece, struct counts *out) {
+  nghttp2_settings_entry streams = {NGHTTP2_SETTINGS_MAX_CONCURRENT_STREAMS, 1000};
+  nghttp2_session_callbacks *callbacks;
+  nghttp2_session *session;
+  size_t at = 0;
+  free(malloc(MARK));
+  if (nghttp2_session_callbacks_new(&callbacks)) return 1;
+  nghttp2_session_callbacks_set_on_frame_recv_callback(callbacks, on_request);
+  if (nghttp2_session_server_new(&session, callbacks, out)) return 1;
+  nghttp2_submit_settings(session, NGHTTP2_FLAG_NONE, &streams, 1);
+  while (at < n) {
+    size_t size = n - at < piece ? n - at : piece;
+    const uint8_t *output;
+    ssize_t given;
+    if (nghttp2_session_mem_recv(session, octets + at, size) != (ssize_t)size) return 1;
+    at += size;
+    while ((given = nghttp2_session_mem_send(session, &output)) > 0) out->octets += (uint64_t)given;
+  }
+  free(malloc(MARK));
+  nghttp2_session_del(session);
+  nghttp2_session_callbacks_del(callbacks);
+  return 0;
+}

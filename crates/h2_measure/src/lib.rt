@@ -6,6 +6,8 @@ mod cutting;
 mod decoding;
 mod encoding;
 mod input;
+mod server;
+mod serving;
 
 use counts::Counts;
 use std::alloc::Global;
@@ -59,4 +61,26 @@ pub extern "C" fn measure_cut(
     counts: &mut Counts,
 ) -> i32 {
     cutting::cut_rounds(alloc, octets, piece, rounds, counts)
+}
+
+/// Serves a client's octets, in pieces of so many: each request is answered as it ends.
+#[unsafe(no_mangle)]
+pub extern "C" fn measure_serve(
+    alloc: Global,
+    octets: &[u8],
+    piece: usize,
+    counts: &mut Counts,
+) -> i32 {
+    serving::serve_octets(alloc, octets, piece, counts)
+}
+
+/// Serves a client's octets with the README's server. The octets that are counted are those of the
+/// output.
+#[unsafe(no_mangle)]
+pub extern "C" fn measure_server(alloc: Global, octets: &[u8], counts: &mut Counts) -> i32 {
+    let mut from = octets;
+    let mut to = Vec::new(alloc);
+    let served = server::serve(alloc, &mut from, &mut to);
+    counts.add_octets(to.len());
+    if served.is_err() { 1 } else { 0 }
 }

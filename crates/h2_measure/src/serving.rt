@@ -1,0 +1,159 @@
+//! Serving requests, as a server's end of a connection does.
+
+use crate::counts::Counts;
+use h2_conn::{BadConfig, Config, Conn, ConnFault, Event, Refusal};
+use hpack::{Field, Octets};
+use std::alloc::{AllocError, Global};
+
+/// The octets of each answer's body.
+const BODY: usize = 1_000;
+
+/// Room for the output of a piece.
+const OUTPUT_ROOM: usize = 1 << 18;
+
+/// An allocation of so many octets shows the driver when to look at what is held.
+const MARK: usize = 0x00BE_1C0E;
+
+/// Why no more of the octets is served.
+#[derive(Drop)]
+enum Stop {
+    /// There are no such settings.
+    Config,
+    /// The connection has failed.
+    Connection,
+    /// A call was refused.
+    Refused,
+    /// Out of memory.
+    Memory,
+}
+
+impl From<BadConfig> for Stop {
+    fn from(_bad: BadConfig) -> Stop {
+        Stop::Config
+    }
+}
+
+impl From<ConnFault> for Stop {
+    fn from(_fault: ConnFault) -> Stop {
+        Stop::Connection
+    }
+}
+
+impl From<Refusal> for Stop {
+    fn from(_refusal: Refusal) -> Stop {
+        Stop::Refused
+    }
+}
+
+impl From<AllocError> for Stop {
+    fn from(_error: AllocError) -> Stop {
+        Stop::Memory
+    }
+}
+
+/// What is answered, and where output goes.
+#[derive(Drop)]
+struct Answers {
+    head: Vec<Field>,
+    body: Vec<u8>,
+    output: Vec<u8>,
+}
+
+/// Serves the octets.
+pub(crate) fn serve_octets(alloc: Global, octets: &[u8], piece: usize, counts: &mut Counts) -> i32 {
+    match serve(alloc, octets, piece, counts) {
+        Ok(()) => 0,
+        Err(_) => 1,
+    }
+}
+
+fn serve(alloc: Global, octets: &[u8], piece: usize, counts: &mut Counts) -> Result<(), Stop> {
+    let mut answers = Answers::new(alloc)?;
+    let config = Config::new(4_096, 65_535, 1_000)?;
+    mark(alloc)?;
+    let Ok(mut conn) = Box::new(alloc, Conn::server(alloc, config)?) else {
+        return Err(Stop::Memory);
+    };
+    let mut unserved = octets;
+    for _ in 0..octets.len() {
+        if unserved.is_empty() {
+            break;
+        }
+        let (one, following) = unserved.split_at_checked(piece).unwrap_or((unserved, &[]));
+        unserved = following;
+        answers.take_piece(&mut conn, one, counts)?;
+    }
+    mark(alloc)?;
+    Ok(())
+}
+
+/// Shows the driver when to look.
+fn mark(alloc: Global) -> Result<(), AllocError> {
+    let _mark: Vec<u8> = Vec::with_capacity(alloc, MARK)?;
+    Ok(())
+}
+
+impl Answers {
+    fn new(alloc: Global) -> Result<Answers, AllocError> {
+        let mut head = Vec::new(alloc);
+        head.push(field(alloc, b":status", b"200")?)?;
+        head.push(field(alloc, b"content-type", b"text/plain")?)?;
+        head.push(field(alloc, b"content-length", b"1000")?)?;
+        Ok(Answers {
+            head,
+            body: vec![in alloc; 0x61u8; BODY]?,
+            output: Vec::with_capacity(alloc, OUTPUT_ROOM)?,
+        })
+    }
+
+    /// Takes a piece, answers the requests that end in it, and puts out.
+    fn take_piece(
+        &mut self,
+        conn: &mut Conn,
+        piece: &[u8],
+        counts: &mut Counts,
+    ) -> Result<(), Stop> {
+        let mut used = 0;
+        for _ in 0..piece.len() {
+            if used >= piece.len() {
+                break;
+            }
+            let taken = conn.take(&piece[used..])?;
+            used += taken.used;
+            match taken.event {
+                Some(Event::Fields { id, end: true, .. }) => self.answer(conn, id, counts)?,
+                Some(Event::Data { id, flow, end, .. }) => {
+                    conn.release(id, flow)?;
+                    if end {
+                        self.answer(conn, id, counts)?;
+                    }
+                }
+                _ => {}
+            }
+        }
+        self.put_out(conn, counts)
+    }
+
+    /// Answers a request, and puts the answer out.
+    fn answer(&mut self, conn: &mut Conn, id: u32, counts: &mut Counts) -> Result<(), Stop> {
+        conn.fields(id, &self.head, false)?;
+        conn.data(id, &self.body, true)?;
+        counts.add_one();
+        self.put_out(conn, counts)
+    }
+
+    fn put_out(&mut self, conn: &mut Conn, counts: &mut Counts) -> Result<(), Stop> {
+        self.output.clear();
+        let given = conn.put_out(usize::MAX, &mut self.output)?;
+        counts.add_octets(given);
+        Ok(())
+    }
+}
+
+fn field(alloc: Global, name: &[u8], value: &[u8]) -> Result<Field, AllocError> {
+    Ok(Field {
+        name: Octets::copy_of(alloc, name)?,
+        value: Octets::copy_of(alloc, value)?,
+        sensitive: false,
+    })
+}
