@@ -21,7 +21,8 @@ returns-in_err-stream-clause-err c =
 
 pub sendable_octets-count-requires : goal.sendable_octets-count-requires
 sendable_octets-count-requires c =
-    send_near (end_of c.args.self.now) c.args.id _ (c.requires.sound c.in_ok-stream.ensures.ok.0) c.in_ok-stream.ensures.ok.1
+    let sound = c.requires.sound c.in_ok-stream.ensures.ok.0 in
+    send_near (end_of c.args.self.now) c.args.id _ sound c.in_ok-stream.ensures.ok.1
 
 pub returns-then-sends_nothing-clause-ok : goal.returns-then-sends_nothing-clause-ok
 returns-then-sends_nothing-clause-ok c =

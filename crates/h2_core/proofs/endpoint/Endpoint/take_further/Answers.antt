@@ -118,6 +118,6 @@ returns c =
     c.if-stream.false (large ∙ c.if-too_large.false))
     (c.update_stream.ensures.list ∙ whole c.if-too_large.false)
     same
-    (received e c.args.id c.args.end (stream_view c.args.stream) c.reserve_if_over.new.output.waiting
-    (end_of c.update_stream.new.self) c.requires.active c.if-stream.false
+    (received e c.args.id c.args.end (stream_view c.args.stream)
+    c.reserve_if_over.new.output.waiting (end_of c.update_stream.new.self) c.requires.active c.if-stream.false
     c.reserve_if_over.ensures.waiting c.update_stream.ensures.after)
