@@ -13,7 +13,8 @@ invariant_of-self c =
     let e = end_of c.args.self.now.inner.end in
     let new = end_of c.open.new.self in
     let act = Open c.args.fields.now c.args.end in
-    let was = was_up c.open.result e new act refl (beside_value _ _ c.open.result c.open.ensures.ok) c.open.ensures.err in
+    let was = was_up c.open.result e new act refl
+    (beside_value _ _ c.open.result c.open.ensures.ok) c.open.ensures.err in
     record {
       sound = λ up. let before : e.failed ≡ None = was up in
           sound_by c.open.result e new act c.open.ensures.octets (search rules)

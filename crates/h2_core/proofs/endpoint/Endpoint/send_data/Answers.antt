@@ -8,7 +8,7 @@ use Rattle.h2_streams.specs.Streams.{stream_view}
 use Rattle.h2_core.specs.Endpoint.{end_of}
 use Rattle.h2_core.proofs.CallConditions.{refused, lacks_memory}
 use Rattle.h2_core.proofs.CallOutput.{with_waiting}
-use Rattle.h2_core.proofs.CallSend.{first_kept, data_free, data_unsent, after_sent, data_written}
+use Rattle.h2_core.proofs.CallSend.{data_free, data_unsent, after_sent, data_written}
 use Rattle.h2_core.proofs.SoundFacts.{send_near}
 use Rattle.h2_core.proofs.endpoint.Endpoint.send_data.Goals as goal
 use Rattle.h2_core.proofs.endpoint.Endpoint.send_data.Goals.{then-end, else-end}

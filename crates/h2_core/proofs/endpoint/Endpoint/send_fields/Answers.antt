@@ -1,12 +1,10 @@
 -- The first condition that holds refuses; where none holds, the block joins the output, and the
 -- stream is changed.
-use Rattle.std.proofs.Common.{◌≡◌, ◌∷◌, [], Some, None, ap, sym, ◌∙◌, arith}
+use Rattle.std.proofs.Common.{◌≡◌, ◌∷◌, [], ap, sym, ◌∙◌, arith}
 use Rattle.std.proofs.lemmas.Result.{err_from_is_err_and}
-use Rattle.hpack.specs.Choice.{block_of, after_block}
-use Rattle.h2_block.specs.Grouping.{block}
 use Rattle.h2_log.specs.CallRules.{conditions}
 use Rattle.h2_streams.specs.Streams.{stream_view}
-use Rattle.h2_machine.specs.Machine.{queue_output, with_encoder, update_stream}
+use Rattle.h2_machine.specs.Machine.{update_stream}
 use Rattle.h2_machine.specs.End.{End}
 use Rattle.h2_core.specs.Endpoint.{end_of}
 use Rattle.h2_core.proofs.CallConditions.{refused, lacks_memory, unless_err, if_err}
