@@ -1,6 +1,7 @@
 -- What a call makes of the parts of a connection, whatever log they represent.
-use Rattle.std.proofs.Common.{◌≡◌, Bool, true, false, is_some, Option, Some, None, Result, Ok, Err, inl, inr, IfOk, IfErr}
-use Rattle.std.proofs.Common.{OnOk, refl, sym, ap, subst, ◌∙◌, List, ◌∷◌, if◌then◌else◌}
+use Rattle.std.proofs.Common.{◌≡◌, Bool, true, false, is_some, Option, Some, None, Result, Ok}
+use Rattle.std.proofs.Common.{Err, inl, inr, IfOk, IfErr}
+use Rattle.std.proofs.Common.{OnOk, refl, sym, ap, subst, ◌∙◌, List, ◌∷◌}
 use Rattle.h2_wire.specs.Cutter.{CutterState}
 use Rattle.h2_log.specs.declared.refusal.Refusal.{Refusal}
 use Rattle.h2_log.specs.Acts.{Values, Act, Answer, Refused, IsTypedAct, Open, SendFields, SendData}

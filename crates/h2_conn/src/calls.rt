@@ -1,7 +1,6 @@
 //! The calls of a connection.
 
 ghost use Rattle.std.specs.Prelude.{◌≡◌, IfOk, OnErr};
-ghost use Rattle.hpack.specs.Written.{AreOctets};
 ghost use Rattle.h2_log.specs.Acts.{Open, SendFields, SendData, Release, ResetStream, Refuse};
 ghost use Rattle.h2_log.specs.Acts.{SendPing, SendGoAway, ChangeSettings, PutOut};
 ghost use Rattle.h2_log.specs.Acts.{Number, Count, Done};
@@ -11,7 +10,7 @@ ghost use Rattle.h2_conn.specs.Conn.{ConnAnswers, ConnShows, GivesOut, answer_by
 use crate::conn::Conn;
 use h2_config::Config;
 use h2_log::Refusal;
-use hpack::{Field, list_size};
+use hpack::Field;
 
 impl Conn {
     /// Opens a stream with a field block; `end` says that nothing follows on it (END_STREAM).
@@ -24,7 +23,6 @@ impl Conn {
         ensures { ConnAnswers self.old (Open fields.now end) (answer_by (λ id. Number id) result)
             self.new }
     {
-        check_octets(fields);
         self.inner.end.open(fields, end)
     }
 
@@ -37,7 +35,6 @@ impl Conn {
         ensures { ConnAnswers self.old (SendFields id fields.now end)
             (answer_by (λ done. Done) result) self.new }
     {
-        check_octets(fields);
         self.inner.end.send_fields(id, fields, end)
     }
 
@@ -150,12 +147,4 @@ impl Conn {
     {
         self.inner.end.put_out(count, out)
     }
-}
-
-/// Names and values are octets, which contracts speak of. The sum isn't used, so that compilers
-/// drop it.
-fn check_octets(fields: &[Field])
-    ensures { AreOctets fields.now }
-{
-    let _size = list_size(fields);
 }

@@ -1,6 +1,6 @@
 -- Opening a stream: what holds where no condition refuses it, and what it makes of an end.
 use Rattle.std.proofs.Common.{◌≡◌, ℕ, ◌+◌, ◌==◌, ◌≤◌, ◌<◌, Bool, true, false, List, [], ◌∷◌}
-use Rattle.std.proofs.Common.{if◌then◌else◌, Option, Some, None, refl, sym, ap, ◌∙◌, arith}
+use Rattle.std.proofs.Common.{if◌then◌else◌, Option, Some, None, refl, ap, ◌∙◌, arith}
 use Rattle.std.specs.Option.{is_some}
 use Rattle.std.specs.FinMap as map
 use Rattle.std.proofs.lemmas.Bool.{ltb-false, eqb-true, or_parts}

@@ -3,7 +3,7 @@
 use Rattle.std.proofs.Common.{ap, sym, ◌∙◌, suc, ◌+◌, take, add-one}
 use Rattle.std.proofs.lemmas.List.{length-take-le}
 use Rattle.std.proofs.Common.{◌≡◌, ℕ, ◌-◌, ◌≤◌, ◌<◌, ◌==◌, not, ◌&&◌, Bool, true, false, List, []}
-use Rattle.std.proofs.Common.{◌∷◌, ◌++◌, length, pos, ◌-ℤ◌, Option, Some, None, refl, arith}
+use Rattle.std.proofs.Common.{◌∷◌, ◌++◌, length, pos, ◌-ℤ◌, Some, None}
 use Rattle.std.proofs.lemmas.Bool.{lt-leb, lt-ltb, le-ltb}
 use Rattle.hpack.specs.declared.types.field.Field.{Field}
 use Rattle.hpack.specs.Choice.{block_of, after_block}
@@ -17,7 +17,6 @@ use Rattle.h2_log.specs.CallRules.{items_of, data_frames, encoder_after_call}
 use Rattle.h2_log.specs.View.{StreamView}
 use Rattle.h2_machine.specs.End.{End, end_view, stream_at}
 use Rattle.h2_machine.specs.Machine.{after_call, update_stream, queue_output, with_encoder}
-use Rattle.h2_core.proofs.CallConditions.{holds_first, others_decide}
 
 -- The first condition that holds is the first among more.
 pub first_kept : (conditions more : List (Bool × Refusal)) (refusal : Refusal)

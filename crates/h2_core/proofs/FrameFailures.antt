@@ -1,7 +1,7 @@
 -- Items that don't fail the connection leave it up; and what stands where it fails.
-use Rattle.std.proofs.Common.{◌≡◌, ◌≢◌, ◌<◌, ◌≤◌, ◌^◌, ◌+◌, ℕ, ◌==◌, ◌&&◌, not, Bool, true, false}
-use Rattle.std.proofs.Common.{max, pos, if◌then◌else◌, ◌+ℤ◌, List, [], ◌∷◌, ◌++◌, length, Option}
-use Rattle.std.proofs.Common.{Some, None, Result, nat_lt, Ok, Err, ◌⊎◌, inl, inr, is_some, refl}
+use Rattle.std.proofs.Common.{◌≡◌, ◌≢◌, ◌<◌, ◌^◌, ℕ, ◌==◌, ◌&&◌, not, Bool, true, false}
+use Rattle.std.proofs.Common.{max, if◌then◌else◌, List, [], ◌++◌, length, Option}
+use Rattle.std.proofs.Common.{Some, None, nat_lt, Err, ◌⊎◌, inl, inr, is_some, refl}
 use Rattle.std.proofs.Common.{sym, ap, subst, ◌∙◌, ◌||◌, arith}
 use Rattle.std.proofs.lemmas.Bool.{le-ltb, lt-ltb}
 use Rattle.hpack.specs.Blocks.{Block as BlockSays}
@@ -17,13 +17,12 @@ use Rattle.h2_frame.specs.declared.code.Code.{Code}
 use Rattle.h2_frame.specs.declared.code.Code.TheVariants.{CompressionError, InternalError}
 use Rattle.h2_frame.specs.Codes.{code_number}
 use Rattle.h2_frame.specs.Encoding.{encoding_of}
-use Rattle.h2_frame.specs.Frames.{Frame, Data, Reset, Settings, Ping, GoAway, WindowUpdate}
+use Rattle.h2_frame.specs.Frames.{Data, Reset, Settings, Ping, GoAway, WindowUpdate}
 use Rattle.h2_block.specs.Grouping.{Item, alone, block}
 use Rattle.h2_log.specs.Items.{encoding_of_items, encoding_of_item}
 use Rattle.h2_log.specs.CallRules.{returns_credit}
 use Rattle.h2_log.specs.Acts.{Values}
 use Rattle.h2_log.specs.View.{StreamView}
-use Rattle.h2_log.specs.States.{State}
 use Rattle.h2_log.specs.Verdicts.{Verdict, ConnectionFault, StreamFault, NoEvent, Reported}
 use Rattle.h2_log.specs.ItemRules.{Decoded, is_idle, is_at_capacity, peer_opens, opened_by}
 use Rattle.h2_log.specs.ItemRules.{verdict_of, verdict_by_rules, over_limits, replies_to}
@@ -37,7 +36,7 @@ use Rattle.h2_core.specs.Endpoint.{IsSound}
 use Rattle.h2_core.specs.Failure.{FailsAlike}
 use Rattle.h2_core.specs.Items.{ItemTaken, TakesItem}
 use Rattle.h2_core.specs.Frames.{FailsWithoutMemory}
-use Rattle.h2_core.specs.Blocks.{BlockTaken, BlockFails, TakesBlock, IsDecodedOf}
+use Rattle.h2_core.specs.Blocks.{BlockTaken, BlockFails}
 use Rattle.h2_core.specs.Stops.{IsSmall, FailsBy}
 use Rattle.h2_core.specs.declared.reader.Reported.{Reported as Answer}
 use Rattle.h2_core.specs.declared.reader.StepError.{StepError}

@@ -1,21 +1,18 @@
 -- What a gatherer makes of a frame is the step of the rules.
-use Rattle.std.proofs.Common.{◌≡◌, ◌≢◌, ◌<◌, ◌≤◌, ◌^◌, ◌+◌, ℕ, ◌==◌, nat_lt, not, Bool, true, false}
+use Rattle.std.proofs.Common.{◌≡◌, ◌<◌, ◌≤◌, ◌^◌, ◌+◌, ℕ, ◌==◌, nat_lt, not, Bool, true, false}
 use Rattle.std.proofs.Common.{if◌then◌else◌, List, [], ◌∷◌, ◌++◌, length, Option, Some, None, Ok}
-use Rattle.std.proofs.Common.{Err, Result, inl, inr, refl, sym, ap, subst, ◌∙◌, append-nil}
-use Rattle.std.proofs.Common.{length-append, ◌⊎◌, arith, ltb-false, ltb-true, eqb-true}
+use Rattle.std.proofs.Common.{inl, inr, refl, sym, ap, subst, append-nil}
+use Rattle.std.proofs.Common.{length-append, ◌⊎◌, arith, ltb-false, eqb-true}
 use Rattle.h2_frame.specs.Frames.{Frame, Data, Headers, Priority, Reset, Settings, Ping, GoAway}
-use Rattle.h2_frame.specs.Frames.{WindowUpdate, Continuation, Unknown, frame_of}
-use Rattle.h2_frame.specs.Encoding.{refusal, stream_of, kind_of_frame, payload_of, has_good_values}
-use Rattle.h2_frame.specs.Heads.{fits_stream}
-use Rattle.h2_frame.specs.declared.frame.FrameRef.{FrameRef}
+use Rattle.h2_frame.specs.Frames.{WindowUpdate, Continuation, Unknown}
+use Rattle.h2_frame.specs.Encoding.{refusal}
 use Rattle.h2_block.specs.declared.fault.BlockFault.{BlockFault}
 use Rattle.h2_block.specs.declared.fault.BlockFault.TheVariants as faults
 use Rattle.h2_block.specs.declared.gathered.Gathered.{Gathered}
-use Rattle.h2_block.specs.declared.gathered.Gathered.TheVariants.{Pass, More, Block}
-use Rattle.h2_block.specs.Grouping.{Item, alone, block, Begun, Groups, IsBegun, IsLeft, IsSingle}
-use Rattle.h2_block.specs.Grouping.{IsEnded, next_fault, fault_outside, fault_inside, is_standalone}
+use Rattle.h2_block.specs.Grouping.{Item, alone, block, Begun, Groups, IsBegun}
+use Rattle.h2_block.specs.Grouping.{next_fault, fault_outside, fault_inside, is_standalone}
 use Rattle.h2_block.specs.Grouping.{max_block_octets}
-use Rattle.h2_block.specs.Gather.{GatherState, GatherRepresents, GatherContinues, gathered_items}
+use Rattle.h2_block.specs.Gather.{GatherState, GatherContinues, gathered_items}
 use Rattle.h2_block.specs.Gather.{ReportsFault, GatherFails, GatherFaults}
 use Rattle.h2_core.proofs.FrameWritable.{headers_number, continuation_number}
 use Rattle.h2_block.proofs.RunLemmas.{one_grouping_lem}

@@ -1,6 +1,6 @@
 -- What a frame makes of an end, by the step of the rules.
-use Rattle.std.proofs.Common.{◌≡◌, ◌≢◌, ◌≤◌, ◌+◌, ℕ, not, ◌&&◌, Bool, true, false, max}
-use Rattle.std.proofs.Common.{if◌then◌else◌, List, [], ◌∷◌, length, Option, Some, None, Result, Ok}
+use Rattle.std.proofs.Common.{◌≡◌, ◌≤◌, ℕ, not, ◌&&◌, Bool, true, false, max}
+use Rattle.std.proofs.Common.{List, length, Option, Some, None, Result, Ok}
 use Rattle.std.proofs.Common.{Err, ◌⊎◌, inl, inr, refl, sym, ap, subst, ◌∙◌, arith}
 use Rattle.hpack.specs.declared.types.field.Field.{Field}
 use Rattle.h2_frame.specs.declared.code.Code.{Code}
@@ -8,10 +8,9 @@ use Rattle.h2_frame.specs.declared.code.Code.TheVariants.{InternalError, Protoco
 use Rattle.h2_frame.specs.Frames.{Frame, Headers}
 use Rattle.h2_block.specs.declared.fault.BlockFault.{BlockFault}
 use Rattle.h2_block.specs.Gather.{block_fault_code}
-use Rattle.h2_block.specs.Grouping.{Item, alone, block, Begun, next_fault, fault_outside}
+use Rattle.h2_block.specs.Grouping.{alone, block, Begun, next_fault, fault_outside}
 use Rattle.h2_block.specs.Grouping.{max_block_octets}
 use Rattle.std.proofs.lemmas.Bool.{le-ltb}
-use Rattle.h2_log.specs.Verdicts.{ConnectionFault}
 use Rattle.h2_log.specs.ItemRules.{Decoded, FrameStep, fails_with, begins_block, completes, grouped}
 use Rattle.h2_log.specs.ItemRules.{frame_step, grouping_step, may_be_first, verdict_of, opened_by}
 use Rattle.h2_machine.specs.End.{End, end_view}
@@ -22,7 +21,7 @@ use Rattle.h2_core.specs.Failure.{FailsAlike}
 use Rattle.h2_core.specs.Items.{ItemTaken, TakesItem, item_events}
 use Rattle.h2_core.specs.Frames.{FrameTaken, FrameFails, FailsWithoutMemory, TakesFrame}
 use Rattle.h2_core.specs.Frames.{IsDecodedBy, step_events}
-use Rattle.h2_core.specs.Blocks.{BlockTaken, BlockFails, TakesBlock, IsDecodedOf}
+use Rattle.h2_core.specs.Blocks.{TakesBlock, IsDecodedOf}
 use Rattle.h2_core.specs.Stops.{IsSmall, FailsBy}
 use Rattle.h2_core.specs.declared.reader.Reported.{Reported as Answer}
 use Rattle.h2_core.specs.declared.reader.StepError.{StepError}

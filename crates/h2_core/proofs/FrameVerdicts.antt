@@ -1,22 +1,22 @@
 -- What the rules make of a field block that is received, case by case.
-use Rattle.std.proofs.Common.{◌≡◌, ◌≢◌, ◌<◌, ◌≤◌, ◌^◌, ◌+◌, ◌-◌, ℕ, ◌%◌, ◌==◌, nat_lt, nat_le, not}
-use Rattle.std.proofs.Common.{◌&&◌, ◌||◌, Bool, true, false, if◌then◌else◌, max, List, [], ◌∷◌}
+use Rattle.std.proofs.Common.{◌≡◌, ◌+◌, ◌-◌, ℕ, ◌%◌, ◌==◌, nat_lt, nat_le, not}
+use Rattle.std.proofs.Common.{◌&&◌, ◌||◌, Bool, true, false, if◌then◌else◌, List, [], ◌∷◌}
 use Rattle.std.proofs.Common.{length, Option, Some, None, Result, Ok, Err, is_some, refl, sym, ap}
-use Rattle.std.proofs.Common.{◌∙◌, arith, ltb-true, eqb-true}
+use Rattle.std.proofs.Common.{◌∙◌, ltb-true, eqb-true}
 use Rattle.std.proofs.lemmas.Bool.{and_parts}
 use Rattle.std.specs.FinMap as map
 use Rattle.hpack.specs.declared.types.field.Field.{Field}
 use Rattle.hpack.specs.Lists.{list_size}
 use Rattle.h2_frame.specs.declared.code.Code.{Code}
 use Rattle.h2_frame.specs.declared.code.Code.TheVariants.{ProtocolError, StreamClosed}
-use Rattle.h2_frame.specs.declared.code.Code.TheVariants.{RefusedStream, EnhanceYourCalm}
+use Rattle.h2_frame.specs.declared.code.Code.TheVariants.{EnhanceYourCalm}
 use Rattle.h2_frame.specs.Codes.{code_number}
 use Rattle.h2_frame.specs.Frames.{Reset as ResetFrame}
 use Rattle.h2_block.specs.Grouping.{Item, alone, block}
 use Rattle.h2_log.specs.Settings.{is_server}
 use Rattle.h2_log.specs.States.{State, Idle, Active, ClosedByUs, Closed}
 use Rattle.h2_log.specs.Items.{stream_of_item, encoding_of_items}
-use Rattle.h2_log.specs.Limits.{max_list, max_output, max_resets, max_frame_size_sent}
+use Rattle.h2_log.specs.Limits.{max_list, max_output, max_resets}
 use Rattle.h2_log.specs.View.{StreamView, ended_in}
 use Rattle.h2_log.specs.Verdicts.{Verdict, ConnectionFault, StreamFault, NoEvent}
 use Rattle.h2_log.specs.Verdicts.{Reported, block_verdict, opening_verdict}
@@ -30,10 +30,10 @@ use Rattle.h2_machine.specs.End.{owed_entry, Entry, active_entry, stream_in, is_
 use Rattle.h2_machine.specs.Machine.{after_item, after_verdict, after_stream_fault, after_ignored}
 use Rattle.h2_machine.specs.Machine.{after_reported, is_fresh, with_table_after, add_unreturned}
 use Rattle.h2_machine.specs.Machine.{return_credit, more_unreturned, mark_used, reset_stream}
-use Rattle.h2_machine.specs.Machine.{queue_output, is_one, is_calm, receive_block, update_stream}
+use Rattle.h2_machine.specs.Machine.{queue_output, is_one, is_calm, receive_block}
 use Rattle.h2_log.specs.CallRules.{returns_credit}
 use Rattle.h2_core.specs.Endpoint.{end_of, IsSound}
-use Rattle.h2_core.specs.Items.{ItemTaken, TakesItem, events_in, item_events, needs_memory}
+use Rattle.h2_core.specs.Items.{ItemTaken, TakesItem, item_events, needs_memory}
 use Rattle.h2_core.specs.declared.reader.Reported.{Reported as Answer}
 use Rattle.h2_core.specs.declared.reader.Reported.TheVariants.{Reset, Fields}
 use Rattle.h2_core.specs.declared.endpoint.Endpoint.{Endpoint}

@@ -1,6 +1,6 @@
 -- What a step makes of a frame alone, by its verdict.
-use Rattle.std.proofs.Common.{◌≡◌, ℕ, ◌+◌, nat_le, nat_lt, ◌||◌, Bool, true, false}
-use Rattle.std.proofs.Common.{if◌then◌else◌, List, [], ◌∷◌, length, Some, None, Err, refl}
+use Rattle.std.proofs.Common.{◌≡◌, ℕ, true, false}
+use Rattle.std.proofs.Common.{if◌then◌else◌, List, [], ◌∷◌, Some, None, Err, refl}
 use Rattle.std.proofs.Common.{ap, sym, ◌∙◌, Option, Result, Ok}
 use Rattle.hpack.specs.declared.types.field.Field.{Field}
 use Rattle.h2_frame.specs.declared.code.Code.{Code}
@@ -10,7 +10,6 @@ use Rattle.h2_frame.specs.Frames.{Frame, Reset as ResetFrame}
 use Rattle.h2_block.specs.Grouping.{alone}
 use Rattle.h2_log.specs.Items.{encoding_of_items, stream_of_item}
 use Rattle.h2_log.specs.Events.{Event, ResetEvent}
-use Rattle.h2_log.specs.Limits.{max_output, max_resets}
 use Rattle.h2_log.specs.View.{View}
 use Rattle.h2_log.specs.Verdicts.{Verdict, ConnectionFault, StreamFault, NoEvent, Reported}
 use Rattle.h2_log.specs.ItemRules.{verdict_by_rules, verdict_of, over_limits, replies_to, opened_by}

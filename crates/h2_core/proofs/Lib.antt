@@ -14,7 +14,6 @@ mod StepCalls
 mod StepRefuse
 -- Octets that are released.
 mod StepRelease
-mod ItemResults
 mod ItemStatuses
 mod ItemVerdicts
 mod ItemPings

@@ -2,7 +2,7 @@
 -- after them.
 use Rattle.std.proofs.Common.{◌≡◌, ◌≢◌, ℕ, zero, suc, ◌+◌, ◌==◌, ◌<◌, ◌≤◌, min, Bool, true, false}
 use Rattle.std.proofs.Common.{nat_lt, List, []}
-use Rattle.std.proofs.Common.{◌∷◌, ◌++◌, length, Option, Some, None, Err, refl, sym, ◌∙◌, is_some}
+use Rattle.std.proofs.Common.{◌∷◌, ◌++◌, length, Option, Some, None, Err, refl, sym, ◌∙◌}
 use Rattle.std.proofs.Common.{arith}
 use Rattle.std.proofs.Common.{if◌then◌else◌, eqb}
 use Rattle.std.proofs.lemmas.Bool.{lt-ltb, le-ltb, ne_eqb}
@@ -20,7 +20,7 @@ use Rattle.h2_log.specs.Items.{encoding_of_items, encoding_of_item}
 use Rattle.h2_log.specs.Settings.{value_after}
 use Rattle.h2_log.specs.Events.{AckedEvent}
 use Rattle.h2_log.specs.View.{View}
-use Rattle.h2_log.specs.Verdicts.{Verdict, ConnectionFault, NoEvent, Reported}
+use Rattle.h2_log.specs.Verdicts.{ConnectionFault, NoEvent, Reported}
 use Rattle.h2_log.specs.ItemRules.{settings_fault, verdict_of, verdict_by_rules, replies_to}
 use Rattle.h2_log.specs.ItemRules.{over_limits}
 use Rattle.h2_log.specs.ItemRules.{opened_by}

@@ -1,23 +1,18 @@
 -- What steps make of a field block that is received.
-use Rattle.std.specs.Prelude.{◌≡◌, ◌⊎◌, ℕ, Bool, false, List, [], ◌∷◌, nat_le, nat_lt, ◌||◌}
-use Rattle.std.specs.Prelude.{length, true, Option, Some, None, Result, Ok, Err, ◌+◌}
+use Rattle.std.specs.Prelude.{◌≡◌, ◌⊎◌, ℕ, Bool, false, List, nat_lt}
+use Rattle.std.specs.Prelude.{Option, Some, None, Result, Ok, Err}
 use Rattle.hpack.specs.declared.types.field.Field.{Field}
 use Rattle.hpack.specs.Blocks.{Block as BlockSays}
 use Rattle.hpack.specs.Lists.{NoBlock, list_size}
 use Rattle.h2_frame.specs.declared.code.Code.{Code}
-use Rattle.h2_frame.specs.declared.code.Code.TheVariants.{EnhanceYourCalm}
-use Rattle.h2_frame.specs.Codes.{code_number}
-use Rattle.h2_frame.specs.Frames.{Reset as ResetFrame}
-use Rattle.h2_block.specs.Grouping.{alone, block}
+use Rattle.h2_block.specs.Grouping.{block}
 use Rattle.h2_log.specs.ItemRules.{Decoded}
 use Rattle.h2_log.specs.Limits.{max_list}
 use Rattle.h2_machine.specs.End.{End}
-use Rattle.h2_machine.specs.Machine.{after_item, reset_stream, queue_output}
+use Rattle.h2_machine.specs.Machine.{after_item}
 use Rattle.h2_core.specs.declared.endpoint.Endpoint.{Endpoint}
 use Rattle.h2_core.specs.declared.reader.Reported.{Reported}
-use Rattle.h2_core.specs.declared.reader.Reported.TheVariants.{Reset}
 use Rattle.h2_core.specs.declared.reader.StepError.{StepError}
-use Rattle.h2_core.specs.declared.reader.StepError.TheVariants.{Fault, OutOfMemory}
 use Rattle.h2_core.specs.Endpoint.{end_of}
 use Rattle.h2_core.specs.Failure.{FailsAlike}
 use Rattle.h2_core.specs.Items.{TakesItem, events_in, item_events}

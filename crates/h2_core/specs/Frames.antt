@@ -1,13 +1,13 @@
 -- What a call that takes a frame makes of an end, and what it answers.
 use Rattle.std.specs.Prelude.{not, ◌&&◌, false}
-use Rattle.std.specs.Prelude.{◌≡◌, ◌⊎◌, ℕ, List, [], Option, Some, None, Result, Ok, Err}
+use Rattle.std.specs.Prelude.{◌≡◌, ◌⊎◌, List, [], Option, Some, None, Result, Ok, Err}
 use Rattle.hpack.specs.Blocks.{Block}
 use Rattle.hpack.specs.Lists.{NoBlock}
 use Rattle.hpack.specs.declared.types.field.Field.{Field}
 use Rattle.h2_frame.specs.declared.code.Code.{Code}
 use Rattle.h2_frame.specs.declared.code.Code.TheVariants.{InternalError}
 use Rattle.h2_frame.specs.Frames.{Frame}
-use Rattle.h2_block.specs.Grouping.{Begun, alone, block}
+use Rattle.h2_block.specs.Grouping.{alone, block}
 use Rattle.h2_log.specs.Events.{Event}
 use Rattle.h2_log.specs.ItemRules.{Decoded, FrameStep, fails_with, begins_block, completes}
 use Rattle.h2_log.specs.ItemRules.{frame_step, may_be_first}

@@ -18,7 +18,8 @@ use Rattle.h2_core.specs.Endpoint.{end_of}
 
 -- Whether a further RST_STREAM is more than an end sends.
 abbrev pub is_over_limits : End → Bool
-is_over_limits e = nat_le max_resets e.streams.resets || nat_lt max_output (length e.output.waiting + 13)
+is_over_limits e =
+    nat_le max_resets e.streams.resets || nat_lt max_output (length e.output.waiting + 13)
 
 -- A stream is reset with the code, and what the item took of the connection's window is unreturned;
 -- or that is one more RST_STREAM than this end sends, and nothing has changed; or it isn't, but

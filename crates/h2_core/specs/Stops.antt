@@ -1,5 +1,5 @@
 -- Why a step stops, and how the connection fails for it.
-use Rattle.std.specs.Prelude.{◌≡◌, ◌<◌, ◌^◌, ℕ, max, Some}
+use Rattle.std.specs.Prelude.{◌≡◌, ◌<◌, ◌^◌, max}
 use Rattle.h2_frame.specs.declared.code.Code.{Code}
 use Rattle.h2_frame.specs.declared.code.Code.TheVariants.{InternalError}
 use Rattle.h2_machine.specs.End.{End}

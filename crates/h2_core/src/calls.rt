@@ -1,7 +1,7 @@
 //! Calls that send messages: field blocks and DATA (RFC 9113, sections 6.1, 6.2 and 8.1).
 
-ghost use Rattle.std.specs.Prelude.{◌≡◌, ℕ, ◌+◌, ◌-◌, ◌*◌, ◌/◌, ◌≤◌, ◌<◌, ◌^◌, ◌==◌, Bool, List, [], ◌∷◌};
-ghost use Rattle.std.specs.Prelude.{pos, ◌-ℤ◌, not, ◌&&◌, length, None};
+ghost use Rattle.std.specs.Prelude.{◌≡◌, ℕ, ◌+◌, ◌-◌, ◌*◌, ◌/◌, ◌≤◌, ◌<◌, ◌^◌, ◌==◌, Bool, List};
+ghost use Rattle.std.specs.Prelude.{[], ◌∷◌, pos, ◌-ℤ◌, not, ◌&&◌, length, None};
 ghost use Rattle.std.specs.Prelude.{Some, false, is_some, ◌||◌, ◌++◌, IfOk, IfErr, OnOk, OnErr};
 ghost use Rattle.hpack.specs.Choice.{block_of, after_block};
 ghost use Rattle.hpack.specs.Lists.{list_size};

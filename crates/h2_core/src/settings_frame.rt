@@ -1,7 +1,7 @@
 //! Own SETTINGS (RFC 9113, section 6.5).
 
-ghost use Rattle.std.specs.Prelude.{◌≡◌, ◌≤◌, ◌<◌, ◌^◌, ◌+◌, ◌*◌, ◌++◌, [], ◌∷◌, length, false, OnOk};
-ghost use Rattle.std.specs.Prelude.{IfErr};
+ghost use Rattle.std.specs.Prelude.{◌≡◌, ◌≤◌, ◌<◌, ◌^◌, ◌+◌, ◌*◌, ◌++◌, [], ◌∷◌, length, false};
+ghost use Rattle.std.specs.Prelude.{OnOk, IfErr};
 ghost use Rattle.byteorder.specs.Endian.{big_bytes};
 ghost use Rattle.h2_frame.specs.Frames.{Settings};
 ghost use Rattle.h2_frame.specs.Encoding.{encoding_of, pair_octets};

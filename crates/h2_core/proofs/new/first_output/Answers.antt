@@ -1,11 +1,7 @@
 -- At a client the preface precedes SETTINGS.
 use Rattle.std.proofs.Common.{◌≡◌, true, false, not, [], refl}
 use Rattle.h2_wire.specs.Streams.{expected_preface, preface}
-use Rattle.h2_frame.specs.Encoding.{encoding_of}
-use Rattle.h2_frame.specs.Frames.{Settings}
 use Rattle.h2_log.specs.Settings.{is_server}
-use Rattle.h2_log.specs.CallRules.{opening_pairs}
-use Rattle.h2_config.specs.ConfigValues.{values_of}
 use Rattle.h2_log.specs.declared.role.Role.{Role}
 use Rattle.h2_log.specs.declared.role.Role.TheVariants.{Client, Server}
 use Rattle.h2_log.specs.contracts.role.Role.{the_type}

@@ -1,6 +1,5 @@
 -- What waits, with the pairs to come, is what waited with the frame; and there is room for these.
-use Rattle.std.proofs.Common.{◌≡◌, ◌+◌, ◌*◌, ◌-◌, ◌≤◌, ◌++◌, ◌∷◌, [], length, drop, flat_map, false}
-use Rattle.byteorder.specs.Endian.{big_bytes}
+use Rattle.std.proofs.Common.{◌≡◌, ◌*◌, ◌-◌, ◌≤◌, ◌++◌, length, drop, flat_map, false}
 use Rattle.h2_frame.specs.Encoding.{pair_octets}
 use Rattle.h2_core.proofs.settings_frame.add_settings.Given as goal
 

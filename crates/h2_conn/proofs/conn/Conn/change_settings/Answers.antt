@@ -14,7 +14,8 @@ invariant_of-self c =
     let e = end_of c.args.self.now.inner.end in
     let new = end_of c.change_settings.new.self in
     let act = ChangeSettings (values_of c.args.config) in
-    let was = was_up c.change_settings.result e new act refl c.change_settings.ensures.ok c.change_settings.ensures.err in
+    let was = was_up c.change_settings.result e new act refl c.change_settings.ensures.ok
+    c.change_settings.ensures.err in
     record {
       sound = λ up. let before : e.failed ≡ None = was up in
           sound_by c.change_settings.result e new act c.args.config.in_range (search rules)

@@ -14,10 +14,12 @@ invariant_of-self c =
     let e = end_of c.args.self.now.inner.end in
     let new = end_of c.send_data.new.self in
     let act = SendData c.args.id c.args.octets.now c.args.end in
-    let was = was_up c.send_data.result e new act refl (beside_value _ _ c.send_data.result c.send_data.ensures.ok) c.send_data.ensures.err in
+    let was = was_up c.send_data.result e new act refl
+    (beside_value _ _ c.send_data.result c.send_data.ensures.ok) c.send_data.ensures.err in
     record {
       sound = λ up. let before : e.failed ≡ None = was up in
-          sound_by c.send_data.result e new act (c.ranges.id.fits, all_octets c.args.octets.now c.type_inv.octets) (search rules)
+          sound_by c.send_data.result e new act
+          (c.ranges.id.fits, all_octets c.args.octets.now c.type_inv.octets) (search rules)
           (beside_value _ _ c.send_data.result c.send_data.ensures.ok) c.send_data.ensures.err;
       cuts = λ up. let before : e.failed ≡ None = was up in search rules;
     }

@@ -13,10 +13,12 @@ invariant_of-self c =
     let e = end_of c.args.self.now.inner.end in
     let new = end_of c.send_fields.new.self in
     let act = SendFields c.args.id c.args.fields.now c.args.end in
-    let was = was_up c.send_fields.result e new act refl c.send_fields.ensures.ok c.send_fields.ensures.err in
+    let was = was_up c.send_fields.result e new act refl c.send_fields.ensures.ok
+    c.send_fields.ensures.err in
     record {
       sound = λ up. let before : e.failed ≡ None = was up in
-          sound_by c.send_fields.result e new act (c.ranges.id.fits, c.check_octets.ensures) (search rules)
+          sound_by c.send_fields.result e new act
+          (c.ranges.id.fits, c.send_fields.ensures.octets) (search rules)
           c.send_fields.ensures.ok c.send_fields.ensures.err;
       cuts = λ up. let before : e.failed ≡ None = was up in search rules;
     }
@@ -25,5 +27,5 @@ pub returns : goal.returns
 unfolding IsTypedAct may_lack_memory
 returns c =
     done_by Done c.send_fields.result _ _ _ _ refl
-    (c.ranges.id.fits, c.check_octets.ensures) refl refl
+    (c.ranges.id.fits, c.send_fields.ensures.octets) refl refl
     c.send_fields.ensures.ok c.send_fields.ensures.err

@@ -13,10 +13,11 @@ invariant_of-self c =
     let e = end_of c.args.self.now.inner.end in
     let new = end_of c.open.new.self in
     let act = Open c.args.fields.now c.args.end in
-    let was = was_up c.open.result e new act refl (beside_value _ _ c.open.result c.open.ensures.ok) c.open.ensures.err in
+    let was = was_up c.open.result e new act refl
+    (beside_value _ _ c.open.result c.open.ensures.ok) c.open.ensures.err in
     record {
       sound = λ up. let before : e.failed ≡ None = was up in
-          sound_by c.open.result e new act c.check_octets.ensures (search rules)
+          sound_by c.open.result e new act c.open.ensures.octets (search rules)
           (beside_value _ _ c.open.result c.open.ensures.ok) c.open.ensures.err;
       cuts = λ up. let before : e.failed ≡ None = was up in search rules;
     }
@@ -25,6 +26,6 @@ pub returns : goal.returns
 unfolding IsTypedAct may_lack_memory
 returns c =
     answers_by Number _ _ _ _ _ refl
-    c.check_octets.ensures refl
+    c.open.ensures.octets refl
     (value_as _ _ _ c.open.result (λ value is. ap Number is)
     c.open.ensures.ok) c.open.ensures.err

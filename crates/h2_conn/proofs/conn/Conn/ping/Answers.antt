@@ -17,7 +17,8 @@ invariant_of-self c =
     let was = was_up c.ping.result e new act refl c.ping.ensures.ok c.ping.ensures.err in
     record {
       sound = λ up. let before : e.failed ≡ None = was up in
-          sound_by c.ping.result e new act (search rules, all_octets c.args.octets (λ i. search rules)) (search rules)
+          sound_by c.ping.result e new act
+          (search rules, all_octets c.args.octets (λ i. search rules)) (search rules)
           c.ping.ensures.ok c.ping.ensures.err;
       cuts = λ up. let before : e.failed ≡ None = was up in search rules;
     }

@@ -57,8 +57,9 @@ returns-then-is_err-clause-err c =
 
 pub add_frame-requires-clause-writable : goal.add_frame-requires-clause-writable
 add_frame-requires-clause-writable c =
+    let sound = c.requires.sound c.in_ok-check_up.ensures.ok in
     let last = c.args.self.now.last_processed in
-    let small : last < 2 ^ 31 = last_small (end_of c.args.self.now) (c.requires.sound c.in_ok-check_up.ensures.ok) in
+    let small : last < 2 ^ 31 = last_small (end_of c.args.self.now) sound in
     goaway-written last c.number.result small
 
 pub add_frame-requires-clause-short : goal.add_frame-requires-clause-short

@@ -1,5 +1,5 @@
 use Rattle.std.proofs.Common.{◌≡◌, ℕ, Bool, true, false, not, ◌&&◌, List, refl, sym, ap, ◌∙◌}
-use Rattle.h2_frame.specs.Frames.{Frame, Settings, frame_of}
+use Rattle.h2_frame.specs.Frames.{Settings, frame_of}
 use Rattle.h2_frame.specs.declared.frame.FrameRef.{FrameRef}
 use Rattle.h2_frame.specs.declared.frame.FrameRef.TheVariants as lent
 use Rattle.h2_log.specs.ItemRules.{may_be_first}

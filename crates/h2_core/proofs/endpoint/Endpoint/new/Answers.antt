@@ -1,5 +1,5 @@
 -- Part by part, as each is made.
-use Rattle.std.proofs.Common.{◌≡◌, [], ◌∷◌, ◌++◌, Option, Some, None, length, refl, ap, ◌∙◌, arith}
+use Rattle.std.proofs.Common.{◌≡◌, [], Option, Some, None, length, refl, ap, arith}
 use Rattle.std.proofs.Common.{length-append}
 use Rattle.h2_block.specs.Grouping.{Begun, Groups}
 use Rattle.h2_log.specs.Items.{encoding_of_items, encoding_of_item}

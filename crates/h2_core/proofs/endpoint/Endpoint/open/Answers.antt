@@ -16,14 +16,16 @@ use Rattle.h2_core.proofs.endpoint.Endpoint.open.Goals as goal
 
 pub next_number-id-requires : goal.next_number-id-requires
 next_number-id-requires c =
-    let free = sym (c.refusal_of_open.ensures c.args.fields.now c.args.end c.list_size-size.ensures.size) ∙ c.in_default.is in
+    let free = sym (c.refusal_of_open.ensures c.args.fields.now c.args.end
+    c.list_size-size.ensures.size) ∙ c.in_default.is in
     let up = (may_open (end_of c.args.self.now) c.args.fields.now c.args.end free).up in
     let sound : IsSound (end_of c.args.self.now) = c.requires.sound up in
     search rules
 
 pub open-requires-clause-absent : goal.open-requires-clause-absent
 open-requires-clause-absent c =
-    let free = sym (c.refusal_of_open.ensures c.args.fields.now c.args.end c.list_size-size.ensures.size) ∙ c.in_default.is in
+    let free = sym (c.refusal_of_open.ensures c.args.fields.now c.args.end
+    c.list_size-size.ensures.size) ∙ c.in_default.is in
     let up = (may_open (end_of c.args.self.now) c.args.fields.now c.args.end free).up in
     absent_above (end_of c.args.self.now) c.next_number-id.result (c.requires.sound up) (omega (
       arith,
@@ -33,14 +35,16 @@ open-requires-clause-absent c =
 
 pub open-requires-clause-recv : goal.open-requires-clause-recv
 open-requires-clause-recv c =
-    let free = sym (c.refusal_of_open.ensures c.args.fields.now c.args.end c.list_size-size.ensures.size) ∙ c.in_default.is in
+    let free = sym (c.refusal_of_open.ensures c.args.fields.now c.args.end
+    c.list_size-size.ensures.size) ∙ c.in_default.is in
     let up = (may_open (end_of c.args.self.now) c.args.fields.now c.args.end free).up in
     let sound : IsSound (end_of c.args.self.now) = c.requires.sound up in
     search rules
 
 pub overflow_add-self : goal.overflow_add-self
 overflow_add-self c =
-    let free = sym (c.refusal_of_open.ensures c.args.fields.now c.args.end c.list_size-size.ensures.size) ∙ c.in_default.is in
+    let free = sym (c.refusal_of_open.ensures c.args.fields.now c.args.end
+    c.list_size-size.ensures.size) ∙ c.in_default.is in
     let up = (may_open (end_of c.args.self.now) c.args.fields.now c.args.end free).up in
     let sound : IsSound (end_of c.args.self.now) = c.requires.sound up in
     search rules
@@ -48,12 +52,14 @@ overflow_add-self c =
 pub write_block-requires-clause-up : goal.write_block-requires-clause-up
 write_block-requires-clause-up c =
     (may_open (end_of c.args.self.now) c.args.fields.now c.args.end
-    (sym (c.refusal_of_open.ensures c.args.fields.now c.args.end c.list_size-size.ensures.size) ∙ c.in_default.is)).up
+    (sym (c.refusal_of_open.ensures c.args.fields.now c.args.end
+    c.list_size-size.ensures.size) ∙ c.in_default.is)).up
 
 pub write_block-requires-clause-number : goal.write_block-requires-clause-number
 write_block-requires-clause-number c =
     let may = may_open (end_of c.args.self.now) c.args.fields.now c.args.end
-    (sym (c.refusal_of_open.ensures c.args.fields.now c.args.end c.list_size-size.ensures.size) ∙ c.in_default.is) in
+    (sym (c.refusal_of_open.ensures c.args.fields.now c.args.end
+    c.list_size-size.ensures.size) ∙ c.in_default.is) in
     let above = number_above c.args.self.now.highest in (
       omega (arith, c.next_number-id.ensures, above.0),
       omega (arith, c.next_number-id.ensures, may.number),
@@ -62,14 +68,16 @@ write_block-requires-clause-number c =
 pub write_block-requires-clause-size : goal.write_block-requires-clause-size
 write_block-requires-clause-size c =
     let may = may_open (end_of c.args.self.now) c.args.fields.now c.args.end
-    (sym (c.refusal_of_open.ensures c.args.fields.now c.args.end c.list_size-size.ensures.size)
+    (sym (c.refusal_of_open.ensures c.args.fields.now c.args.end
+    c.list_size-size.ensures.size)
     ∙ c.in_default.is) in
     omega (arith, c.list_size-size.ensures.size, may.small)
 
 pub write_block-requires-clause-small : goal.write_block-requires-clause-small
 write_block-requires-clause-small c =
     let may = may_open (end_of c.args.self.now) c.args.fields.now c.args.end
-    (sym (c.refusal_of_open.ensures c.args.fields.now c.args.end c.list_size-size.ensures.size)
+    (sym (c.refusal_of_open.ensures c.args.fields.now c.args.end
+    c.list_size-size.ensures.size)
     ∙ c.in_default.is) in
     omega (arith, c.list_size-size.ensures.size, may.small)
 
@@ -90,7 +98,8 @@ pub returns-then-is_err-2-clause-err : goal.returns-then-is_err-2-clause-err
 returns-then-is_err-2-clause-err c =
     let e = end_of c.args.self.now in
     let id = c.next_number-id.result in
-    let free = sym (c.refusal_of_open.ensures c.args.fields.now c.args.end c.list_size-size.ensures.size) ∙ c.in_default.is in
+    let free = sym (c.refusal_of_open.ensures c.args.fields.now c.args.end
+    c.list_size-size.ensures.size) ∙ c.in_default.is in
     let added = unless_err c.open.result (cc c.is_err.ensures.value) c.open.ensures.ok in
     let same = if_err c.write_block.result (cc c.is_err-2.ensures.value)
     c.write_block.ensures.err in
@@ -113,7 +122,8 @@ pub returns-clause-ok : goal.returns-clause-ok
 returns-clause-ok c =
     let e = end_of c.args.self.now in
     let id = c.next_number-id.result in
-    let free = sym (c.refusal_of_open.ensures c.args.fields.now c.args.end c.list_size-size.ensures.size) ∙ c.in_default.is in
+    let free = sym (c.refusal_of_open.ensures c.args.fields.now c.args.end
+    c.list_size-size.ensures.size) ∙ c.in_default.is in
     let may = may_open e c.args.fields.now c.args.end free in
     let number : id ≡ (end_view e).next_number = rw may.client c.next_number-id.ensures in
     let added = unless_err c.open.result (cc c.is_err.ensures.value) c.open.ensures.ok in

@@ -1,5 +1,5 @@
 -- The code's tests are the condition of a refusal and the causes for which the connection fails.
-use Rattle.std.proofs.Common.{◌≡◌, ◌≢◌, ◌+◌, ◌≤◌, max, false, ℕ, inl, inr, ap, subst, refl, sym}
+use Rattle.std.proofs.Common.{◌≡◌, ◌≢◌, ◌+◌, ◌≤◌, max, ℕ, inl, inr, ap, subst, refl, sym}
 use Rattle.std.proofs.Common.{arith, ◌∙◌}
 use Rattle.std.proofs.lemmas.Result.{err_from_is_err_and}
 use Rattle.h2_frame.specs.declared.code.Code.TheVariants.{InternalError, EnhanceYourCalm}
@@ -60,16 +60,19 @@ returns-then-is_over_limits c =
     })
 
 pub reset_stream-requires-clause-counted : goal.reset_stream-requires-clause-counted
-reset_stream-requires-clause-counted c = λ _.
-    counted (end_of c.args.self.now) c.args.id (stream_view c.in-Some.stream) (c.requires.sound c.in_ok-check_up.ensures.ok)
+reset_stream-requires-clause-counted c =
+    let sound = c.requires.sound c.in_ok-check_up.ensures.ok in
+    λ _.
+    counted (end_of c.args.self.now) c.args.id (stream_view c.in-Some.stream) sound
     (sym c.in-Some.ensures)
 
 pub reset_stream-requires-clause-window : goal.reset_stream-requires-clause-window
 reset_stream-requires-clause-window c =
+    let sound = c.requires.sound c.in_ok-check_up.ensures.ok in
     let e = end_of c.args.self.now in
     let stream = stream_view c.in-Some.stream in
     let fits : e.windows.recv + (e.windows.unreturned + stream.owed) ≤ 65535 =
-    owed_fits e c.args.id stream (c.requires.sound c.in_ok-check_up.ensures.ok) (sym c.in-Some.ensures) in
+    owed_fits e c.args.id stream sound (sym c.in-Some.ensures) in
     omega (arith, fits)
 
 pub returns-then-is_err : goal.returns-then-is_err

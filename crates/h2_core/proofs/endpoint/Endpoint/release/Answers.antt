@@ -81,12 +81,13 @@ returns-then-is_err-clause-err c =
 
 pub add_frame-requires-clause-writable : goal.add_frame-requires-clause-writable
 add_frame-requires-clause-writable c =
+    let sound = c.requires.sound c.in_ok-check_up.ensures.ok in
     let e = end_of c.args.self.now in
     let stream = stream_view c.in-Some.stream in
     let fits : e.windows.recv + (e.windows.unreturned + stream.owed) ≤ 65535 =
-    owed_fits e c.args.id stream (c.requires.sound c.in_ok-check_up.ensures.ok) (sym c.in-Some.ensures) in
+    owed_fits e c.args.id stream sound (sym c.in-Some.ensures) in
     update-written c.args.id c.args.count
-    (active-number e c.args.id stream (c.requires.sound c.in_ok-check_up.ensures.ok) (sym c.in-Some.ensures))
+    (active-number e c.args.id stream sound (sym c.in-Some.ensures))
     (omega (arith, fits))
 
 pub add_frame-requires-clause-short : goal.add_frame-requires-clause-short
@@ -102,21 +103,23 @@ add_frame-requires-clause-room c =
 
 pub overflow_add-stream : goal.overflow_add-stream
 overflow_add-stream c =
+    let sound = c.requires.sound c.in_ok-check_up.ensures.ok in
     let e = end_of c.args.self.now in
     let stream = stream_view c.in-Some.stream in
     let active = sym c.in-Some.ensures in
     let fits : e.windows.recv + (e.windows.unreturned + stream.owed) ≤ 65535 =
-    owed_fits e c.args.id stream (c.requires.sound c.in_ok-check_up.ensures.ok) active in
+    owed_fits e c.args.id stream sound active in
     widened-fits stream.recv_window c.from.result c.args.count
-    (recv_near e c.args.id stream (c.requires.sound c.in_ok-check_up.ensures.ok) active) c.from.ensures (omega (arith, fits))
-    (widened-near e c.args.id stream c.args.count (c.requires.sound c.in_ok-check_up.ensures.ok) active (omega arith))
+    (recv_near e c.args.id stream sound active) c.from.ensures (omega (arith, fits))
+    (widened-near e c.args.id stream c.args.count sound active (omega arith))
 
 pub add_frame-requires-2-clause-writable : goal.add_frame-requires-2-clause-writable
 add_frame-requires-2-clause-writable c =
+    let sound = c.requires.sound c.in_ok-check_up.ensures.ok in
     let e = end_of c.args.self.now in
     let stream = stream_view c.in-Some.stream in
     let fits : e.windows.recv + (e.windows.unreturned + stream.owed) ≤ 65535 =
-    owed_fits e c.args.id stream (c.requires.sound c.in_ok-check_up.ensures.ok) (sym c.in-Some.ensures) in
+    owed_fits e c.args.id stream sound (sym c.in-Some.ensures) in
     update-written 0 c.args.count (omega arith) (omega (arith, fits))
 
 pub add_frame-requires-2-clause-short : goal.add_frame-requires-2-clause-short
@@ -141,9 +144,10 @@ add_frame-requires-2-clause-room c =
 
 pub set-requires-clause-send : goal.set-requires-clause-send
 set-requires-clause-send c =
+    let sound = c.requires.sound c.in_ok-check_up.ensures.ok in
     let e = end_of c.args.self.now in
     let near =
-    send_near e c.args.id (stream_view c.in-Some.stream) (c.requires.sound c.in_ok-check_up.ensures.ok) (sym c.in-Some.ensures) in
+    send_near e c.args.id (stream_view c.in-Some.stream) sound (sym c.in-Some.ensures) in
     elim c.if-not-stream.branch [
       | then-not-stream w ↦ ap (λ (stream : Stream). is_far stream.send_window) w.stream-is ∙ near
       | else-not-stream w ↦ ap (λ (stream : Stream). is_far stream.send_window) w.stream-is ∙ near
@@ -151,15 +155,16 @@ set-requires-clause-send c =
 
 pub set-requires-clause-recv : goal.set-requires-clause-recv
 set-requires-clause-recv c =
+    let sound = c.requires.sound c.in_ok-check_up.ensures.ok in
     let e = end_of c.args.self.now in
     let stream = stream_view c.in-Some.stream in
     let active = sym c.in-Some.ensures in
     let fits : e.windows.recv + (e.windows.unreturned + stream.owed) ≤ 65535 =
-    owed_fits e c.args.id stream (c.requires.sound c.in_ok-check_up.ensures.ok) active in
+    owed_fits e c.args.id stream sound active in
     let small : c.args.count ≤ 65535 = omega (arith, fits) in
-    let near = recv_near e c.args.id stream (c.requires.sound c.in_ok-check_up.ensures.ok) active in
+    let near = recv_near e c.args.id stream sound active in
     let wide =
-    widened-near e c.args.id stream c.args.count (c.requires.sound c.in_ok-check_up.ensures.ok) active (omega arith) in
+    widened-near e c.args.id stream c.args.count sound active (omega arith) in
     elim c.if-not-stream.branch [
       | then-not-stream w ↦
           ap (λ (stream : Stream). is_far stream.recv_window) w.stream-is
@@ -171,10 +176,11 @@ set-requires-clause-recv c =
 
 pub overflow_add-self : goal.overflow_add-self
 overflow_add-self c =
+    let sound = c.requires.sound c.in_ok-check_up.ensures.ok in
     let e = end_of c.args.self.now in
     let stream = stream_view c.in-Some.stream in
     let fits : e.windows.recv + (e.windows.unreturned + stream.owed) ≤ 65535 =
-    owed_fits e c.args.id stream (c.requires.sound c.in_ok-check_up.ensures.ok) (sym c.in-Some.ensures) in
+    owed_fits e c.args.id stream sound (sym c.in-Some.ensures) in
     omega (arith, fits)
 
 -- an end to which the peer may send so many octets more
@@ -188,15 +194,16 @@ less_owed stream count = record stream { owed = stream.owed - count }
 pub returns-clause-ok : goal.returns-clause-ok
 unfolding conditions
 returns-clause-ok c =
+    let sound = c.requires.sound c.in_ok-check_up.ensures.ok in
     let e = end_of c.args.self.now in
     let stream = stream_view c.in-Some.stream in
     let count = c.args.count in
     let active = sym c.in-Some.ensures in
     let fits : e.windows.recv + (e.windows.unreturned + stream.owed) ≤ 65535 =
-    owed_fits e c.args.id stream (c.requires.sound c.in_ok-check_up.ensures.ok) active in
+    owed_fits e c.args.id stream sound active in
     let small : c.args.count ≤ 65535 = omega (arith, fits) in
-    let near = recv_near e c.args.id stream (c.requires.sound c.in_ok-check_up.ensures.ok) active in
-    let wide = widened-near e c.args.id stream count (c.requires.sound c.in_ok-check_up.ensures.ok) active (omega arith) in
+    let near = recv_near e c.args.id stream sound active in
+    let wide = widened-near e c.args.id stream count sound active (omega arith) in
     let table =
     ap (λ (table : TableState).
     with_table (with_waiting (with_recv e count) c.add_frame-2.new.self.waiting) table)

@@ -53,16 +53,19 @@ returns-then-self-ge-MAX_RESETS-clause-err c =
     ∙ first-here _ _ _ (le-true 1000 e.streams.resets c.if-self-ge-MAX_RESETS.true)) refl
 
 pub reset_stream-requires-clause-counted : goal.reset_stream-requires-clause-counted
-reset_stream-requires-clause-counted c = λ _.
-    counted (end_of c.args.self.now) c.args.id (stream_view c.in-Some.stream) (c.requires.sound c.in_ok-check_up.ensures.ok)
+reset_stream-requires-clause-counted c =
+    let sound = c.requires.sound c.in_ok-check_up.ensures.ok in
+    λ _.
+    counted (end_of c.args.self.now) c.args.id (stream_view c.in-Some.stream) sound
     (sym c.in-Some.ensures)
 
 pub reset_stream-requires-clause-window : goal.reset_stream-requires-clause-window
 reset_stream-requires-clause-window c =
+    let sound = c.requires.sound c.in_ok-check_up.ensures.ok in
     let e = end_of c.args.self.now in
     let stream = stream_view c.in-Some.stream in
     let fits : e.windows.recv + (e.windows.unreturned + stream.owed) ≤ 65535 =
-    owed_fits e c.args.id stream (c.requires.sound c.in_ok-check_up.ensures.ok) (sym c.in-Some.ensures) in
+    owed_fits e c.args.id stream sound (sym c.in-Some.ensures) in
     omega (arith, fits)
 
 pub returns-then-is_err-clause-err : goal.returns-then-is_err-clause-err

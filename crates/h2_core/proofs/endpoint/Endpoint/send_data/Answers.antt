@@ -8,7 +8,7 @@ use Rattle.h2_streams.specs.Streams.{stream_view}
 use Rattle.h2_core.specs.Endpoint.{end_of}
 use Rattle.h2_core.proofs.CallConditions.{refused, lacks_memory}
 use Rattle.h2_core.proofs.CallOutput.{with_waiting}
-use Rattle.h2_core.proofs.CallSend.{first_kept, data_free, data_unsent, after_sent, data_written}
+use Rattle.h2_core.proofs.CallSend.{data_free, data_unsent, after_sent, data_written}
 use Rattle.h2_core.proofs.SoundFacts.{send_near}
 use Rattle.h2_core.proofs.endpoint.Endpoint.send_data.Goals as goal
 use Rattle.h2_core.proofs.endpoint.Endpoint.send_data.Goals.{then-end, else-end}
@@ -21,7 +21,8 @@ returns-in_err-stream-clause-err c =
 
 pub sendable_octets-count-requires : goal.sendable_octets-count-requires
 sendable_octets-count-requires c =
-    send_near (end_of c.args.self.now) c.args.id _ (c.requires.sound c.in_ok-stream.ensures.ok.0) c.in_ok-stream.ensures.ok.1
+    let sound = c.requires.sound c.in_ok-stream.ensures.ok.0 in
+    send_near (end_of c.args.self.now) c.args.id _ sound c.in_ok-stream.ensures.ok.1
 
 pub returns-then-sends_nothing-clause-ok : goal.returns-then-sends_nothing-clause-ok
 returns-then-sends_nothing-clause-ok c =

@@ -1,12 +1,10 @@
 -- The first condition that holds refuses; where none holds, the block joins the output, and the
 -- stream is changed.
-use Rattle.std.proofs.Common.{◌≡◌, ◌∷◌, [], Some, None, ap, sym, ◌∙◌, arith}
+use Rattle.std.proofs.Common.{◌≡◌, ◌∷◌, [], ap, sym, ◌∙◌, arith}
 use Rattle.std.proofs.lemmas.Result.{err_from_is_err_and}
-use Rattle.hpack.specs.Choice.{block_of, after_block}
-use Rattle.h2_block.specs.Grouping.{block}
 use Rattle.h2_log.specs.CallRules.{conditions}
 use Rattle.h2_streams.specs.Streams.{stream_view}
-use Rattle.h2_machine.specs.Machine.{queue_output, with_encoder, update_stream}
+use Rattle.h2_machine.specs.Machine.{update_stream}
 use Rattle.h2_machine.specs.End.{End}
 use Rattle.h2_core.specs.Endpoint.{end_of}
 use Rattle.h2_core.proofs.CallConditions.{refused, lacks_memory, unless_err, if_err}
@@ -37,31 +35,34 @@ returns-then-is_err-clause-err c =
 
 pub update_stream-requires-clause-near : goal.update_stream-requires-clause-near
 update_stream-requires-clause-near c =
+    let sound = c.requires.sound c.in_ok-stream.ensures.ok.0 in
     let active = c.in_ok-stream.ensures.ok.1 in
     record {
-      send = send_near (end_of c.args.self.now) c.args.id _ (c.requires.sound c.in_ok-stream.ensures.ok.0) active;
-      recv = recv_near (end_of c.args.self.now) c.args.id _ (c.requires.sound c.in_ok-stream.ensures.ok.0) active;
+      send = send_near (end_of c.args.self.now) c.args.id _ sound active;
+      recv = recv_near (end_of c.args.self.now) c.args.id _ sound active;
     }
 
 pub update_stream-requires-clause-counted : goal.update_stream-requires-clause-counted
 update_stream-requires-clause-counted c =
+    let sound = c.requires.sound c.in_ok-stream.ensures.ok.0 in
     let wrote = unless_err c.write_block.result (cc c.is_err.ensures.value) c.write_block.ensures.ok
     in
     omega (
       arith,
       ap (λ (e : End). e.streams.active_count) wrote.0,
-      counted (end_of c.args.self.now) c.args.id _ (c.requires.sound c.in_ok-stream.ensures.ok.0) c.in_ok-stream.ensures.ok.1,
+      counted (end_of c.args.self.now) c.args.id _ sound c.in_ok-stream.ensures.ok.1,
     )
 
 pub update_stream-requires-clause-window : goal.update_stream-requires-clause-window
 update_stream-requires-clause-window c =
+    let sound = c.requires.sound c.in_ok-stream.ensures.ok.0 in
     let wrote = unless_err c.write_block.result (cc c.is_err.ensures.value) c.write_block.ensures.ok
     in
     omega (
       arith,
       ap (λ (e : End). e.windows.recv) wrote.0,
       ap (λ (e : End). e.windows.unreturned) wrote.0,
-      owed_fits (end_of c.args.self.now) c.args.id _ (c.requires.sound c.in_ok-stream.ensures.ok.0) c.in_ok-stream.ensures.ok.1,
+      owed_fits (end_of c.args.self.now) c.args.id _ sound c.in_ok-stream.ensures.ok.1,
     )
 
 pub returns-clause-ok : goal.returns-clause-ok

@@ -1,9 +1,8 @@
-use Rattle.std.proofs.Common.{◌≡◌, ◌≤◌, ◌<◌, ◌^◌, ℕ, None, true, ap, refl, inl, inr, arith, Fits}
-use Rattle.std.proofs.Common.{w32}
+use Rattle.std.proofs.Common.{◌≡◌, true, ap, inl, inr, arith}
 use Rattle.h2_frame.specs.Frames.{frame_of}
 use Rattle.h2_frame.specs.declared.frame.FrameRef.{FrameRef}
 use Rattle.h2_core.specs.Endpoint.{end_of}
-use Rattle.h2_core.proofs.FrameWritable.{Writable, writable, data_number, update_number}
+use Rattle.h2_core.proofs.FrameWritable.{writable, data_number, update_number}
 use Rattle.h2_core.proofs.FrameWritable.{update_increment, is_quiet, quiet_taken}
 use Rattle.h2_core.proofs.endpoint.Endpoint.take_alone.Goals as goal
 

@@ -1,8 +1,6 @@
-use Rattle.std.proofs.Common.{◌≡◌, ◌++◌, ℕ, List, [], None, Some, Ok, Err, inl, inr, refl, sym, ap}
+use Rattle.std.proofs.Common.{◌≡◌, ◌++◌, ℕ, [], Some, Ok, Err, inl, inr, refl, sym, ap}
 use Rattle.std.proofs.Common.{subst, ◌∙◌}
 use Rattle.hpack.specs.Lists.{DecoderState}
-use Rattle.h2_frame.specs.declared.code.Code.{Code}
-use Rattle.h2_frame.specs.Codes.{code_number}
 use Rattle.h2_frame.specs.Encoding.{encoding_of}
 use Rattle.h2_frame.specs.Frames.{GoAway}
 use Rattle.h2_block.specs.Grouping.{block}
@@ -12,7 +10,7 @@ use Rattle.h2_core.specs.Endpoint.{end_of, IsSound}
 use Rattle.h2_core.specs.Items.{TakesItem}
 use Rattle.h2_core.proofs.FrameFailures.{table_sound, block_taken, block_stopped, decode_fails}
 use Rattle.h2_core.proofs.FrameFailures.{memory_fails, alike, at_table, from_table, stopped_same}
-use Rattle.h2_core.proofs.FrameFailures.{stopped_small, Held, held, with_decoder}
+use Rattle.h2_core.proofs.FrameFailures.{stopped_small, held, with_decoder}
 use Rattle.h2_core.proofs.endpoint.Endpoint.take_block.Goals as goal
 use Rattle.h2_core.proofs.endpoint.Endpoint.take_block.Goals.{in-Compression, in-Memory}
 

@@ -1,4 +1,4 @@
-use Rattle.std.proofs.Common.{◌≡◌, ℕ, Bool, true, false, List, None, Some, refl, sym, ap, ◌∙◌}
+use Rattle.std.proofs.Common.{false, refl, sym, ◌∙◌}
 use Rattle.h2_machine.specs.End.{End}
 use Rattle.h2_core.specs.Endpoint.{end_of}
 use Rattle.h2_log.specs.States.{ClosedByUs}

@@ -1,8 +1,7 @@
-use Rattle.std.proofs.Common.{◌≡◌, ℕ, None, Some, inl, refl, sym, ap, ◌∙◌, Option, is_some, Bool}
+use Rattle.std.proofs.Common.{◌≡◌, None, Some, inl, refl, sym, ap, ◌∙◌, Option, is_some, Bool}
 use Rattle.std.proofs.Common.{true, false}
 use Rattle.h2_block.specs.Grouping.{Begun}
 use Rattle.h2_frame.specs.Frames.{frame_of, Headers}
-use Rattle.h2_frame.specs.declared.frame.FrameRef.{FrameRef}
 use Rattle.h2_core.specs.Endpoint.{end_of}
 use Rattle.h2_core.proofs.FrameWritable.{headers_number}
 use Rattle.h2_core.proofs.FrameTaking.{early_fails, headers_taken}

@@ -1,6 +1,5 @@
-use Rattle.std.proofs.Common.{◌≡◌, ◌≤◌, ◌<◌, ◌^◌, ℕ, ◌+◌, Bool, true, false, if◌then◌else◌, List}
-use Rattle.std.proofs.Common.{None, Some, arith, refl, sym, ap, ◌∙◌, ◌||◌, inl, inr, ◌⊎◌}
-use Rattle.hpack.specs.declared.types.field.Field.{Field}
+use Rattle.std.proofs.Common.{◌≡◌, ℕ, Bool, true, false, if◌then◌else◌, List}
+use Rattle.std.proofs.Common.{Some, arith, refl, sym, ap, ◌∙◌, ◌||◌, inl, inr, ◌⊎◌}
 use Rattle.h2_frame.specs.declared.code.Code.{Code}
 use Rattle.h2_frame.specs.declared.code.Code.TheVariants.{StreamClosed, EnhanceYourCalm}
 use Rattle.h2_streams.specs.Streams.{stream_view}
@@ -118,6 +117,7 @@ returns c =
     c.if-stream.false (large ∙ c.if-too_large.false))
     (c.update_stream.ensures.list ∙ whole c.if-too_large.false)
     same
-    (received e c.args.id c.args.end (stream_view c.args.stream) c.reserve_if_over.new.output.waiting
-    (end_of c.update_stream.new.self) c.requires.active c.if-stream.false
+    (received e c.args.id c.args.end (stream_view c.args.stream)
+    c.reserve_if_over.new.output.waiting (end_of c.update_stream.new.self) c.requires.active
+    c.if-stream.false
     c.reserve_if_over.ensures.waiting c.update_stream.ensures.after)

@@ -1,19 +1,17 @@
-use Rattle.std.proofs.Common.{◌≡◌, ◌≤◌, ◌<◌, ◌^◌, ℕ, ◌+◌, Bool, true, false, nat_lt, max, not, ◌&&◌}
-use Rattle.std.proofs.Common.{if◌then◌else◌, List, None, Some, Result, Ok, Err, arith, refl, sym}
-use Rattle.std.proofs.Common.{ap, ◌∙◌, is_some, OnOk, ltb-true}
-use Rattle.std.specs.Result.{is_err}
+use Rattle.std.proofs.Common.{◌≡◌, ℕ, ◌+◌, Bool, true, false, max, not}
+use Rattle.std.proofs.Common.{if◌then◌else◌, List, None, Some, arith, refl, sym}
+use Rattle.std.proofs.Common.{ap, ◌∙◌, is_some, ltb-true}
 use Rattle.std.specs.FinMap as map
 use Rattle.std.proofs.lemmas.Result.{err_from_is_err_and}
 use Rattle.h2_frame.specs.declared.code.Code.TheVariants.{RefusedStream, EnhanceYourCalm}
 use Rattle.h2_flow.specs.declared.stream_state.StreamState.{StreamState}
-use Rattle.h2_streams.specs.Streams.{stream_view}
 use Rattle.h2_streams.specs.Table.{TableState}
 use Rattle.h2_log.specs.ItemRules.{Decoded, opened_by, is_at_capacity}
 use Rattle.h2_log.specs.Verdicts.{StreamFault, Reported, NoEvent, opening_verdict}
 use Rattle.h2_log.specs.View.{StreamView}
 use Rattle.h2_block.specs.Grouping.{block}
 use Rattle.h2_machine.specs.End.{End, end_view, stream_at, active_entry}
-use Rattle.h2_machine.specs.Machine.{receive_block, new_stream, is_fresh}
+use Rattle.h2_machine.specs.Machine.{receive_block, new_stream}
 use Rattle.h2_core.specs.declared.endpoint.Endpoint.{Endpoint}
 use Rattle.h2_core.specs.Endpoint.{end_of}
 use Rattle.h2_core.proofs.FrameVerdicts.{by_block, is_too_large, Fresh, fresh_of, fresh_no_stream}

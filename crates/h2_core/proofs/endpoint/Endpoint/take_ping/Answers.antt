@@ -1,5 +1,5 @@
 -- PING is answered.
-use Rattle.std.proofs.Common.{◌≤◌, ◌++◌, ℕ, List, true, false, refl, arith, ap, sym, ◌∙◌}
+use Rattle.std.proofs.Common.{◌≤◌, ◌++◌, ℕ, List, true, false, refl, arith, ap, ◌∙◌}
 use Rattle.h2_frame.specs.Frames.{Ping}
 use Rattle.h2_frame.specs.Encoding.{encoding_of}
 use Rattle.h2_frame.specs.declared.code.Code.TheVariants.{EnhanceYourCalm}

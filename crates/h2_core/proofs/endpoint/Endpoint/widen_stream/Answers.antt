@@ -1,9 +1,8 @@
 -- WINDOW_UPDATE of an active stream widens its window, or resets it.
 use Rattle.std.proofs.Common.{◌≡◌, ◌≢◌, ℤ, false, true, arith}
-use Rattle.std.proofs.Common.{ℕ, None, sym, ap, ◌∙◌, [], ◌∷◌}
+use Rattle.std.proofs.Common.{None, sym, ap, ◌∙◌, [], ◌∷◌}
 use Rattle.h2_frame.specs.Frames.{WindowUpdate, Reset}
 use Rattle.h2_frame.specs.Encoding.{stream_of}
-use Rattle.h2_frame.specs.declared.code.Code.TheVariants.{EnhanceYourCalm}
 use Rattle.h2_block.specs.Grouping.{alone}
 use Rattle.h2_log.specs.Items.{stream_of_item}
 use Rattle.h2_log.specs.Verdicts.{StreamFault}
@@ -15,7 +14,7 @@ use Rattle.h2_machine.specs.Machine.{widen_send_window}
 use Rattle.h2_machine.specs.Machine.{reset_stream, queue_output}
 use Rattle.h2_frame.specs.Codes.{code_number}
 use Rattle.h2_core.specs.Endpoint.{end_of}
-use Rattle.h2_core.proofs.SoundFacts.{counted, owed_fits, send_near, recv_near}
+use Rattle.h2_core.proofs.SoundFacts.{send_near, recv_near}
 use Rattle.h2_core.proofs.ItemVerdicts.{ignored_taken, fault_item, with_table}
 use Rattle.h2_core.proofs.StepStreams.{narrow_none}
 use Rattle.h2_core.proofs.ItemWindows.{widened_fits, widened_is, widened_near, passes_as}

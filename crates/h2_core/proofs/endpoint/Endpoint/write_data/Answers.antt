@@ -1,6 +1,5 @@
 -- The stream's windows stay near zero, and DATA leaves what is counted and owed.
-use Rattle.std.proofs.Common.{◌≡◌, length, ap, subst, sym, false, arith}
-use Rattle.h2_streams.specs.Streams.{stream_view, is_far}
+use Rattle.std.proofs.Common.{length, ap, arith}
 use Rattle.h2_machine.specs.End.{End}
 use Rattle.h2_core.specs.Endpoint.{end_of}
 use Rattle.h2_core.proofs.CallWindows.{narrowed_near, narrowed_value}
