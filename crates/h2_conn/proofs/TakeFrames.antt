@@ -1,5 +1,5 @@
--- What has happened by a frame is what the end reports of it: the octets of its body are those of the
--- event.
+-- What has happened by a frame is what the end reports of it: the octets of its body are those of
+-- the event.
 use Rattle.std.proofs.Common.{◌≡◌, ℕ, Bool, List, [], ◌∷◌, Option, Some, None, Ok}
 use Rattle.std.proofs.Common.{refl, sym, ap, subst, ◌∙◌}
 use Rattle.std.specs.Option.{option_map}

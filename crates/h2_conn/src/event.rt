@@ -4,8 +4,8 @@ use h2_frame::Code;
 use hpack::FieldList;
 use thiserror::Error;
 
-/// What an end reports. Its fields are lent from the connection until the next call; the octets of a
-/// body are lent from the piece, or from the connection where their frame was cut in two.
+/// What an end reports. Its fields are lent from the connection until the next call; the octets of
+/// a body are lent from the piece, or from the connection where their frame was cut in two.
 #[derive(Clone, Copy, Debug)]
 pub enum Event<'a> {
     /// A field block has come (RFC 9113, section 8.1).

@@ -1,5 +1,6 @@
 -- What a call answers, from what it made of its buffer.
-use Rattle.std.proofs.Common.{◌≡◌, ℕ, ◌+◌, ◌^◌, ◌<◌, length, length-drop, Bool, true, false, List, [], drop, Option, None, Some, IfSome}
+use Rattle.std.proofs.Common.{◌≡◌, ℕ, ◌+◌, ◌^◌, ◌<◌, length, length-drop, Bool, true, false, List}
+use Rattle.std.proofs.Common.{[], drop, Option, None, Some, IfSome}
 use Rattle.std.proofs.Common.{Result, Ok, Err, refl, ap, arith, inl, inr, lit<}
 use Rattle.std.proofs.lemmas.List.{take_all}
 use Rattle.h2_frame.specs.declared.heads.Head.{Head}

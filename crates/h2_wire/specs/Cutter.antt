@@ -84,8 +84,8 @@ pub record FaultsAtHead (old : CutterState) (piece : List ℕ) (code : Code) : T
   pub begun : length old.unparsed < 9
   pub head : IsFaultyHead (old.unparsed ++ piece) old.limit code
 
--- After the preface, with no fault so far and nothing unparsed, the piece begins with a frame: a head
--- and as many octets as it asks for.
+-- After the preface, with no fault so far and nothing unparsed, the piece begins with a frame: a
+-- head and as many octets as it asks for.
 pub record BeginsWithFrame (old : CutterState) (piece : List ℕ) : Type 0 where
   pub sound : old.fault ≡ None
   pub after_preface : old.in_preface ≡ false
@@ -115,8 +115,8 @@ abbrev pub cut_frames : Option FrameRef → List Frame
 cut_frames None = []
 cut_frames (Some frame) = frame_of frame ∷ []
 
--- What a call that fails leaves. Lack of memory changes nothing, but the frame that was answered last
--- need not be kept. After a fault the cutter stays as it is.
+-- What a call that fails leaves. Lack of memory changes nothing, but the frame that was answered
+-- last need not be kept. After a fault the cutter stays as it is.
 abbrev pub CutterFails : CutterState → List ℕ → WireFault → CutterState → Type 0
 CutterFails old piece faults.Memory new = new ≡ record old { kept = new.kept }
 CutterFails old piece faults.BadPreface new =

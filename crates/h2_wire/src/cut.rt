@@ -11,8 +11,9 @@ pub(crate) enum Source {
     Kept,
 }
 
-/// A complete frame: its head, and whether it lies in the piece that completed it, or in the cutter,
-/// which keeps a frame that was cut in two. [`Cutter::frame`](crate::Cutter::frame) lends it.
+/// A complete frame: its head, and whether it lies in the piece that completed it, or in the
+/// cutter, which keeps a frame that was cut in two. [`Cutter::frame`](crate::Cutter::frame) lends
+/// it.
 #[derive(Clone, Copy, Debug, PartialEq, Eq)]
 pub struct Complete {
     pub(crate) head: Head,

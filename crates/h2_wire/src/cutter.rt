@@ -1,7 +1,7 @@
 //! The cutter.
 
-ghost use Rattle.std.specs.Prelude.{◌≡◌, ◌≢◌, ◌+◌, ◌<◌, ◌≤◌, ◌++◌, [], length, not, true, false, None};
-ghost use Rattle.std.specs.Prelude.{Some, IfOk};
+ghost use Rattle.std.specs.Prelude.{◌≡◌, ◌≢◌, ◌+◌, ◌<◌, ◌≤◌, ◌++◌, [], length, not, true, false};
+ghost use Rattle.std.specs.Prelude.{None, Some, IfOk};
 ghost use Rattle.std.specs.Prelude.{IsSome, IfSome};
 ghost use Rattle.std.specs.Borrow.{sem};
 ghost use Rattle.std.specs.Io.BufRead.{Rests};
@@ -52,9 +52,9 @@ impl Cutter {
         }
     }
 
-    /// Uses octets of the piece, up to the end of one frame, and says where that frame lies; or uses
-    /// all of them, where they complete no frame. The octets that follow a frame are for the next
-    /// call. [`Cutter::frame`] lends the frame, until the next call.
+    /// Uses octets of the piece, up to the end of one frame, and says where that frame lies; or
+    /// uses all of them, where they complete no frame. The octets that follow a frame are for the
+    /// next call. [`Cutter::frame`] lends the frame, until the next call.
     ///
     /// # Errors
     ///

@@ -53,8 +53,8 @@ pub returns-in-Ok-take_frame-clause-takes : goal.returns-in-Ok-take_frame-clause
 returns-in-Ok-take_frame-clause-takes c = λ octets body values log p.
     let ends = rw c.in-Some.is at c.in-Ok.ensures.advances in
     said_so values log c.args.piece.now c.in-Ok.advance.used _ _ _ _
-    (same_body c.advance.new.self c.args.piece.now c.in-Some.complete (frame_of c.frame.result) _ octets
-    c.in-Ok.advance.used c.in-Ok-take_frame.happened c.frame.ensures.value
+    (same_body c.advance.new.self c.args.piece.now c.in-Some.complete (frame_of c.frame.result) _
+    octets c.in-Ok.advance.used c.in-Ok-take_frame.happened c.frame.ensures.value
     c.in-Ok-take_frame.ensures.lies body)
     (frame_taken values _ _ _ _ log c.args.piece.now c.in-Ok.advance.used (frame_of c.frame.result)
     _ _ c.in-Ok-take_frame.happened p

@@ -43,5 +43,6 @@ returns-in-Lent-clause-takes c =
     let sound : fault_of c.forget.new.self.phase ≡ None =
     rw (ap (λ (b : Buffer). b.phase) after) refl in
     takes_forgotten (state_of c.args.self.now) (state_of c.forget.new.self) c.args.piece.now
-    c.take_head-in-Lent.result c.take_head-in-Lent.new.self (rw (after, c.forget.ensures.none, c.in-Lent.is) refl) sound
+    c.take_head-in-Lent.result c.take_head-in-Lent.new.self
+    (rw (after, c.forget.ensures.none, c.in-Lent.is) refl) sound
     c.take_head-in-Lent.ensures.takes
