@@ -1,0 +1,6 @@
+-- The lemmas of a replay.
+pub mod Octets
+pub mod StepOutput
+pub mod StepTakes
+pub mod TakingLemmas
+pub mod AllLemmas

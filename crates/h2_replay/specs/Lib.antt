@@ -1,0 +1,4 @@
+pub mod Replay
+pub mod Values
+pub mod Taking
+pub mod Calls
