@@ -4,3 +4,4 @@ pub mod StepOutput
 pub mod StepTakes
 pub mod TakingLemmas
 pub mod AllLemmas
+pub mod CallLemmas

@@ -2,3 +2,4 @@ pub mod Replay
 pub mod Values
 pub mod Taking
 pub mod Calls
+pub mod Recording

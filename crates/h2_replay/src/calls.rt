@@ -2,6 +2,8 @@
 
 ghost use Rattle.std.specs.Prelude.{◌≡◌, []};
 ghost use Rattle.hpack.specs.Written.{AreOctets};
+ghost use Rattle.std.specs.List.{AllByRecursion};
+ghost use Rattle.hpack_text.specs.Bits.{IsOctet};
 ghost use Rattle.h2_log.specs.Acts as logs;
 ghost use Rattle.h2_log.specs.Acts.{IsTypedAct};
 ghost use Rattle.h2_conn.specs.Conn.{answer_by};
@@ -30,11 +32,17 @@ pub(crate) fn make_call(conn: &mut Conn, act: &Act, out: &mut Vec<u8>) -> Answer
             check_octets(fields);
             done(conn.fields(*id, fields, *end))
         }
-        Act::Data { id, octets, end } => counted(conn.data(*id, octets, *end)),
+        Act::Data { id, octets, end } => {
+            check_data(octets);
+            counted(conn.data(*id, octets, *end))
+        }
         Act::Release { id, count } => done(conn.release(*id, *count)),
         Act::Reset { id, code } => done(conn.reset(*id, *code)),
         Act::Refuse { id, code } => done(conn.refuse(*id, *code)),
-        Act::Ping(octets) => done(conn.ping(*octets)),
+        Act::Ping(octets) => {
+            check_ping(*octets);
+            done(conn.ping(*octets))
+        }
         Act::GoAway => done(conn.go_away()),
         Act::PutOut(count) => counted(conn.put_out(*count, out)),
     }
@@ -76,4 +84,16 @@ fn check_octets(fields: &[Field])
     ensures { AreOctets fields.now }
 {
     let _size = list_size(fields);
+}
+
+/// The same of the octets of a body.
+fn check_data(_octets: &[u8])
+    ensures { AllByRecursion IsOctet _octets.now }
+{
+}
+
+/// And of a PING.
+fn check_ping(_octets: [u8; 8])
+    ensures { IsTypedAct (logs.SendPing _octets) }
+{
 }

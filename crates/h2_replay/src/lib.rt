@@ -8,7 +8,7 @@
 mod acts;
 mod calls;
 mod events;
-//mod run;
+mod run;
 mod taking;
 mod turns;
 mod waiting;
@@ -16,5 +16,5 @@ mod waiting;
 pub use acts::Act;
 pub use events::ReplayEvent;
 pub use h2_conn::{Config, Refusal, Role};
-//pub use run::replay;
+pub use run::replay;
 pub use turns::{Answer, Log, Turn};

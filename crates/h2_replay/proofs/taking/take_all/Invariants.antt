@@ -6,7 +6,7 @@ use Rattle.h2_conn.specs.Conn.{ConnRepresents}
 use Rattle.h2_replay.proofs.AllLemmas.{TakesSome}
 use Rattle.h2_replay.proofs.taking.take_all.Given as goal
 
-abbrev pub invariant-loop-round : goal.invariant-loop-_round
+abbrev pub invariant-loop-round : goal.invariant-loop-round
 invariant-loop-round l = record {
   rounds : l._round ≤ vec_len l.turns;
   some : (values : Values) (log : Log) → ConnRepresents values l.fn.conn log
