@@ -5,3 +5,4 @@ pub mod StepTakes
 pub mod TakingLemmas
 pub mod AllLemmas
 pub mod CallLemmas
+pub mod RecordLemmas
