@@ -6,3 +6,4 @@ pub mod TakingLemmas
 pub mod AllLemmas
 pub mod CallLemmas
 pub mod RecordLemmas
+pub mod JoinedLemmas

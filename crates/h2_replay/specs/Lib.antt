@@ -3,3 +3,4 @@ pub mod Values
 pub mod Taking
 pub mod Calls
 pub mod Recording
+pub mod Joined

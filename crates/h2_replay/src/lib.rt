@@ -8,6 +8,7 @@
 mod acts;
 mod calls;
 mod events;
+mod laws;
 mod run;
 mod taking;
 mod turns;
@@ -16,5 +17,9 @@ mod waiting;
 pub use acts::Act;
 pub use events::ReplayEvent;
 pub use h2_conn::{Config, Refusal, Role};
+pub use laws::{
+    calls_of_a_replay, events_of_a_replay, fault_of_a_replay, output_of_a_replay,
+    turns_are_of_the_log, windows_of_a_replay,
+};
 pub use run::replay;
 pub use turns::{Answer, Log, Turn};
