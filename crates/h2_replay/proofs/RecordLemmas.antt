@@ -63,14 +63,14 @@ take_records role values acts octets answer old one two three news conn new call
     ∙ ap (λ (t : List Turn). t ++ by_octets (turn_value call)) before.keeps.same
     ∙ ap (λ (t : List Turn). all_by_octets before.turns ++ t) calls_it in
     let second : kept_by_octets two
-        ≡ (all_by_octets before.turns ++ TakeCalled octets ∷ []) ++ all_by_octets all.keeps.news =
+    ≡ (all_by_octets before.turns ++ TakeCalled octets ∷ []) ++ all_by_octets all.keeps.news =
     ap kept_by_octets two_is ∙ kept_joined one news
     ∙ ap (λ (t : List Turn). t ++ kept_by_octets news) first
     ∙ ap (λ (t : List Turn). (all_by_octets before.turns ++ TakeCalled octets ∷ []) ++ t)
     all.keeps.same in
     let third : kept_by_octets three
-        ≡ ((all_by_octets before.turns ++ TakeCalled octets ∷ []) ++ all_by_octets all.keeps.news)
-        ++ by_octets (TakeAnswered (fault_of answer)) =
+    ≡ ((all_by_octets before.turns ++ TakeCalled octets ∷ []) ++ all_by_octets all.keeps.news)
+    ++ by_octets (TakeAnswered (fault_of answer)) =
     ap kept_by_octets three_is ∙ kept_more two last
     ∙ ap (λ (t : List Turn). t ++ by_octets (turn_value last)) second
     ∙ ap (λ (t : Turn). ((all_by_octets before.turns ++ TakeCalled octets ∷ [])
@@ -190,15 +190,15 @@ call_records role values acts act answer old one two three conn new call last ou
     ∙ ap (λ (t : Turn). all_by_octets before.turns ++ by_octets t)
     (calls_it ∙ ap call_turn (made_call act is)) in
     let second : kept_by_octets two
-        ≡ (all_by_octets before.turns ++ Called (call_of act) ∷ []) ++ Answered (shown made.one)
-        ∷ [] =
+    ≡ (all_by_octets before.turns ++ Called (call_of act) ∷ []) ++ Answered (shown made.one)
+    ∷ [] =
     ap kept_by_octets two_is ∙ kept_more one last
     ∙ ap (λ (t : List Turn). t ++ by_octets (turn_value last)) first
     ∙ ap (λ (t : Turn). (all_by_octets before.turns ++ Called (call_of act) ∷ []) ++ by_octets t)
     (answers_it ∙ call_answered answer made.one made.shows) in
     let third : kept_by_octets three
-        ≡ ((all_by_octets before.turns ++ Called (call_of act) ∷ []) ++ Answered (shown made.one)
-        ∷ []) ++ each_octet Out writes.octets =
+    ≡ ((all_by_octets before.turns ++ Called (call_of act) ∷ []) ++ Answered (shown made.one)
+    ∷ []) ++ each_octet Out writes.octets =
     ap kept_by_octets three_is ∙ kept_more two outs
     ∙ ap (λ (t : List Turn). t ++ by_octets (turn_value outs)) second
     ∙ ap (λ (t : Turn). ((all_by_octets before.turns ++ Called (call_of act) ∷ [])
@@ -207,7 +207,7 @@ call_records role values acts act answer old one two three conn new call last ou
     ++ Answered (shown made.one) ∷ []) ++ each_octet Out o) joined_is in
     let news : List Turn = writes.news ++ Answered (shown made.one) ∷ Called (call_of act) ∷ [] in
     let replay : IsReplay role values (Make (call_of act) ∷ acts)
-        (with_call log (call_of act) made.one) (news ++ before.turns) =
+    (with_call log (call_of act) made.one) (news ++ before.turns) =
     calls before.keeps.replay (call_of act) made.one typed made.may news
     (writes.turns ∙ sym (append_assoc writes.news (Answered (shown made.one)
     ∷ Called (call_of act) ∷ []) log.turns)) in

@@ -89,11 +89,9 @@ fn check_octets(fields: &[Field])
 /// The same of the octets of a body.
 fn check_data(_octets: &[u8])
     ensures { AllByRecursion IsOctet _octets.now }
-{
-}
+{}
 
 /// And of a PING.
 fn check_ping(_octets: [u8; 8])
     ensures { IsTypedAct (logs.SendPing _octets) }
-{
-}
+{}

@@ -11,6 +11,8 @@ mod events;
 mod laws;
 mod run;
 mod taking;
+#[cfg(test)]
+mod tests;
 mod turns;
 mod waiting;
 

@@ -25,12 +25,7 @@ use std::alloc::{AllocError, Global};
 ///
 /// [`AllocError`] where an allocation of its own was refused, that of the new end among them; or
 /// once 2^64 - 1 octets have come, which no memory holds.
-pub fn replay(
-    alloc: Global,
-    role: Role,
-    config: Config,
-    acts: Vec<Act>,
-) -> Result<Log, AllocError>
+pub fn replay(alloc: Global, role: Role, config: Config, acts: Vec<Act>) -> Result<Log, AllocError>
     // The turns are those of the acts, as the definitions of an end say them.
     ensures { IfOk result (λ log. Replays role (values_of config) acts.items log.turns.items) }
 {

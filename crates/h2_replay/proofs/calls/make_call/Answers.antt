@@ -28,8 +28,11 @@ returns-in-Open-clause-makes c =
 pub returns-in-Fields-clause-typed : goal.returns-in-Fields-clause-typed
 unfolding IsTypedAct
 returns-in-Fields-clause-typed c =
-    typed_as _ _ c.in-Fields.is (omega arith, subst (λ (f : List Field). AreOctets f)
-    c.deref-in-Fields.ensures.value c.check_octets-in-Fields.ensures)
+    typed_as _ _ c.in-Fields.is (
+      omega arith,
+      subst (λ (f : List Field). AreOctets f)
+          c.deref-in-Fields.ensures.value c.check_octets-in-Fields.ensures,
+    )
 
 pub returns-in-Fields-clause-makes : goal.returns-in-Fields-clause-makes
 returns-in-Fields-clause-makes c =
@@ -43,8 +46,11 @@ returns-in-Fields-clause-makes c =
 pub returns-in-Data-clause-typed : goal.returns-in-Data-clause-typed
 unfolding IsTypedAct
 returns-in-Data-clause-typed c =
-    typed_as _ _ c.in-Data.is (omega arith, subst (λ (o : List ℕ). AllByRecursion IsOctet o)
-    c.deref-in-Data.ensures.value c.check_data.ensures)
+    typed_as _ _ c.in-Data.is (
+      omega arith,
+      subst (λ (o : List ℕ). AllByRecursion IsOctet o)
+          c.deref-in-Data.ensures.value c.check_data.ensures,
+    )
 
 pub returns-in-Data-clause-makes : goal.returns-in-Data-clause-makes
 returns-in-Data-clause-makes c =

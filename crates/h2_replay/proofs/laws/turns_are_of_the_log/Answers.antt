@@ -13,7 +13,7 @@ pub returns-clause-used : goal.returns-clause-used
 returns-clause-used c role values acts kept log turns keeps =
     let used = replay_used role values acts log turns keeps.replay in
     let input = used_kept kept turns keeps.same
-        ∙ (replay_recorded role values acts log turns keeps.replay).0 in
+    ∙ (replay_recorded role values acts log turns keeps.replay).0 in
     (used.0, used.1 ∙ ap (λ (o : List ℕ). o ++ used.0) (sym input))
 
 pub returns-clause-output : goal.returns-clause-output

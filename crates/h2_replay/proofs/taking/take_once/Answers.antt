@@ -15,7 +15,7 @@ returns-in-Ok-clause-takes c values log represents =
     let piece = c.args.piece.now in
     let used = c.in-Ok.taken.used in
     let same : option_map conn.event_value c.in-Ok.taken.event
-        ≡ option_map event_value c.match-taken.event =
+    ≡ option_map event_value c.match-taken.event =
     elim c.match-taken.branch [
       | in-Some+in_ok-copy_of-in-Some w ↦
           rw (w.event-is, w.in-Some.is)

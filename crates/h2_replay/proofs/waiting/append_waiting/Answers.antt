@@ -14,7 +14,7 @@ returns c values log represents =
     let seen_last = c.min-seen_last.result in
     let parts = drop-parts from seen first last c.min-seen.ensures in
     let rest = rest_of seen_last last
-        ∙ drop_min (from - seen) seen_last last c.min-seen_last.ensures in
+    ∙ drop_min (from - seen) seen_last last c.min-seen_last.ensures in
     c.in_ok-extend_from_slice-2.ensures.items
     ∙ ap (λ (o : List ℕ). c.extend_from_slice.new.self.items ++ o) rest
     ∙ ap (λ (o : List ℕ). o ++ drop (from - seen) last)
