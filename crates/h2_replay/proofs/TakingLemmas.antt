@@ -4,7 +4,8 @@ use Rattle.std.proofs.Common.{List, [], ◌∷◌, ◌++◌, length, take, drop,
 use Rattle.std.proofs.Common.{if◌then◌else◌, refl, sym, ap, subst, ◌∙◌, inl, inr, arith, ltb-true}
 use Rattle.std.proofs.Common.{ltb-false, append_assoc, append-nil, length-drop}
 use Rattle.std.proofs.Math.Seq.{take-length, drop-append_seam}
-use Rattle.std.proofs.lemmas.List.{append_cancel_left, length-append, take-append-le, drop-append-le}
+use Rattle.std.proofs.lemmas.List.{append_cancel_left, length-append, take-append-le}
+use Rattle.std.proofs.lemmas.List.{drop-append-le}
 use Rattle.std.specs.Option.{option_map}
 use Rattle.h2_frame.specs.declared.code.Code.{Code}
 use Rattle.h2_wire.specs.Cutter.{saturated}
