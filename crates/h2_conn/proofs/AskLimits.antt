@@ -1,8 +1,8 @@
 -- The parts of a connection where its cutter is left as it is: the limits of payloads are the same
 -- for every log of an end.
-use Rattle.std.proofs.Common.{◌≡◌, ℕ, List, sym, ◌∙◌}
+use Rattle.std.proofs.Common.{◌≡◌, ℕ, List, length, ap, sym, ◌∙◌}
 use Rattle.h2_frame.specs.Frames.{Frame}
-use Rattle.h2_wire.specs.Cutter.{CutterState, CutterRepresents}
+use Rattle.h2_wire.specs.Cutter.{CutterState, CutterRepresents, saturated}
 use Rattle.h2_wire.specs.Streams.{Limits}
 use Rattle.h2_log.specs.declared.role.Role.{Role}
 use Rattle.h2_log.specs.Acts.{Values}
@@ -42,4 +42,5 @@ parts_kept values cutter e other log next parts keeps machine =
           (same_limits values e other log next parts.machine machine) keeps.input keeps.frames
           (parts.cut (keeps.up up));
       unparsed = λ up. parts.unparsed (keeps.up up) ∙ sym keeps.unparsed;
+      place = parts.place ∙ sym (ap (λ (input : List ℕ). saturated (length input)) keeps.input);
     }

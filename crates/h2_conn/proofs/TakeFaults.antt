@@ -1,7 +1,8 @@
 -- A fault that the cutter met, by the octets of the piece up to its place.
 use Rattle.std.proofs.Common.{◌≡◌, ℕ, ◌+◌, ◌-◌, ◌≤◌, nat_lt, Bool, true, false, List, ◌++◌, length}
 use Rattle.std.proofs.Common.{take, drop, refl, ap, sym, subst, ◌∙◌, arith, ltb-true, ltb-false}
-use Rattle.std.proofs.lemmas.List.{take-append-drop, take-append-le}
+use Rattle.std.proofs.lemmas.List.{take-append-drop, take-append-le, length-append}
+use Rattle.std.proofs.lemmas.List.{length-take-le}
 use Rattle.std.proofs.Math.Seq.{take-append-add, take-length}
 use Rattle.h2_frame.specs.Frames.{Frame}
 use Rattle.h2_wire.specs.declared.fault.WireFault.{WireFault}
@@ -9,10 +10,11 @@ use Rattle.h2_wire.specs.Streams.{Limits, Frames, WireFaultAt, EndsWithFault}
 use Rattle.h2_wire.proofs.FaultLemmas.{no_reading}
 
 -- The octets of a piece with whose last one the fault is made.
-abbrev FaultIn : Bool → Limits → List ℕ → List ℕ → List Frame → WireFault → Type 0
-FaultIn expects limits stream piece frames fault =
+abbrev FaultIn : Bool → Limits → List ℕ → List ℕ → List Frame → ℕ → WireFault → Type 0
+FaultIn expects limits stream piece frames place fault =
     (octets unused : List ℕ) × (piece ≡ octets ++ unused)
     × WireFaultAt expects limits (stream ++ octets) frames (length (stream ++ octets)) fault
+    × (place ≡ length (stream ++ octets))
 
 -- The fault isn't made in octets that were read.
 not_before : (expects : Bool) (limits : Limits) (stream piece unparsed : List ℕ)
@@ -31,7 +33,7 @@ not_before expects limits stream piece unparsed frames place fault read at befor
 in_piece : (expects : Bool) (limits : Limits) (stream piece : List ℕ) (frames : List Frame)
     (place count : ℕ) (fault : WireFault) → place ≡ length stream + count
     → WireFaultAt expects limits (stream ++ piece) frames place fault
-    → FaultIn expects limits stream piece frames fault
+    → FaultIn expects limits stream piece frames place fault
 in_piece expects limits stream piece frames place count fault is at =
     let octets : List ℕ = take count piece in
     let up_to : take place (stream ++ piece) ≡ stream ++ octets =
@@ -39,18 +41,21 @@ in_piece expects limits stream piece frames place count fault is at =
     let made : EndsWithFault expects limits frames (take (length (stream ++ octets))
     (stream ++ octets)) fault =
     subst (λ (o : List ℕ). EndsWithFault expects limits frames o fault)
-    (up_to ∙ sym (take-length (stream ++ octets))) at.made in (
+    (up_to ∙ sym (take-length (stream ++ octets))) at.made in
+    let inside : count ≤ length piece =
+    omega (arith, is, at.within, length-append stream piece) in (
       octets,
       drop count piece,
       sym (take-append-drop count piece),
       record { within = omega arith; made = made },
+      omega (arith, is, length-append stream octets, length-take-le count piece inside),
     )
 
 fault_by : (expects : Bool) (limits : Limits) (stream piece unparsed : List ℕ)
     (frames : List Frame) (place : ℕ) (fault : WireFault) (before : Bool)
     → nat_lt place (length stream) ≡ before → Frames expects limits stream frames unparsed
     → WireFaultAt expects limits (stream ++ piece) frames place fault
-    → FaultIn expects limits stream piece frames fault
+    → FaultIn expects limits stream piece frames place fault
 fault_by expects limits stream piece unparsed frames place fault true is read at =
     let less = ltb-true place (length stream) is in
     not_before expects limits stream piece unparsed frames place fault read at (omega (arith, less))
@@ -63,7 +68,7 @@ pub fault_in : (expects : Bool) (limits : Limits) (stream piece unparsed : List 
     (frames : List Frame) (place : ℕ) (fault : WireFault)
     → Frames expects limits stream frames unparsed
     → WireFaultAt expects limits (stream ++ piece) frames place fault
-    → FaultIn expects limits stream piece frames fault
+    → FaultIn expects limits stream piece frames place fault
 fault_in expects limits stream piece unparsed frames place fault read at =
     fault_by expects limits stream piece unparsed frames place fault
     (nat_lt place (length stream)) refl read at

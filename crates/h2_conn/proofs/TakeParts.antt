@@ -14,7 +14,7 @@ use Rattle.h2_wire.specs.declared.fault.WireFault.TheVariants as faults
 use Rattle.h2_wire.specs.Faults.{wire_fault_code}
 use Rattle.h2_wire.specs.Streams.{Limits, Frames}
 use Rattle.h2_wire.specs.Cutter.{CutterState, CutterRepresents, CutterContinues, CutterFaults}
-use Rattle.h2_wire.specs.Cutter.{CutterFails}
+use Rattle.h2_wire.specs.Cutter.{CutterFails, saturated}
 use Rattle.h2_wire.proofs.ReadingLemmas.{none_some}
 use Rattle.h2_log.specs.declared.role.Role.{Role}
 use Rattle.h2_log.specs.Acts.{Values}
@@ -23,8 +23,8 @@ use Rattle.h2_log.specs.ItemRules.{Decoded}
 use Rattle.h2_log.specs.Settings.{is_server}
 use Rattle.h2_log.specs.Log.{Log, next_unprocessed}
 use Rattle.h2_log.specs.LogSteps.{limits_from, used, took_part, took_frame, took_fault, took_none}
-use Rattle.h2_log.specs.LogSteps.{took_out_of_memory}
-use Rattle.h2_log.specs.Histories.{IsLog, TakesOctets, TakesFrame}
+use Rattle.h2_log.specs.LogSteps.{took_out_of_memory, with_sent}
+use Rattle.h2_log.specs.Histories.{IsLog, TakesOctets, TakesPart, TakesFrame, TakesFault}
 use Rattle.h2_log.specs.Histories.{IsDecodedFor, MayRunOutOfMemory, with_none, with_frame}
 use Rattle.h2_log.proofs.StreamLemmas.{Keeps-frame, Keeps-none}
 use Rattle.h2_machine.specs.End.{End}
@@ -70,21 +70,44 @@ represents_alike values e other log s alike =
       used = rw alike.streams s.used;
     }
 
--- Of a connection that has failed only the machine counts.
+-- The cutter's place is that of the last octet that the log has used.
+abbrev pub IsAtEnd : CutterState → Log → Type 0
+IsAtEnd cutter log = cutter.place ≡ saturated (length log.input)
+
+-- So it is of a log that has used the same octets.
+end_kept : (place : ℕ) (input after : List ℕ) → after ≡ input
+    → place ≡ saturated (length input) → place ≡ saturated (length after)
+end_kept place input after same at_end = rw same at_end
+
+-- The octets that are used with a failure.
+lacking_input : (log : Log) (octets : List ℕ)
+    → (took_out_of_memory log octets).input ≡ log.input ++ octets
+unfolding used with_sent
+lacking_input log octets = refl
+
+fault_input : (log : Log) (octets : List ℕ) (fault : WireFault)
+    → (took_fault log octets fault).input ≡ log.input ++ octets
+unfolding used with_sent
+fault_input log octets fault = refl
+
+-- Of a connection that has failed only the machine and the place count.
 pub failed_parts : (values : Values) (cutter : CutterState) (e : End) (log : Log)
-    → Represents values e log → e.failed ≢ None → PartsRepresent values cutter e log
-failed_parts values cutter e log s down =
+    → Represents values e log → e.failed ≢ None → IsAtEnd cutter log
+    → PartsRepresent values cutter e log
+failed_parts values cutter e log s down at_end =
     record {
       machine = s;
       cut = λ up. absurd (down (s.failed ∙ up));
       unparsed = λ up. absurd (down (s.failed ∙ up));
+      place = at_end;
     }
 
 alike_parts : (values : Values) (cutter : CutterState) (e other : End) (log : Log)
-    → Represents values e log → FailsAlike e other → PartsRepresent values cutter other log
-alike_parts values cutter e other log s alike =
+    → Represents values e log → FailsAlike e other → IsAtEnd cutter log
+    → PartsRepresent values cutter other log
+alike_parts values cutter e other log s alike at_end =
     failed_parts values cutter other log (represents_alike values e other log s alike)
-    (λ up. alike.down (sym alike.failed ∙ up))
+    (λ up. alike.down (sym alike.failed ∙ up)) at_end
 
 -- An end takes octets where it is up and has reported all unprocessed streams.
 pub takes_octets : (values : Values) (e : End) (log : Log) → Represents values e log
@@ -136,6 +159,7 @@ no_frame_taken values cutter new e log piece count p takes up all continues =
             (log.input ++ piece) (log.input ++ piece) log.frames log.frames refl
             (limits_kept e.role values log after p.machine.came machine.came) refl refl now;
         unparsed = λ going. refl;
+        place = now.place;
       },
     )
 
@@ -154,6 +178,17 @@ cut_now : (values : Values) (cutter new : CutterState) (e : End) (log : Log) (pi
 cut_now values cutter new e log piece count frame p up cut =
     cut.continues.represents (is_server log.role) (limits_from log) log.input log.frames
     (p.cut up)
+
+-- The cutter's place then.
+cut_end : (values : Values) (cutter new : CutterState) (e : End) (log : Log) (piece : List ℕ)
+    (count : ℕ) (frame : Frame) (decoded : Option Decoded) → PartsRepresent values cutter e log
+    → log.failed ≡ None → IsCut cutter new piece count frame
+    → IsAtEnd new (took_frame log (take count piece) decoded frame)
+unfolding used
+cut_end values cutter new e log piece count frame decoded p up cut =
+    end_kept new.place (log.input ++ take count piece) _
+    (Keeps-frame (used log (take count piece) []) decoded frame).input
+    (cut_now values cutter new e log piece count frame p up cut).place
 
 read_of : (values : Values) (cutter new : CutterState) (e : End) (log : Log) (piece : List ℕ)
     (count : ℕ) (frame : Frame) → PartsRepresent values cutter e log → log.failed ≡ None
@@ -192,6 +227,7 @@ frame_parts values cutter new e other log piece count frame decoded p up cut rol
           (limits_kept e.role values log after p.machine.came came) keeps.input keeps.frames
           (cut_now values cutter new e log piece count frame p up cut);
       unparsed = λ going. cut.none ∙ sym keeps.unparsed;
+      place = cut_end values cutter new e log piece count frame decoded p up cut;
     }
 
 -- The log keeps its role.
@@ -247,23 +283,25 @@ frame_fails values cutter new e other log piece count frame code p takes up cut 
       after,
       ends_frame takes taken (drop count piece) (sym (take-append-drop count piece)) frame
           h.decoded read sees refl (sym machine.failed ∙ h.fails),
-      alike_parts values new (after_frame e h.decoded frame) other after machine h.after,
+      alike_parts values new (after_frame e h.decoded frame) other after machine h.after
+          (cut_end values cutter new e log piece count frame h.decoded p takes.up cut),
     )
 
 -- Memory was refused with so many octets.
 pub memory_refused : (values : Values) (cutter new : CutterState) (e other : End) (log : Log)
     (piece octets unused : List ℕ) (code : Code) → PartsRepresent values cutter e log
     → log.failed ≡ None → piece ≡ octets ++ unused → MayRunOutOfMemory log.role log octets
+    → new.place ≡ saturated (length (log.input ++ octets))
     → FailsWithoutMemory e code other → Takes values log piece (Failed code) new other
 unfolding MayStep log_after machine_after
-memory_refused values cutter new e other log piece octets unused code p up joined may h =
+memory_refused values cutter new e other log piece octets unused code p up joined may place h =
     let after : Log = took_out_of_memory log octets in
     let machine : Represents values (fail InternalError e.streams.last_processed e) after =
     steps_represent values e log (no_memory octets) p.machine (up, may) in (
       after,
       runs_out_of_memory up octets unused joined may (ap Failed h.lacks) refl,
       alike_parts values new (fail InternalError e.streams.last_processed e) other after machine
-          h.after,
+          h.after (end_kept new.place (log.input ++ octets) _ (lacking_input log octets) place),
     )
 
 -- Memory was refused with a frame.
@@ -275,7 +313,8 @@ pub frame_lacks : (values : Values) (cutter new : CutterState) (e other : End) (
 frame_lacks values cutter new e other log piece count frame code p takes cut h =
     memory_refused values cutter new e other log piece (take count piece) (drop count piece) code p
     takes.up (sym (take-append-drop count piece))
-    (with_frame takes frame (read_of values cutter new e log piece count frame p takes.up cut)) h
+    (with_frame takes frame (read_of values cutter new e log piece count frame p takes.up cut))
+    (cut_now values cutter new e log piece count frame p takes.up cut).place h
 
 -- Either of them.
 pub frame_stops : (values : Values) (cutter new : CutterState) (e other : End) (log : Log)
@@ -316,7 +355,9 @@ fault_taken values cutter new e other log piece fault p takes met failed =
     λ up. none_some (wire_fault_code fault) (sym up ∙ ap (λ (x : End). x.failed) failed) in (
       after,
       meets_fault takes made.0 made.1 made.2 fault made.3 refl refl,
-      failed_parts values new other after machine down,
+      failed_parts values new other after machine down
+          (end_kept new.place (log.input ++ made.0) _ (fault_input log made.0 fault)
+          (at.2 ∙ ap saturated made.4)),
     )
 
 -- The same end fails in the same way.
@@ -376,8 +417,15 @@ unprocessed_taken values cutter e other log piece id p up next some closed =
             (limits_kept e.role values log after p.machine.came came) keeps.input keeps.frames
             (p.cut log_up);
         unparsed = λ going. p.unparsed log_up ∙ sym keeps.unparsed;
+        place = end_kept cutter.place log.input _ keeps.input p.place;
       },
     )
+
+-- No octet more was used.
+used_none : (cutter : CutterState) (log : Log) → IsAtEnd cutter log
+    → cutter.place ≡ saturated (length (log.input ++ []))
+used_none cutter log at_end =
+    end_kept cutter.place log.input (log.input ++ []) (append-nil log.input) at_end
 
 -- Or memory is refused to it.
 pub unprocessed_lacks : (values : Values) (cutter : CutterState) (e other : End) (log : Log)
@@ -385,7 +433,7 @@ pub unprocessed_lacks : (values : Values) (cutter : CutterState) (e other : End)
     → FailsWithoutMemory e code other → Takes values log piece (Failed code) cutter other
 unprocessed_lacks values cutter e other log piece code p up h =
     memory_refused values cutter cutter e other log piece [] piece code p
-    (sym p.machine.failed ∙ up) refl (with_none refl) h
+    (sym p.machine.failed ∙ up) refl (with_none refl) (used_none cutter log p.place) h
 
 -- What stops the cutter.
 pub cut_stopped : (values : Values) (cutter new : CutterState) (e other : End) (log : Log)
@@ -395,7 +443,9 @@ pub cut_stopped : (values : Values) (cutter new : CutterState) (e other : End) (
     → Takes values log piece (Failed (wire_fault_code fault)) new other
 cut_stopped values cutter new e other log piece faults.Memory p takes fails failed =
     memory_refused values cutter new e other log piece [] piece InternalError p takes.up refl
-    (with_none refl) (record { lacks = refl; after = fails_alike e other InternalError failed })
+    (with_none refl) (ap (λ (state : CutterState). state.place) fails
+    ∙ used_none cutter log p.place)
+    (record { lacks = refl; after = fails_alike e other InternalError failed })
 cut_stopped values cutter new e other log piece faults.BadPreface p takes fails failed =
     fault_taken values cutter new e other log piece faults.BadPreface p takes
     (first_fault cutter.fault (CutterFaults cutter piece faults.BadPreface new) (new ≡ cutter)

@@ -84,4 +84,5 @@ new_parts cutter e role values in_range new cut none =
       cut = λ up. opened_cut cutter role values (limits_from (opened role values))
           (limits_to_come role values (opened role values) (begins in_range)) cut;
       unparsed = λ up. none;
+      place = cut.place;
     }

@@ -1,9 +1,10 @@
 -- When the parts of a connection represent the log of an end, and what taking octets makes of them.
-use Rattle.std.specs.Prelude.{◌≡◌, ℕ, List, [], ◌∷◌, Option, Some, None, Result, Ok, Err, ◌⊎◌}
+use Rattle.std.specs.Prelude.{◌≡◌, ℕ, List, [], ◌∷◌, length, Option, Some, None, Result, Ok, Err}
+use Rattle.std.specs.Prelude.{◌⊎◌}
 use Rattle.hpack.specs.declared.types.field.Field.{Field}
 use Rattle.h2_frame.specs.declared.code.Code.{Code}
 use Rattle.h2_frame.specs.Frames.{Frame}
-use Rattle.h2_wire.specs.Cutter.{CutterState, CutterRepresents}
+use Rattle.h2_wire.specs.Cutter.{CutterState, CutterRepresents, saturated}
 use Rattle.h2_log.specs.Acts.{Values}
 use Rattle.h2_log.specs.Events.{Event}
 use Rattle.h2_log.specs.Settings.{is_server}
@@ -20,13 +21,16 @@ use Rattle.h2_conn.specs.declared.happened.Progress.{Progress}
 use Rattle.h2_conn.specs.Events.{happened_value, answer_progress}
 
 -- The machine represents the log. As long as the connection hasn't failed, the cutter has answered
--- the log's frames, with the limits in force, and keeps what is unparsed.
+-- the log's frames, with the limits in force, and keeps what is unparsed. Its place is always that
+-- of the last octet used.
 pub record PartsRepresent (values : Values) (cutter : CutterState) (e : End) (log : Log) : Type 0
   where
     pub machine : Represents values e log
     pub cut : log.failed ≡ None → CutterRepresents cutter (is_server log.role) (limits_from log)
         log.input log.frames
     pub unparsed : log.failed ≡ None → cutter.unparsed ≡ log.unparsed
+    -- after a failure too
+    pub place : cutter.place ≡ saturated (length log.input)
 
 -- Whatever log the parts represent: the answer is one that a call of `take` may give after it, and
 -- they represent the log with that call.

@@ -12,6 +12,7 @@ mod happened;
 mod inner;
 mod readers;
 mod taking;
+mod waiting;
 
 pub use conn::Conn;
 pub use event::{ConnFault, Event, Taken};

@@ -20,6 +20,7 @@ mod receive_update;
 mod settings_frame;
 mod status;
 mod stream_steps;
+mod waiting;
 
 pub use endpoint::Endpoint;
 pub use reader::Reported;

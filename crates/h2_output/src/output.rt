@@ -80,6 +80,18 @@ impl Output {
         self.len() == 0
     }
 
+    /// Lends what waits: the frames in the queue, and then what is left of the GOAWAY of a failed
+    /// connection. It takes no memory.
+    pub fn as_slices(&self) -> (&[u8], &[u8])
+        ensures { result.0.now ++ result.1.now ≡ self.now.waiting }
+    {
+        let last = match &self.last {
+            Some(last) => &last.octets[last.given..],
+            None => &[],
+        };
+        (self.queue.as_slice(), last)
+    }
+
     /// Makes room for so many octets more.
     ///
     /// # Errors

@@ -1,0 +1,6 @@
+-- What waits is what the log has written and not given out.
+use Rattle.std.proofs.Common.{◌∙◌}
+use Rattle.h2_conn.proofs.conn.Conn.waiting_octets.Goals as goal
+
+pub returns : goal.returns
+returns c values log parts = c.waiting_octets.ensures ∙ parts.machine.output.waiting

@@ -1,0 +1,30 @@
+//! What a replay reads of a connection: the output that waits, and how much of the input was used.
+//! None of it takes memory.
+
+ghost use Rattle.std.specs.Prelude.{◌≡◌, ◌++◌, drop, length};
+ghost use Rattle.h2_wire.specs.Cutter.{saturated};
+ghost use Rattle.h2_log.specs.Acts.{Values};
+ghost use Rattle.h2_log.specs.Log.{Log};
+ghost use Rattle.h2_conn.specs.Conn.{ConnRepresents};
+
+use crate::conn::Conn;
+
+impl Conn {
+    /// Lends the octets of the output that wait, in two slices, the first of which comes first. It
+    /// goes on once the connection has failed.
+    pub fn waiting_octets(&self) -> (&[u8], &[u8])
+        ensures { (values : Values) (log : Log) → ConnRepresents values self.now log
+            → result.0.now ++ result.1.now ≡ drop log.given log.written }
+    {
+        self.inner.end.waiting_octets()
+    }
+
+    /// How many octets of input were used; the greatest number of 64 bits where it is more than
+    /// that. After a fault of the peer the octet that made it is the last one of them.
+    pub fn place(&self) -> u64
+        ensures { (values : Values) (log : Log) → ConnRepresents values self.now log
+            → result ≡ saturated (length log.input) }
+    {
+        self.inner.cutter.place()
+    }
+}

@@ -1,0 +1,28 @@
+-- By the laws of what an end writes.
+use Rattle.std.proofs.Common.{◌∙◌}
+use Rattle.h2_log_laws.proofs.TurnsOfLogs.{turns_report}
+use Rattle.h2_end_laws.proofs.ReplayedLogs.{replay_closed}
+use Rattle.h2_end_laws.proofs.ReplayedOctets.{replay_recorded}
+use Rattle.h2_end_laws.proofs.Replies.{replies_of_logs}
+use Rattle.h2_end_laws.proofs.SendableCalls.{written_sendable}
+use Rattle.h2_end_laws.proofs.Sendings.{log_sent}
+use Rattle.h2_replay.proofs.JoinedLemmas.{written_kept}
+use Rattle.h2_replay.proofs.laws.output_of_a_replay.Goals as goal
+
+pub returns-clause-items : goal.returns-clause-items
+returns-clause-items c role values acts kept log turns keeps =
+    written_kept kept turns keeps.same
+    ∙ (replay_recorded role values acts log turns keeps.replay).1
+    ∙ (turns_report role values log (replay_closed role values acts log turns keeps.replay)).items
+
+pub returns-clause-sendable : goal.returns-clause-sendable
+returns-clause-sendable c role values acts log turns is =
+    written_sendable role values log (replay_closed role values acts log turns is)
+
+pub returns-clause-replies : goal.returns-clause-replies
+returns-clause-replies c role values acts log turns is =
+    replies_of_logs role values log (replay_closed role values acts log turns is)
+
+pub returns-clause-blocks : goal.returns-clause-blocks
+returns-clause-blocks c role values acts log turns is =
+    log_sent role values log (replay_closed role values acts log turns is)

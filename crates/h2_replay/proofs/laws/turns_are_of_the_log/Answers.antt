@@ -1,0 +1,22 @@
+-- By the lemmas on what turns tell together.
+use Rattle.std.proofs.Common.{◌≡◌, ◌∙◌, ap, sym, ◌++◌, List, ℕ}
+use Rattle.h2_end_laws.proofs.ReplayedOctets.{replay_recorded, replay_used}
+use Rattle.h2_replay.proofs.JoinedLemmas.{used_kept, written_kept}
+use Rattle.h2_replay.proofs.laws.turns_are_of_the_log.Goals as goal
+
+pub returns-clause-input : goal.returns-clause-input
+returns-clause-input c role values acts kept log turns keeps =
+    used_kept kept turns keeps.same
+    ∙ (replay_recorded role values acts log turns keeps.replay).0
+
+pub returns-clause-used : goal.returns-clause-used
+returns-clause-used c role values acts kept log turns keeps =
+    let used = replay_used role values acts log turns keeps.replay in
+    let input = used_kept kept turns keeps.same
+    ∙ (replay_recorded role values acts log turns keeps.replay).0 in
+    (used.0, used.1 ∙ ap (λ (o : List ℕ). o ++ used.0) (sym input))
+
+pub returns-clause-output : goal.returns-clause-output
+returns-clause-output c role values acts kept log turns keeps =
+    written_kept kept turns keeps.same
+    ∙ (replay_recorded role values acts log turns keeps.replay).1

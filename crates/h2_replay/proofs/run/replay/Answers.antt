@@ -1,0 +1,30 @@
+-- A new end, and then one act after another.
+use Rattle.std.proofs.Common.{◌≡◌, refl, ◌∙◌, ap, ◌++◌, ◌∷◌, [], List, sym, subst}
+use Rattle.h2_config.specs.ConfigValues.{values_of}
+use Rattle.h2_end_laws.specs.Replays.{ReplayAct}
+use Rattle.h2_log.specs.LogCalls.{opened}
+use Rattle.h2_replay.specs.declared.turns.Turn.{Turn}
+use Rattle.h2_replay.specs.declared.turns.Turn.TheVariants as turns
+use Rattle.h2_replay.specs.Recording.{Records}
+use Rattle.h2_replay.specs.Values.{acts_made}
+use Rattle.h2_replay.proofs.RecordLemmas.{opening_records, one_more_act}
+use Rattle.h2_replay.proofs.run.replay.Goals as goal
+
+pub loop-act-init : goal.loop-act-init
+unfolding acts_made
+loop-act-init c =
+    let role = c.args.role in
+    let values = values_of c.args.config in
+    let out : Turn = turns.Out c.in_ok-joined_output.field-0 in
+    opening_records role values c.in_ok-conn.conn out c.in_ok-joined_output.field-0.items
+    c.push.new.self.items (c.in_ok-push.ensures.items
+    ∙ ap (λ (t : List Turn). t ++ out ∷ []) c.new-turns.ensures.items) refl c.in_ok-conn.ensures
+    (c.in_ok-joined_output.ensures values (opened role values) c.in_ok-conn.ensures)
+
+pub loop-act-preserved : goal.loop-act-preserved
+loop-act-preserved c =
+    subst (λ (made : List ReplayAct). Records c.args.role (values_of c.args.config) made
+    c.make_act.new.conn c.make_act.new.turns.items)
+    (sym (one_more_act c.loop-act.yielded c.in-Some.act))
+    (c.in_ok-make_act.ensures c.args.role (values_of c.args.config)
+    (acts_made c.loop-act.yielded) c.loop-act.invariant)

@@ -1,0 +1,43 @@
+-- By the lemmas on the octets that a call of `take` has used.
+use Rattle.std.proofs.Common.{◌≡◌, ◌∙◌, ap, sym, refl, subst, Some, None, Option}
+use Rattle.std.specs.Option.{option_map}
+use Rattle.h2_log.specs.Events.{Event}
+use Rattle.h2_end_laws.specs.Takes.{Took, Failed, MayTake}
+use Rattle.h2_conn.specs.Events as conn
+use Rattle.h2_replay.specs.Values.{event_value}
+use Rattle.h2_replay.proofs.TakingLemmas.{took_input, failed_input}
+use Rattle.h2_replay.proofs.taking.take_once.Goals as goal
+use Rattle.h2_replay.proofs.taking.take_once.Goals.{in-Some+in_ok-copy_of-in-Some, in-None}
+
+pub returns-in-Ok-clause-takes : goal.returns-in-Ok-clause-takes
+returns-in-Ok-clause-takes c values log represents =
+    let taken = (rw c.in-Ok.is at c.take.follows.holds-at-none) values log represents in
+    let piece = c.args.piece.now in
+    let used = c.in-Ok.taken.used in
+    let same : option_map conn.event_value c.in-Ok.taken.event
+    ≡ option_map event_value c.match-taken.event =
+    elim c.match-taken.branch [
+      | in-Some+in_ok-copy_of-in-Some w ↦
+          rw (w.event-is, w.in-Some.is)
+          (ap (λ (e : Event). Some e) (sym w.in_ok-copy_of-in-Some.ensures))
+      | in-None w ↦ rw (w.event-is, w.in-None.is) refl
+    ] in
+    record {
+      after = taken.0;
+      may = subst (λ (e : Option Event). MayTake log piece (Took used e) taken.0) same taken.1;
+      input = took_input log taken.0 piece used _ taken.1;
+      represents = taken.2;
+    }
+
+pub returns-clause-takes : goal.returns-clause-takes
+returns-clause-takes c values log represents =
+    let taken = (rw c.in-Err.is at c.take.follows.holds-at-none) values log represents in
+    record {
+      after = taken.0;
+      may = taken.1;
+      input = failed_input log taken.0 c.args.piece.now c.in-Err.fault.code
+          c.place-before.result c.place-after.result taken.1
+          (c.place-before.ensures values log represents)
+          (c.place-after.ensures values taken.0 taken.2) c.if-after.false;
+      represents = taken.2;
+    }

@@ -1,0 +1,63 @@
+//! What is done to an end.
+
+use hpack::Field;
+
+/// A call with its arguments, or octets that have come.
+#[derive(Drop)]
+pub enum Act {
+    /// Octets have come: [`Conn::take`](h2_conn::Conn::take) is called until it has used them and
+    /// reports nothing more, or the connection has failed.
+    Take(Vec<u8>),
+    /// [`Conn::open`](h2_conn::Conn::open).
+    Open {
+        /// The fields.
+        fields: Vec<Field>,
+        /// Whether nothing follows on the stream (END_STREAM).
+        end: bool,
+    },
+    /// [`Conn::fields`](h2_conn::Conn::fields).
+    Fields {
+        /// The stream.
+        id: u32,
+        /// The fields.
+        fields: Vec<Field>,
+        /// Whether nothing follows on the stream (END_STREAM).
+        end: bool,
+    },
+    /// [`Conn::data`](h2_conn::Conn::data).
+    Data {
+        /// The stream.
+        id: u32,
+        /// The octets of the body.
+        octets: Vec<u8>,
+        /// Whether nothing follows on the stream (END_STREAM).
+        end: bool,
+    },
+    /// [`Conn::release`](h2_conn::Conn::release).
+    Release {
+        /// The stream.
+        id: u32,
+        /// How many octets are given back.
+        count: u32,
+    },
+    /// [`Conn::reset`](h2_conn::Conn::reset).
+    Reset {
+        /// The stream.
+        id: u32,
+        /// Why, by its number.
+        code: u32,
+    },
+    /// [`Conn::refuse`](h2_conn::Conn::refuse).
+    Refuse {
+        /// The stream.
+        id: u32,
+        /// Why, by its number.
+        code: u32,
+    },
+    /// [`Conn::ping`](h2_conn::Conn::ping).
+    Ping([u8; 8]),
+    /// [`Conn::go_away`](h2_conn::Conn::go_away).
+    GoAway,
+    /// [`Conn::put_out`](h2_conn::Conn::put_out), of at most so many octets.
+    PutOut(usize),
+}

@@ -1,0 +1,97 @@
+//! The calls of a replay.
+
+ghost use Rattle.std.specs.Prelude.{◌≡◌, []};
+ghost use Rattle.hpack.specs.Written.{AreOctets};
+ghost use Rattle.std.specs.List.{AllByRecursion};
+ghost use Rattle.hpack_text.specs.Bits.{IsOctet};
+ghost use Rattle.h2_log.specs.Acts as logs;
+ghost use Rattle.h2_log.specs.Acts.{IsTypedAct};
+ghost use Rattle.h2_conn.specs.Conn.{answer_by};
+ghost use Rattle.h2_replay.specs.Calls.{IsCall, call_of, MakesCall, answer_value};
+
+use crate::acts::Act;
+use crate::turns::Answer;
+use h2_conn::{Conn, Refusal};
+use hpack::{Field, list_size};
+
+/// Makes a call; `put_out` appends what it gives out to `out`.
+pub(crate) fn make_call(conn: &mut Conn, act: &Act, out: &mut Vec<u8>) -> Answer
+    requires call { IsCall act.now }
+    requires none { out.old.items ≡ [] }
+    ensures typed { IsTypedAct (call_of act.now) }
+    ensures makes { MakesCall conn.old (call_of act.now) (answer_value result) out.new.items
+        conn.new }
+{
+    match act {
+        Act::Take(_) => unreachable!(),
+        Act::Open { fields, end } => {
+            check_octets(fields);
+            opened(conn.open(fields, *end))
+        }
+        Act::Fields { id, fields, end } => {
+            check_octets(fields);
+            done(conn.fields(*id, fields, *end))
+        }
+        Act::Data { id, octets, end } => {
+            check_data(octets);
+            counted(conn.data(*id, octets, *end))
+        }
+        Act::Release { id, count } => done(conn.release(*id, *count)),
+        Act::Reset { id, code } => done(conn.reset(*id, *code)),
+        Act::Refuse { id, code } => done(conn.refuse(*id, *code)),
+        Act::Ping(octets) => {
+            check_ping(*octets);
+            done(conn.ping(*octets))
+        }
+        Act::GoAway => done(conn.go_away()),
+        Act::PutOut(count) => counted(conn.put_out(*count, out)),
+    }
+}
+
+/// The answer of `open`.
+fn opened(outcome: Result<u32, Refusal>) -> Answer
+    ensures { answer_value result ≡ answer_by (λ id. logs.Number id) outcome }
+{
+    match outcome {
+        Ok(id) => Answer::Id(id),
+        Err(refusal) => Answer::Refused(refusal),
+    }
+}
+
+/// The answer of a call that says how many octets it has written or given out.
+fn counted(outcome: Result<usize, Refusal>) -> Answer
+    ensures { answer_value result ≡ answer_by (λ count. logs.Count count) outcome }
+{
+    match outcome {
+        Ok(count) => Answer::Count(count),
+        Err(refusal) => Answer::Refused(refusal),
+    }
+}
+
+/// The answer of any other call.
+fn done(outcome: Result<(), Refusal>) -> Answer
+    ensures { answer_value result ≡ answer_by (λ done. logs.Done) outcome }
+{
+    match outcome {
+        Ok(()) => Answer::Done,
+        Err(refusal) => Answer::Refused(refusal),
+    }
+}
+
+/// Names and values are octets, which contracts speak of. The sum isn't used, so that compilers
+/// drop it.
+fn check_octets(fields: &[Field])
+    ensures { AreOctets fields.now }
+{
+    let _size = list_size(fields);
+}
+
+/// The same of the octets of a body.
+fn check_data(_octets: &[u8])
+    ensures { AllByRecursion IsOctet _octets.now }
+{}
+
+/// And of a PING.
+fn check_ping(_octets: [u8; 8])
+    ensures { IsTypedAct (logs.SendPing _octets) }
+{}
