@@ -1,0 +1,1 @@
+//! Tests of what is replayed, in memory.
