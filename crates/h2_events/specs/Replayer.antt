@@ -1,5 +1,5 @@
 -- What handing a piece to an end makes of it.
-use Rattle.std.specs.Prelude.{◌≡◌, ◌≢◌, ℕ, List, map, Option, Some, None}
+use Rattle.std.specs.Prelude.{◌≡◌, ◌≢◌, ℕ, List, map, drop, Option, Some, None}
 use Rattle.h2_frame.specs.declared.code.Code.{Code}
 use Rattle.h2_frame.specs.declared.code.Code.TheVariants.{InternalError}
 use Rattle.h2_show.specs.declared.failure.Failure.TheVariants as failures
@@ -31,6 +31,14 @@ abbrev pub TakesPiece : Conn → List ℕ → Option Code → Conn → Type 0
 TakesPiece old piece fault new =
     (values : Values) (log : Log) → ConnRepresents values old log
     → (after : Log) × TakesAll log piece fault after × ConnRepresents values new after
+
+-- The same of a prefix of the piece: what comes of the octets after it comes of the piece.
+abbrev pub TakesPrefix : Conn → List ℕ → ℕ → Conn → Type 0
+TakesPrefix old piece done new =
+    (values : Values) (log : Log) → ConnRepresents values old log
+    → (between : Log) × ConnRepresents values new between
+    × ((fault : Option Code) (after : Log) → TakesAll between (drop done piece) fault after
+    → TakesAll log piece fault after)
 
 -- The connection has failed with the code: for a fault of the peer, or out of memory.
 abbrev pub ReportsCode : Code → ReplayError → Type 0
