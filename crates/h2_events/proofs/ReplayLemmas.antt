@@ -6,6 +6,7 @@ use Rattle.std.specs.Io.KnownBytes.{Consumes, IsAtEnd}
 use Rattle.std.proofs.KnownBytes.{Consumes-trans, Consumes-whole}
 use Rattle.h2_frame.specs.declared.code.Code.{Code}
 use Rattle.h2_frame.specs.declared.code.Code.TheVariants.{InternalError}
+use Rattle.h2_show.specs.declared.show.Shown.{Shown}
 use Rattle.h2_log.specs.declared.role.Role.{Role}
 use Rattle.h2_log.specs.Acts.{Values, AreInRange, TakeCalled, TakeAnswered}
 use Rattle.h2_log.specs.Log.{Log}
@@ -21,7 +22,7 @@ use Rattle.h2_config.specs.declared.config.Config.{Config}
 use Rattle.h2_config.specs.ConfigValues.{values_of}
 use Rattle.h2_conn.specs.declared.conn.Conn.{Conn}
 use Rattle.h2_conn.specs.Conn.{ConnRepresents}
-use Rattle.h2_events.specs.Replayer.{first_values, EndReplays, TakesPiece}
+use Rattle.h2_events.specs.Replayer.{first_values, EndReplays, TakesPiece, joined}
 use Rattle.h2_events.specs.Report.{IsReplayOf, TakesInput, FailsInInput, ReplayReports}
 use Rattle.h2_events.specs.Report.{ReplayReportsOctets, status_of}
 
@@ -49,7 +50,7 @@ failed_after log after _ _ (has_fault octets code may) =
 -- a replay of pieces with one more is one of all of them
 taken_after : (role : Role) (pieces : List (List ℕ)) (old new : Conn) (piece : List ℕ)
     (fault : Option Code) → EndReplays role pieces old → TakesPiece old piece fault new
-    → (log : Log) × IsReplayOf role (octets_of_acts (map Take pieces) ++ piece) log
+    → (log : Log) × IsReplayOf role (joined pieces ++ piece) log
     × (log.failed ≡ fault)
 unfolding octets_of_acts
 taken_after role pieces old new piece fault before takes_piece =
@@ -60,7 +61,7 @@ taken_after role pieces old new piece fault before takes_piece =
         pieces = piece ∷ pieces;
         turns = TakeAnswered fault ∷ added.news ++ TakeCalled piece ∷ before.turns;
         replay = takes before.replay piece fault all added.news added.turns;
-        joined = refl;
+        all = refl;
       },
       failed_after before.log after piece fault all,
     )
@@ -104,17 +105,13 @@ replays_more role pieces old new piece before takes_piece =
       up = failed_after before.log after piece None all;
     }
 
--- the octets of pieces, the newest first
-abbrev pub joined : List (List ℕ) → List ℕ
-joined pieces = octets_of_acts (map Take pieces)
-
 -- what an end that hasn't failed reports of the octets of its pieces
 pub takes_input : (role : Role) (pieces : List (List ℕ)) (conn : Conn) → EndReplays role pieces conn
     → TakesInput role (joined pieces)
 takes_input role pieces conn now =
     record {
       log = now.log;
-      replay = record { pieces = pieces; turns = now.turns; replay = now.replay; joined = refl };
+      replay = record { pieces = pieces; turns = now.turns; replay = now.replay; all = refl };
       up = now.up;
     }
 
@@ -184,3 +181,40 @@ new_replays role config (Ok conn) (table, window, streams) represents =
     replays_none role conn
     (subst (λ (values : Values). ConnRepresents values conn (opened role values))
     (values_first config table window streams) represents)
+
+-- one piece that was handed to a new end
+pub piece_reports : (role : Role) (old new : Conn) (octets : List ℕ) → EndReplays role [] old
+    → TakesPiece old octets None new → ReplayReports role octets None
+unfolding octets_of_acts
+piece_reports role old new octets before takes_piece =
+    takes_input role (octets ∷ []) new (replays_more role [] old new octets before takes_piece)
+
+-- one piece in which a new end fails
+pub piece_fails : (role : Role) (old new : Conn) (octets : List ℕ) (code : Code)
+    → EndReplays role [] old → TakesPiece old octets (Some code) new → code ≢ InternalError
+    → ReplayReports role octets (Some code)
+unfolding octets_of_acts
+piece_fails role old new octets code before takes_piece theirs =
+    subst (λ (all : List ℕ). FailsInInput role all code) (append-nil octets)
+    (fails_in_input role [] old new octets [] code before takes_piece theirs)
+
+-- the status of a result reports what came of the octets
+pub result_reports : {E : Type 0} (role : Role) (octets : List ℕ) (fault : Option Code)
+    (result : Result Shown E) → ReplayReports role octets fault
+    → IfOk result (λ shown. shown.status ≡ status_of fault)
+    → IfOk result (λ shown. ReplayReportsOctets role octets shown.status)
+result_reports role octets fault (Err error) reports is = tt
+result_reports role octets fault (Ok shown) reports is =
+    subst (ReplayReportsOctets role octets) (sym is) (status_reports role octets fault reports)
+
+-- the same of the octets that a reader had
+pub result_reports_all : {E : Type 0} (role : Role) (before : Option (List ℕ))
+    (fault : Option Code) (result : Result Shown E)
+    → IfSome before (λ octets. ReplayReports role octets fault)
+    → IfOk result (λ shown. shown.status ≡ status_of fault)
+    → IfOk result (λ shown. IfSome before
+    (λ octets. ReplayReportsOctets role octets shown.status))
+result_reports_all {E = E} role before fault (Err error) reports is = tt
+result_reports_all {E = E} role None fault (Ok shown) reports is = tt
+result_reports_all {E = E} role (Some octets) fault (Ok shown) reports is =
+    result_reports {E = E} role octets fault (Ok shown) reports is

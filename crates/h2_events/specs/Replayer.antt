@@ -6,7 +6,7 @@ use Rattle.h2_show.specs.declared.failure.Failure.TheVariants as failures
 use Rattle.h2_log.specs.declared.role.Role.{Role}
 use Rattle.h2_log.specs.Acts.{Values, Turn}
 use Rattle.h2_log.specs.Log.{Log}
-use Rattle.h2_end_laws.specs.Replays.{Take, TakesAll, IsReplay}
+use Rattle.h2_end_laws.specs.Replays.{Take, TakesAll, IsReplay, octets_of_acts}
 use Rattle.h2_conn.specs.declared.conn.Conn.{Conn}
 use Rattle.h2_conn.specs.Conn.{ConnRepresents}
 use Rattle.h2_events.specs.declared.replayer.ReplayError.{ReplayError}
@@ -15,6 +15,10 @@ use Rattle.h2_events.specs.declared.replayer.ReplayError.TheVariants.{Fault, Fai
 -- the first values of an end's settings (RFC 9113, section 6.5.2), and 100 streams (own)
 abbrev pub first_values : Values
 first_values = record { table_limit = 4096; initial_window = 65535; max_streams = 100 }
+
+-- the octets of pieces, of which the newest stands first
+abbrev pub joined : List (List ℕ) → List ℕ
+joined pieces = octets_of_acts (map Take pieces)
 
 -- The end was new, took these pieces, the newest first, and no other call was made; and it hasn't
 -- failed.

@@ -9,9 +9,9 @@ use Rattle.h2_show.specs.Hexadecimal.{without_blanks}
 use Rattle.h2_log.specs.declared.role.Role.{Role}
 use Rattle.h2_log.specs.Acts.{Turn}
 use Rattle.h2_log.specs.Log.{Log}
-use Rattle.h2_end_laws.specs.Replays.{Take, IsReplay, octets_of_acts}
+use Rattle.h2_end_laws.specs.Replays.{Take, IsReplay}
 use Rattle.h2_events.specs.declared.options.ReplayOptions.{ReplayOptions}
-use Rattle.h2_events.specs.Replayer.{first_values}
+use Rattle.h2_events.specs.Replayer.{first_values, joined}
 
 -- The octets were handed to `take` of a new end in these pieces, the newest first, and no other
 -- call was made; and this is the end's log then.
@@ -19,7 +19,7 @@ pub record IsReplayOf (role : Role) (octets : List ℕ) (log : Log) : Type 0 whe
   pub pieces : List (List ℕ)
   pub turns : List Turn
   pub replay : IsReplay role first_values (map Take pieces) log turns
-  pub joined : octets_of_acts (map Take pieces) ≡ octets
+  pub all : joined pieces ≡ octets
 
 -- The end took all of the octets, and hasn't failed.
 pub record TakesInput (role : Role) (octets : List ℕ) : Type 0 where
