@@ -143,9 +143,9 @@ settings and makes no call of its own. Each event has a line:
                      `theirs`: the peer has
   goaway last=N code=N
                      the peer takes no streams above N
-  unprocessed ID     the peer has not processed this stream, and will not
+  unprocessed ID, pong OCTETS
+                     of a stream or a PING of this end, which makes none here
   acked              the peer has applied this end's settings
-  pong OCTETS        the peer has answered this end's PING
 Then, once the input has ended or the connection has failed:
   fault CODE         the connection has failed with this code (RFC 9113,
                      section 7)
@@ -190,7 +190,7 @@ fn replay_command<'a>(alloc: Global) -> Result<Command<'a>, AllocError> {
         .help(AS_HELP);
     Command::new(alloc, "replay")
         .bin_name("h2 replay")?
-        .about("Hands a stream to one end of a connection, and prints what it makes of it")
+        .about("Hands a stream to one end of a connection, and prints its events")
         .override_usage("h2 replay [OPTIONS] < FILE")
         .after_help(EVENTS_AND_STATUSES)
         .arg(hex)?
