@@ -104,14 +104,14 @@ fails_in_piece old now new piece done fault (errors.Failed failure) before call
     memory_is_not is = cc
 fails_in_piece old now new piece done fault (errors.Fault code) before call (code_is, theirs) = (
   λ values log represents.
-  let (between, same, continues) = before values log represents in
-  let (next, may, after_it) = call values between same in
-  let said : MayTake between (left piece done) (Failed code) next =
-  subst (λ (other : Code). MayTake between (left piece done) (Failed other) next) (sym code_is)
-  may in
-  let all : MayTake between (drop done piece) (Failed code) next =
-  subst (λ (octets : List ℕ). MayTake between octets (Failed code) next) (take_rest piece done)
-  said in
-  (next, continues (Some code) next (has_fault (drop done piece) code all), after_it),
+      let (between, same, continues) = before values log represents in
+      let (next, may, after_it) = call values between same in
+      let said : MayTake between (left piece done) (Failed code) next =
+      subst (λ (other : Code). MayTake between (left piece done) (Failed other) next) (sym code_is)
+      may in
+      let all : MayTake between (drop done piece) (Failed code) next =
+      subst (λ (octets : List ℕ). MayTake between octets (Failed code) next) (take_rest piece done)
+      said in
+      (next, continues (Some code) next (has_fault (drop done piece) code all), after_it),
   λ internal. theirs (sym code_is ∙ internal),
 )

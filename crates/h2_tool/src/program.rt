@@ -93,7 +93,10 @@ pub(crate) fn give_hint<E: Write>(hint: Option<Hint>, from_server: &str, err: &m
     let _ = match hint {
         None => Ok(()),
         Some(Hint::Hexadecimal) => {
-            writeln!(err, "hint: the input looks like hexadecimal text: try --hex")
+            writeln!(
+                err,
+                "hint: the input looks like hexadecimal text: try --hex"
+            )
         }
         Some(Hint::FromServer) => writeln!(
             err,

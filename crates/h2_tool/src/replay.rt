@@ -12,15 +12,15 @@ use std::alloc::Global;
 use std::io::{Read, Write};
 
 /// Runs `h2 replay` with the words after `replay`: hands the input to one end of a new connection,
-/// and prints a line for each event, then the fault with which the connection fails, if it does, and
-/// then all that the end sends. Where the first octets aren't the preface that a server expects, a
-/// line on standard error names the option that is likely missing.
+/// and prints a line for each event, then the fault with which the connection fails, if it does,
+/// and then all that the end sends. Where the first octets aren't the preface that a server expects,
+/// a line on standard error names the option that is likely missing.
 ///
 /// The words are checked before anything is read. Lines are written at the end of each piece that
 /// was read.
 ///
-/// The status is that of [`replay_input`], and reports the octets truly under some options; for help
-/// it is [`Status::Good`] with nothing read, and for wrong words [`Status::Usage`].
+/// The status is that of [`replay_input`], and reports the octets truly under some options; for
+/// help it is [`Status::Good`] with nothing read, and for wrong words [`Status::Usage`].
 pub fn cmd_replay<R: Read, W: Write, E: Write>(
     alloc: Global,
     words: &[String],

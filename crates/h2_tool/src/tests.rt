@@ -133,9 +133,30 @@ fn help_fits_80_columns(rt: HostRuntime) -> Result<(), Fail> {
             assert!(rt; text.chars().count() <= 80, "{text}");
         }
         let parts = match line {
-            "show --help" => ["fault", "N1 Device", "N3 Memory", "Example:", r"\x00", "rest"],
-            "replay --help" => ["fault", "N1 Device", "N3 Memory", "Example", "acked", "nc -l"],
-            _ => ["Usage:", "Commands:", "show", "replay", "--help", "--version"],
+            "show --help" => [
+                "fault",
+                "N1 Device",
+                "N3 Memory",
+                "Example:",
+                r"\x00",
+                "rest",
+            ],
+            "replay --help" => [
+                "fault",
+                "N1 Device",
+                "N3 Memory",
+                "Example",
+                "acked",
+                "nc -l",
+            ],
+            _ => [
+                "Usage:",
+                "Commands:",
+                "show",
+                "replay",
+                "--help",
+                "--version",
+            ],
         };
         for part in &parts {
             assert!(rt; help.contains(*part), "{part}");

@@ -13,14 +13,15 @@ const ACK: &str = "000000040100000000";
 
 // A request without DATA, and one after which DATA may come (RFC 7541, appendix C.4.1).
 const REQUEST: &str = "000011010500000001 828684418cf1e3c2e5f23a6ba0ab90f4ff";
+
 const OPEN: &str = "000003010400000001 828684";
 
 // The fields of both.
 const FIELDS: &str = "  :method: GET\n  :scheme: http\n  :path: /\n";
 
 // What a server, and a client, write first: SETTINGS with 1=4096, 3=100 or 2=0, 4=65535, 6=65536.
-const SERVER: &str =
-    "out 00001804000000000000010000100000030000006400040000ffff000600010000";
+const SERVER: &str = "out 00001804000000000000010000100000030000006400040000ffff000600010000";
+
 const CLIENT: &str = "out 505249202a20485454502f322e300d0a0d0a534d0d0a0d0a\
     00001804000000000000010000100000020000000000040000ffff000600010000";
 

@@ -52,7 +52,12 @@ fn replayed_octets(rt: HostRuntime) -> Result<(), Fail> {
         let text = text_of(rt.alloc(), case.octets)?;
         run_case(&rt, case, true, Pieces::new(text.as_bytes(), 7, 11))?;
         let octets = from_hex(rt.alloc(), text.as_bytes())?;
-        run_case(&rt, case, false, Pieces::new(&octets, usize::MAX, usize::MAX))?;
+        run_case(
+            &rt,
+            case,
+            false,
+            Pieces::new(&octets, usize::MAX, usize::MAX),
+        )?;
         run_case(&rt, case, false, Pieces::new(&octets, 1, 1))?;
         for place in 1..octets.len() {
             run_case(&rt, case, false, Pieces::new(&octets, place, usize::MAX))?;
@@ -114,7 +119,13 @@ fn failing_reads(rt: HostRuntime) -> Result<(), Fail> {
         let words = words_of(rt.alloc(), line)?;
         let mut out = Vec::new(rt.alloc());
         let mut err = Vec::new(rt.alloc());
-        let status = cmd_replay(rt.alloc(), words.as_slice(), &mut Failing, &mut out, &mut err);
+        let status = cmd_replay(
+            rt.alloc(),
+            words.as_slice(),
+            &mut Failing,
+            &mut out,
+            &mut err,
+        );
         assert_eq!(rt; status, Status::Device);
         assert_eq!(rt; err.as_slice(), b"N1 Device\n".as_slice());
         assert_eq!(rt; out.as_slice(), b"".as_slice());
