@@ -1,12 +1,13 @@
 //! Why a command fails.
 
 ghost use Rattle.std.specs.Prelude.{◌≡◌, ◌≢◌};
-ghost use Rattle.h2_show.specs.declared.failure.Failure.TheVariants.{BadHex};
+ghost use Rattle.h2_show.specs.declared.failure.Failure.TheVariants.{BadHex, Memory};
 ghost use Rattle.h2_show.specs.Hexadecimal.{failure_of_text};
 ghost use Rattle.h2_show.specs.Status.{failure_status};
 
 use crate::hexadecimal::HexError;
 use crate::status::Status;
+use std::alloc::AllocError;
 use std::io;
 use thiserror::Error;
 
@@ -45,6 +46,14 @@ impl From<io::Error> for Failure {
             io::ErrorKind::OutOfMemory => Failure::Memory,
             _ => Failure::Device,
         }
+    }
+}
+
+impl From<AllocError> for Failure {
+    ghost from_gives = { λ error failure. failure ≡ Memory };
+
+    fn from(_error: AllocError) -> Failure {
+        Failure::Memory
     }
 }
 

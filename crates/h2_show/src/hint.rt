@@ -17,11 +17,17 @@ impl Hint {
     /// The hint for octets that came as they are: none unless the preface is at fault.
     /// `piece` is the piece with the fault, and `place` the number of the octet at fault.
     pub(crate) fn for_octets(error: &ShowError, piece: &[u8], place: u64) -> Option<Hint> {
-        let hint = Hint::for_text(error)?;
-        if place == 1 && piece.iter().all(|octet| is_hexadecimal(*octet)) {
-            return Some(Hint::Hexadecimal);
+        Hint::for_text(error)?;
+        Some(Hint::for_start(piece, place == 1))
+    }
+
+    /// The hint where the first octets aren't the preface, by the piece with the octet at fault.
+    /// `is_first` says that this is the first octet of all.
+    pub fn for_start(piece: &[u8], is_first: bool) -> Hint {
+        if is_first && piece.iter().all(|octet| is_hexadecimal(*octet)) {
+            return Hint::Hexadecimal;
         }
-        Some(hint)
+        Hint::FromServer
     }
 
     /// The hint for octets that came in hexadecimal: none unless the preface is at fault.

@@ -3,7 +3,7 @@
 ghost use Rattle.std.specs.Prelude.{◌<◌};
 
 use h2_frame::{FrameRef, Pairs};
-use hpack::{Field, List};
+use hpack::{FieldRef, List};
 use std::fmt;
 use std::io::{self, Write};
 
@@ -145,18 +145,28 @@ pub(crate) fn write_list<W: Write>(list: &List, out: &mut W) -> io::Result<()> {
         return out.write_all(b"  list too large\n");
     };
     for field in fields {
+        let field = FieldRef {
+            name: field.name.as_slice(),
+            value: field.value.as_slice(),
+            sensitive: field.sensitive,
+        };
         write_field(field, out)?;
     }
     Ok(())
 }
 
-// Prints the line of a field: two spaces, `!` where it is never indexed, the name, a colon and a
-// space, and the value.
-fn write_field<W: Write>(field: &Field, out: &mut W) -> io::Result<()> {
+/// Prints the line of a field: two spaces, `!` where it is never indexed, the name, a colon and a
+/// space, and the value. Octets that aren't printable ASCII, and the backslash, are printed as `\x`
+/// and two hexadecimal digits.
+///
+/// # Errors
+///
+/// Those of the writer.
+pub fn write_field<W: Write>(field: FieldRef<'_>, out: &mut W) -> io::Result<()> {
     out.write_all(if field.sensitive { b"  !" } else { b"  " })?;
-    write_text(field.name.as_slice(), out)?;
+    write_text(field.name, out)?;
     out.write_all(b": ")?;
-    write_text(field.value.as_slice(), out)?;
+    write_text(field.value, out)?;
     out.write_all(b"\n")
 }
 

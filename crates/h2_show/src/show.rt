@@ -1,26 +1,22 @@
 //! An input, shown to its end.
 
-ghost use Rattle.std.specs.Prelude.{◌≡◌, ◌<◌, ◌≤◌, length, take, vec_len, [], true, Err};
+ghost use Rattle.std.specs.Prelude.{◌≡◌, ◌<◌, length, [], true, Err};
 ghost use Rattle.std.specs.Prelude.{IsOk, IfOk, OnOk, IfErr, IfSome};
-ghost use Rattle.std.specs.Io.KnownBytes.{Consumes, IsAtEnd};
 ghost use Rattle.std.specs.Io.Buffered.{writer_buffer};
 ghost use Rattle.h2_show.specs.Hexadecimal.{IsBadHex};
 ghost use Rattle.h2_show.specs.Report.{StatusReportsOctets, StatusReportsText, StatusReportsInput};
 ghost use Rattle.h2_show.specs.Viewer.{ViewerContinues, ViewerFails, StatusReportsAfter};
 
 use crate::failure::Failure;
-use crate::hexadecimal::from_hex;
 use crate::hint::Hint;
+use crate::input::{PIECE, new_buffer, read_hex, read_some};
 use crate::options::{ShowOptions, Side};
 use crate::status::Status;
 use crate::viewer::{ShowError, Viewer};
-use std::alloc::{AllocError, Global};
+use std::alloc::Global;
 use std::io::{self, BufWriter, ErrorKind, Read, Write};
 
-/// How many octets are read at once, and buffered before they are written.
-const PIECE: usize = 65_536;
-
-/// What came of showing an input.
+/// What came of showing or replaying an input.
 #[derive(Clone, Copy, Debug, PartialEq, Eq)]
 pub struct Shown {
     /// How the command ends: [`Status::Good`] or [`Status::Fault`].
@@ -99,16 +95,9 @@ fn show_octets<R: Read, W: Write + Drop>(
     ensures { IfOk result (λ shown. IfSome (R.remaining input.old)
         (λ octets. StatusReportsOctets from octets shown.status)) }
 {
-    let mut buffer = zeros(alloc, PIECE)?;
+    let mut buffer = new_buffer(alloc)?;
     let mut viewer = Viewer::new(alloc, from)?;
     show_pieces(&mut viewer, input, &mut buffer, lines)
-}
-
-// So many zeros.
-fn zeros(alloc: Global, count: usize) -> Result<Vec<u8>, AllocError>
-    ensures { IfOk result (λ octets. vec_len octets ≡ count) }
-{
-    vec![in alloc; 0u8; count]
 }
 
 // Shows pieces that fit the buffer, until the input ends. The lines of each are written before the
@@ -170,9 +159,7 @@ fn show_hex<R: Read, W: Write>(
         (λ text. StatusReportsText from text shown.status)) }
     ensures bad_hex { result ≡ Err Failure.BadHex → IfSome (R.remaining input.old) IsBadHex }
 {
-    let mut text = Vec::new(alloc);
-    input.read_to_end(&mut text)?;
-    let octets = from_hex(alloc, &text)?;
+    let octets = read_hex(alloc, input)?;
     let shown = show_all(alloc, from, &octets, out)?;
     Ok(shown)
 }
@@ -193,21 +180,4 @@ fn show_all<W: Write>(alloc: Global, from: Side, octets: &[u8], out: &mut W) -> 
             Ok(Shown { status, hint })
         }
     }
-}
-
-// Reads once, and again where a signal interrupts.
-fn read_some<R: Read>(input: &mut R, buffer: &mut [u8]) -> io::Result<usize>
-    ensures bound { IfOk result (λ count. count ≤ length buffer.new) }
-    ensures octets { IfOk result (λ count.
-        Consumes (R.remaining input.old) (R.remaining input.new) (take count buffer.new)) }
-    ensures end { IfOk result (λ count.
-        count ≡ 0 → 0 < length buffer.old → IsAtEnd (R.remaining input.new)) }
-{
-    for _ in 0..u64::MAX {
-        match input.read(buffer) {
-            Err(error) if error.kind() == ErrorKind::Interrupted => {}
-            other => return other,
-        }
-    }
-    Err(io::Error::from(ErrorKind::Interrupted))
 }

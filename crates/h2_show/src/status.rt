@@ -6,9 +6,10 @@ ghost use Rattle.h2_show.specs.Status.{exit_code_of};
 /// How a command ends.
 #[derive(Clone, Copy, Debug, PartialEq, Eq, Hash)]
 pub enum Status {
-    /// The input was shown to its end, without fault, or help was printed.
+    /// The input was used to its end, without fault, or help was printed.
     Good,
-    /// The stream is at fault, or ends inside the preface, a frame or a field block.
+    /// The stream is at fault; or it is shown, and ends inside the preface, a frame or a field
+    /// block.
     Fault,
     /// The words of the command line are wrong, or the input isn't the hexadecimal text announced.
     Usage,

@@ -4,6 +4,7 @@ ghost use Rattle.std.specs.Prelude.{◌≡◌, Some, true, false, codes};
 ghost use Rattle.clap.specs.Words.{first_value, found_of, one_text};
 
 use clap::{Arg, ArgAction, ArgMatches, Command, Error};
+use h2_events::{ReplayOptions, Role};
 use h2_show::{ShowOptions, Side};
 use std::alloc::{AllocError, Global};
 
@@ -40,6 +41,36 @@ fn options_of(matches: &ArgMatches<'_>) -> ShowOptions
     }
 }
 
+/// Reads the words after `replay`.
+///
+/// # Errors
+///
+/// Those of [`show_args`].
+pub fn replay_args(alloc: Global, words: &[String]) -> Result<ReplayOptions, Error> {
+    let command = replay_command(alloc)?.no_binary_name(true);
+    let matches = command.try_get_matches_from(words)?;
+    Ok(replay_options_of(&matches))
+}
+
+// The options that the matches of `replay` give.
+fn replay_options_of(matches: &ArgMatches<'_>) -> ReplayOptions
+    ensures hex { one_text (found_of matches.now) (codes "hex") ≡ Some (codes "true")
+        → result.hex ≡ true }
+    ensures no_hex { one_text (found_of matches.now) (codes "hex") ≡ Some (codes "false")
+        → result.hex ≡ false }
+    ensures client { first_value (found_of matches.now) (codes "as") ≡ Some (codes "client")
+        → result.role ≡ Role.Client }
+    ensures server { first_value (found_of matches.now) (codes "as") ≡ Some (codes "server")
+        → result.role ≡ Role.Server }
+{
+    let hex = matches.get_flag(HEX);
+    let role = match matches.get_str(AS) {
+        Some("client") => Role::Client,
+        _ => Role::Server,
+    };
+    ReplayOptions { hex, role }
+}
+
 /// Reads words that begin with no command's name. They ask for help or the version, or are wrong.
 ///
 /// # Errors
@@ -48,12 +79,13 @@ fn options_of(matches: &ArgMatches<'_>) -> ShowOptions
 pub(crate) fn no_command(alloc: Global, words: &[String]) -> Result<(), Error> {
     let command = Command::new(alloc, "h2")
         .bin_name("h2")?
-        .about("Shows streams of HTTP/2 over cleartext")
+        .about("Shows and replays streams of HTTP/2 over cleartext")
         .version("0.1.0")
         .no_binary_name(true)
         .subcommand_required(true)
         .arg_required_else_help(true)
-        .subcommand(show_command(alloc)?)?;
+        .subcommand(show_command(alloc)?)?
+        .subcommand(replay_command(alloc)?)?;
     command.try_get_matches_from(words)?;
     Ok(())
 }
@@ -61,6 +93,8 @@ pub(crate) fn no_command(alloc: Global, words: &[String]) -> Result<(), Error> {
 const HEX: &str = "hex";
 
 const FROM: &str = "from";
+
+const AS: &str = "as";
 
 /// The lines that `show` prints, how it ends, and an example.
 const LINES_AND_STATUSES: &str =
@@ -94,6 +128,74 @@ are ignored";
 
 const FROM_HELP: &str = r"The end that sent the octets: client, which begins with the
 preface, or server [default: client]";
+
+/// The lines that `replay` prints, how it ends, how octets are had, and an example.
+const EVENTS_AND_STATUSES: &str =
+    r"The octets are handed to one end of a new connection, which has the default
+settings and makes no call of its own. Each event has a line:
+  fields ID          a field block has come on stream ID; `end` after it, as
+                     after `data`: nothing follows on the stream
+    name: value      a header field, as `h2 show` prints it
+  data ID octets=N flow=M
+                     N octets of a body, which took M of the windows
+  reset ID code=N ours
+                     this end has reset the stream, for a fault of the peer;
+                     `theirs`: the peer has
+  goaway last=N code=N
+                     the peer takes no streams above N
+  unprocessed ID, pong OCTETS
+                     of a stream or a PING of this end, which makes none here
+  acked              the peer has applied this end's settings
+Then, once the input has ended or the connection has failed:
+  fault CODE         the connection has failed with this code (RFC 9113,
+                     section 7)
+  out OCTETS         all that this end sends, in hexadecimal: its opening and
+                     its replies
+
+Exit status, with the line on standard error:
+  0  the connection has not failed, wherever the input ends
+  1  a fault
+  2  wrong words; or `bad hex`: the input isn't hexadecimal text
+  3  `N1 Device`: a read or a write failed
+  4  `N3 Memory`: out of memory
+
+It reads octets, no capture and no socket. What a client sends first is had so:
+  $ nc -l 127.0.0.1 9002 > client.octets &
+  $ curl --http2-prior-knowledge --max-time 1 http://127.0.0.1:9002/
+  $ h2 replay < client.octets
+`tcpflow -r FILE` makes a file of each direction of a capture.
+
+Example (the last line goes on):
+  $ echo 000000 04 00 00000000 000008 07 00 00000000 00000003 00000000 |
+      h2 replay --hex --as client
+  goaway last=3 code=0
+  out 505249202a20485454502f322e300d0a0d0a534d0d0a0d0a000018040000000000";
+
+const AS_HELP: &str = r"The end that takes the octets, which are its peer's:
+server, whose peer begins with the preface, or client
+[default: server]";
+
+fn replay_command<'a>(alloc: Global) -> Result<Command<'a>, AllocError> {
+    let hex = Arg::new(alloc, HEX)
+        .long(HEX)
+        .action(ArgAction::SetTrue)
+        .help(HEX_HELP);
+    let role = Arg::new(alloc, AS)
+        .long(AS)
+        .value_name("SIDE")
+        .value_parser(["client", "server"].as_slice())
+        .default_value("server")
+        .hide_default_value(true)
+        .hide_possible_values(true)
+        .help(AS_HELP);
+    Command::new(alloc, "replay")
+        .bin_name("h2 replay")?
+        .about("Hands a stream to one end of a connection, and prints its events")
+        .override_usage("h2 replay [OPTIONS] < FILE")
+        .after_help(EVENTS_AND_STATUSES)
+        .arg(hex)?
+        .arg(role)
+}
 
 fn show_command<'a>(alloc: Global) -> Result<Command<'a>, AllocError> {
     let hex = Arg::new(alloc, HEX)

@@ -6,10 +6,12 @@
 
 mod args;
 mod program;
+mod replay;
 mod show;
 #[cfg(test)]
 mod tests;
 
-pub use args::show_args;
+pub use args::{replay_args, show_args};
 pub use program::{no_words, run};
+pub use replay::cmd_replay;
 pub use show::cmd_show;

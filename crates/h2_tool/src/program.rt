@@ -1,11 +1,11 @@
 //! The program as a whole.
 
 ghost use Rattle.std.specs.Prelude.{◌≡◌, ◌≢◌, ◌⊎◌, IfSome};
-ghost use Rattle.h2_show.specs.declared.options.ShowOptions.{ShowOptions as Options};
-ghost use Rattle.h2_show.specs.Report.{StatusReportsInput};
 ghost use Rattle.h2_show.specs.Status.{failure_status};
+ghost use Rattle.h2_tool.specs.Commands.{CommandReports};
 
 use crate::args::no_command;
+use crate::replay::cmd_replay;
 use crate::show::cmd_show;
 use clap::Error;
 use clap::error::ErrorKind;
@@ -24,14 +24,16 @@ pub fn run<R: Read, W: Write, E: Write>(
     err: &mut E,
 ) -> Status
     ensures fault { result ≡ Status.Fault → IfSome (R.remaining input.old)
-        (λ given. (options : Options) × StatusReportsInput options given result) }
+        (λ given. CommandReports given result) }
     ensures good { result ≡ Status.Good → IfSome (R.remaining input.old)
-        (λ given. ((options : Options) × StatusReportsInput options given result)
+        (λ given. CommandReports given result
         ⊎ (R.remaining input.new ≡ R.remaining input.old)) }
 {
     if let Some((name, others)) = words.split_first() {
-        if name.as_str() == "show" {
-            return cmd_show(alloc, others, input, out, err);
+        match name.as_str() {
+            "show" => return cmd_show(alloc, others, input, out, err),
+            "replay" => return cmd_replay(alloc, others, input, out, err),
+            _ => {}
         }
     }
     match no_command(alloc, words) {
@@ -84,15 +86,21 @@ pub(crate) fn give_up<E: Write>(failure: Failure, err: &mut E) -> Status
     failure.status()
 }
 
-/// Prints on standard error which option is likely missing.
-pub(crate) fn give_hint<E: Write>(hint: Option<Hint>, err: &mut E) {
-    let line = match hint {
-        None => return,
-        Some(Hint::Hexadecimal) => "hint: the input looks like hexadecimal text: try --hex\n",
-        Some(Hint::FromServer) => {
-            "hint: the input begins with no client's preface: try --from server\n"
+/// Prints on standard error which option is likely missing; `from_server` is that for octets of a
+/// server.
+pub(crate) fn give_hint<E: Write>(hint: Option<Hint>, from_server: &str, err: &mut E) {
+    // The status is that of the stream, whether or not these writes fail.
+    let _ = match hint {
+        None => Ok(()),
+        Some(Hint::Hexadecimal) => {
+            writeln!(
+                err,
+                "hint: the input looks like hexadecimal text: try --hex"
+            )
         }
+        Some(Hint::FromServer) => writeln!(
+            err,
+            "hint: the input begins with no client's preface: try {from_server}"
+        ),
     };
-    // The status is that of the stream, whether or not this write fails.
-    let _ = err.write_all(line.as_bytes());
 }

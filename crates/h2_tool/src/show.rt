@@ -39,7 +39,7 @@ pub fn cmd_show<R: Read, W: Write, E: Write>(
     };
     match show_input(alloc, options, input, out) {
         Ok(shown) => {
-            give_hint(shown.hint, err);
+            give_hint(shown.hint, "--from server", err);
             shown.status
         }
         Err(failure) => give_up(failure, err),

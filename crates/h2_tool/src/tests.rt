@@ -1,31 +1,16 @@
 //! Tests of the commands, in memory.
 
+mod cases;
+mod devices;
+mod examples;
+mod replay;
+
 use crate::{cmd_show, no_words, run};
+use devices::Failing;
 use h2_show::Status;
 use std::alloc::Global;
-use std::io::{self, ErrorKind, Read, Write};
-use std::process::Abort;
+use std::io::{self, ErrorKind};
 use std::test::Fail;
-
-// A reader and a writer that fail.
-#[derive(Drop)]
-struct Failing;
-
-impl Read for Failing {
-    fn read(&mut self, _buf: &mut [u8]) -> io::Result<usize> {
-        Err(io::Error::from(ErrorKind::Other))
-    }
-}
-
-impl Write for Failing {
-    fn write(&mut self, _buf: &[u8]) -> io::Result<usize> {
-        Err(io::Error::from(ErrorKind::Other))
-    }
-
-    fn flush(&mut self) -> io::Result<()> {
-        Ok(())
-    }
-}
 
 // The words of a line, divided by one space.
 fn words_of(alloc: Global, line: &str) -> Result<Vec<String>, Fail> {
@@ -50,7 +35,14 @@ fn words_are_checked_first(rt: HostRuntime) -> Result<(), Fail> {
         ("help show", show, "", Status::Good),
         (
             "--help",
-            "Shows streams of HTTP/2 over cleartext\n",
+            "Shows and replays streams of HTTP/2 over cleartext\n",
+            "",
+            Status::Good,
+        ),
+        (
+            "replay --help",
+            "Hands a stream to one end of a connection, and prints its events\n\n\
+        Usage: h2 replay [OPTIONS] < FILE\n",
             "",
             Status::Good,
         ),
@@ -58,7 +50,7 @@ fn words_are_checked_first(rt: HostRuntime) -> Result<(), Fail> {
         (
             "",
             "",
-            "Shows streams of HTTP/2 over cleartext\n",
+            "Shows and replays streams of HTTP/2 over cleartext\n",
             Status::Usage,
         ),
         (
@@ -77,6 +69,18 @@ fn words_are_checked_first(rt: HostRuntime) -> Result<(), Fail> {
             "show --from x",
             "",
             "error: invalid value 'x' for '--from <SIDE>'\n",
+            Status::Usage,
+        ),
+        (
+            "replay --as x",
+            "",
+            "error: invalid value 'x' for '--as <SIDE>'\n",
+            Status::Usage,
+        ),
+        (
+            "replay --from client",
+            "",
+            "error: unexpected argument '--from' found\n",
             Status::Usage,
         ),
         (
@@ -113,7 +117,7 @@ fn words_are_checked_first(rt: HostRuntime) -> Result<(), Fail> {
 // Each line of the help fits 80 columns, and has what the lines mean.
 #[test]
 fn help_fits_80_columns(rt: HostRuntime) -> Result<(), Fail> {
-    for line in ["show --help", "--help"] {
+    for line in ["show --help", "replay --help", "--help"] {
         let words = words_of(rt.alloc(), line)?;
         let mut out = Vec::new(rt.alloc());
         let mut err = Vec::new(rt.alloc());
@@ -128,19 +132,34 @@ fn help_fits_80_columns(rt: HostRuntime) -> Result<(), Fail> {
         for text in help.lines() {
             assert!(rt; text.chars().count() <= 80, "{text}");
         }
-        if line == "show --help" {
-            let parts = [
-                "!",
-                r"\x00",
+        let parts = match line {
+            "show --help" => [
                 "fault",
-                "rest",
                 "N1 Device",
                 "N3 Memory",
                 "Example:",
-            ];
-            for part in &parts {
-                assert!(rt; help.contains(*part), "{part}");
-            }
+                r"\x00",
+                "rest",
+            ],
+            "replay --help" => [
+                "fault",
+                "N1 Device",
+                "N3 Memory",
+                "Example",
+                "acked",
+                "nc -l",
+            ],
+            _ => [
+                "Usage:",
+                "Commands:",
+                "show",
+                "replay",
+                "--help",
+                "--version",
+            ],
+        };
+        for part in &parts {
+            assert!(rt; help.contains(*part), "{part}");
         }
     }
     Ok(())

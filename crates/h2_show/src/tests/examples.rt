@@ -3,7 +3,7 @@
 use super::cases::Case;
 use crate::{Side, Status};
 
-pub(crate) const EXAMPLES: [Case<'static>; 11] = [
+pub(crate) const EXAMPLES: [Case<'static>; 13] = [
     // client.hex
     Case {
         from: Side::Client,
@@ -66,6 +66,43 @@ pub(crate) const EXAMPLES: [Case<'static>; 11] = [
             "fault FRAME_SIZE_ERROR at 48",
         ],
         status: Status::Fault,
+    },
+    // client-reset.hex
+    Case {
+        from: Side::Client,
+        octets: &[
+            "505249202a20485454502f322e300d0a0d0a534d0d0a0d0a",
+            "000000040000000000",
+            "000003010400000001 828684",
+            "000004000000000001 61626364",
+            "000004030000000001 00000008",
+        ],
+        lines: &[
+            "preface",
+            "SETTINGS 0 0",
+            "HEADERS 1 3 whole",
+            "  :method: GET",
+            "  :scheme: http",
+            "  :path: /",
+            "DATA 1 4",
+            "RST_STREAM 1 4 code=8",
+        ],
+        status: Status::Good,
+    },
+    // client-window.hex
+    Case {
+        from: Side::Client,
+        octets: &[
+            "505249202a20485454502f322e300d0a0d0a534d0d0a0d0a",
+            "000000040000000000",
+            "000004080000000000 7fffffff",
+        ],
+        lines: &[
+            "preface",
+            "SETTINGS 0 0",
+            "WINDOW_UPDATE 0 4 add=2147483647",
+        ],
+        status: Status::Good,
     },
     // server.hex
     Case {

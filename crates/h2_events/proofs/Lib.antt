@@ -1,0 +1,2 @@
+pub mod ReplayLemmas
+pub mod TakeLemmas

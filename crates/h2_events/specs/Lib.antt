@@ -1,0 +1,2 @@
+pub mod Replayer
+pub mod Report

@@ -1,0 +1,84 @@
+//! Events, and the octets that an end gives out, as lines of text.
+
+ghost use Rattle.std.specs.Prelude.{◌≢◌, Err};
+
+use h2_conn::{Conn, Event};
+use h2_show::{Failure, PIECE, write_field};
+use hpack::FieldList;
+use std::alloc::Global;
+use std::fmt;
+use std::io::{self, Write};
+
+/// Prints the line of an event, and those of its fields. The words are divided by one space, and
+/// numbers are decimal.
+pub(crate) fn write_event<W: Write>(event: Event<'_>, out: &mut W) -> io::Result<()> {
+    match event {
+        Event::Fields { id, list, end } => {
+            writeln!(out, "fields {id}{}", End(end))?;
+            write_fields(list, out)
+        }
+        Event::Data {
+            id,
+            octets,
+            flow,
+            end,
+        } => {
+            let count = octets.len();
+            writeln!(out, "data {id} octets={count} flow={flow}{}", End(end))
+        }
+        Event::Reset { id, code, ours } => {
+            let whose = if ours { "ours" } else { "theirs" };
+            writeln!(out, "reset {id} code={code} {whose}")
+        }
+        Event::GoAway { last, code } => writeln!(out, "goaway last={last} code={code}"),
+        Event::Unprocessed { id } => writeln!(out, "unprocessed {id}"),
+        Event::Acked => out.write_all(b"acked\n"),
+        Event::Pong { octets } => writeln!(out, "pong {:016x}", u64::from_be_bytes(octets)),
+    }
+}
+
+/// A space and the word for END_STREAM, where it is set.
+#[derive(Clone, Copy)]
+struct End(bool);
+
+impl fmt::Display for End {
+    fn fmt<W: fmt::Write>(&self, f: &mut fmt::Formatter<W>) -> fmt::Result {
+        match self.0 {
+            true => write!(f, " end"),
+            false => Ok(()),
+        }
+    }
+}
+
+fn write_fields<W: Write>(list: &FieldList, out: &mut W) -> io::Result<()> {
+    for place in 0..list.len() {
+        if let Some(field) = list.get(place) {
+            write_field(field, out)?;
+        }
+    }
+    Ok(())
+}
+
+/// Prints the line of all the output that waits: it is put out a piece at a time.
+pub(crate) fn write_out<W: Write>(
+    alloc: Global,
+    conn: &mut Conn,
+    out: &mut W,
+) -> Result<(), Failure>
+    ensures bad_hex { result ≢ Err Failure.BadHex }
+{
+    out.write_all(b"out ")?;
+    let mut octets = Vec::new(alloc);
+    for _ in 0..u64::MAX {
+        match conn.put_out(PIECE, &mut octets) {
+            Ok(0) => break,
+            Ok(_) => {}
+            Err(_) => return Err(Failure::Memory),
+        }
+        let text = hex::encode(alloc, octets.as_slice())?;
+        out.write_all(text.as_bytes())?;
+        octets.clear();
+    }
+    out.write_all(b"\n")?;
+    Ok(())
+}

@@ -1,0 +1,38 @@
+//! What is still to come of the client's preface.
+
+use h2_conn::Role;
+use h2_show::Hint;
+
+/// The client's preface (RFC 9113, section 3.4).
+const PREFACE: &[u8] = b"PRI * HTTP/2.0\r\n\r\nSM\r\n\r\n";
+
+/// What is still to come of the preface that an end expects.
+#[derive(Clone, Copy, Debug)]
+pub(crate) struct Opening {
+    left: &'static [u8],
+}
+
+impl Opening {
+    /// Before the first octet: a server expects the preface, a client nothing.
+    pub(crate) fn new(role: Role) -> Opening {
+        match role {
+            Role::Server => Opening { left: PREFACE },
+            Role::Client => Opening { left: &[] },
+        }
+    }
+
+    /// After a piece that was taken.
+    pub(crate) fn advance(&mut self, piece: &[u8]) {
+        let count = piece.len().min(self.left.len());
+        self.left = &self.left[count..];
+    }
+
+    /// What is likely wrong with the options, where the connection fails in this piece: none unless
+    /// the piece isn't what is still to come of the preface.
+    pub(crate) fn hint(&self, piece: &[u8]) -> Option<Hint> {
+        if piece.starts_with(self.left) {
+            return None;
+        }
+        Some(Hint::for_start(piece, self.left.len() == PREFACE.len()))
+    }
+}

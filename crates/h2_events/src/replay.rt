@@ -1,0 +1,229 @@
+//! An input, replayed to its end.
+
+ghost use Rattle.std.specs.Prelude.{◌≡◌, ◌≢◌, ◌<◌, ◌++◌, length, [], None, true, Err, codes};
+ghost use Rattle.std.specs.Prelude.{IsOk, IfOk, OnOk, IfErr, IfSome};
+ghost use Rattle.std.specs.Io.Buffered.{writer_buffer};
+ghost use Rattle.std.specs.Io.KnownBytes.{Appends};
+ghost use Rattle.h2_frame.specs.Codes.{name_of};
+ghost use Rattle.h2_show.specs.Hexadecimal.{IsBadHex};
+ghost use Rattle.h2_events.specs.Replayer.{EndReplays, TakesPiece, ReplayErrorReports};
+ghost use Rattle.h2_events.specs.Report.{ReplayReports, ReplayReportsInput, ReplayReportsOctets};
+ghost use Rattle.h2_events.specs.Report.{ReplayReportsText, status_of};
+
+use crate::lines::write_out;
+use crate::opening::Opening;
+use crate::options::ReplayOptions;
+use crate::replayer::{ReplayError, new_end, take_piece};
+use h2_conn::{Conn, Role};
+use h2_frame::Code;
+use h2_show::{Failure, Hint, PIECE, Shown, Status, new_buffer, read_hex, read_some};
+use std::alloc::Global;
+use std::io::{BufWriter, Read, Write};
+
+/// How an input ended.
+#[derive(Clone, Copy, Debug)]
+struct Ended {
+    /// The code with which the connection failed, for a fault of the peer.
+    fault: Option<Code>,
+    /// What is likely wrong with the options, where the first octets aren't the preface.
+    hint: Option<Hint>,
+}
+
+/// Replays the input: hands its octets to one end of a connection, which is new and has the default
+/// configuration, and prints a line for each event, the fields of a block under its line; then a
+/// line for the fault with which the connection fails, if it does; and then the octets that the end
+/// gives out, which are put out once the input is used.
+///
+/// Of a reader whose octets are known, in whatever pieces it gives them, [`Status::Good`] comes
+/// only where the end took all of them and hasn't failed; and [`Status::Fault`] only where it has
+/// failed in them, with a code other than INTERNAL_ERROR, which says that memory ran out.
+///
+/// # Errors
+///
+/// [`Failure::Device`] where a read or a write failed, [`Failure::Memory`] when out of memory, and
+/// [`Failure::BadHex`] where the input isn't the hexadecimal text that was announced. What was
+/// printed by then is written in any case, unless the writer itself fails.
+pub fn replay_input<R: Read, W: Write>(
+    alloc: Global,
+    options: ReplayOptions,
+    input: &mut R,
+    out: &mut W,
+) -> Result<Shown, Failure>
+    ensures reports { IfOk result (λ shown. IfSome (R.remaining input.old)
+        (λ given. ReplayReportsInput options given shown.status)) }
+    ensures bad_hex { result ≡ Err Failure.BadHex
+        → (options.hex ≡ true) × IfSome (R.remaining input.old) IsBadHex }
+{
+    let mut lines = BufWriter::with_capacity(alloc, PIECE, out)?;
+    let shown = replay_lines(alloc, options, input, &mut lines);
+    // Only a failed write has left something, which isn't written again.
+    let _ = lines.into_parts();
+    shown
+}
+
+// Replays the input, and writes what is buffered at its end.
+fn replay_lines<R: Read, W: Write + Drop>(
+    alloc: Global,
+    options: ReplayOptions,
+    input: &mut R,
+    lines: &mut BufWriter<W>,
+) -> Result<Shown, Failure>
+    ensures reports { IfOk result (λ shown. IfSome (R.remaining input.old)
+        (λ given. ReplayReportsInput options given shown.status)) }
+    ensures bad_hex { result ≡ Err Failure.BadHex
+        → (options.hex ≡ true) × IfSome (R.remaining input.old) IsBadHex }
+    ensures written { IsOk result → writer_buffer lines.new ≡ [] }
+{
+    let shown = if options.hex {
+        replay_hex(alloc, options.role, input, lines)
+    } else {
+        replay_octets(alloc, options.role, input, lines)
+    };
+    if let Err(Failure::Device) = shown {
+        return shown;
+    }
+    lines.flush()?;
+    shown
+}
+
+// Replays octets as they come.
+fn replay_octets<R: Read, W: Write + Drop>(
+    alloc: Global,
+    role: Role,
+    input: &mut R,
+    lines: &mut BufWriter<W>,
+) -> Result<Shown, Failure>
+    ensures reports { IfOk result (λ shown. IfSome (R.remaining input.old)
+        (λ octets. ReplayReportsOctets role octets shown.status)) }
+    ensures bad_hex { result ≢ Err Failure.BadHex }
+{
+    let mut buffer = new_buffer(alloc)?;
+    let mut conn = new_end(alloc, role).map_err(|_| Failure::Memory)?;
+    let ended = replay_pieces(role, &mut conn, input, &mut buffer, lines)?;
+    finish(alloc, &mut conn, ended, lines)
+}
+
+// Replays pieces that fit the buffer, until the input ends or the connection fails. The lines of
+// each are written before the next one is read.
+fn replay_pieces<R: Read, W: Write + Drop>(
+    role: Role,
+    conn: &mut Conn,
+    input: &mut R,
+    buffer: &mut [u8],
+    lines: &mut BufWriter<W>,
+) -> Result<Ended, Failure>
+    requires room { 0 < length buffer.old }
+    requires starts { EndReplays role [] conn.old }
+    ensures reports { IfOk result (λ ended. IfSome (R.remaining input.old)
+        (λ octets. ReplayReports role octets ended.fault)) }
+    ensures bad_hex { result ≢ Err Failure.BadHex }
+{
+    let mut opening = Opening::new(role);
+    for _ in 0..u64::MAX {
+        let count = read_some(input, buffer)?;
+        if count == 0 {
+            return Ok(Ended {
+                fault: None,
+                hint: None,
+            });
+        }
+        let piece = &buffer[..count];
+        match write_piece(conn, piece, lines) {
+            Ok(()) => opening.advance(piece),
+            Err(ReplayError::Fault(code)) => {
+                return Ok(Ended {
+                    fault: Some(code),
+                    hint: opening.hint(piece),
+                });
+            }
+            Err(ReplayError::Failed(failure)) => return Err(failure),
+        }
+    }
+    Err(Failure::Device)
+}
+
+// Replays a piece, and writes its lines.
+fn write_piece<W: Write + Drop>(
+    conn: &mut Conn,
+    piece: &[u8],
+    lines: &mut BufWriter<W>,
+) -> Result<(), ReplayError>
+    ensures ok { OnOk result (TakesPiece conn.old piece.now None conn.new) }
+    ensures err { IfErr result (λ error. ReplayErrorReports conn.old piece.now error conn.new) }
+    ensures written { OnOk result (writer_buffer lines.new ≡ []) }
+{
+    take_piece(conn, piece, lines)?;
+    Ok(lines.flush()?)
+}
+
+// Replays octets in hexadecimal, whose text is read to its end first.
+fn replay_hex<R: Read, W: Write>(
+    alloc: Global,
+    role: Role,
+    input: &mut R,
+    out: &mut W,
+) -> Result<Shown, Failure>
+    ensures reports { IfOk result (λ shown. IfSome (R.remaining input.old)
+        (λ text. ReplayReportsText role text shown.status)) }
+    ensures bad_hex { result ≡ Err Failure.BadHex → IfSome (R.remaining input.old) IsBadHex }
+{
+    let octets = read_hex(alloc, input)?;
+    replay_all(alloc, role, &octets, out)
+}
+
+// Replays octets all at once.
+fn replay_all<W: Write>(
+    alloc: Global,
+    role: Role,
+    octets: &[u8],
+    out: &mut W,
+) -> Result<Shown, Failure>
+    ensures reports { IfOk result (λ shown. ReplayReportsOctets role octets.now shown.status) }
+    ensures bad_hex { result ≢ Err Failure.BadHex }
+{
+    let mut conn = new_end(alloc, role).map_err(|_| Failure::Memory)?;
+    let ended = match take_piece(&mut conn, octets, out) {
+        Ok(()) => Ended {
+            fault: None,
+            hint: None,
+        },
+        Err(ReplayError::Fault(code)) => Ended {
+            fault: Some(code),
+            hint: Opening::new(role).hint(octets).map(|_| Hint::FromServer),
+        },
+        Err(ReplayError::Failed(failure)) => return Err(failure),
+    };
+    finish(alloc, &mut conn, ended, out)
+}
+
+// Prints the line of the fault, and then that of the output.
+fn finish<W: Write>(
+    alloc: Global,
+    conn: &mut Conn,
+    ended: Ended,
+    out: &mut W,
+) -> Result<Shown, Failure>
+    ensures status { IfOk result (λ shown. shown.status ≡ status_of ended.fault) }
+    ensures bad_hex { result ≢ Err Failure.BadHex }
+{
+    let status = match ended.fault {
+        Some(code) => write_fault(code, out)?,
+        None => Status::Good,
+    };
+    write_out(alloc, conn, out)?;
+    Ok(Shown {
+        status,
+        hint: ended.hint,
+    })
+}
+
+// Prints the line of a fault with this code.
+fn write_fault<W: Write>(code: Code, out: &mut W) -> Result<Status, Failure>
+    ensures status { IfOk result (λ status. status ≡ Status.Fault) }
+    ensures line { IfOk result (λ status. Appends (W.contents out.old) (W.contents out.new)
+        (codes "fault " ++ name_of code ++ codes "\n")) }
+    ensures bad_hex { result ≢ Err Failure.BadHex }
+{
+    writeln!(out, "fault {code}")?;
+    Ok(Status::Fault)
+}

@@ -1,0 +1,84 @@
+//! One end, and the lines of what it reports.
+
+ghost use Rattle.std.specs.Prelude.{[], None, OnOk, IfOk, IfErr};
+ghost use Rattle.h2_events.specs.Replayer.{EndReplays, TakesPiece, ReportsCode, ReplayErrorReports};
+ghost use Rattle.h2_events.specs.Replayer.{IsFailed};
+
+use crate::lines::write_event;
+use h2_conn::{Config, Conn, ConnFault, Refusal, Role};
+use h2_frame::Code;
+use h2_show::Failure;
+use std::alloc::Global;
+use std::io::{self, Write};
+
+/// Why an end takes no more of an input.
+#[derive(Clone, Copy, Debug)]
+pub(crate) enum ReplayError {
+    /// The connection has failed with this code, for a fault of the peer.
+    Fault(Code),
+    /// A line wasn't printed, or out of memory.
+    Failed(Failure),
+}
+
+impl From<ConnFault> for ReplayError {
+    ghost from_gives = { λ fault error. ReportsCode fault.code error };
+
+    fn from(fault: ConnFault) -> ReplayError {
+        match fault.code {
+            // Nothing that a peer sends is answered with this code.
+            Code::InternalError => ReplayError::Failed(Failure::Memory),
+            code => ReplayError::Fault(code),
+        }
+    }
+}
+
+impl From<io::Error> for ReplayError {
+    ghost from_gives = { λ io_error error. IsFailed error };
+
+    fn from(error: io::Error) -> ReplayError {
+        ReplayError::Failed(Failure::from(error))
+    }
+}
+
+/// A new end, with the first values of its settings.
+///
+/// # Errors
+///
+/// [`Refusal::Memory`] when out of memory.
+pub(crate) fn new_end(alloc: Global, role: Role) -> Result<Conn, Refusal>
+    ensures { IfOk result (EndReplays role []) }
+{
+    match role {
+        Role::Client => Conn::client(alloc, Config::default()),
+        Role::Server => Conn::server(alloc, Config::default()),
+    }
+}
+
+/// Hands the piece to the end until it is used and nothing more is reported, and prints the events.
+///
+/// # Errors
+///
+/// [`ReplayError::Fault`] where the connection fails, and [`ReplayError::Failed`] where a line
+/// wasn't printed or memory ran out.
+pub(crate) fn take_piece<W: Write>(
+    conn: &mut Conn,
+    piece: &[u8],
+    out: &mut W,
+) -> Result<(), ReplayError>
+    ensures ok { OnOk result (TakesPiece conn.old piece.now None conn.new) }
+    ensures err { IfErr result (λ error. ReplayErrorReports conn.old piece.now error conn.new) }
+{
+    let mut done = 0;
+    for _ in 0..u64::MAX {
+        let taken = conn.take(&piece[done..])?;
+        done += taken.used;
+        let Some(event) = taken.event else {
+            if done == piece.len() {
+                return Ok(());
+            }
+            continue;
+        };
+        write_event(event, out)?;
+    }
+    Err(ReplayError::Failed(Failure::Device))
+}
