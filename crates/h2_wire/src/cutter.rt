@@ -100,7 +100,9 @@ impl Cutter {
         payload_frame(&frame.head, self.buffer.payload(piece, frame))
     }
 
-    /// Both at once: [`Cutter::advance`], and then [`Cutter::frame`] where a frame is complete.
+    /// Uses octets of the piece, up to the end of one frame, and lends that frame; or uses all of
+    /// them, where they complete no frame. The octets that follow a frame are for the next call. It
+    /// is [`Cutter::advance`], and then [`Cutter::frame`].
     ///
     /// # Errors
     ///
