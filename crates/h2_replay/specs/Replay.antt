@@ -1,10 +1,10 @@
 -- What a replay answers: the turns of its acts, as the definitions of an end say them.
 --
 -- How octets are grouped in turns says nothing: what an end writes in one step is one turn of it
--- in the code, and as many as it has parts in the definitions. So turns are compared octet by octet,
--- in order: a turn with octets is one turn for each of them. Since a turn of an act's beginning
--- stands between the octets of two acts, what came in, what joined the output and what was reported
--- is the same at the end of each act.
+-- in the code, and as many as it has parts in the definitions. So turns are compared octet by
+-- octet, in order: a turn with octets is one turn for each of them. Since a turn of an act's
+-- beginning stands between the octets of two acts, what came in, what joined the output and what
+-- was reported is the same at the end of each act.
 use Rattle.std.specs.Prelude.{map as each, ◌≡◌, ℕ, List, [], ◌∷◌, ◌++◌, Option, Some, None}
 use Rattle.h2_log.specs.declared.role.Role.{Role}
 use Rattle.h2_log.specs.Acts.{Values, Turn, In, Out, Called, Answered, Happened, TakeCalled, Done}

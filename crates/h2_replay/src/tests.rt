@@ -53,7 +53,11 @@ fn events(log: &Log) -> usize {
 
 #[test]
 fn ping_is_written(rt: HostRuntime) -> Result<(), Fail> {
-    let log = replay_one(rt.alloc(), Role::Client, Act::Ping([1, 2, 3, 4, 5, 6, 7, 8]))?;
+    let log = replay_one(
+        rt.alloc(),
+        Role::Client,
+        Act::Ping([1, 2, 3, 4, 5, 6, 7, 8]),
+    )?;
     assert!(rt; matches!(last_answer(&log), Some(Answer::Done)));
     assert!(rt; counts(&log) == (0, 24 + 33 + 17));
     Ok(())
@@ -62,7 +66,12 @@ fn ping_is_written(rt: HostRuntime) -> Result<(), Fail> {
 #[test]
 fn refused_call_is_kept(rt: HostRuntime) -> Result<(), Fail> {
     let log = replay_one(rt.alloc(), Role::Server, Act::Reset { id: 1, code: 8 })?;
-    assert!(rt; matches!(last_answer(&log), Some(Answer::Refused(Refusal::NoSuchStream))));
+    assert!(rt;
+        matches!(
+            last_answer(&log),
+            Some(Answer::Refused(Refusal::NoSuchStream))
+        )
+    );
     Ok(())
 }
 
