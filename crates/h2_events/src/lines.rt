@@ -19,11 +19,11 @@ pub(crate) fn write_event<W: Write>(event: Event<'_>, out: &mut W) -> io::Result
         }
         Event::Data {
             id,
-            octets,
+            bytes,
             flow,
             end,
         } => {
-            let count = octets.len();
+            let count = bytes.len();
             writeln!(out, "data {id} octets={count} flow={flow}{}", End(end))
         }
         Event::Reset { id, code, ours } => {
