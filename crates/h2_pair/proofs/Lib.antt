@@ -20,3 +20,6 @@ pub mod FaultsOfReads
 pub mod FaultsOfPairs
 pub mod WaitingBound
 pub mod TablesOfPairs
+pub mod HeardTokens
+pub mod HeardSent
+pub mod HeardReads
