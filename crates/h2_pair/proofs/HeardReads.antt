@@ -60,7 +60,7 @@ closed_more role i items sent closed =
     ]
 
 -- It stays so.
-gone_more : (role : Role) (i : ℕ) (news items received sent : List Item)
+pub gone_more : (role : Role) (i : ℕ) (news items received sent : List Item)
     → IsGone role i received sent → IsGone role i (news ++ received) (items ++ sent)
 gone_more role i news items received sent gone =
     record {
@@ -123,7 +123,7 @@ other_carries i (alone (Data stream end octets pad)) list other = rw other refl
 other_carries i (alone frame) list other = refl
 
 -- The item is no part of a message, or its stream has this property.
-abbrev OfMessage : (ℕ → Type 0) → Item → Type 0
+abbrev pub OfMessage : (ℕ → Type 0) → Item → Type 0
 OfMessage P (block stream end octets) = P stream
 OfMessage P (alone (Data stream end octets pad)) = P stream
 OfMessage P (alone frame) = Unit {0}
@@ -143,7 +143,7 @@ nothing_or P i (alone (Data stream end octets pad)) list is = elim (cases_Bool (
 nothing_or P i (alone frame) list is = inl refl
 
 -- What two facts say of a verdict, both say.
-says_both : (F S T A B C : Type 0) (verdict : Verdict) → Says F S T verdict → Says A B C verdict
+pub says_both : (F S T A B C : Type 0) (verdict : Verdict) → Says F S T verdict → Says A B C verdict
     → Says (F × A) (S × B) (T × C) verdict
 says_both F S T A B C (ConnectionFault code) one other = tt
 says_both F S T A B C (StreamFault code) one other = (one, other)
@@ -205,15 +205,15 @@ idle_stays : (log : Log) (i : ℕ) → state log i ≡ Idle
 idle_stays log i is gone = not_idle _ _ _ gone.used is
 
 -- The number of an item is used once it is read.
-abbrev IsUsedBy : Log → Item → ℕ → Type 0
+abbrev pub IsUsedBy : Log → Item → ℕ → Type 0
 IsUsedBy log item i = is_used log.role i (item ∷ log.received) log.sent ≡ true
 
 -- The stream isn't gone.
-abbrev Stays : Log → ℕ → Type 0
+abbrev pub Stays : Log → ℕ → Type 0
 Stays log i = IsGone log.role i log.received log.sent → ⊥
 
 -- What is silent of a message is on a used stream, and what is reported is on one that isn't gone.
-rules_used : (log : Log) (decoded : Option Decoded) (item : Item)
+pub rules_used : (log : Log) (decoded : Option Decoded) (item : Item)
     → Says (Unit {0}) (OfMessage (IsUsedBy log item) item) (OfMessage (Stays log) item)
     (verdict_by_rules (log_view log) decoded item)
 unfolding verdict_by_rules
@@ -246,7 +246,7 @@ silent_gone log (alone (Data stream end octets pad)) closed used =
 silent_gone log (alone frame) closed used = tt
 
 -- A prefix, where what goes on is longer.
-prefix_by : (tokens heard whole all more : List Token) → heard ≡ tokens → all ≡ whole ++ more
+pub prefix_by : (tokens heard whole all more : List Token) → heard ≡ tokens → all ≡ whole ++ more
     → IsPrefixOf tokens whole → IsPrefixOf heard all
 prefix_by tokens heard whole all more same is (rest, before) = (
   rest ++ more,
@@ -335,7 +335,7 @@ fault_goes log i item code due list used = elim (cases_Bool (stream_of_item item
 ]
 
 -- What is known of an item that is read.
-abbrev IsRuled : Log → Item → Verdict → Type 0
+abbrev pub IsRuled : Log → Item → Verdict → Type 0
 IsRuled log item verdict =
     Says (IsFaulty log item × Unit {0})
     (IsUnreported log item × OfMessage (IsUsedBy log item) item)
@@ -356,7 +356,7 @@ abbrev pub LogHeard : ℕ → Log → List (List Field) → Type 0
 LogHeard i log lists = AreHeard log.role i log.received log.sent log.reported lists
 
 -- After an item, what is replied to it, what else is written, and its events, by its verdict.
-heard_item : (i : ℕ) (log : Log) (decoded : Option Decoded) (item : Item) (verdict : Verdict)
+pub heard_item : (i : ℕ) (log : Log) (decoded : Option Decoded) (item : Item) (verdict : Verdict)
     (due : List Item) (lists : List (List Field))
     → ((code : Code) → verdict ≡ ConnectionFault code → ⊥) → IsRuled log item verdict
     → LogHeard i log lists

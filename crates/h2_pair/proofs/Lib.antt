@@ -23,3 +23,5 @@ pub mod TablesOfPairs
 pub mod HeardTokens
 pub mod HeardSent
 pub mod HeardReads
+pub mod HeardSteps
+pub mod HeardCalls
