@@ -6,6 +6,7 @@ use Rattle.h2_frame.specs.declared.code.Code.{Code}
 use Rattle.h2_frame.specs.declared.code.Code.TheVariants.{InternalError}
 use Rattle.h2_frame.specs.Codes.{code_number}
 use Rattle.h2_frame.specs.Frames.{Frame, GoAway, WindowUpdate}
+use Rattle.h2_wire.specs.Faults.{wire_fault_code}
 use Rattle.h2_block.specs.Grouping.{Item, alone}
 use Rattle.h2_log.specs.Events.{Event, UnprocessedEvent}
 use Rattle.h2_log.specs.Acts.{Act, Answer, Open, SendFields, Refuse, PutOut, Count, OutOfMemory}
@@ -120,8 +121,10 @@ pub step_calls : (log : Log) (step : Step) → IsNoCall step
 unfolding log_after used
 step_calls log (uses_part octets unparsed) none = refl
 step_calls log (ends_frame octets frame decoded) none = frame_calls (used log octets []) decoded frame
-step_calls log (meets_fault octets fault) none = failure_calls _ _ (used log octets [])
-step_calls log (runs_out_of_memory octets) none = failure_calls _ _ (used log octets [])
+step_calls log (meets_fault octets fault) none =
+    failure_calls (wire_fault_code fault) _ (used log octets [])
+step_calls log (runs_out_of_memory octets) none =
+    failure_calls InternalError _ (used log octets [])
 step_calls log reports_unprocessed none = reported_calls _ _ ∙ due_calls _ log
 step_calls log (is_called act answer) none = absurd (none act answer refl)
 

@@ -25,3 +25,5 @@ pub mod HeardSent
 pub mod HeardReads
 pub mod HeardSteps
 pub mod HeardCalls
+pub mod HeardLists
+pub mod HeardPairs
