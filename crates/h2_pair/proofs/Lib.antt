@@ -27,3 +27,4 @@ pub mod HeardSteps
 pub mod HeardCalls
 pub mod HeardLists
 pub mod HeardPairs
+pub mod HeardGoAways
