@@ -28,3 +28,4 @@ pub mod HeardCalls
 pub mod HeardLists
 pub mod HeardPairs
 pub mod HeardGoAways
+pub mod HeardWhole
