@@ -1,5 +1,5 @@
--- A server that is up says by no GOAWAY that it doesn't process a stream that it has ended (RFC 9113,
--- section 6.8).
+-- A server that is up says by no GOAWAY that it doesn't process a stream on which it has sent part
+-- of a message (RFC 9113, section 6.8).
 use Rattle.std.proofs.Common.{◌≡◌, ◌⊎◌, inl, inr, ℕ, zero, suc, ◌+◌, ◌≤◌, ◌==◌, nat_le, nat_lt, max}
 use Rattle.std.proofs.Common.{◌&&◌, not, Bool, true, false, if◌then◌else◌, List, [], ◌∷◌, ◌++◌}
 use Rattle.std.proofs.Common.{length, take, drop, Option, Some, None, is_some, refl, sym, ap, ◌∙◌}
@@ -16,7 +16,7 @@ use Rattle.h2_block.specs.Grouping.{Item, alone, block}
 use Rattle.h2_log.specs.declared.role.Role.{Role}
 use Rattle.h2_log.specs.declared.role.Role.TheVariants.{Client, Server}
 use Rattle.h2_log.specs.declared.refusal.Refusal.{Refusal}
-use Rattle.h2_log.specs.Items.{ends, is_goaway_below}
+use Rattle.h2_log.specs.Items.{is_goaway_below}
 use Rattle.h2_log.specs.Events.{Event, UnprocessedEvent, greatest_processed}
 use Rattle.h2_log.specs.Acts.{Values, Act, Answer, Open, SendFields, SendData, Release, ResetStream}
 use Rattle.h2_log.specs.Acts.{Refuse, SendPing, SendGoAway, PutOut, ChangeSettings}
@@ -49,28 +49,34 @@ use Rattle.h2_machine_laws.proofs.GoAwaysSent.{active_processed}
 not_some : (code : Code) → Some code ≡ None → ⊥
 not_some code is = cc
 
+-- Whether the item is part of a message on the stream.
+unfoldable pub speaks : ℕ → Item → Bool
+speaks i (block stream end octets) = stream == i
+speaks i (alone (Data stream end octets pad)) = stream == i
+speaks i item = false
+
 -- The stream was processed, and stands above no last stream of these items.
 pub record IsKept (processed i : ℕ) (sent : List Item) : Type 0 where
   pub low : i ≤ processed
   pub below : list_any (is_goaway_below i) sent ≡ false
 
--- Each stream that was ended.
+-- Each stream on which something was sent.
 abbrev pub IsBelow : Log → Type 0
-IsBelow log = (i : ℕ) → list_any (ends i) log.sent ≡ true
+IsBelow log = (i : ℕ) → list_any (speaks i) log.sent ≡ true
     → IsKept (greatest_processed log.reported) i log.sent
 
--- What may be written: ends of streams that were processed, and GOAWAYs above these.
+-- What may be written: parts of messages on streams that were processed, and GOAWAYs above these.
 record AreFit (processed : ℕ) (sent items : List Item) : Type 0 where
-  pub ended : (i : ℕ) → list_any (ends i) items ≡ true → IsKept processed i sent
+  pub spoken : (i : ℕ) → list_any (speaks i) items ≡ true → IsKept processed i sent
   pub above : (i : ℕ) → i ≤ processed → list_any (is_goaway_below i) items ≡ false
 
 -- Items that keep it.
 below_more : (processed : ℕ) (sent items : List Item) → AreFit processed sent items
-    → ((i : ℕ) → list_any (ends i) sent ≡ true → IsKept processed i sent)
-    → (i : ℕ) → list_any (ends i) (items ++ sent) ≡ true → IsKept processed i (items ++ sent)
+    → ((i : ℕ) → list_any (speaks i) sent ≡ true → IsKept processed i sent)
+    → (i : ℕ) → list_any (speaks i) (items ++ sent) ≡ true → IsKept processed i (items ++ sent)
 below_more processed sent items fit before i here =
-    let old : IsKept processed i sent = elim (any_either (ends i) items sent here) [
-      | inl now ↦ fit.ended i now
+    let old : IsKept processed i sent = elim (any_either (speaks i) items sent here) [
+      | inl now ↦ fit.spoken i now
       | inr was ↦ before i was
     ] in
     record {
@@ -105,16 +111,16 @@ reports_below log (event ∷ events) is = λ i here.
       below = old.below;
     }
 
--- Items that neither end a stream nor are GOAWAY fit.
+-- Items that are no part of a message and no GOAWAY fit.
 abbrev AreQuiet : List Item → Type 0
-AreQuiet items = (i : ℕ) → (list_any (ends i) items ≡ false)
+AreQuiet items = (i : ℕ) → (list_any (speaks i) items ≡ false)
     × (list_any (is_goaway_below i) items ≡ false)
 
 quiet_fits : (processed : ℕ) (sent items : List Item) → AreQuiet items
     → AreFit processed sent items
 quiet_fits processed sent items quiet =
     record {
-      ended = λ i here. absurd (both_ways _ (quiet i).0 here);
+      spoken = λ i here. absurd (both_ways _ (quiet i).0 here);
       above = λ i low. (quiet i).1;
     }
 
@@ -124,7 +130,7 @@ wrote_quiet log items quiet is = wrote_below log items (quiet_fits _ log.sent it
 
 -- What is unreturned.
 update_quiet : (count : ℕ) → AreQuiet (alone (WindowUpdate 0 count) ∷ [])
-unfolding ends is_goaway_below
+unfolding speaks is_goaway_below
 update_quiet count i = (refl, refl)
 
 unreturned_by : (more : ℕ) (log : Log) (b : Bool) → IsBelow log
@@ -141,7 +147,7 @@ unreturned_below more log is =
 
 -- Replies are quiet.
 replies_quiet : (verdict : Verdict) (item : Item) → AreQuiet (replies_to verdict item)
-unfolding replies_to ends is_goaway_below
+unfolding replies_to speaks is_goaway_below
 replies_quiet (ConnectionFault code) item i = (refl, refl)
 replies_quiet (StreamFault code) item i = (refl, refl)
 replies_quiet Reported item i = (refl, refl)
@@ -187,17 +193,17 @@ frame_below log decoded frame up is =
     step_below (record log { frames = log.frames ++ frame ∷ [] }) decoded
     (frame_step (log_view log) frame) up is
 
--- DATA of one stream ends no other, and is no GOAWAY.
+-- DATA of one stream is of no other, and is no GOAWAY.
 record IsData (id : ℕ) (items : List Item) : Type 0 where
-  pub only : (i : ℕ) → list_any (ends i) items ≡ true → id ≡ i
+  pub only : (i : ℕ) → list_any (speaks i) items ≡ true → id ≡ i
   pub stays : (i : ℕ) → list_any (is_goaway_below i) items ≡ false
 
 one_data : (id : ℕ) (octets : List ℕ) (end : Bool) → IsData id (alone (Data id end octets None) ∷ [])
-unfolding ends is_goaway_below
+unfolding speaks is_goaway_below
 one_data id octets end =
     record {
-      only = λ i here. elim (or_cases (id == i && end) false here) [
-        | inl now ↦ eqb-true id i (and_parts (id == i) end now).0
+      only = λ i here. elim (or_cases (id == i) false here) [
+        | inl now ↦ eqb-true id i now
         | inr wrong ↦ absurd (both_ways false refl wrong)
       ];
       stays = λ i. refl;
@@ -207,7 +213,7 @@ both_data : (id : ℕ) (one other : List Item) → IsData id one → IsData id o
     → IsData id (one ++ other)
 both_data id one other here there =
     record {
-      only = λ i now. elim (any_either (ends i) one other now) [
+      only = λ i now. elim (any_either (speaks i) one other now) [
         | inl first ↦ here.only i first
         | inr after ↦ there.only i after
       ];
@@ -240,11 +246,11 @@ items_data most id octets end count =
     (frames_data (suc count) most id (take count octets) (end && count == length octets))
 
 block_data : (id : ℕ) (end : Bool) (octets : List ℕ) → IsData id (block id end octets ∷ [])
-unfolding ends is_goaway_below
+unfolding speaks is_goaway_below
 block_data id end octets =
     record {
-      only = λ i here. elim (or_cases (id == i && end) false here) [
-        | inl now ↦ eqb-true id i (and_parts (id == i) end now).0
+      only = λ i here. elim (or_cases (id == i) false here) [
+        | inl now ↦ eqb-true id i now
         | inr wrong ↦ absurd (both_ways false refl wrong)
       ];
       stays = λ i. refl;
@@ -292,7 +298,7 @@ stream_fits : (log : Log) (id : ℕ) (items : List Item) → IsServer log → ac
     → IsData id items → AreFit (greatest_processed log.reported) log.sent items
 stream_fits log id items server alive is =
     record {
-      ended = λ i here. subst (λ (j : ℕ). IsKept (greatest_processed log.reported) j log.sent)
+      spoken = λ i here. subst (λ (j : ℕ). IsKept (greatest_processed log.reported) j log.sent)
           (is.only i here) (server.kept id alive);
       above = λ i low. is.stays i;
     }
@@ -300,17 +306,17 @@ stream_fits log id items server alive is =
 -- GOAWAY names the last stream that was processed.
 goaway_fits : (log : Log) → log.role ≡ Server → AreFit (greatest_processed log.reported) log.sent
     (alone (GoAway (last_processed log) 0 []) ∷ [])
-unfolding ends is_goaway_below last_processed
+unfolding speaks is_goaway_below last_processed
 goaway_fits log server =
     record {
-      ended = λ i here. absurd (both_ways false refl here);
+      spoken = λ i here. absurd (both_ways false refl here);
       above = λ i low. rw server (or_from _ _ (le-ltb (greatest_processed log.reported) i low) refl);
     }
 
 -- What a release writes.
 updates_quiet : (id count : ℕ) (ended : Bool) → AreQuiet (alone
     (WindowUpdate 0 count) ∷ (if ended then [] else alone (WindowUpdate id count) ∷ []))
-unfolding ends is_goaway_below
+unfolding speaks is_goaway_below
 updates_quiet id count true i = (refl, refl)
 updates_quiet id count false i = (refl, refl)
 
@@ -318,7 +324,7 @@ updates_quiet id count false i = (refl, refl)
 items_fit : (log : Log) (act : Act) → IsServer log → refusal_of (log_view log) act ≡ None
     → AreFit (greatest_processed log.reported) log.sent
     (items_of (log_view log) act (answer_of (log_view log) act))
-unfolding items_of ends is_goaway_below
+unfolding items_of speaks is_goaway_below
 items_fit log (Open fields end) server none =
     absurd (opens_nothing log fields end server.server none)
 items_fit log (SendFields id fields end) server none =
@@ -396,9 +402,9 @@ call_below log act answer server (lacks none may same) up is = rw same is
 call_below log act answer server (fails none may same) up is =
     absurd (not_some InternalError (rw same at up))
 
--- A new end has ended nothing.
+-- A new end has sent no part of a message.
 opened_below : (role : Role) (values : Values) → IsBelow (opened role values)
-unfolding opened with_sent ends
+unfolding opened with_sent speaks
 opened_below role values i here = absurd (both_ways false refl here)
 
 -- What a server keeps.

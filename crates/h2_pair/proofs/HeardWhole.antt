@@ -4,7 +4,7 @@ use Rattle.std.proofs.Common.{Bool, true, false, if◌then◌else◌, List, [], 
 use Rattle.std.proofs.Common.{refl, sym, ap, ◌∙◌, append-nil, arith, subst, length}
 use Rattle.std.specs.List.{list_any, Contains}
 use Rattle.std.proofs.lemmas.Bool.{both_ways, or_parts, or_cases, eqb-true, cases_Bool, and_from}
-use Rattle.std.proofs.lemmas.Bool.{and_parts, lt-ltb, ltb-true, not-true}
+use Rattle.std.proofs.lemmas.Bool.{and_parts, lt-ltb, ltb-true, or_left, or_right}
 use Rattle.hpack.specs.declared.types.field.Field.{Field}
 use Rattle.h2_frame.specs.Frames.{Frame, Data, Headers, Priority, Reset, Settings, Ping, GoAway}
 use Rattle.h2_frame.specs.Frames.{WindowUpdate, Continuation, Unknown}
@@ -37,7 +37,7 @@ use Rattle.h2_pair.proofs.FaultsOfPairs.{AreClean, pair_clean}
 use Rattle.h2_pair.proofs.HeardTokens.{item_tokens, frame_tokens, tokens_of_items}
 use Rattle.h2_pair.proofs.HeardReads.{AreHeard, all_heard, some_heard}
 use Rattle.h2_pair.proofs.HeardPairs.{IsHeardBy, pair_heard, given_in_order}
-use Rattle.h2_pair.proofs.HeardGoAways.{IsBelow, ended_below}
+use Rattle.h2_pair.proofs.HeardGoAways.{IsBelow, ended_below, speaks}
 
 -- What doesn't hold is false.
 pub not_so : (b : Bool) → (b ≡ true → ⊥) → b ≡ false
@@ -168,7 +168,10 @@ least_below i (alone (Unknown kind flags stream payload) ∷ items) here = least
 above_nonzero : (log : Log) (j : ℕ) → (active log j && nat_lt (least_goaway log.received) j) ≡ true
     → j ≢ 0
 above_nonzero log j both = λ none.
-    let above = ltb-true (least_goaway log.received) j (and_parts _ _ both).1 in omega arith
+    let above : least_goaway log.received < j =
+    ltb-true (least_goaway log.received) j (and_parts (active log j)
+    (nat_lt (least_goaway log.received) j) both).1 in
+    omega arith
 
 none_above : (log : Log) (i : ℕ) → log.role ≡ Client → next_unprocessed log ≡ 0
     → list_any (is_block_on i) log.sent ≡ true
@@ -214,6 +217,21 @@ pub unnamed : (client server : Log) (i : ℕ) → IsSettled client server i
 unnamed client server i settled = not_so _ (λ here.
     settled.unreset (inr (inr (named_found i client.reported here))))
 
+-- What ends a stream is part of a message.
+one_ended : (i : ℕ) (item : Item) → ends i item ≡ true → speaks i item ≡ true
+unfolding ends speaks
+one_ended i (block stream end octets) here = (and_parts (stream == i) end here).0
+one_ended i (alone (Data stream end octets pad)) here = (and_parts (stream == i) end here).0
+one_ended i item here = absurd (both_ways false refl here)
+
+pub ended_spoken : (i : ℕ) (items : List Item) → list_any (ends i) items ≡ true
+    → list_any (speaks i) items ≡ true
+ended_spoken i [] here = here
+ended_spoken i (item ∷ items) here = elim (or_cases (ends i item) (list_any (ends i) items) here) [
+  | inl now ↦ or_left (speaks i item) _ (one_ended i item now)
+  | inr before ↦ or_right (speaks i item) _ (ended_spoken i items before)
+]
+
 -- A number that the client has opened is above no GOAWAY of the server.
 client_above : (role : Role) (i : ℕ) (sent : List Item) → role ≡ Client
     → is_above role i sent ≡ false
@@ -228,8 +246,8 @@ cut_off client server i settled odd opened below =
     let read : list_any (is_goaway_below i) client.received ≡ true =
     ap (list_any (is_goaway_below i)) settled.to_client ∙ below in
     let unended : list_any (ends i) client.received ≡ false = not_so _ (λ here.
-    both_ways _ (settled.ended i (sym (ap (list_any (ends i)) settled.to_client) ∙ here)).below
-    below) in
+    both_ways _ (settled.ended i (ended_spoken i server.sent
+    (sym (ap (list_any (ends i)) settled.to_client) ∙ here))).below below) in
     none_above client i settled.client_role settled.all_reported opened read
     (active_from client.role i client.received client.sent client.reported (record {
       odd = odd;
