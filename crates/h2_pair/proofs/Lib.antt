@@ -29,3 +29,4 @@ pub mod HeardLists
 pub mod HeardPairs
 pub mod HeardGoAways
 pub mod HeardWhole
+pub mod HeardMessages
