@@ -233,13 +233,13 @@ ended_spoken i (item ∷ items) here = elim (or_cases (ends i item) (list_any (e
 ]
 
 -- A number that the client has opened is above no GOAWAY of the server.
-client_above : (role : Role) (i : ℕ) (sent : List Item) → role ≡ Client
+pub client_above : (role : Role) (i : ℕ) (sent : List Item) → role ≡ Client
     → is_above role i sent ≡ false
 unfolding is_above
 client_above Client i sent client = refl
 client_above Server i sent client = absurd (cc)
 
-cut_off : (client server : Log) (i : ℕ) → IsSettled client server i → i % 2 == 1 ≡ true
+pub cut_off : (client server : Log) (i : ℕ) → IsSettled client server i → i % 2 == 1 ≡ true
     → list_any (is_block_on i) client.sent ≡ true
     → list_any (is_goaway_below i) server.sent ≡ true → ⊥
 cut_off client server i settled odd opened below =
@@ -268,12 +268,12 @@ unfolding is_used
 used_odd role i received sent used = (and_parts _ _ used).0
 
 -- A server has closed a stream by a reset, or has named a last stream below it.
-closed_how : (role : Role) (i : ℕ) (sent : List Item) → is_closed_by_us role i sent ≡ true
+pub closed_how : (role : Role) (i : ℕ) (sent : List Item) → is_closed_by_us role i sent ≡ true
     → (list_any (resets i) sent ≡ true) ⊎ (is_above role i sent ≡ true)
 unfolding is_closed_by_us
 closed_how role i sent closed = or_cases (list_any (resets i) sent) (is_above role i sent) closed
 
-above_server : (role : Role) (i : ℕ) (sent : List Item) → role ≡ Server
+pub above_server : (role : Role) (i : ℕ) (sent : List Item) → role ≡ Server
     → is_above role i sent ≡ true → list_any (is_goaway_below i) sent ≡ true
 unfolding is_above
 above_server Client i sent server above = absurd (cc)

@@ -30,3 +30,4 @@ pub mod HeardPairs
 pub mod HeardGoAways
 pub mod HeardWhole
 pub mod HeardMessages
+pub mod HeardQuiet
