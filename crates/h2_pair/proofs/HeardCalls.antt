@@ -1,6 +1,6 @@
 -- What the steps of an end make of its calls.
 use Rattle.std.proofs.Common.{◌≡◌, ℕ, ◌&&◌, nat_lt, ◌+◌, Bool, true, false, if◌then◌else◌, List, []}
-use Rattle.std.proofs.Common.{◌∷◌, ◌++◌, Option, Some, None, refl, ap, ◌∙◌, sym}
+use Rattle.std.proofs.Common.{◌∷◌, ◌++◌, Option, Some, None, refl, ap, ◌∙◌}
 use Rattle.hpack.specs.declared.types.field.Field.{Field}
 use Rattle.h2_frame.specs.declared.code.Code.{Code}
 use Rattle.h2_frame.specs.declared.code.Code.TheVariants.{InternalError}
@@ -8,17 +8,17 @@ use Rattle.h2_frame.specs.Codes.{code_number}
 use Rattle.h2_frame.specs.Frames.{Frame, GoAway, WindowUpdate}
 use Rattle.h2_wire.specs.Faults.{wire_fault_code}
 use Rattle.h2_block.specs.Grouping.{Item, alone}
-use Rattle.h2_log.specs.Events.{Event, UnprocessedEvent}
+use Rattle.h2_log.specs.Events.{Event}
 use Rattle.h2_log.specs.Acts.{Act, Answer, Open, SendFields, Refuse, PutOut, Count, OutOfMemory}
 use Rattle.h2_log.specs.Acts.{Refused, Number, Done}
 use Rattle.h2_log.specs.Limits.{full_output}
 use Rattle.h2_log.specs.Log.{Log, waiting}
 use Rattle.h2_log.specs.LogView.{log_view}
 use Rattle.h2_log.specs.Verdicts.{Verdict, ConnectionFault, StreamFault, NoEvent, Reported}
-use Rattle.h2_log.specs.ItemRules.{Decoded, replies_to, FrameStep, fails_with, begins_block}
+use Rattle.h2_log.specs.ItemRules.{Decoded, FrameStep, fails_with, begins_block}
 use Rattle.h2_log.specs.ItemRules.{completes, frame_step}
 use Rattle.h2_log.specs.LogSteps.{read, used, with_sent, with_reported, with_unreturned}
-use Rattle.h2_log.specs.LogSteps.{with_failure, with_verdict, with_step, with_frame, took_none}
+use Rattle.h2_log.specs.LogSteps.{with_failure, with_verdict, with_step, with_frame}
 use Rattle.h2_log.specs.LogSteps.{with_credit_returned}
 use Rattle.h2_log.specs.LogCalls.{called, with_items, refused_with, before_put_out, with_call}
 use Rattle.h2_log.specs.CallRules.{items_of, returns_before_put_out}
@@ -120,7 +120,8 @@ pub step_calls : (log : Log) (step : Step) → IsNoCall step
     → (log_after log step).calls ≡ log.calls
 unfolding log_after used
 step_calls log (uses_part octets unparsed) none = refl
-step_calls log (ends_frame octets frame decoded) none = frame_calls (used log octets []) decoded frame
+step_calls log (ends_frame octets frame decoded) none =
+    frame_calls (used log octets []) decoded frame
 step_calls log (meets_fault octets fault) none =
     failure_calls (wire_fault_code fault) _ (used log octets [])
 step_calls log (runs_out_of_memory octets) none =

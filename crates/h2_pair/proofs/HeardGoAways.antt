@@ -1,11 +1,11 @@
 -- A server that is up says by no GOAWAY that it doesn't process a stream on which it has sent part
 -- of a message (RFC 9113, section 6.8).
-use Rattle.std.proofs.Common.{◌≡◌, ◌⊎◌, inl, inr, ℕ, zero, suc, ◌+◌, ◌≤◌, ◌==◌, nat_le, nat_lt, max}
+use Rattle.std.proofs.Common.{◌≡◌, inl, inr, ℕ, zero, suc, ◌+◌, ◌≤◌, ◌==◌, nat_le, nat_lt}
 use Rattle.std.proofs.Common.{◌&&◌, not, Bool, true, false, if◌then◌else◌, List, [], ◌∷◌, ◌++◌}
-use Rattle.std.proofs.Common.{length, take, drop, Option, Some, None, is_some, refl, sym, ap, ◌∙◌}
+use Rattle.std.proofs.Common.{length, take, drop, Option, Some, None, is_some, refl, ap, ◌∙◌}
 use Rattle.std.proofs.Common.{arith, subst}
 use Rattle.std.specs.List.{list_any}
-use Rattle.std.proofs.lemmas.Bool.{both_ways, or_from, eqb-true, le-ltb, and_parts, or_cases}
+use Rattle.std.proofs.lemmas.Bool.{both_ways, or_from, eqb-true, le-ltb, or_cases}
 use Rattle.std.proofs.lemmas.List.Folds.{list_any-append}
 use Rattle.hpack.specs.declared.types.field.Field.{Field}
 use Rattle.h2_frame.specs.declared.code.Code.{Code}
@@ -14,13 +14,12 @@ use Rattle.h2_wire.specs.Faults.{wire_fault_code}
 use Rattle.h2_frame.specs.Frames.{Frame, Data, Settings, Ping, GoAway, WindowUpdate}
 use Rattle.h2_block.specs.Grouping.{Item, alone, block}
 use Rattle.h2_log.specs.declared.role.Role.{Role}
-use Rattle.h2_log.specs.declared.role.Role.TheVariants.{Client, Server}
-use Rattle.h2_log.specs.declared.refusal.Refusal.{Refusal}
+use Rattle.h2_log.specs.declared.role.Role.TheVariants.{Server}
 use Rattle.h2_log.specs.Items.{is_goaway_below}
-use Rattle.h2_log.specs.Events.{Event, UnprocessedEvent, greatest_processed}
+use Rattle.h2_log.specs.Events.{Event, greatest_processed}
 use Rattle.h2_log.specs.Acts.{Values, Act, Answer, Open, SendFields, SendData, Release, ResetStream}
 use Rattle.h2_log.specs.Acts.{Refuse, SendPing, SendGoAway, PutOut, ChangeSettings}
-use Rattle.h2_log.specs.Acts.{Done, OutOfMemory, Refused}
+use Rattle.h2_log.specs.Acts.{Done}
 use Rattle.h2_log.specs.Settings.{is_server}
 use Rattle.h2_log.specs.States.{is_above, when}
 use Rattle.h2_log.specs.Log.{Log, active, waiting, last_processed}
@@ -29,10 +28,10 @@ use Rattle.h2_log.specs.View.{StreamView, ended_in}
 use Rattle.h2_log.specs.Verdicts.{Verdict, ConnectionFault, StreamFault, NoEvent, Reported}
 use Rattle.h2_log.specs.ItemRules.{Decoded, replies_to, FrameStep, fails_with, begins_block}
 use Rattle.h2_log.specs.ItemRules.{completes, frame_step}
-use Rattle.h2_log.specs.CallRules.{conditions, opening_pairs, items_of, answer_of, refuse_fault}
+use Rattle.h2_log.specs.CallRules.{conditions, items_of, answer_of, refuse_fault}
 use Rattle.h2_log.specs.CallRules.{refusal_of, returns_before_put_out, data_items, data_frames}
 use Rattle.h2_log.specs.Limits.{full_output}
-use Rattle.h2_log.specs.LogSteps.{read, with_sent, with_reported, with_unreturned, with_failure}
+use Rattle.h2_log.specs.LogSteps.{read, with_sent, with_reported, with_unreturned}
 use Rattle.h2_log.specs.LogSteps.{with_credit_returned, with_verdict, with_step, with_frame, used}
 use Rattle.h2_log.specs.LogCalls.{opened, called, with_items, refused_with, before_put_out}
 use Rattle.h2_log.specs.LogCalls.{with_call, MayAnswer, accepts, refuses, lacks, fails}
@@ -198,7 +197,8 @@ record IsData (id : ℕ) (items : List Item) : Type 0 where
   pub only : (i : ℕ) → list_any (speaks i) items ≡ true → id ≡ i
   pub stays : (i : ℕ) → list_any (is_goaway_below i) items ≡ false
 
-one_data : (id : ℕ) (octets : List ℕ) (end : Bool) → IsData id (alone (Data id end octets None) ∷ [])
+one_data : (id : ℕ) (octets : List ℕ) (end : Bool)
+    → IsData id (alone (Data id end octets None) ∷ [])
 unfolding speaks is_goaway_below
 one_data id octets end =
     record {
@@ -310,7 +310,8 @@ unfolding speaks is_goaway_below last_processed
 goaway_fits log server =
     record {
       spoken = λ i here. absurd (both_ways false refl here);
-      above = λ i low. rw server (or_from _ _ (le-ltb (greatest_processed log.reported) i low) refl);
+      above = λ i low. rw server (or_from _ _
+          (le-ltb (greatest_processed log.reported) i low) refl);
     }
 
 -- What a release writes.
@@ -360,7 +361,8 @@ refused_below log id code None up is = is
 
 ready_by : (log : Log) (b : Bool) → IsBelow log
     → IsBelow (if b then with_credit_returned log else log)
-ready_by log true is = wrote_quiet (record log { unreturned = 0 }) _ (update_quiet log.unreturned) is
+ready_by log true is =
+    wrote_quiet (record log { unreturned = 0 }) _ (update_quiet log.unreturned) is
 ready_by log false is = is
 
 ready_below : (log : Log) → IsBelow log → IsBelow (before_put_out log)

@@ -102,9 +102,11 @@ next_list log octets stream end (Some decoded) lists under_way read accepted fou
     let line : accepted ≡ (found.newer ++ found.fields ∷ []) ++ lists =
     all ∙ ap (λ (front : List (List Field)). front ++ read) found.are
     ∙ ap (λ (back : List (List Field)). (found.newer ++ found.fields ∷ []) ++ back) same in
-    let joined = append_assoc found.newer (found.fields ∷ []) lists in
-    (found.newer, line ∙ joined
-    ∙ ap (λ (fields : List Field). found.newer ++ (fields ∷ lists)) (sym one.0))
+    let joined = append_assoc found.newer (found.fields ∷ []) lists in (
+      found.newer,
+      line ∙ joined
+          ∙ ap (λ (fields : List Field). found.newer ++ (fields ∷ lists)) (sym one.0),
+    )
 
 -- So it is with any item that comes next.
 pub next_lists : (writer reader : Log) (newer : List Item) (item : Item)
@@ -163,7 +165,8 @@ nothing_count = refl
 
 -- There is a block for each list.
 pub blocks_of_lists : (sent : List Item) (settings : List (List (ℕ × ℕ)))
-    (lists : List (List Field)) (encoder : EncoderState) → EncodesInOrder sent settings lists encoder
+    (lists : List (List Field)) (encoder : EncoderState)
+    → EncodesInOrder sent settings lists encoder
     → length lists ≡ block_count sent
 blocks_of_lists _ _ _ _ sent_nothing = sym nothing_count
 blocks_of_lists _ _ _ _ (sent_acknowledgment {sent = sent} {settings = settings} {lists = lists}
@@ -172,8 +175,11 @@ blocks_of_lists _ _ _ _ (sent_acknowledgment {sent = sent} {settings = settings}
     (Settings true []) sent)
 blocks_of_lists _ _ _ _ (sent_block {sent = sent} {settings = settings} {lists = lists}
     {encoder = encoder} is stream end fields) =
-    omega (arith, blocks_of_lists sent settings lists encoder is, block_more stream end (block_of encoder
-    fields) sent)
+    omega (
+      arith,
+      blocks_of_lists sent settings lists encoder is,
+      block_more stream end (block_of encoder fields) sent,
+    )
 blocks_of_lists _ _ _ _ (sent_other {sent = sent} {settings = settings} {lists = lists}
     {encoder = encoder} is item none) =
     blocks_of_lists sent settings lists encoder is ∙ sym (unchanged_count item sent none)

@@ -1,24 +1,20 @@
 -- What a stream on which something was sent is like, and how a message ends.
-use Rattle.std.proofs.Common.{map as each, ◌≡◌, ◌≢◌, ◌⊎◌, inl, inr, ℕ, ◌+◌, ◌≤◌, ◌<◌, ◌==◌, ◌%◌, ◌&&◌}
-use Rattle.std.proofs.Common.{Bool, true, false, if◌then◌else◌, List, [], ◌∷◌, ◌++◌, Option, None}
-use Rattle.std.proofs.Common.{Some, refl, sym, ap, ◌∙◌, append-nil, append_assoc, arith, subst, length}
+use Rattle.std.proofs.Common.{map as each, ◌≡◌, inl, inr, ℕ, ◌==◌, ◌%◌, ◌&&◌}
+use Rattle.std.proofs.Common.{Bool, true, false, List, [], ◌∷◌, ◌++◌, Option, None}
+use Rattle.std.proofs.Common.{Some, refl, sym, ap, ◌∙◌, append_assoc, arith, subst, length}
 use Rattle.std.specs.List.{list_any}
-use Rattle.std.proofs.lemmas.Bool.{both_ways, or_parts, or_cases, eqb-true, eq-eqb, cases_Bool}
+use Rattle.std.proofs.lemmas.Bool.{both_ways, or_parts, or_cases, eqb-true, eq-eqb}
 use Rattle.std.proofs.lemmas.Bool.{or_left, or_right, or_from, and_parts}
 use Rattle.std.proofs.lemmas.List.Folds.{list_any-append}
 use Rattle.hpack.specs.declared.types.field.Field.{Field}
-use Rattle.h2_frame.specs.Frames.{Frame, Data, Headers, Priority, Reset, Settings, Ping, GoAway}
-use Rattle.h2_frame.specs.Frames.{WindowUpdate, Continuation, Unknown}
+use Rattle.h2_frame.specs.Frames.{Frame, Data, Settings}
 use Rattle.h2_block.specs.Grouping.{Item, alone, block}
 use Rattle.h2_log.specs.declared.role.Role.{Role}
 use Rattle.h2_log.specs.declared.role.Role.TheVariants.{Client, Server}
-use Rattle.h2_log.specs.Acts.{Values, AreInRange}
-use Rattle.h2_log.specs.Allowed.{AllowedHistory, Allowed, MayContinue, MayOpen, starts, reads, writes}
-use Rattle.h2_log.specs.CallRules.{opening_pairs, changed_pairs}
+use Rattle.h2_log.specs.Allowed.{AllowedHistory, Allowed, MayContinue, MayOpen, starts, reads}
+use Rattle.h2_log.specs.Allowed.{writes}
 use Rattle.h2_log.specs.Items.{is_block_on, ends}
-use Rattle.h2_log.specs.Settings.{value_read, value_after}
 use Rattle.h2_log.specs.States.{openings}
-use Rattle.h2_log.specs.Windows.{first_window}
 use Rattle.h2_log_laws.proofs.ItemLists.{any_after}
 use Rattle.h2_log_laws.proofs.ReaderStates.{active_parts}
 use Rattle.h2_pair.specs.HeaderTables.{block_count}

@@ -1,6 +1,6 @@
 -- What an end of a pair has heard on a stream is a prefix of what the other one was given for it.
-use Rattle.std.proofs.Common.{◌≡◌, ◌≢◌, ℕ, ◌+◌, List, [], ◌∷◌, ◌++◌, length, Option, None, refl}
-use Rattle.std.proofs.Common.{sym, ap, ◌∙◌, arith, append_assoc, length-append, subst}
+use Rattle.std.proofs.Common.{◌≡◌, ℕ, List, [], ◌∷◌, ◌++◌, length, Option, None, refl}
+use Rattle.std.proofs.Common.{sym, ap, ◌∙◌, arith, append_assoc, length-append}
 use Rattle.hpack.specs.declared.types.field.Field.{Field}
 use Rattle.h2_frame.specs.declared.code.Code.{Code}
 use Rattle.h2_frame.specs.declared.code.Code.TheVariants.{InternalError}
@@ -9,12 +9,11 @@ use Rattle.h2_wire.specs.Faults.{wire_fault_code}
 use Rattle.h2_block.specs.Grouping.{Item}
 use Rattle.h2_log.specs.declared.role.Role.{Role}
 use Rattle.h2_log.specs.declared.role.Role.TheVariants.{Client, Server}
-use Rattle.h2_log.specs.Acts.{Values, Act, Answer}
+use Rattle.h2_log.specs.Acts.{Values}
 use Rattle.h2_log.specs.Log.{Log}
-use Rattle.h2_log.specs.LogView.{log_view}
 use Rattle.h2_log.specs.LogCalls.{opened, with_call}
 use Rattle.h2_log.specs.LogSteps.{used, with_frame, with_sent, with_failure, took_none}
-use Rattle.h2_log.specs.ItemRules.{Decoded, frame_step}
+use Rattle.h2_log.specs.ItemRules.{Decoded}
 use Rattle.h2_log.specs.Histories.{IsLog, IsDecodedFor}
 use Rattle.h2_log_laws.proofs.LogGrowth.{grows_call}
 use Rattle.h2_end_laws.specs.Sendings.{lists_accepted, settings_received}
@@ -27,7 +26,7 @@ use Rattle.h2_pair.specs.Pairs.{Half, HalfStep, calls, takes, loses, IsPair, beg
 use Rattle.h2_pair.specs.Pairs.{server_steps}
 use Rattle.h2_pair.specs.Directions.{AreUnderWay}
 use Rattle.h2_pair.specs.HeaderTables.{TablesInStep, block_count}
-use Rattle.h2_pair.specs.Tokens.{Token, tokens_sent, tokens_heard, IsPrefixOf}
+use Rattle.h2_pair.specs.Tokens.{tokens_sent, tokens_heard, IsPrefixOf}
 use Rattle.h2_pair.proofs.StepsOfLogs.{IsNoCall}
 use Rattle.h2_pair.proofs.PairLogs.{both_logs}
 use Rattle.h2_pair.proofs.CarriedItems.{items_both_ways}
@@ -35,7 +34,7 @@ use Rattle.h2_pair.proofs.TablesOfPairs.{tables_in_step_of_pair}
 use Rattle.h2_pair.proofs.HeardTokens.{tokens_of_items, tokens_split, prefix_more}
 use Rattle.h2_pair.proofs.HeardSent.{tokens_told}
 use Rattle.h2_pair.proofs.HeardReads.{LogHeard, heard_prefix, lists_after}
-use Rattle.h2_pair.proofs.HeardSteps.{heard_grows, heard_failure, heard_unprocessed, FrameHeard}
+use Rattle.h2_pair.proofs.HeardSteps.{heard_grows, heard_failure, heard_unprocessed}
 use Rattle.h2_pair.proofs.HeardSteps.{no_item, one_item, frame_heard, heard_used, opened_heard}
 use Rattle.h2_pair.proofs.HeardCalls.{call_calls, step_calls, lists_more}
 use Rattle.h2_pair.proofs.HeardLists.{next_lists, lists_count, blocks_joined, blocks_of_lists}
@@ -232,7 +231,7 @@ pair_heard client_values server_values new_client new_server
       writer_heard server client step before.1,
     )
 
--- What was given to the writer is what the reader's items carry, and then what is under way carries.
+-- What was given to the writer is what the reader's items carry, and then what those under way do.
 pub given_in_order : (i : ℕ) (role : Role) (values : Values) (writer reader : Log)
     (way : List Item) → IsLog role values writer → AreUnderWay writer reader way
     → (is : IsHeardBy writer reader)
@@ -245,8 +244,13 @@ given_in_order i role values writer reader way log under_way is =
     let all : length (is.later ++ is.lists) ≡ block_count (way ++ reader.received) =
     rw (is.accepted, under_way) at blocks in
     let later : length is.later ≡ block_count way =
-    omega (arith, all, is.count, length-append is.later is.lists,
-    blocks_joined way reader.received) in
+    omega (
+      arith,
+      all,
+      is.count,
+      length-append is.later is.lists,
+      blocks_joined way reader.received,
+    ) in
     tokens_told i role values writer log
     ∙ ap (λ (items : List Item). tokens_of_items i items (lists_accepted writer.calls)) under_way
     ∙ ap (λ (lists : List (List Field)). tokens_of_items i (way ++ reader.received) lists)

@@ -1,25 +1,24 @@
--- Once an undisturbed pair is quiet, a message of which nothing that waits could go was heard whole.
-use Rattle.std.proofs.Common.{◌≡◌, ◌≢◌, ◌⊎◌, inl, inr, ℕ, zero, suc, ◌+◌, ◌≤◌, ◌<◌, ◌==◌, ◌%◌, ◌&&◌}
-use Rattle.std.proofs.Common.{Bool, true, false, List, [], ◌∷◌, ◌++◌, Option, None, Some, refl, sym}
+-- Once an undisturbed pair is quiet, a message was heard whole, if what waits of it could not go.
+use Rattle.std.proofs.Common.{◌≡◌, ◌≢◌, inl, inr, ℕ, zero, suc, ◌+◌, ◌≤◌, ◌&&◌}
+use Rattle.std.proofs.Common.{Bool, true, false, List, [], ◌∷◌, ◌++◌, None, refl, sym}
 use Rattle.std.proofs.Common.{ap, ◌∙◌, append-nil, arith, length, ℤ, pos, ◌+ℤ◌, int_lt}
 use Rattle.std.specs.List.{list_any}
-use Rattle.std.proofs.lemmas.Bool.{both_ways, cases_Bool, or_from}
+use Rattle.std.proofs.lemmas.Bool.{both_ways, cases_Bool}
 use Rattle.std.proofs.lemmas.Bool.Decides.{nat_tests}
 use Rattle.std.proofs.lemmas.Int.{ints}
-use Rattle.h2_frame.specs.Frames.{Frame, Data, Headers, Priority, Reset, Settings, Ping, GoAway}
-use Rattle.h2_frame.specs.Frames.{WindowUpdate, Continuation, Unknown}
-use Rattle.h2_block.specs.Grouping.{Item, alone, block}
+use Rattle.h2_frame.specs.Frames.{Settings}
+use Rattle.h2_block.specs.Grouping.{Item, alone}
 use Rattle.h2_log.specs.declared.role.Role.{Role}
 use Rattle.h2_log.specs.declared.role.Role.TheVariants.{Client, Server}
 use Rattle.h2_log.specs.Acts.{Values, AreInRange}
 use Rattle.h2_log.specs.Allowed.{AllowedHistory, Allowed, starts, reads, writes}
 use Rattle.h2_log.specs.CallRules.{opening_pairs, changed_pairs}
 use Rattle.h2_log.specs.Events.{reports_unprocessed}
-use Rattle.h2_log.specs.Items.{is_block_on, ends, resets, total, data_on, data_of, increment_on}
+use Rattle.h2_log.specs.Items.{ends, resets, total, data_on, data_of, increment_on}
 use Rattle.h2_log.specs.Items.{greatest_block}
 use Rattle.h2_log.specs.Settings.{value_read, value_after, is_server}
-use Rattle.h2_log.specs.States.{ClosedByUs, is_above, is_closed_by_us, openings}
-use Rattle.h2_log.specs.Log.{Log, state, active, owed, send_window}
+use Rattle.h2_log.specs.States.{is_above, is_closed_by_us, openings}
+use Rattle.h2_log.specs.Log.{Log, active, owed, send_window}
 use Rattle.h2_log.specs.Windows.{first_window, connection_send_window}
 use Rattle.h2_log.specs.Histories.{IsLog}
 use Rattle.h2_log_laws.specs.Sums.{sum_below}
@@ -32,7 +31,7 @@ use Rattle.h2_end_laws.proofs.Sendings.{log_sent}
 use Rattle.h2_pair.specs.Pairs.{Half, IsPair}
 use Rattle.h2_pair.specs.Directions.{AreUnderWay}
 use Rattle.h2_pair.specs.Undisturbed.{IsUndisturbed}
-use Rattle.h2_pair.specs.Quiet.{IsQuiet, IsQuietTo, WasReset, IsSending, CouldGo, NoneCouldGo}
+use Rattle.h2_pair.specs.Quiet.{IsQuiet, WasReset, IsSending, CouldGo, NoneCouldGo}
 use Rattle.h2_pair.specs.Tokens.{Token, FieldsToken, OctetToken, EndToken, tokens_sent}
 use Rattle.h2_pair.specs.Tokens.{tokens_heard, Message, message_tokens}
 use Rattle.h2_pair.proofs.PairLogs.{both_logs}
@@ -42,7 +41,7 @@ use Rattle.h2_pair.proofs.NamedUnprocessed.{log_named}
 use Rattle.h2_pair.proofs.StreamWindows.{stream_conserved}
 use Rattle.h2_pair.proofs.HeardGoAways.{speaks}
 use Rattle.h2_pair.proofs.HeardLists.{blocks_of_lists}
-use Rattle.h2_pair.proofs.HeardMessages.{IsOpened, spoken_opened, silent_tokens, ended_tokens}
+use Rattle.h2_pair.proofs.HeardMessages.{spoken_opened, silent_tokens, ended_tokens}
 use Rattle.h2_pair.proofs.HeardMessages.{unended}
 use Rattle.h2_pair.proofs.HeardSent.{tokens_told}
 use Rattle.h2_pair.proofs.HeardWhole.{not_so, IsSettled, client_kept, server_kept, unnamed}
@@ -220,7 +219,8 @@ client_idle client_values server_values client server i message token others pai
     let is = (both_logs client_values server_values client server pair).client_log in
     let spoken = spoken_by Client client_values client.log i is begun in
     let goes = goes_on_by Client client_values client.log i message token others is sent in
-    let opened = spoken_opened Client i client.log.received client.log.sent settled.allowed spoken in
+    let opened = spoken_opened Client i client.log.received client.log.sent settled.allowed
+    spoken in
     record {
       halves = ends_to_server client_values server_values client server pair;
       up = up;

@@ -1,10 +1,10 @@
 -- What an end has heard on a stream is what the items that it has read carry, as long as it hasn't
 -- closed the stream; and a prefix of that from then on.
-use Rattle.std.proofs.Common.{map as each, ◌≡◌, ◌⊎◌, inl, inr, ℕ, ◌==◌, ◌%◌, ◌&&◌, Bool, true, false}
-use Rattle.std.proofs.Common.{if◌then◌else◌, List, [], ◌∷◌, ◌++◌, Option, Some, None, refl, sym}
+use Rattle.std.proofs.Common.{◌≡◌, ◌⊎◌, inl, inr, ℕ, ◌==◌, Bool, true, false}
+use Rattle.std.proofs.Common.{List, [], ◌∷◌, ◌++◌, Option, Some, None, refl, sym}
 use Rattle.std.proofs.Common.{ap, ◌∙◌, append_assoc, append-nil, subst}
 use Rattle.std.specs.List.{list_any}
-use Rattle.std.proofs.lemmas.Bool.{both_ways, or_left, or_right, or_parts, or_from, eqb-true}
+use Rattle.std.proofs.lemmas.Bool.{both_ways, or_left, or_right, or_from, eqb-true}
 use Rattle.std.proofs.lemmas.Bool.{eq-eqb, cases_Bool, or_cases}
 use Rattle.hpack.specs.declared.types.field.Field.{Field}
 use Rattle.h2_frame.specs.declared.code.Code.{Code}
@@ -13,29 +13,26 @@ use Rattle.h2_frame.specs.Frames.{Data, Reset, Settings, Ping, GoAway}
 use Rattle.h2_frame.specs.Encoding.{stream_of}
 use Rattle.h2_block.specs.Grouping.{Item, alone, block}
 use Rattle.h2_log.specs.declared.role.Role.{Role}
-use Rattle.h2_log.specs.Events.{Event, FieldsEvent, DataEvent}
+use Rattle.h2_log.specs.Events.{Event}
 use Rattle.h2_log.specs.declared.role.Role.TheVariants.{Client, Server}
 use Rattle.h2_log.specs.Items.{stream_of_item, resets, is_goaway_below}
-use Rattle.h2_log.specs.Settings.{is_server}
 use Rattle.h2_log.specs.States.{State, Idle, Active, ClosedByUs, Closed, state_by, is_active}
 use Rattle.h2_log.specs.States.{is_used, is_above, is_closed_by_us}
 use Rattle.h2_log.specs.Log.{Log, active, state}
 use Rattle.h2_log.specs.LogView.{log_view}
 use Rattle.h2_log.specs.View.{View}
 use Rattle.h2_log.specs.Verdicts.{Verdict, ConnectionFault, StreamFault, NoEvent, Reported}
-use Rattle.h2_log.specs.Verdicts.{block_verdict, opening_verdict, data_verdict}
-use Rattle.h2_log.specs.ItemRules.{Decoded, replies_to, verdict_by_rules, verdict_of, peer_opens}
+use Rattle.h2_log.specs.Verdicts.{block_verdict, opening_verdict}
+use Rattle.h2_log.specs.ItemRules.{Decoded, replies_to, verdict_by_rules, peer_opens}
 use Rattle.h2_log.specs.ItemEffects.{events_of, fields_of}
-use Rattle.h2_log.specs.LogSteps.{read, with_sent, with_reported, with_unreturned, with_verdict}
 use Rattle.h2_log_laws.proofs.ItemLists.{any_after}
-use Rattle.h2_log_laws.proofs.LogGrowth.{grows_wrote, grows_with_unreturned}
 use Rattle.h2_log_laws.proofs.ReaderStates.{active_parts, lasts_parts, not_idle, state_is_active}
 use Rattle.h2_log_laws.proofs.ReplyInvariant.{used_more, used_here}
-use Rattle.h2_end_laws.proofs.ReadVerdicts.{Says, says_of, says_data}
-use Rattle.h2_end_laws.proofs.ReadingRules.{LogIsLow, IsFaulty, IsUnreported, IsSaid, rules_say}
-use Rattle.h2_pair.specs.Tokens.{Token, FieldsToken, OctetToken, end_tokens, tokens_of_event}
+use Rattle.h2_end_laws.proofs.ReadVerdicts.{Says, says_data}
+use Rattle.h2_end_laws.proofs.ReadingRules.{IsFaulty, IsUnreported, IsSaid}
+use Rattle.h2_pair.specs.Tokens.{Token, tokens_of_event}
 use Rattle.h2_pair.specs.Tokens.{tokens_heard, IsPrefixOf}
-use Rattle.h2_pair.proofs.HeardTokens.{frame_tokens, item_tokens, tokens_of_items, prefix_more, prefix_same}
+use Rattle.h2_pair.proofs.HeardTokens.{frame_tokens, item_tokens, tokens_of_items, prefix_same}
 
 -- This end has closed the stream, and its number is used.
 pub record IsGone (role : Role) (i : ℕ) (received sent : List Item) : Type 0 where
@@ -262,7 +259,8 @@ heard_prefix role i received sent reported lists (all_heard same) = prefix_same 
 heard_prefix role i received sent reported lists (some_heard gone prefix) = prefix
 
 -- After an item of which nothing of a message is reported.
-heard_silent : (role : Role) (i : ℕ) (received sent after : List Item) (reported events : List Event)
+heard_silent : (role : Role) (i : ℕ) (received sent after : List Item)
+    (reported events : List Event)
     (lists : List (List Field)) (decoded : Option Decoded) (item : Item)
     → tokens_heard i events ≡ tokens_heard i reported
     → (IsGone role i received sent → IsGone role i (item ∷ received) after)

@@ -1,17 +1,15 @@
 -- What an end was given for a stream is what the items that it has sent carry, with the lists of
 -- its calls.
-use Rattle.std.proofs.Common.{map as each, ◌≡◌, ℕ, zero, suc, ◌+◌, ◌<◌, ◌≤◌, ◌==◌, nat_le, nat_lt}
+use Rattle.std.proofs.Common.{map as each, ◌≡◌, ℕ, zero, suc, ◌+◌, ◌<◌, ◌==◌, nat_le, nat_lt}
 use Rattle.std.proofs.Common.{◌&&◌, not, Bool, true, false, if◌then◌else◌, List, [], ◌∷◌, ◌++◌}
 use Rattle.std.proofs.Common.{length, take, drop, Option, Some, None, refl, sym, ap, ◌∙◌, arith}
 use Rattle.std.proofs.Common.{append_assoc, append-nil, length-drop, inl, inr}
 use Rattle.std.specs.List.{list_any}
-use Rattle.std.proofs.lemmas.Bool.{both_ways, or_parts, or_from, leb-false, and_parts, not-true}
+use Rattle.std.proofs.lemmas.Bool.{both_ways, or_parts, leb-false, and_parts, not-true}
 use Rattle.std.proofs.lemmas.Bool.{cases_Bool}
 use Rattle.std.proofs.lemmas.Bool.{eqb-true}
 use Rattle.std.proofs.lemmas.List.{map-append, take-append-drop, length-take}
-use Rattle.std.proofs.lemmas.List.Folds.{list_any-append}
 use Rattle.hpack.specs.declared.types.field.Field.{Field}
-use Rattle.hpack.specs.Choice.{block_of}
 use Rattle.h2_frame.specs.declared.code.Code.{Code}
 use Rattle.h2_frame.specs.declared.code.Code.TheVariants.{InternalError}
 use Rattle.h2_frame.specs.Codes.{code_number}
@@ -23,16 +21,16 @@ use Rattle.h2_log.specs.declared.refusal.Refusal.{Refusal}
 use Rattle.h2_log.specs.Events.{Event}
 use Rattle.h2_log.specs.Acts.{Values, Act, Answer, Open, SendFields, SendData, Release, ResetStream}
 use Rattle.h2_log.specs.Acts.{Refuse, SendPing, SendGoAway, PutOut, ChangeSettings}
-use Rattle.h2_log.specs.Acts.{Done, OutOfMemory, Refused, Number, Count}
+use Rattle.h2_log.specs.Acts.{Done, OutOfMemory, Refused}
 use Rattle.h2_log.specs.Log.{Log, waiting, last_processed, max_payload_sent, max_payload_sent_by}
 use Rattle.h2_log.specs.LogView.{log_view}
 use Rattle.h2_log.specs.View.{ended_in}
 use Rattle.h2_log.specs.Verdicts.{Verdict, ConnectionFault, StreamFault, NoEvent, Reported}
 use Rattle.h2_log.specs.ItemRules.{Decoded, replies_to, FrameStep, fails_with, begins_block}
 use Rattle.h2_log.specs.ItemRules.{completes, frame_step}
-use Rattle.h2_log.specs.CallRules.{opening_pairs, items_of, answer_of, refuse_fault}
+use Rattle.h2_log.specs.CallRules.{items_of, answer_of, refuse_fault}
 use Rattle.h2_log.specs.CallRules.{returns_before_put_out, data_items, data_frames}
-use Rattle.h2_log.specs.Limits.{full_output, max_frame_size_sent}
+use Rattle.h2_log.specs.Limits.{full_output}
 use Rattle.h2_log.specs.LogSteps.{read, with_sent, with_reported, with_unreturned, with_failure}
 use Rattle.h2_log.specs.LogSteps.{with_credit_returned, with_verdict, with_step, with_frame, used}
 use Rattle.h2_log.specs.LogCalls.{opened, called, with_items, refused_with, before_put_out}
@@ -40,7 +38,7 @@ use Rattle.h2_log.specs.LogCalls.{with_call, MayAnswer, accepts, refuses, lacks,
 use Rattle.h2_log.specs.Histories.{IsLog, begins, took_some, took_one, met_fault, ran_out_of_memory}
 use Rattle.h2_log.specs.Histories.{reported_one, called_one}
 use Rattle.h2_end_laws.specs.Sendings.{lists_accepted}
-use Rattle.h2_pair.specs.Tokens.{Token, FieldsToken, OctetToken, end_tokens, tokens_of_call}
+use Rattle.h2_pair.specs.Tokens.{Token, OctetToken, end_tokens, tokens_of_call}
 use Rattle.h2_pair.specs.Tokens.{tokens_sent}
 use Rattle.h2_pair.proofs.HeardTokens.{frame_tokens, item_tokens, tokens_of_items}
 

@@ -1,17 +1,15 @@
 -- What the steps of an end make of what it has heard.
-use Rattle.std.proofs.Common.{◌≡◌, ◌⊎◌, inl, inr, ℕ, Bool, List, [], ◌∷◌, ◌++◌, Option, Some, None}
+use Rattle.std.proofs.Common.{◌≡◌, ℕ, List, [], ◌∷◌, ◌++◌, Option, None}
 use Rattle.std.proofs.Common.{refl, sym, ap, ◌∙◌, append-nil}
 use Rattle.hpack.specs.declared.types.field.Field.{Field}
 use Rattle.h2_frame.specs.declared.code.Code.{Code}
-use Rattle.h2_frame.specs.declared.code.Code.TheVariants.{InternalError}
 use Rattle.h2_frame.specs.Codes.{code_number}
 use Rattle.h2_frame.specs.Frames.{Frame, GoAway}
-use Rattle.h2_wire.specs.Faults.{wire_fault_code}
 use Rattle.h2_block.specs.Grouping.{Item, alone}
 use Rattle.h2_log.specs.declared.role.Role.{Role}
 use Rattle.h2_log.specs.Events.{Event, UnprocessedEvent}
-use Rattle.h2_log.specs.Acts.{Act, Answer, Values}
-use Rattle.h2_log.specs.Log.{Log, next_unprocessed, last_processed}
+use Rattle.h2_log.specs.Acts.{Values}
+use Rattle.h2_log.specs.Log.{Log, next_unprocessed}
 use Rattle.h2_log.specs.LogView.{log_view}
 use Rattle.h2_log.specs.Verdicts.{Verdict, ConnectionFault, StreamFault, NoEvent, Reported}
 use Rattle.h2_log.specs.ItemRules.{Decoded, replies_to, FrameStep, fails_with, begins_block}
@@ -19,18 +17,16 @@ use Rattle.h2_log.specs.ItemRules.{completes, frame_step, verdict_of}
 use Rattle.h2_log.specs.ItemEffects.{events_of}
 use Rattle.h2_log.specs.LogSteps.{read, used, with_sent, with_reported, with_unreturned}
 use Rattle.h2_log.specs.LogSteps.{with_failure, with_verdict, with_step, with_frame, took_none}
-use Rattle.h2_log.specs.LogCalls.{opened, with_call}
+use Rattle.h2_log.specs.LogCalls.{opened}
 use Rattle.h2_log.specs.Histories.{IsDecodedIn}
-use Rattle.h2_log_laws.proofs.LogGrowth.{Grows, grows_wrote, grows_with_unreturned, grows_call}
-use Rattle.h2_log_laws.proofs.LogHistory.{History, history_of, reports_view, wrote_view}
-use Rattle.h2_log_laws.proofs.LogHistory.{with_unreturned_view, given_by, moved}
+use Rattle.h2_log_laws.proofs.LogGrowth.{Grows, grows_wrote, grows_with_unreturned}
+use Rattle.h2_log_laws.proofs.LogHistory.{History, reports_view, wrote_view}
 use Rattle.h2_end_laws.proofs.ReadVerdicts.{says_of}
 use Rattle.h2_end_laws.proofs.ReadingRules.{LogIsLow, rules_say}
 use Rattle.h2_pair.specs.Tokens.{Token, tokens_of_event, tokens_heard}
 use Rattle.h2_pair.proofs.HeardTokens.{tokens_of_items}
 use Rattle.h2_pair.proofs.HeardReads.{AreHeard, all_heard, some_heard, LogHeard, lists_after}
 use Rattle.h2_pair.proofs.HeardReads.{IsRuled, heard_item, rules_used, says_both, gone_more}
-use Rattle.h2_pair.proofs.HeardReads.{prefix_by}
 
 -- The same of equal parts.
 heard_parts : (i : ℕ) (log : Log) (received sent : List Item) (reported : List Event)

@@ -1,7 +1,7 @@
 -- Once an undisturbed pair is quiet, all that was sent on a stream that wasn't reset was heard.
-use Rattle.std.proofs.Common.{◌≡◌, ◌≢◌, ◌⊎◌, inl, inr, ℕ, ◌<◌, ◌==◌, ◌%◌, ◌&&◌, nat_lt, min}
-use Rattle.std.proofs.Common.{Bool, true, false, if◌then◌else◌, List, [], ◌∷◌, ◌++◌, Option, None}
-use Rattle.std.proofs.Common.{refl, sym, ap, ◌∙◌, append-nil, arith, subst, length}
+use Rattle.std.proofs.Common.{◌≡◌, ◌≢◌, ◌⊎◌, inl, inr, ℕ, ◌<◌, ◌==◌, ◌%◌, ◌&&◌, nat_lt}
+use Rattle.std.proofs.Common.{Bool, true, false, List, [], ◌∷◌, ◌++◌, Option}
+use Rattle.std.proofs.Common.{refl, sym, ap, ◌∙◌, append-nil, arith, subst}
 use Rattle.std.specs.List.{list_any, Contains}
 use Rattle.std.proofs.lemmas.Bool.{both_ways, or_parts, or_cases, eqb-true, cases_Bool, and_from}
 use Rattle.std.proofs.lemmas.Bool.{and_parts, lt-ltb, ltb-true, or_left, or_right}
@@ -11,13 +11,13 @@ use Rattle.h2_frame.specs.Frames.{WindowUpdate, Continuation, Unknown}
 use Rattle.h2_block.specs.Grouping.{Item, alone, block}
 use Rattle.h2_log.specs.declared.role.Role.{Role}
 use Rattle.h2_log.specs.declared.role.Role.TheVariants.{Client, Server}
-use Rattle.h2_log.specs.Acts.{Values, Act, Answer}
+use Rattle.h2_log.specs.Acts.{Values}
 use Rattle.h2_log.specs.Allowed.{AllowedHistory, Allowed, MayContinue, starts, reads, writes}
-use Rattle.h2_log.specs.Events.{Event, FieldsEvent, DataEvent, ResetEvent, GoAwayEvent}
-use Rattle.h2_log.specs.Events.{UnprocessedEvent, AckedEvent, PongEvent, reports_unprocessed}
+use Rattle.h2_log.specs.Events.{Event}
+use Rattle.h2_log.specs.Events.{UnprocessedEvent, reports_unprocessed}
 use Rattle.h2_log.specs.Items.{is_block_on, ends, resets, is_goaway_below}
 use Rattle.h2_log.specs.Settings.{is_server}
-use Rattle.h2_log.specs.States.{least_block, is_above, is_closed_by_us, is_used, is_active}
+use Rattle.h2_log.specs.States.{least_block, is_above, is_closed_by_us, is_used}
 use Rattle.h2_log.specs.Log.{Log, active, least_goaway, next_unprocessed}
 use Rattle.h2_log.specs.Histories.{IsLog}
 use Rattle.h2_log.proofs.StreamLemmas.{stream_of_log}
@@ -25,15 +25,15 @@ use Rattle.h2_log_laws.proofs.InvariantLogs.{written_is_allowed}
 use Rattle.h2_log_laws.proofs.NextStreams.{least_found}
 use Rattle.h2_log_laws.proofs.ReaderStates.{active_parts, active_from, lasts_from}
 use Rattle.h2_pair.specs.Pairs.{Half, IsPair}
-use Rattle.h2_pair.specs.Undisturbed.{IsUndisturbed, WasAsked}
-use Rattle.h2_pair.specs.Quiet.{IsQuiet, IsQuietTo, WasReset}
+use Rattle.h2_pair.specs.Undisturbed.{IsUndisturbed}
+use Rattle.h2_pair.specs.Quiet.{IsQuiet, WasReset}
 use Rattle.h2_pair.specs.Tokens.{Token, tokens_sent, tokens_heard, IsPrefixOf}
 use Rattle.h2_pair.proofs.PairLogs.{both_logs}
 use Rattle.h2_pair.proofs.BothWays.{ends_to_server, ends_to_client}
 use Rattle.h2_pair.proofs.CarriedOctets.{carried_both_ways}
 use Rattle.h2_pair.proofs.Arrived.{all_arrived}
 use Rattle.h2_pair.proofs.FaultsInvariant.{LogIsClean, first_in, later_in}
-use Rattle.h2_pair.proofs.FaultsOfPairs.{AreClean, pair_clean}
+use Rattle.h2_pair.proofs.FaultsOfPairs.{pair_clean}
 use Rattle.h2_pair.proofs.HeardTokens.{item_tokens, frame_tokens, tokens_of_items}
 use Rattle.h2_pair.proofs.HeardReads.{AreHeard, all_heard, some_heard}
 use Rattle.h2_pair.proofs.HeardPairs.{IsHeardBy, pair_heard, given_in_order}
@@ -49,20 +49,23 @@ one_reset : (i : ℕ) (item : Item) (items : List Item) → resets i item ≡ tr
     → (code : ℕ) × Contains (item ∷ items) (alone (Reset i code))
 unfolding resets
 one_reset i (alone (Reset stream code)) items here =
-    let same : stream ≡ i = eqb-true stream i here in
-    (code, subst (λ (j : ℕ). Contains (alone (Reset stream code) ∷ items) (alone (Reset j code)))
-    same (first_in (alone (Reset stream code)) items))
+    let same : stream ≡ i = eqb-true stream i here in (
+      code,
+      subst (λ (j : ℕ). Contains (alone (Reset stream code) ∷ items) (alone (Reset j code)))
+          same (first_in (alone (Reset stream code)) items),
+    )
 one_reset i item items here = absurd (both_ways false refl here)
 
 pub reset_found : (i : ℕ) (items : List Item) → list_any (resets i) items ≡ true
     → (code : ℕ) × Contains items (alone (Reset i code))
 reset_found i [] here = absurd (both_ways false refl here)
-reset_found i (item ∷ items) here = elim (or_cases (resets i item) (list_any (resets i) items) here) [
-  | inl now ↦ one_reset i item items now
-  | inr before ↦
-      let found = reset_found i items before in
-      (found.0, later_in item items _ found.1)
-]
+reset_found i (item ∷ items) here =
+    elim (or_cases (resets i item) (list_any (resets i) items) here) [
+      | inl now ↦ one_reset i item items now
+      | inr before ↦
+          let found = reset_found i items before in
+          (found.0, later_in item items _ found.1)
+    ]
 
 -- A stream that was named unprocessed.
 one_named : (i : ℕ) (event : Event) (events : List Event) → reports_unprocessed i event ≡ true
