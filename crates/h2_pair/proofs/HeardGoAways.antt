@@ -425,21 +425,21 @@ server_keeps values log is up =
     }
 
 -- Every server that is up.
-pub ended_below : (values : Values) (log : Log) → IsLog Server values log → log.failed ≡ None
+pub spoken_below : (values : Values) (log : Log) → IsLog Server values log → log.failed ≡ None
     → IsBelow log
 unfolding used
-ended_below values _ (begins in_range) up = opened_below Server values
-ended_below values _ (took_some {log = log} is takes octets unparsed read) up =
-    ended_below values log is takes.up
-ended_below values _ (took_one {log = log} is takes octets frame decoded read sees) up =
-    frame_below (used log octets []) decoded frame up (ended_below values log is takes.up)
-ended_below values _ (met_fault {log = log} is takes octets fault at) up =
+spoken_below values _ (begins in_range) up = opened_below Server values
+spoken_below values _ (took_some {log = log} is takes octets unparsed read) up =
+    spoken_below values log is takes.up
+spoken_below values _ (took_one {log = log} is takes octets frame decoded read sees) up =
+    frame_below (used log octets []) decoded frame up (spoken_below values log is takes.up)
+spoken_below values _ (met_fault {log = log} is takes octets fault at) up =
     absurd (not_some (wire_fault_code fault) up)
-ended_below values _ (ran_out_of_memory {log = log} is was octets may) up =
+spoken_below values _ (ran_out_of_memory {log = log} is was octets may) up =
     absurd (not_some InternalError up)
-ended_below values _ (reported_one {log = log} is was some) up =
-    reports_below _ _ (unreturned_below _ log (ended_below values log is was))
-ended_below values _ (called_one {log = log} is act answer typed may) up =
+spoken_below values _ (reported_one {log = log} is was some) up =
+    reports_below _ _ (unreturned_below _ log (spoken_below values log is was))
+spoken_below values _ (called_one {log = log} is act answer typed may) up =
     let was = (grows_call log act answer).up up in
     call_below log act answer (server_keeps values log is was) may up
-    (ended_below values log is was)
+    (spoken_below values log is was)

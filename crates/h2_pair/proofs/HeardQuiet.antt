@@ -266,7 +266,7 @@ server_idle client_values server_values client server i message token others pai
       none_owed = quiet.to_client.none_owed;
       none_unreturned = quiet.to_client.none_unreturned;
       alive = active_by Server server_values server.log i is settled.server_role spoken
-          (not_so _ (λ above. both_ways _ (settled.ended i spoken).below
+          (not_so _ (λ above. both_ways _ (settled.spoken i spoken).below
           (above_server Server i server.log.sent refl above))) goes
           (ap (list_any (resets i)) settled.to_server ∙ client_kept client.log server.log i settled)
           (server_kept client.log server.log i settled)

@@ -37,7 +37,7 @@ use Rattle.h2_pair.proofs.FaultsOfPairs.{pair_clean}
 use Rattle.h2_pair.proofs.HeardTokens.{item_tokens, frame_tokens, tokens_of_items}
 use Rattle.h2_pair.proofs.HeardReads.{AreHeard, all_heard, some_heard}
 use Rattle.h2_pair.proofs.HeardPairs.{IsHeardBy, pair_heard, given_in_order}
-use Rattle.h2_pair.proofs.HeardGoAways.{IsBelow, ended_below, speaks}
+use Rattle.h2_pair.proofs.HeardGoAways.{IsBelow, spoken_below, speaks}
 
 -- What doesn't hold is false.
 pub not_so : (b : Bool) → (b ≡ true → ⊥) → b ≡ false
@@ -198,7 +198,7 @@ pub record IsSettled (client server : Log) (i : ℕ) : Type 0 where
   pub to_server : server.received ≡ client.sent
   pub to_client : client.received ≡ server.sent
   pub all_reported : next_unprocessed client ≡ 0
-  pub ended : IsBelow server
+  pub spoken : IsBelow server
   pub unreset : WasReset client server i → ⊥
   pub allowed : AllowedHistory Client client.received client.sent
 
@@ -249,7 +249,7 @@ cut_off client server i settled odd opened below =
     let read : list_any (is_goaway_below i) client.received ≡ true =
     ap (list_any (is_goaway_below i)) settled.to_client ∙ below in
     let unended : list_any (ends i) client.received ≡ false = not_so _ (λ here.
-    both_ways _ (settled.ended i (ended_spoken i server.sent
+    both_ways _ (settled.spoken i (ended_spoken i server.sent
     (sym (ap (list_any (ends i)) settled.to_client) ∙ here))).below below) in
     none_above client i settled.client_role settled.all_reported opened read
     (active_from client.role i client.received client.sent client.reported (record {
@@ -352,7 +352,7 @@ pair_settled client_values server_values client server i pair calm quiet unreset
           (ends_to_client client_values server_values client server pair) octets.1
           clean.client_clean.up quiet.to_client.delivered quiet.to_client.given;
       all_reported = quiet.all_reported;
-      ended = ended_below server_values server.log both.server_log clean.server_clean.up;
+      spoken = spoken_below server_values server.log both.server_log clean.server_clean.up;
       unreset = unreset;
       allowed = written_is_allowed Client client_values client.log both.client_log;
     }
