@@ -27,7 +27,7 @@ pub mod EveryStep
 mod EveryUpLog
 mod FirstSettings
 pub mod FreshNumbers
-mod GoAwaysSent
+pub mod GoAwaysSent
 mod ItemsApart
 mod LogCore
 pub mod NewEnd

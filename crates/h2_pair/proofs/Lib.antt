@@ -34,3 +34,14 @@ pub mod FaultsOfGrouping
 pub mod FaultsOfItems
 pub mod FaultsOfReads
 pub mod FaultsOfPairs
+pub mod HeardTokens
+pub mod HeardSent
+pub mod HeardReads
+pub mod HeardSteps
+pub mod HeardCalls
+pub mod HeardLists
+pub mod HeardPairs
+pub mod HeardGoAways
+pub mod HeardWhole
+pub mod HeardMessages
+pub mod HeardQuiet

@@ -1,0 +1,255 @@
+-- What a stream on which something was sent is like, and how a message ends.
+use Rattle.std.proofs.Common.{map as each, ◌≡◌, inl, inr, ℕ, ◌==◌, ◌%◌, ◌&&◌}
+use Rattle.std.proofs.Common.{Bool, true, false, List, [], ◌∷◌, ◌++◌, Option, None}
+use Rattle.std.proofs.Common.{Some, refl, sym, ap, ◌∙◌, append_assoc, arith, subst, length}
+use Rattle.std.specs.List.{list_any}
+use Rattle.std.proofs.lemmas.Bool.{both_ways, or_parts, or_cases, eqb-true, eq-eqb}
+use Rattle.std.proofs.lemmas.Bool.{or_left, or_right, or_from, and_parts}
+use Rattle.std.proofs.lemmas.List.Folds.{list_any-append}
+use Rattle.hpack.specs.declared.types.field.Field.{Field}
+use Rattle.h2_frame.specs.Frames.{Frame, Data, Settings}
+use Rattle.h2_block.specs.Grouping.{Item, alone, block}
+use Rattle.h2_log.specs.declared.role.Role.{Role}
+use Rattle.h2_log.specs.declared.role.Role.TheVariants.{Client, Server}
+use Rattle.h2_log.specs.Allowed.{AllowedHistory, Allowed, MayContinue, MayOpen, starts, reads}
+use Rattle.h2_log.specs.Allowed.{writes}
+use Rattle.h2_log.specs.Items.{is_block_on, ends}
+use Rattle.h2_log.specs.States.{openings}
+use Rattle.h2_log_laws.proofs.ItemLists.{any_after}
+use Rattle.h2_log_laws.proofs.ReaderStates.{active_parts}
+use Rattle.h2_pair.specs.HeaderTables.{block_count}
+use Rattle.h2_pair.specs.Tokens.{Token, FieldsToken, OctetToken, EndToken, end_tokens, Message}
+use Rattle.h2_pair.specs.Tokens.{trailers_tokens, message_tokens}
+use Rattle.h2_pair.proofs.HeardTokens.{item_tokens, frame_tokens, tokens_of_items}
+use Rattle.h2_pair.proofs.HeardGoAways.{speaks}
+
+-- The stream was opened, with an odd number.
+pub record IsOpened (role : Role) (i : ℕ) (received sent : List Item) : Type 0 where
+  pub odd : i % 2 == 1 ≡ true
+  pub opened : list_any (is_block_on i) (openings role received sent) ≡ true
+
+-- It stays so.
+openings_more : (role : Role) (i : ℕ) (news items received sent : List Item)
+    → list_any (is_block_on i) (openings role received sent) ≡ true
+    → list_any (is_block_on i) (openings role (news ++ received) (items ++ sent)) ≡ true
+openings_more Client i news items received sent here = any_after (is_block_on i) items sent here
+openings_more Server i news items received sent here = any_after (is_block_on i) news received here
+
+opened_more : (role : Role) (i : ℕ) (news items received sent : List Item)
+    → IsOpened role i received sent → IsOpened role i (news ++ received) (items ++ sent)
+opened_more role i news items received sent is =
+    record {
+      odd = is.odd;
+      opened = openings_more role i news items received sent is.opened;
+    }
+
+-- A stream on which an end goes on was opened.
+goes_opened : (role : Role) (i : ℕ) (received sent : List Item) → MayContinue role i received sent
+    → IsOpened role i received sent
+goes_opened role i received sent goes =
+    let parts = active_parts role i received sent [] goes.active in
+    record { odd = parts.odd; opened = parts.opened }
+
+-- One that it opens is.
+open_opened : (role : Role) (i : ℕ) (end : Bool) (octets : List ℕ) (received sent : List Item)
+    → MayOpen role i received sent → IsOpened role i received (block i end octets ∷ sent)
+unfolding is_block_on
+open_opened role i end octets received sent may =
+    record {
+      odd = eq-eqb (i % 2) 1 may.odd;
+      opened = rw may.client (or_left (i == i) _ (eq-eqb i i refl));
+    }
+
+-- An item that is part of a message is on a stream that was opened.
+one_opened : (role : Role) (i : ℕ) (item : Item) (received sent : List Item)
+    → Allowed role received sent item → speaks i item ≡ true
+    → IsOpened role i received (item ∷ sent)
+unfolding speaks
+one_opened role i (block stream end octets) received sent (returned, how, small) here =
+    subst (λ (j : ℕ). IsOpened role j received (block stream end octets ∷ sent))
+    (eqb-true stream i here) (elim how [
+      | inl opens ↦ open_opened role stream end octets received sent opens
+      | inr goes ↦ opened_more role stream [] (block stream end octets ∷ []) received sent
+          (goes_opened role stream received sent goes)
+    ])
+one_opened role i (alone (Data stream end octets pad)) received sent allowed here =
+    subst (λ (j : ℕ). IsOpened role j received (alone (Data stream end octets pad) ∷ sent))
+    (eqb-true stream i here)
+    (opened_more role stream [] (alone (Data stream end octets pad) ∷ []) received sent
+    (goes_opened role stream received sent allowed.1.goes_on))
+one_opened role i item received sent allowed here = absurd (both_ways false refl here)
+
+settings_silent : (i : ℕ) (pairs : List (ℕ × ℕ))
+    → list_any (speaks i) (alone (Settings false pairs) ∷ []) ≡ false
+unfolding speaks
+settings_silent i pairs = refl
+
+pub spoken_opened : (role : Role) (i : ℕ) (received sent : List Item)
+    → AllowedHistory role received sent → list_any (speaks i) sent ≡ true
+    → IsOpened role i received sent
+spoken_opened role i _ _ (starts values ok) here =
+    absurd (both_ways _ (settings_silent i _) here)
+spoken_opened role i _ sent (reads {received = received} item history) here =
+    opened_more role i (item ∷ []) [] received sent
+    (spoken_opened role i received sent history here)
+spoken_opened role i received _ (writes {sent = sent} item history allowed) here =
+    elim (or_cases (speaks i item) (list_any (speaks i) sent) here) [
+      | inl now ↦ one_opened role i item received sent allowed now
+      | inr before ↦ opened_more role i [] (item ∷ []) received sent
+          (spoken_opened role i received sent history before)
+    ]
+
+-- Items that are no part of a message on a stream carry nothing on it.
+item_silent : (i : ℕ) (item : Item) (list : List Field) → speaks i item ≡ false
+    → item_tokens i item list ≡ []
+unfolding speaks item_tokens frame_tokens
+item_silent i (block stream end octets) list none = rw none refl
+item_silent i (alone (Data stream end octets pad)) list none = rw none refl
+item_silent i (alone frame) list none = refl
+
+pub silent_tokens : (i : ℕ) (items : List Item) (lists : List (List Field))
+    → list_any (speaks i) items ≡ false → tokens_of_items i items lists ≡ []
+unfolding tokens_of_items
+silent_tokens i [] lists none = refl
+silent_tokens i (alone frame ∷ items) lists none =
+    let parts = or_parts (speaks i (alone frame)) (list_any (speaks i) items) none in
+    ap (λ (line : List Token). line ++ item_tokens i (alone frame) [])
+    (silent_tokens i items lists parts.1) ∙ item_silent i (alone frame) [] parts.0
+silent_tokens i (block stream end octets ∷ items) [] none =
+    silent_tokens i items []
+    (or_parts (speaks i (block stream end octets)) (list_any (speaks i) items) none).1
+silent_tokens i (block stream end octets ∷ items) (list ∷ lists) none =
+    let parts = or_parts (speaks i (block stream end octets)) (list_any (speaks i) items) none in
+    ap (λ (line : List Token). line ++ item_tokens i (block stream end octets) list)
+    (silent_tokens i items lists parts.1) ∙ item_silent i (block stream end octets) list parts.0
+
+-- Whether a token is the end.
+unfoldable pub is_end : Token → Bool
+is_end EndToken = true
+is_end (FieldsToken list) = false
+is_end (OctetToken octet) = false
+
+-- Some token of either.
+in_front : (one other : List Token) → list_any is_end one ≡ true
+    → list_any is_end (one ++ other) ≡ true
+in_front [] other here = absurd (both_ways false refl here)
+in_front (token ∷ one) other here = elim (or_cases (is_end token) (list_any is_end one) here) [
+  | inl now ↦ or_left (is_end token) _ now
+  | inr after ↦ or_right (is_end token) _ (in_front one other after)
+]
+
+-- An item with END_STREAM carries the end.
+ending : (tokens : List Token) → list_any is_end (tokens ++ end_tokens true) ≡ true
+unfolding is_end end_tokens
+ending [] = refl
+ending (token ∷ tokens) = or_right (is_end token) _ (ending tokens)
+
+block_ending : (i stream : ℕ) (end : Bool) (octets : List ℕ) (list : List Field)
+    → (stream == i && end) ≡ true
+    → list_any is_end (item_tokens i (block stream end octets) list) ≡ true
+unfolding item_tokens
+block_ending i stream true octets list here =
+    let same : (stream == i) ≡ true = (and_parts (stream == i) true here).0 in
+    rw same (ending (FieldsToken list ∷ []))
+block_ending i stream false octets list here =
+    absurd (both_ways false refl ((and_parts (stream == i) false here).1))
+
+data_ending : (i stream : ℕ) (end : Bool) (octets : List ℕ) (pad : Option ℕ)
+    → (stream == i && end) ≡ true
+    → list_any is_end (frame_tokens i (Data stream end octets pad)) ≡ true
+unfolding frame_tokens
+data_ending i stream true octets pad here =
+    let same : (stream == i) ≡ true = (and_parts (stream == i) true here).0 in
+    rw same (ending (each OctetToken octets))
+data_ending i stream false octets pad here =
+    absurd (both_ways false refl ((and_parts (stream == i) false here).1))
+
+alone_ending : (i : ℕ) (frame : Frame) → ends i (alone frame) ≡ true
+    → list_any is_end (item_tokens i (alone frame) []) ≡ true
+unfolding ends item_tokens
+alone_ending i (Data stream end octets pad) here = data_ending i stream end octets pad here
+alone_ending i frame here = absurd (both_ways false refl here)
+
+block_ends : (i stream : ℕ) (end : Bool) (octets : List ℕ)
+    → ends i (block stream end octets) ≡ true → (stream == i && end) ≡ true
+unfolding ends
+block_ends i stream end octets here = here
+
+-- So do items, with a list for each block.
+pub ended_tokens : (i : ℕ) (items : List Item) (lists : List (List Field))
+    → length lists ≡ block_count items → list_any (ends i) items ≡ true
+    → list_any is_end (tokens_of_items i items lists) ≡ true
+unfolding tokens_of_items block_count
+ended_tokens i [] lists many here = absurd (both_ways false refl here)
+ended_tokens i (alone frame ∷ items) lists many here =
+    elim (or_cases (ends i (alone frame)) (list_any (ends i) items) here) [
+      | inl now ↦ any_after is_end (tokens_of_items i items lists) _ (alone_ending i frame now)
+      | inr before ↦ in_front (tokens_of_items i items lists) _
+          (ended_tokens i items lists many before)
+    ]
+ended_tokens i (block stream end octets ∷ items) [] many here = absurd (omega (arith, many))
+ended_tokens i (block stream end octets ∷ items) (list ∷ lists) many here =
+    elim (or_cases (ends i (block stream end octets)) (list_any (ends i) items) here) [
+      | inl now ↦ any_after is_end (tokens_of_items i items lists) _
+          (block_ending i stream end octets list (block_ends i stream end octets now))
+      | inr before ↦ in_front (tokens_of_items i items lists) _
+          (ended_tokens i items lists (omega (arith, many)) before)
+    ]
+
+-- A message has its end last.
+abbrev before_end : Message → List Token
+before_end message =
+    FieldsToken message.head ∷ (each OctetToken message.body ++ trailers_tokens message.trailers)
+
+message_ends : (message : Message) → message_tokens message ≡ before_end message ++ EndToken ∷ []
+unfolding message_tokens
+message_ends message =
+    ap (λ (line : List Token). FieldsToken message.head ∷ line)
+    (sym (append_assoc (each OctetToken message.body) (trailers_tokens message.trailers)
+    (EndToken ∷ [])))
+
+body_endless : (octets : List ℕ) → list_any is_end (each OctetToken octets) ≡ false
+unfolding is_end
+body_endless [] = refl
+body_endless (octet ∷ octets) = body_endless octets
+
+trailers_endless : (trailers : Option (List Field))
+    → list_any is_end (trailers_tokens trailers) ≡ false
+unfolding trailers_tokens is_end
+trailers_endless None = refl
+trailers_endless (Some list) = refl
+
+front_endless : (message : Message) → list_any is_end (before_end message) ≡ false
+unfolding is_end
+front_endless message =
+    list_any-append is_end (each OctetToken message.body) (trailers_tokens message.trailers)
+    ∙ or_from _ _ (body_endless message.body) (trailers_endless message.trailers)
+
+-- What stands before a last token, stands before.
+not_more : (tokens : List Token) (token last : Token) (others : List Token)
+    → tokens ++ token ∷ others ≡ last ∷ [] → list_any is_end tokens ≡ true → ⊥
+not_more [] token last others is here = both_ways false refl here
+not_more (first ∷ []) token last others is here = cc
+not_more (first ∷ (second ∷ tokens)) token last others is here = cc
+
+proper_front : (tokens front : List Token) (token last : Token) (others : List Token)
+    → tokens ++ token ∷ others ≡ front ++ last ∷ [] → list_any is_end tokens ≡ true
+    → list_any is_end front ≡ true
+proper_front [] front token last others is here = absurd (both_ways false refl here)
+proper_front (first ∷ tokens) [] token last others is here =
+    absurd (not_more (first ∷ tokens) token last others is here)
+proper_front (first ∷ tokens) (one ∷ front) token last others is here =
+    let same : first ≡ one = cc in
+    let after : tokens ++ token ∷ others ≡ front ++ last ∷ [] = cc in
+    elim (or_cases (is_end first) (list_any is_end tokens) here) [
+      | inl now ↦ or_left (is_end one) _ (rw (← same) now)
+      | inr before ↦ or_right (is_end one) _
+          (proper_front tokens front token last others after before)
+    ]
+
+-- As long as something waits of a message, its end wasn't sent.
+pub unended : (message : Message) (tokens : List Token) (token : Token) (others : List Token)
+    → message_tokens message ≡ tokens ++ token ∷ others → list_any is_end tokens ≡ true → ⊥
+unended message tokens token others is here =
+    both_ways _ (front_endless message) (proper_front tokens (before_end message) token EndToken
+    others (sym is ∙ message_ends message) here)

@@ -1,0 +1,288 @@
+-- What an end of a pair has heard on a stream is a prefix of what the other one was given for it.
+use Rattle.std.proofs.Common.{◌≡◌, ℕ, List, [], ◌∷◌, ◌++◌, length, Option, None, refl}
+use Rattle.std.proofs.Common.{sym, ap, ◌∙◌, arith, append_assoc, length-append}
+use Rattle.hpack.specs.declared.types.field.Field.{Field}
+use Rattle.h2_frame.specs.declared.code.Code.{Code}
+use Rattle.h2_frame.specs.declared.code.Code.TheVariants.{InternalError}
+use Rattle.h2_frame.specs.Frames.{Frame}
+use Rattle.h2_wire.specs.Faults.{wire_fault_code}
+use Rattle.h2_block.specs.Grouping.{Item}
+use Rattle.h2_log.specs.declared.role.Role.{Role}
+use Rattle.h2_log.specs.declared.role.Role.TheVariants.{Client, Server}
+use Rattle.h2_log.specs.Acts.{Values}
+use Rattle.h2_log.specs.Log.{Log}
+use Rattle.h2_log.specs.LogCalls.{opened, with_call}
+use Rattle.h2_log.specs.LogSteps.{used, with_frame, with_sent, with_failure, took_none}
+use Rattle.h2_log.specs.ItemRules.{Decoded}
+use Rattle.h2_log.specs.Histories.{IsLog, IsDecodedFor}
+use Rattle.h2_log_laws.proofs.LogGrowth.{grows_call}
+use Rattle.h2_end_laws.specs.Sendings.{lists_accepted, settings_received}
+use Rattle.h2_end_laws.proofs.ReadingCalls.{log_read}
+use Rattle.h2_end_laws.proofs.Sendings.{log_sent}
+use Rattle.h2_end_laws.proofs.Unread.{reads_fails, reads_unprocessed}
+use Rattle.h2_machine_laws.specs.Machines.{uses_part, ends_frame, meets_fault, runs_out_of_memory}
+use Rattle.h2_machine_laws.specs.Machines.{reports_unprocessed, is_called, Step, MayStep, log_after}
+use Rattle.h2_pair.specs.Pairs.{Half, HalfStep, calls, takes, loses, IsPair, begins, client_steps}
+use Rattle.h2_pair.specs.Pairs.{server_steps}
+use Rattle.h2_pair.specs.Directions.{AreUnderWay}
+use Rattle.h2_pair.specs.HeaderTables.{TablesInStep, block_count}
+use Rattle.h2_pair.specs.Tokens.{tokens_sent, tokens_heard, IsPrefixOf}
+use Rattle.h2_pair.proofs.StepsOfLogs.{IsNoCall}
+use Rattle.h2_pair.proofs.PairLogs.{both_logs}
+use Rattle.h2_pair.proofs.CarriedItems.{items_both_ways}
+use Rattle.h2_pair.proofs.TablesOfPairs.{tables_in_step_of_pair}
+use Rattle.h2_pair.proofs.HeardTokens.{tokens_of_items, tokens_split, prefix_more}
+use Rattle.h2_pair.proofs.HeardSent.{tokens_told}
+use Rattle.h2_pair.proofs.HeardReads.{LogHeard, heard_prefix, lists_after}
+use Rattle.h2_pair.proofs.HeardSteps.{heard_grows, heard_failure, heard_unprocessed}
+use Rattle.h2_pair.proofs.HeardSteps.{no_item, one_item, frame_heard, heard_used, opened_heard}
+use Rattle.h2_pair.proofs.HeardCalls.{call_calls, step_calls, lists_more}
+use Rattle.h2_pair.proofs.HeardLists.{next_lists, lists_count, blocks_joined, blocks_of_lists}
+
+-- The lists that the reader's blocks decoded to are the first of those that the writer was given;
+-- and what the reader has heard is of them.
+pub record IsHeardBy (writer reader : Log) : Type 0 where
+  pub lists : List (List Field)
+  pub later : List (List Field)
+  pub accepted : lists_accepted writer.calls ≡ later ++ lists
+  pub count : length lists ≡ block_count reader.received
+  pub heard : (i : ℕ) → LogHeard i reader lists
+
+-- After a step of the writer.
+more_accepted : (writer reader : Log) (new : Log) (more : List (List Field))
+    → lists_accepted new.calls ≡ more ++ lists_accepted writer.calls → IsHeardBy writer reader
+    → IsHeardBy new reader
+more_accepted writer reader new more accepted is =
+    record {
+      lists = is.lists;
+      later = more ++ is.later;
+      accepted = accepted ∙ ap (λ (line : List (List Field)). more ++ line) is.accepted
+          ∙ sym (append_assoc more is.later is.lists);
+      count = is.count;
+      heard = is.heard;
+    }
+
+writer_heard : (writer reader : Half) {new_writer new_reader : Half}
+    → HalfStep writer reader new_writer new_reader → IsHeardBy writer.log reader.log
+    → IsHeardBy new_writer.log new_reader.log
+writer_heard writer reader (calls act answer typed may) is =
+    let more = lists_more act answer writer.log.calls in
+    more_accepted writer.log reader.log (with_call writer.log act answer) more.0
+    (ap lists_accepted (call_calls writer.log act answer) ∙ more.1) is
+writer_heard writer reader (takes step rest may none came) is =
+    more_accepted writer.log reader.log (log_after writer.log step) []
+    (ap lists_accepted (step_calls writer.log step none)) is
+writer_heard writer reader (loses octets rest failed came) is = is
+
+-- After a step of the reader with which no item more is read.
+none_read : (writer reader new : Log) (is : IsHeardBy writer reader)
+    → new.received ≡ reader.received → ((i : ℕ) → LogHeard i new is.lists) → IsHeardBy writer new
+none_read writer reader new is same heard =
+    record {
+      lists = is.lists;
+      later = is.later;
+      accepted = is.accepted;
+      count = is.count ∙ sym (ap block_count same);
+      heard = heard;
+    }
+
+-- What is known of the ends before a step of the reader, and what is under way after it.
+record IsStepped (writer reader : Half) (new : Log) : Type 0 where
+  pub role : Role
+  pub values : Values
+  pub reader_log : IsLog role values reader.log
+  pub tables : (way : List Item) → reader.log.failed ≡ None
+      → AreUnderWay writer.log reader.log way → TablesInStep writer.log reader.log way
+  pub way : List Item
+  pub under_way : AreUnderWay writer.log new way
+  pub before : IsHeardBy writer.log reader.log
+
+-- After a frame.
+frame_read : (writer reader : Half) (octets : List ℕ) (decoded : Option Decoded) (frame : Frame)
+    → reader.log.failed ≡ None → IsDecodedFor reader.log decoded frame
+    → IsStepped writer reader (with_frame (used reader.log octets []) decoded frame)
+    → IsHeardBy writer.log (with_frame (used reader.log octets []) decoded frame)
+frame_read writer reader octets decoded frame up sees known =
+    let before = known.before in
+    let low = (log_read known.role known.values reader.log known.reader_log).low up in
+    elim (frame_heard reader.log octets decoded frame before.lists low sees before.heard) [
+      | no_item same heard ↦ none_read writer.log reader.log _ before same heard
+      | one_item item came seen heard ↦
+          let line : writer.log.sent ≡ (known.way ++ item ∷ []) ++ reader.log.received =
+          known.under_way ∙ ap (λ (items : List Item). known.way ++ items) came
+          ∙ sym (append_assoc known.way (item ∷ []) reader.log.received) in
+          let next = next_lists writer.log reader.log known.way item decoded before.lists
+          before.later before.accepted before.count
+          (known.tables (known.way ++ item ∷ []) up line) seen in
+          record {
+            lists = lists_after decoded item before.lists;
+            later = next.0;
+            accepted = next.1;
+            count = lists_count decoded item reader.log.received before.lists before.count
+                ∙ sym (ap block_count came);
+            heard = heard;
+          }
+    ]
+
+-- After octets with which no frame ends, and after a failure.
+used_read : (writer reader : Half) (octets unparsed : List ℕ) → IsHeardBy writer.log reader.log
+    → IsHeardBy writer.log (used reader.log octets unparsed)
+unfolding used
+used_read writer reader octets unparsed is =
+    none_read writer.log reader.log (used reader.log octets unparsed) is refl
+    (λ i. heard_used i reader.log octets unparsed is.lists (is.heard i))
+
+failed_read : (writer reader : Half) (octets : List ℕ) (code : Code) (last : ℕ)
+    → IsHeardBy writer.log reader.log
+    → IsHeardBy writer.log (with_failure code last (used reader.log octets []))
+failed_read writer reader octets code last is =
+    let now = used_read writer reader octets [] is in
+    none_read writer.log (used reader.log octets []) _ now
+    (reads_fails code last (used reader.log octets [])).received
+    (λ i. heard_failure i code last (used reader.log octets []) now.lists (now.heard i))
+
+-- After any step that is no call.
+step_read : (writer reader : Half) (step : Step) → IsNoCall step → MayStep reader.log step
+    → IsStepped writer reader (log_after reader.log step)
+    → IsHeardBy writer.log (log_after reader.log step)
+unfolding MayStep log_after
+step_read writer reader (uses_part octets unparsed) none may known =
+    used_read writer reader octets unparsed known.before
+step_read writer reader (ends_frame octets frame decoded) none (up, read, sees) known =
+    frame_read writer reader octets decoded frame up.up sees known
+step_read writer reader (meets_fault octets fault) none may known =
+    failed_read writer reader octets (wire_fault_code fault) _ known.before
+step_read writer reader (runs_out_of_memory octets) none may known =
+    failed_read writer reader octets InternalError _ known.before
+step_read writer reader reports_unprocessed none may known =
+    none_read writer.log reader.log (took_none reader.log) known.before
+    (reads_unprocessed reader.log).received
+    (λ i. heard_unprocessed i reader.log known.before.lists (known.before.heard i))
+step_read writer reader (is_called act answer) none may known = absurd (none act answer refl)
+
+-- After a step of the reader.
+reader_heard : (writer reader : Half) {new_writer new_reader : Half} (role : Role)
+    (values : Values) → IsLog role values reader.log
+    → ((way : List Item) → reader.log.failed ≡ None → AreUnderWay writer.log reader.log way
+    → TablesInStep writer.log reader.log way)
+    → (way : List Item) → HalfStep reader writer new_reader new_writer
+    → AreUnderWay new_writer.log new_reader.log way → IsHeardBy writer.log reader.log
+    → IsHeardBy new_writer.log new_reader.log
+reader_heard writer reader role values is tables way (calls act answer typed may) under_way before =
+    let grows = grows_call reader.log act answer in
+    none_read writer.log reader.log (with_call reader.log act answer) before grows.received
+    (λ i. heard_grows i reader.log (with_call reader.log act answer) before.lists grows
+    (before.heard i))
+reader_heard writer reader role values is tables way (takes step rest may none came) under_way
+    before =
+    step_read writer reader step none may (record {
+      role = role;
+      values = values;
+      reader_log = is;
+      tables = tables;
+      way = way;
+      under_way = under_way;
+      before = before;
+    })
+reader_heard writer reader role values is tables way (loses octets rest failed came) under_way
+    before = before
+
+-- New ends.
+opened_by : (role other : Role) (values others : Values)
+    → IsHeardBy (opened role values) (opened other others)
+unfolding opened with_sent lists_accepted block_count
+opened_by role other values others =
+    record {
+      lists = [];
+      later = [];
+      accepted = refl;
+      count = refl;
+      heard = λ i. opened_heard i other others;
+    }
+
+-- Both ends of every pair.
+pub pair_heard : (client_values server_values : Values) (client server : Half)
+    → IsPair client_values server_values client server
+    → IsHeardBy client.log server.log × IsHeardBy server.log client.log
+pair_heard client_values server_values _ _ (begins in_range others_in_range) = (
+  opened_by Client Server client_values server_values,
+  opened_by Server Client server_values client_values,
+)
+pair_heard client_values server_values new_client new_server
+    (client_steps {client = client} {server = server} is step) =
+    let before = pair_heard client_values server_values client server is in
+    let both = both_logs client_values server_values client server is in
+    let way = (items_both_ways client_values server_values new_client new_server
+    (client_steps is step)).1 in (
+      writer_heard client server step before.0,
+      reader_heard server client Client client_values both.client_log
+          (tables_in_step_of_pair client_values server_values client server is).1 way.0 step way.1
+          before.1,
+    )
+pair_heard client_values server_values new_client new_server
+    (server_steps {client = client} {server = server} is step) =
+    let before = pair_heard client_values server_values client server is in
+    let both = both_logs client_values server_values client server is in
+    let way = (items_both_ways client_values server_values new_client new_server
+    (server_steps is step)).0 in (
+      reader_heard client server Server server_values both.server_log
+          (tables_in_step_of_pair client_values server_values client server is).0 way.0 step way.1
+          before.0,
+      writer_heard server client step before.1,
+    )
+
+-- What was given to the writer is what the reader's items carry, and then what those under way do.
+pub given_in_order : (i : ℕ) (role : Role) (values : Values) (writer reader : Log)
+    (way : List Item) → IsLog role values writer → AreUnderWay writer reader way
+    → (is : IsHeardBy writer reader)
+    → tokens_sent i writer.calls
+    ≡ tokens_of_items i reader.received is.lists ++ tokens_of_items i way is.later
+given_in_order i role values writer reader way log under_way is =
+    let blocks : length (lists_accepted writer.calls) ≡ block_count writer.sent =
+    blocks_of_lists writer.sent (settings_received writer.received) (lists_accepted writer.calls)
+    writer.encoder (log_sent role values writer log) in
+    let all : length (is.later ++ is.lists) ≡ block_count (way ++ reader.received) =
+    rw (is.accepted, under_way) at blocks in
+    let later : length is.later ≡ block_count way =
+    omega (
+      arith,
+      all,
+      is.count,
+      length-append is.later is.lists,
+      blocks_joined way reader.received,
+    ) in
+    tokens_told i role values writer log
+    ∙ ap (λ (items : List Item). tokens_of_items i items (lists_accepted writer.calls)) under_way
+    ∙ ap (λ (lists : List (List Field)). tokens_of_items i (way ++ reader.received) lists)
+    is.accepted
+    ∙ tokens_split i way reader.received is.later is.lists later
+
+-- So what was heard is a prefix of what was given.
+prefix_of_given : (i : ℕ) (role : Role) (values : Values) (writer reader : Log)
+    (way : List Item) → IsLog role values writer → AreUnderWay writer reader way
+    → IsHeardBy writer reader
+    → IsPrefixOf (tokens_heard i reader.reported) (tokens_sent i writer.calls)
+prefix_of_given i role values writer reader way log under_way is =
+    rw (given_in_order i role values writer reader way log under_way is)
+    (prefix_more (tokens_heard i reader.reported) (tokens_of_items i reader.received is.lists)
+    (tokens_of_items i way is.later) (heard_prefix reader.role i reader.received reader.sent
+    reader.reported is.lists (is.heard i)))
+
+-- At the server, and at the client.
+pub server_hears : (client_values server_values : Values) (client server : Half) (i : ℕ)
+    → IsPair client_values server_values client server
+    → IsPrefixOf (tokens_heard i server.log.reported) (tokens_sent i client.log.calls)
+server_hears client_values server_values client server i is =
+    let way = (items_both_ways client_values server_values client server is).0 in
+    prefix_of_given i Client client_values client.log server.log way.0
+    (both_logs client_values server_values client server is).client_log way.1
+    (pair_heard client_values server_values client server is).0
+
+pub client_hears : (client_values server_values : Values) (client server : Half) (i : ℕ)
+    → IsPair client_values server_values client server
+    → IsPrefixOf (tokens_heard i client.log.reported) (tokens_sent i server.log.calls)
+client_hears client_values server_values client server i is =
+    let way = (items_both_ways client_values server_values client server is).1 in
+    prefix_of_given i Server server_values server.log client.log way.0
+    (both_logs client_values server_values client server is).server_log way.1
+    (pair_heard client_values server_values client server is).1

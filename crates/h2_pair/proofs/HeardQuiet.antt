@@ -1,0 +1,315 @@
+-- Once an undisturbed pair is quiet, a message was heard whole, if what waits of it could not go.
+use Rattle.std.proofs.Common.{◌≡◌, ◌≢◌, inl, inr, ℕ, zero, suc, ◌+◌, ◌≤◌, ◌&&◌}
+use Rattle.std.proofs.Common.{Bool, true, false, List, [], ◌∷◌, ◌++◌, None, refl, sym}
+use Rattle.std.proofs.Common.{ap, ◌∙◌, append-nil, arith, length, ℤ, pos, ◌+ℤ◌, int_lt}
+use Rattle.std.specs.List.{list_any}
+use Rattle.std.proofs.lemmas.Bool.{both_ways, cases_Bool}
+use Rattle.std.proofs.lemmas.Bool.Decides.{nat_tests}
+use Rattle.std.proofs.lemmas.Int.{ints}
+use Rattle.h2_frame.specs.Frames.{Settings}
+use Rattle.h2_block.specs.Grouping.{Item, alone}
+use Rattle.h2_log.specs.declared.role.Role.{Role}
+use Rattle.h2_log.specs.declared.role.Role.TheVariants.{Client, Server}
+use Rattle.h2_log.specs.Acts.{Values, AreInRange}
+use Rattle.h2_log.specs.Allowed.{AllowedHistory, Allowed, starts, reads, writes}
+use Rattle.h2_log.specs.CallRules.{opening_pairs, changed_pairs}
+use Rattle.h2_log.specs.Events.{reports_unprocessed}
+use Rattle.h2_log.specs.Items.{ends, resets, total, data_on, data_of, increment_on}
+use Rattle.h2_log.specs.Items.{greatest_block}
+use Rattle.h2_log.specs.Settings.{value_read, value_after, is_server}
+use Rattle.h2_log.specs.States.{is_above, is_closed_by_us, openings}
+use Rattle.h2_log.specs.Log.{Log, active, owed, send_window}
+use Rattle.h2_log.specs.Windows.{first_window, connection_send_window}
+use Rattle.h2_log.specs.Histories.{IsLog}
+use Rattle.h2_log_laws.specs.Sums.{sum_below}
+use Rattle.h2_log_laws.proofs.InvariantLogs.{written_is_allowed}
+use Rattle.h2_log_laws.proofs.ItemLists.{total_none}
+use Rattle.h2_log_laws.proofs.ReaderStates.{active_from, lasts_from}
+use Rattle.h2_end_laws.specs.Sendings.{lists_accepted, settings_received}
+use Rattle.h2_end_laws.proofs.ReadVerdicts.{closed_by_us_is}
+use Rattle.h2_end_laws.proofs.Sendings.{log_sent}
+use Rattle.h2_pair.specs.Pairs.{Half, IsPair}
+use Rattle.h2_pair.specs.Directions.{AreUnderWay}
+use Rattle.h2_pair.specs.Undisturbed.{IsUndisturbed}
+use Rattle.h2_pair.specs.Quiet.{IsQuiet, WasReset, IsSending, CouldGo, NoneCouldGo}
+use Rattle.h2_pair.specs.Tokens.{Token, FieldsToken, OctetToken, EndToken, tokens_sent}
+use Rattle.h2_pair.specs.Tokens.{tokens_heard, Message, message_tokens}
+use Rattle.h2_pair.proofs.PairLogs.{both_logs}
+use Rattle.h2_pair.proofs.BothWays.{AreEnds, ends_to_server, ends_to_client}
+use Rattle.h2_pair.proofs.ConnectionWindows.{connection_conserved}
+use Rattle.h2_pair.proofs.NamedUnprocessed.{log_named}
+use Rattle.h2_pair.proofs.StreamWindows.{stream_conserved}
+use Rattle.h2_pair.proofs.HeardGoAways.{speaks}
+use Rattle.h2_pair.proofs.HeardLists.{blocks_of_lists}
+use Rattle.h2_pair.proofs.HeardMessages.{spoken_opened, silent_tokens, ended_tokens}
+use Rattle.h2_pair.proofs.HeardMessages.{unended}
+use Rattle.h2_pair.proofs.HeardSent.{tokens_told}
+use Rattle.h2_pair.proofs.HeardWhole.{not_so, IsSettled, client_kept, server_kept, unnamed}
+use Rattle.h2_pair.proofs.HeardWhole.{closed_how, above_server, client_above, cut_off, pair_settled}
+use Rattle.h2_pair.proofs.HeardWhole.{server_hears_all, client_hears_all}
+
+-- The initial window that an end has sent last is at least 1.
+opening_window : (role : Role) (values : Values) → AreInRange values
+    → 1 ≤ value_read 4 first_window (alone (Settings false (opening_pairs role values)) ∷ [])
+unfolding value_read value_after opening_pairs
+opening_window Client values ok = ok.least_window
+opening_window Server values ok = ok.least_window
+
+changed_window : (role : Role) (values : Values) (before : ℕ) → AreInRange values
+    → 1 ≤ value_after 4 before (changed_pairs role values)
+unfolding value_after changed_pairs
+changed_window Client values before ok = ok.least_window
+changed_window Server values before ok = ok.least_window
+
+window_after : (role : Role) (received sent : List Item) (item : Item)
+    → Allowed role received sent item → 1 ≤ value_read 4 first_window sent
+    → 1 ≤ value_read 4 first_window (item ∷ sent)
+unfolding value_read
+window_after role received sent (alone (Settings false pairs)) allowed some =
+    rw allowed.1.changed (changed_window role allowed.1.values _ allowed.1.in_range)
+window_after role received sent item allowed some = some
+
+some_window : (role : Role) (received sent : List Item) → AllowedHistory role received sent
+    → 1 ≤ value_read 4 first_window sent
+some_window role _ _ (starts values ok) = opening_window role values ok
+some_window role _ sent (reads {received = received} item history) =
+    some_window role received sent history
+some_window role received _ (writes {sent = sent} item history allowed) =
+    window_after role received sent item allowed (some_window role received sent history)
+
+-- A window is what it is with nothing more.
+plain_window : (window : ℤ) (under_way back owes value : ℕ) → under_way ≡ 0 → back ≡ 0 → owes ≡ 0
+    → (window +ℤ pos under_way) +ℤ pos (back + owes) ≡ pos value → window ≡ pos value
+plain_window window under_way back owes value none nothing paid is = omega (arith, ints)
+
+above_none : (window : ℤ) (value : ℕ) → window ≡ pos value → 1 ≤ value
+    → int_lt (pos 0) window ≡ true
+above_none window value is some = rw is (some_above value some)
+  where
+    some_above : (value : ℕ) → 1 ≤ value → int_lt (pos 0) (pos value) ≡ true
+    some_above value some = grind (arith, nat_tests, ints)
+
+-- A sum of nothing is nothing.
+none_sum : (n : ℕ) (f : ℕ → ℕ) → ((j : ℕ) → f j ≡ 0) → sum_below n f ≡ 0
+unfolding sum_below
+none_sum zero f none = refl
+none_sum (suc n) f none = omega (arith, none n, none_sum n f none)
+
+-- What is known of two ends of which nothing is under way, and of a stream that goes on.
+pub record IsIdle (writer reader : Half) (i : ℕ) : Type 0 where
+  pub halves : AreEnds writer reader
+  pub up : reader.log.failed ≡ None
+  pub way : AreUnderWay writer.log reader.log []
+  pub back : AreUnderWay reader.log writer.log []
+  pub none_owed : (j : ℕ) → owed reader.log j ≡ 0
+  pub none_unreturned : reader.log.unreturned ≡ 0
+  pub alive : active writer.log i ≡ true
+  pub unclosed : is_closed_by_us reader.log.role i reader.log.sent ≡ false
+  pub goes_on : list_any (ends i) reader.log.received ≡ false
+
+-- Both windows are open.
+stream_open : (writer reader : Half) (i : ℕ) → IsIdle writer reader i
+    → int_lt (pos 0) (send_window writer.log i) ≡ true
+stream_open writer reader i idle =
+    let value = value_read 4 first_window writer.log.received in
+    let conserved = stream_conserved writer reader [] [] i idle.halves idle.way idle.back (record {
+      active = idle.alive;
+      stays = λ closed. both_ways _ idle.unclosed (closed_by_us_is _ _ _ closed);
+      goes_on = idle.goes_on;
+    }) in
+    let is : send_window writer.log i ≡ pos value =
+    plain_window (send_window writer.log i) (total (data_on i) []) (total (increment_on i) [])
+    (owed reader.log i) value (total_none (data_on i)) (total_none (increment_on i))
+    (idle.none_owed i) conserved in
+    let some : 1 ≤ value_read 4 first_window reader.log.sent =
+    some_window idle.halves.reader_role reader.log.received reader.log.sent
+    (written_is_allowed _ _ reader.log idle.halves.reader_log) in
+    above_none (send_window writer.log i) value is
+    (rw (sym idle.back) some)
+
+connection_open : (writer reader : Half) (i : ℕ) → IsIdle writer reader i
+    → int_lt (pos 0) (connection_send_window writer.log.received writer.log.sent) ≡ true
+connection_open writer reader i idle =
+    let window = connection_send_window writer.log.received writer.log.sent in
+    let bound = greatest_block (openings reader.log.role reader.log.received reader.log.sent) + 1 in
+    let conserved = connection_conserved writer reader [] [] bound idle.halves idle.up idle.way
+    idle.back (omega arith) in
+    let owes : sum_below bound (owed reader.log) + reader.log.unreturned ≡ 0 =
+    omega (arith, none_sum bound (owed reader.log) idle.none_owed, idle.none_unreturned) in
+    above_none window first_window (plain_window window (total data_of [])
+    (total (increment_on 0) []) (sum_below bound (owed reader.log) + reader.log.unreturned)
+    first_window (total_none data_of) (total_none (increment_on 0)) owes conserved) (omega arith)
+
+pub could_go : (writer reader : Half) (i : ℕ) (token : Token) → IsIdle writer reader i
+    → CouldGo writer.log i token
+could_go writer reader i (OctetToken octet) idle =
+    (stream_open writer reader i idle, connection_open writer reader i idle)
+could_go writer reader i (FieldsToken list) idle = tt
+could_go writer reader i EndToken idle = tt
+
+-- An end that has sent something on a stream.
+spoken_by : (role : Role) (values : Values) (log : Log) (i : ℕ) → IsLog role values log
+    → tokens_sent i log.calls ≢ [] → list_any (speaks i) log.sent ≡ true
+spoken_by role values log i is some = elim (cases_Bool (list_any (speaks i) log.sent)) [
+  | inl spoken ↦ spoken
+  | inr silent ↦ absurd (some (tokens_told i role values log is
+      ∙ silent_tokens i log.sent (lists_accepted log.calls) silent))
+]
+
+-- As long as something waits of a message, the stream wasn't ended.
+goes_on_by : (role : Role) (values : Values) (log : Log) (i : ℕ) (message : Message)
+    (token : Token) (others : List Token) → IsLog role values log
+    → message_tokens message ≡ tokens_sent i log.calls ++ token ∷ others
+    → list_any (ends i) log.sent ≡ false
+goes_on_by role values log i message token others is waits = not_so _ (λ here.
+    let many : length (lists_accepted log.calls) ≡ _ =
+    blocks_of_lists log.sent (settings_received log.received) (lists_accepted log.calls)
+    log.encoder (log_sent role values log is) in
+    unended message (tokens_sent i log.calls) token others waits
+    (rw (tokens_told i role values log is)
+    (ended_tokens i log.sent (lists_accepted log.calls) many here)))
+
+-- A stream is active on which something was sent, that wasn't ended, reset or named unprocessed.
+active_by : (role : Role) (values : Values) (log : Log) (i : ℕ) → IsLog role values log
+    → log.role ≡ role → list_any (speaks i) log.sent ≡ true → is_above role i log.sent ≡ false
+    → list_any (ends i) log.sent ≡ false → list_any (resets i) log.received ≡ false
+    → list_any (resets i) log.sent ≡ false → list_any (reports_unprocessed i) log.reported ≡ false
+    → active log i ≡ true
+active_by role values log i is own spoken below goes unreset kept unnamed =
+    let opened = spoken_opened role i log.received log.sent (written_is_allowed role values log is)
+    spoken in
+    rw own (active_from role i log.received log.sent log.reported (record {
+      odd = opened.odd;
+      opened = opened.opened;
+      below = below;
+      lasts = lasts_from i log.received log.sent (record {
+        ended = and_none (list_any (ends i) log.received) _ goes;
+        unreset = unreset;
+        kept = kept;
+      });
+      unnamed = unnamed;
+    }))
+  where
+    and_none : (a b : Bool) → b ≡ false → (a && b) ≡ false
+    and_none true b none = none
+    and_none false b none = refl
+
+-- Where nothing waits, or what waits could go, all of a message was sent.
+all_sent : (log : Log) (i : ℕ) (message : Message) (waiting : List Token)
+    → message_tokens message ≡ tokens_sent i log.calls ++ waiting
+    → (active log i ≡ true → NoneCouldGo log i waiting)
+    → ((token : Token) (others : List Token) → waiting ≡ token ∷ others
+    → (active log i ≡ true) × CouldGo log i token)
+    → tokens_sent i log.calls ≡ message_tokens message
+all_sent log i message [] sent stuck goes =
+    sym (append-nil (tokens_sent i log.calls)) ∙ sym sent
+all_sent log i message (token ∷ others) sent stuck goes =
+    let now = goes token others refl in absurd (stuck now.0 now.1)
+
+-- A stream of a client goes on at the server.
+client_idle : (client_values server_values : Values) (client server : Half) (i : ℕ)
+    (message : Message) (token : Token) (others : List Token)
+    (pair : IsPair client_values server_values client server) → IsQuiet client server
+    → IsSettled client.log server.log i → server.log.failed ≡ None
+    → tokens_sent i client.log.calls ≢ []
+    → message_tokens message ≡ tokens_sent i client.log.calls ++ token ∷ others
+    → IsIdle client server i
+client_idle client_values server_values client server i message token others pair quiet settled up
+    begun sent =
+    let is = (both_logs client_values server_values client server pair).client_log in
+    let spoken = spoken_by Client client_values client.log i is begun in
+    let goes = goes_on_by Client client_values client.log i message token others is sent in
+    let opened = spoken_opened Client i client.log.received client.log.sent settled.allowed
+    spoken in
+    record {
+      halves = ends_to_server client_values server_values client server pair;
+      up = up;
+      way = sym settled.to_server;
+      back = sym settled.to_client;
+      none_owed = quiet.to_server.none_owed;
+      none_unreturned = quiet.to_server.none_unreturned;
+      alive = active_by Client client_values client.log i is settled.client_role spoken
+          (client_above Client i client.log.sent refl) goes
+          (ap (list_any (resets i)) settled.to_client ∙ server_kept client.log server.log i settled)
+          (client_kept client.log server.log i settled) (unnamed client.log server.log i settled);
+      unclosed = not_so _ (λ closed. elim (closed_how server.log.role i server.log.sent closed) [
+        | inl reset ↦ both_ways _ (server_kept client.log server.log i settled) reset
+        | inr above ↦ cut_off client.log server.log i settled opened.odd opened.opened
+            (above_server server.log.role i server.log.sent settled.server_role above)
+      ]);
+      goes_on = ap (list_any (ends i)) settled.to_server ∙ goes;
+    }
+
+-- And one of a server at the client.
+server_unnamed : (values : Values) (log : Log) (i : ℕ) → IsLog Server values log
+    → log.role ≡ Server → list_any (reports_unprocessed i) log.reported ≡ false
+server_unnamed values log i is own = not_so _ (λ here.
+    both_ways _ (log_named Server values log is i here).0 (ap is_server own))
+
+server_idle : (client_values server_values : Values) (client server : Half) (i : ℕ)
+    (message : Message) (token : Token) (others : List Token)
+    (pair : IsPair client_values server_values client server) → IsQuiet client server
+    → IsSettled client.log server.log i → client.log.failed ≡ None
+    → tokens_sent i server.log.calls ≢ []
+    → message_tokens message ≡ tokens_sent i server.log.calls ++ token ∷ others
+    → IsIdle server client i
+server_idle client_values server_values client server i message token others pair quiet settled up
+    begun sent =
+    let is = (both_logs client_values server_values client server pair).server_log in
+    let spoken = spoken_by Server server_values server.log i is begun in
+    let goes = goes_on_by Server server_values server.log i message token others is sent in
+    record {
+      halves = ends_to_client client_values server_values client server pair;
+      up = up;
+      way = sym settled.to_client;
+      back = sym settled.to_server;
+      none_owed = quiet.to_client.none_owed;
+      none_unreturned = quiet.to_client.none_unreturned;
+      alive = active_by Server server_values server.log i is settled.server_role spoken
+          (not_so _ (λ above. both_ways _ (settled.spoken i spoken).below
+          (above_server Server i server.log.sent refl above))) goes
+          (ap (list_any (resets i)) settled.to_server ∙ client_kept client.log server.log i settled)
+          (server_kept client.log server.log i settled)
+          (server_unnamed server_values server.log i is settled.server_role);
+      unclosed = not_so _ (λ closed. elim (closed_how client.log.role i client.log.sent closed) [
+        | inl reset ↦ both_ways _ (client_kept client.log server.log i settled) reset
+        | inr above ↦ both_ways _ (client_above client.log.role i client.log.sent
+            settled.client_role) above
+      ]);
+      goes_on = ap (list_any (ends i)) settled.to_client ∙ goes;
+    }
+
+-- A message was heard whole, at the server and at the client.
+pub server_hears_whole : (client_values server_values : Values) (client server : Half) (i : ℕ)
+    (message : Message) (pair : IsPair client_values server_values client server)
+    → IsUndisturbed pair → IsQuiet client server → (WasReset client.log server.log i → ⊥)
+    → IsSending client.log i message
+    → tokens_heard i server.log.reported ≡ message_tokens message
+server_hears_whole client_values server_values client server i message pair calm quiet unreset
+    sending =
+    let settled = pair_settled client_values server_values client server i pair calm quiet unreset
+    in
+    server_hears_all client_values server_values client server i pair calm quiet unreset
+    ∙ all_sent client.log i message sending.waiting sending.sent sending.stuck
+    (λ token others waits.
+    let idle = client_idle client_values server_values client server i message token others pair
+    quiet settled settled.server_clean.up sending.begun
+    (sending.sent ∙ ap (λ (line : List Token). tokens_sent i client.log.calls ++ line) waits) in
+    (idle.alive, could_go client server i token idle))
+
+pub client_hears_whole : (client_values server_values : Values) (client server : Half) (i : ℕ)
+    (message : Message) (pair : IsPair client_values server_values client server)
+    → IsUndisturbed pair → IsQuiet client server → (WasReset client.log server.log i → ⊥)
+    → IsSending server.log i message
+    → tokens_heard i client.log.reported ≡ message_tokens message
+client_hears_whole client_values server_values client server i message pair calm quiet unreset
+    sending =
+    let settled = pair_settled client_values server_values client server i pair calm quiet unreset
+    in
+    client_hears_all client_values server_values client server i pair calm quiet unreset
+    ∙ all_sent server.log i message sending.waiting sending.sent sending.stuck
+    (λ token others waits.
+    let idle = server_idle client_values server_values client server i message token others pair
+    quiet settled settled.client_clean.up sending.begun
+    (sending.sent ∙ ap (λ (line : List Token). tokens_sent i server.log.calls ++ line) waits) in
+    (idle.alive, could_go server client i token idle))

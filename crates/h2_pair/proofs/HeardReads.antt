@@ -1,0 +1,385 @@
+-- What an end has heard on a stream is what the items that it has read carry, as long as it hasn't
+-- closed the stream; and a prefix of that from then on.
+use Rattle.std.proofs.Common.{◌≡◌, ◌⊎◌, inl, inr, ℕ, ◌==◌, Bool, true, false}
+use Rattle.std.proofs.Common.{List, [], ◌∷◌, ◌++◌, Option, Some, None, refl, sym}
+use Rattle.std.proofs.Common.{ap, ◌∙◌, append_assoc, append-nil, subst}
+use Rattle.std.specs.List.{list_any}
+use Rattle.std.proofs.lemmas.Bool.{both_ways, or_left, or_right, or_from, eqb-true}
+use Rattle.std.proofs.lemmas.Bool.{eq-eqb, cases_Bool, or_cases}
+use Rattle.hpack.specs.declared.types.field.Field.{Field}
+use Rattle.h2_frame.specs.declared.code.Code.{Code}
+use Rattle.h2_frame.specs.Codes.{code_number}
+use Rattle.h2_frame.specs.Frames.{Data, Reset, Settings, Ping, GoAway}
+use Rattle.h2_frame.specs.Encoding.{stream_of}
+use Rattle.h2_block.specs.Grouping.{Item, alone, block}
+use Rattle.h2_log.specs.declared.role.Role.{Role}
+use Rattle.h2_log.specs.Events.{Event}
+use Rattle.h2_log.specs.declared.role.Role.TheVariants.{Client, Server}
+use Rattle.h2_log.specs.Items.{stream_of_item, resets, is_goaway_below}
+use Rattle.h2_log.specs.States.{State, Idle, Active, ClosedByUs, Closed, state_by, is_active}
+use Rattle.h2_log.specs.States.{is_used, is_above, is_closed_by_us}
+use Rattle.h2_log.specs.Log.{Log, active, state}
+use Rattle.h2_log.specs.LogView.{log_view}
+use Rattle.h2_log.specs.View.{View}
+use Rattle.h2_log.specs.Verdicts.{Verdict, ConnectionFault, StreamFault, NoEvent, Reported}
+use Rattle.h2_log.specs.Verdicts.{block_verdict, opening_verdict}
+use Rattle.h2_log.specs.ItemRules.{Decoded, replies_to, verdict_by_rules, peer_opens}
+use Rattle.h2_log.specs.ItemEffects.{events_of, fields_of}
+use Rattle.h2_log_laws.proofs.ItemLists.{any_after}
+use Rattle.h2_log_laws.proofs.ReaderStates.{active_parts, lasts_parts, not_idle, state_is_active}
+use Rattle.h2_log_laws.proofs.ReplyInvariant.{used_more, used_here}
+use Rattle.h2_end_laws.proofs.ReadVerdicts.{Says, says_data}
+use Rattle.h2_end_laws.proofs.ReadingRules.{IsFaulty, IsUnreported, IsSaid}
+use Rattle.h2_pair.specs.Tokens.{Token, tokens_of_event}
+use Rattle.h2_pair.specs.Tokens.{tokens_heard, IsPrefixOf}
+use Rattle.h2_pair.proofs.HeardTokens.{frame_tokens, item_tokens, tokens_of_items, prefix_same}
+
+-- This end has closed the stream, and its number is used.
+pub record IsGone (role : Role) (i : ℕ) (received sent : List Item) : Type 0 where
+  pub closed : is_closed_by_us role i sent ≡ true
+  pub used : is_used role i received sent ≡ true
+
+-- What is above an own GOAWAY stays so.
+above_more : (role : Role) (i : ℕ) (items sent : List Item) → is_above role i sent ≡ true
+    → is_above role i (items ++ sent) ≡ true
+unfolding is_above
+above_more Client i items sent above = absurd (both_ways false refl above)
+above_more Server i items sent above = any_after (is_goaway_below i) items sent above
+
+-- What this end has closed stays closed.
+closed_more : (role : Role) (i : ℕ) (items sent : List Item) → is_closed_by_us role i sent ≡ true
+    → is_closed_by_us role i (items ++ sent) ≡ true
+unfolding is_closed_by_us
+closed_more role i items sent closed =
+    elim (or_cases (list_any (resets i) sent) (is_above role i sent) closed) [
+      | inl reset ↦ or_left _ _ (any_after (resets i) items sent reset)
+      | inr above ↦ or_right _ _ (above_more role i items sent above)
+    ]
+
+-- It stays so.
+pub gone_more : (role : Role) (i : ℕ) (news items received sent : List Item)
+    → IsGone role i received sent → IsGone role i (news ++ received) (items ++ sent)
+gone_more role i news items received sent gone =
+    record {
+      closed = closed_more role i items sent gone.closed;
+      used = used_more role i news items received sent gone.used;
+    }
+
+-- All that the items carry was heard, or the stream is gone and a prefix was.
+pub data AreHeard (role : Role) (i : ℕ) (received sent : List Item) (reported : List Event)
+    (lists : List (List Field)) : Type 0 where
+  all_heard : tokens_heard i reported ≡ tokens_of_items i received lists
+      → AreHeard role i received sent reported lists
+  some_heard : IsGone role i received sent
+      → IsPrefixOf (tokens_heard i reported) (tokens_of_items i received lists)
+      → AreHeard role i received sent reported lists
+
+-- the lists after an item
+abbrev pub lists_after : Option Decoded → Item → List (List Field) → List (List Field)
+lists_after decoded (alone frame) lists = lists
+lists_after decoded (block stream end octets) lists = fields_of decoded ∷ lists
+
+-- An item adds its tokens.
+item_carries : (i : ℕ) (decoded : Option Decoded) (item : Item) (received : List Item)
+    (lists : List (List Field))
+    → tokens_of_items i (item ∷ received) (lists_after decoded item lists)
+    ≡ tokens_of_items i received lists ++ item_tokens i item (fields_of decoded)
+unfolding tokens_of_items item_tokens
+item_carries i decoded (alone frame) received lists = refl
+item_carries i decoded (block stream end octets) received lists = refl
+
+-- What is reported of it adds the same.
+reported_carries : (i : ℕ) (view : View) (decoded : Option Decoded) (item : Item)
+    (reported : List Event)
+    → tokens_heard i (events_of view decoded Reported item ++ reported)
+    ≡ tokens_heard i reported ++ item_tokens i item (fields_of decoded)
+unfolding events_of tokens_heard tokens_of_event item_tokens frame_tokens
+reported_carries i view decoded (block stream end octets) reported = refl
+reported_carries i view decoded (alone (Data stream end octets pad)) reported = refl
+reported_carries i view decoded (alone (Reset stream code)) reported = refl
+reported_carries i view decoded (alone (Settings ack pairs)) reported = refl
+reported_carries i view decoded (alone (Ping ack octets)) reported = refl
+reported_carries i view decoded (alone (GoAway last code debug)) reported = refl
+reported_carries i view decoded (alone frame) reported =
+    sym (append-nil (tokens_heard i reported))
+
+-- A stream's fault is no part of a message.
+fault_carries : (i : ℕ) (view : View) (decoded : Option Decoded) (code : Code) (item : Item)
+    (reported : List Event)
+    → tokens_heard i (events_of view decoded (StreamFault code) item ++ reported)
+    ≡ tokens_heard i reported
+unfolding events_of tokens_heard tokens_of_event
+fault_carries i view decoded code item reported = append-nil (tokens_heard i reported)
+
+-- An item of another stream carries nothing on this one.
+other_carries : (i : ℕ) (item : Item) (list : List Field) → (stream_of_item item == i) ≡ false
+    → item_tokens i item list ≡ []
+unfolding item_tokens frame_tokens stream_of_item stream_of
+other_carries i (block stream end octets) list other = rw other refl
+other_carries i (alone (Data stream end octets pad)) list other = rw other refl
+other_carries i (alone frame) list other = refl
+
+-- The item is no part of a message, or its stream has this property.
+abbrev pub OfMessage : (ℕ → Type 0) → Item → Type 0
+OfMessage P (block stream end octets) = P stream
+OfMessage P (alone (Data stream end octets pad)) = P stream
+OfMessage P (alone frame) = Unit {0}
+
+-- An item carries nothing on a stream, or the stream has the property.
+nothing_or : (P : ℕ → Type 0) (i : ℕ) (item : Item) (list : List Field) → OfMessage P item
+    → (item_tokens i item list ≡ []) ⊎ P i
+unfolding item_tokens frame_tokens
+nothing_or P i (block stream end octets) list is = elim (cases_Bool (stream == i)) [
+  | inl same ↦ inr (subst P (eqb-true stream i same) is)
+  | inr other ↦ inl (rw other refl)
+]
+nothing_or P i (alone (Data stream end octets pad)) list is = elim (cases_Bool (stream == i)) [
+  | inl same ↦ inr (subst P (eqb-true stream i same) is)
+  | inr other ↦ inl (rw other refl)
+]
+nothing_or P i (alone frame) list is = inl refl
+
+-- What two facts say of a verdict, both say.
+pub says_both : (F S T A B C : Type 0) (verdict : Verdict) → Says F S T verdict → Says A B C verdict
+    → Says (F × A) (S × B) (T × C) verdict
+says_both F S T A B C (ConnectionFault code) one other = tt
+says_both F S T A B C (StreamFault code) one other = (one, other)
+says_both F S T A B C NoEvent one other = (one, other)
+says_both F S T A B C Reported one other = (one, other)
+
+-- What no verdict says, by what it is.
+says_nothing : (verdict : Verdict) → Says (Unit {0}) (Unit {0}) (Unit {0}) verdict
+says_nothing (ConnectionFault code) = tt
+says_nothing (StreamFault code) = tt
+says_nothing NoEvent = tt
+says_nothing Reported = tt
+
+-- A block that opens a stream, and one that doesn't.
+says_opening : (S T : Type 0) (left full large : Bool) → S → T
+    → Says (Unit {0}) S T (opening_verdict left full large)
+unfolding opening_verdict
+says_opening S T true full large s t = s
+says_opening S T false true large s t = tt
+says_opening S T false false true s t = tt
+says_opening S T false false false s t = t
+
+says_block : (S T : Type 0) (state : State) (opens left full ended large : Bool)
+    → (state ≡ ClosedByUs → S) → (state ≡ Idle → opens ≡ true → S) → (state ≡ Active → T)
+    → (state ≡ Idle → T) → Says (Unit {0}) S T (block_verdict state opens left full ended large)
+unfolding block_verdict
+says_block S T Idle true left full ended large c o a n =
+    says_opening S T left full large (o refl refl) (n refl)
+says_block S T Idle false left full ended large c o a n = tt
+says_block S T Closed opens left full ended large c o a n = tt
+says_block S T ClosedByUs opens left full ended large c o a n = c refl
+says_block S T Active opens left full true large c o a n = tt
+says_block S T Active opens left full false true c o a n = tt
+says_block S T Active opens left full false false c o a n = a refl
+
+-- A stream that this end has closed is used.
+closed_used : (used active closed_by_us : Bool) → state_by used active closed_by_us ≡ ClosedByUs
+    → used ≡ true
+closed_used false active closed_by_us is = absurd (cc)
+closed_used true active closed_by_us is = refl
+
+-- One that is active isn't closed by this end.
+active_unclosed : (role : Role) (i : ℕ) (received sent : List Item) (reported : List Event)
+    → is_active role i received sent reported ≡ true → is_closed_by_us role i sent ≡ false
+unfolding is_closed_by_us
+active_unclosed role i received sent reported active =
+    let parts = active_parts role i received sent reported active in
+    or_from _ _ (lasts_parts i received sent parts.lasts).kept parts.below
+
+-- An active stream isn't gone, nor is an idle one.
+active_stays : (log : Log) (i : ℕ) → state log i ≡ Active
+    → IsGone log.role i log.received log.sent → ⊥
+active_stays log i is gone =
+    both_ways _ (active_unclosed log.role i log.received log.sent log.reported
+    (state_is_active _ _ _ is)) gone.closed
+
+idle_stays : (log : Log) (i : ℕ) → state log i ≡ Idle
+    → IsGone log.role i log.received log.sent → ⊥
+idle_stays log i is gone = not_idle _ _ _ gone.used is
+
+-- The number of an item is used once it is read.
+abbrev pub IsUsedBy : Log → Item → ℕ → Type 0
+IsUsedBy log item i = is_used log.role i (item ∷ log.received) log.sent ≡ true
+
+-- The stream isn't gone.
+abbrev pub Stays : Log → ℕ → Type 0
+Stays log i = IsGone log.role i log.received log.sent → ⊥
+
+-- What is silent of a message is on a used stream, and what is reported is on one that isn't gone.
+pub rules_used : (log : Log) (decoded : Option Decoded) (item : Item)
+    → Says (Unit {0}) (OfMessage (IsUsedBy log item) item) (OfMessage (Stays log) item)
+    (verdict_by_rules (log_view log) decoded item)
+unfolding verdict_by_rules
+rules_used log None (block stream end octets) = tt
+rules_used log (Some decoded) (block stream end octets) =
+    let item = block stream end octets in
+    says_block (IsUsedBy log item stream) (Stays log stream) (state log stream)
+    (peer_opens (log_view log) stream) _ _ _ _
+    (λ is. used_more log.role stream (item ∷ []) [] log.received log.sent (closed_used _ _ _ is))
+    (λ idle opens. used_here log.role stream end octets log.received log.sent opens)
+    (active_stays log stream) (idle_stays log stream)
+rules_used log decoded (alone (Data stream end octets pad)) =
+    let item = alone (Data stream end octets pad) in
+    says_data (Unit {0}) (IsUsedBy log item stream) (Stays log stream) (state log stream) _ _ _
+    (λ is. tt)
+    (λ is. used_more log.role stream (item ∷ []) [] log.received log.sent (closed_used _ _ _ is))
+    (active_stays log stream)
+rules_used log decoded (alone frame) =
+    says_nothing (verdict_by_rules (log_view log) decoded (alone frame))
+
+-- What is silent of a message is on a stream that is gone.
+abbrev IsSilent : Log → Item → ℕ → Type 0
+IsSilent log item i = IsGone log.role i (item ∷ log.received) log.sent
+
+silent_gone : (log : Log) (item : Item) → IsUnreported log item
+    → OfMessage (IsUsedBy log item) item → OfMessage (IsSilent log item) item
+silent_gone log (block stream end octets) closed used = record { closed = closed; used = used }
+silent_gone log (alone (Data stream end octets pad)) closed used =
+    record { closed = closed; used = used }
+silent_gone log (alone frame) closed used = tt
+
+-- A prefix, where what goes on is longer.
+pub prefix_by : (tokens heard whole all more : List Token) → heard ≡ tokens → all ≡ whole ++ more
+    → IsPrefixOf tokens whole → IsPrefixOf heard all
+prefix_by tokens heard whole all more same is (rest, before) = (
+  rest ++ more,
+  is ∙ ap (λ (line : List Token). line ++ more) before ∙ append_assoc tokens rest more
+      ∙ ap (λ (line : List Token). line ++ (rest ++ more)) (sym same),
+)
+
+-- What was heard is a prefix.
+pub heard_prefix : (role : Role) (i : ℕ) (received sent : List Item) (reported : List Event)
+    (lists : List (List Field)) → AreHeard role i received sent reported lists
+    → IsPrefixOf (tokens_heard i reported) (tokens_of_items i received lists)
+heard_prefix role i received sent reported lists (all_heard same) = prefix_same _ _ same
+heard_prefix role i received sent reported lists (some_heard gone prefix) = prefix
+
+-- After an item of which nothing of a message is reported.
+heard_silent : (role : Role) (i : ℕ) (received sent after : List Item)
+    (reported events : List Event)
+    (lists : List (List Field)) (decoded : Option Decoded) (item : Item)
+    → tokens_heard i events ≡ tokens_heard i reported
+    → (IsGone role i received sent → IsGone role i (item ∷ received) after)
+    → (item_tokens i item (fields_of decoded) ≡ []) ⊎ IsGone role i (item ∷ received) after
+    → AreHeard role i received sent reported lists
+    → AreHeard role i (item ∷ received) after events (lists_after decoded item lists)
+heard_silent role i received sent after reported events lists decoded item same goes (inr gone)
+    before =
+    some_heard gone (prefix_by _ _ _ _ _ same (item_carries i decoded item received lists)
+    (heard_prefix role i received sent reported lists before))
+heard_silent role i received sent after reported events lists decoded item same goes (inl none)
+    (all_heard is) =
+    all_heard (same ∙ is ∙ sym (append-nil (tokens_of_items i received lists))
+    ∙ ap (λ (line : List Token). tokens_of_items i received lists ++ line) (sym none)
+    ∙ sym (item_carries i decoded item received lists))
+heard_silent role i received sent after reported events lists decoded item same goes (inl none)
+    (some_heard gone prefix) =
+    some_heard (goes gone) (prefix_by _ _ _ _ _ same (item_carries i decoded item received lists)
+    prefix)
+
+-- After an item that is reported.
+heard_reported : (role : Role) (i : ℕ) (received sent after : List Item)
+    (reported : List Event) (lists : List (List Field)) (view : View) (decoded : Option Decoded)
+    (item : Item)
+    → (IsGone role i received sent → IsGone role i (item ∷ received) after)
+    → (item_tokens i item (fields_of decoded) ≡ []) ⊎ (IsGone role i received sent → ⊥)
+    → AreHeard role i received sent reported lists
+    → AreHeard role i (item ∷ received) after (events_of view decoded Reported item ++ reported)
+    (lists_after decoded item lists)
+heard_reported role i received sent after reported lists view decoded item goes stays
+    (all_heard is) =
+    all_heard (reported_carries i view decoded item reported
+    ∙ ap (λ (line : List Token). line ++ item_tokens i item (fields_of decoded)) is
+    ∙ sym (item_carries i decoded item received lists))
+heard_reported role i received sent after reported lists view decoded item goes (inr stays)
+    (some_heard gone prefix) = absurd (stays gone)
+heard_reported role i received sent after reported lists view decoded item goes (inl none)
+    (some_heard gone prefix) =
+    let same : tokens_heard i (events_of view decoded Reported item ++ reported)
+    ≡ tokens_heard i reported =
+    reported_carries i view decoded item reported
+    ∙ ap (λ (line : List Token). tokens_heard i reported ++ line) none
+    ∙ append-nil (tokens_heard i reported) in
+    some_heard (goes gone) (prefix_by _ _ _ _ _ same (item_carries i decoded item received lists)
+    prefix)
+
+-- A stream that is reset is closed by this end.
+reset_closes : (role : Role) (i stream code : ℕ) (sent : List Item) → stream ≡ i
+    → is_closed_by_us role i (alone (Reset stream code) ∷ sent) ≡ true
+unfolding is_closed_by_us resets
+reset_closes role i stream code sent same =
+    or_left _ _ (or_left (stream == i) _ (eq-eqb stream i same))
+
+-- A fault of a stream carries nothing on the others, and the stream is gone.
+fault_goes : (log : Log) (i : ℕ) (item : Item) (code : ℕ) (due : List Item) (list : List Field)
+    → IsFaulty log item
+    → (item_tokens i item list ≡ []) ⊎ IsGone log.role i (item ∷ log.received)
+    (due ++ (alone (Reset (stream_of_item item) code) ∷ log.sent))
+fault_goes log i item code due list used = elim (cases_Bool (stream_of_item item == i)) [
+  | inl same ↦
+      let equal = eqb-true (stream_of_item item) i same in
+      let reset = alone (Reset (stream_of_item item) code) in
+      let used_now : is_used log.role i (item ∷ log.received) log.sent ≡ true =
+      subst (λ (j : ℕ). is_used log.role j (item ∷ log.received) log.sent ≡ true) equal used in
+      inr (gone_more log.role i [] due (item ∷ log.received) (reset ∷ log.sent) (record {
+        closed = reset_closes log.role i (stream_of_item item) code log.sent equal;
+        used = used_more log.role i [] (reset ∷ []) (item ∷ log.received) log.sent used_now;
+      }))
+  | inr other ↦ inl (other_carries i item list other)
+]
+
+-- What is known of an item that is read.
+abbrev pub IsRuled : Log → Item → Verdict → Type 0
+IsRuled log item verdict =
+    Says (IsFaulty log item × Unit {0})
+    (IsUnreported log item × OfMessage (IsUsedBy log item) item)
+    (IsSaid log item × OfMessage (Stays log) item) verdict
+
+-- What was silent is gone, after more was written.
+silent_goes : (log : Log) (i : ℕ) (item : Item) (items : List Item) (list : List Field)
+    → IsUnreported log item → OfMessage (IsUsedBy log item) item
+    → (item_tokens i item list ≡ []) ⊎ IsGone log.role i (item ∷ log.received) (items ++ log.sent)
+silent_goes log i item items list closed used =
+    elim (nothing_or (IsSilent log item) i item list (silent_gone log item closed used)) [
+      | inl none ↦ inl none
+      | inr gone ↦ inr (gone_more log.role i [] items (item ∷ log.received) log.sent gone)
+    ]
+
+-- What was heard at a log.
+abbrev pub LogHeard : ℕ → Log → List (List Field) → Type 0
+LogHeard i log lists = AreHeard log.role i log.received log.sent log.reported lists
+
+-- After an item, what is replied to it, what else is written, and its events, by its verdict.
+pub heard_item : (i : ℕ) (log : Log) (decoded : Option Decoded) (item : Item) (verdict : Verdict)
+    (due : List Item) (lists : List (List Field))
+    → ((code : Code) → verdict ≡ ConnectionFault code → ⊥) → IsRuled log item verdict
+    → LogHeard i log lists
+    → AreHeard log.role i (item ∷ log.received) (due ++ (replies_to verdict item ++ log.sent))
+    (events_of (log_view log) decoded verdict item ++ log.reported)
+    (lists_after decoded item lists)
+unfolding replies_to events_of
+heard_item i log decoded item (ConnectionFault code) due lists none ruled before =
+    absurd (none code refl)
+heard_item i log decoded item (StreamFault code) due lists none ruled before =
+    let reset = alone (Reset (stream_of_item item) (code_number code)) in
+    heard_silent log.role i log.received log.sent (due ++ (reset ∷ log.sent)) log.reported _ lists
+    decoded item (fault_carries i (log_view log) decoded code item log.reported)
+    (λ gone. gone_more log.role i (item ∷ []) due log.received (reset ∷ log.sent)
+    (gone_more log.role i [] (reset ∷ []) log.received log.sent gone))
+    (fault_goes log i item (code_number code) due (fields_of decoded) ruled.0) before
+heard_item i log decoded item NoEvent due lists none ruled before =
+    let replies = replies_to NoEvent item in
+    rw (← append_assoc due replies log.sent)
+    (heard_silent log.role i log.received log.sent ((due ++ replies) ++ log.sent) log.reported
+    log.reported lists decoded item refl
+    (λ gone. gone_more log.role i (item ∷ []) (due ++ replies) log.received log.sent gone)
+    (silent_goes log i item (due ++ replies) (fields_of decoded) ruled.0 ruled.1) before)
+heard_item i log decoded item Reported due lists none ruled before =
+    heard_reported log.role i log.received log.sent (due ++ log.sent) log.reported lists
+    (log_view log) decoded item
+    (λ gone. gone_more log.role i (item ∷ []) due log.received log.sent gone)
+    (nothing_or (Stays log) i item (fields_of decoded) ruled.1) before

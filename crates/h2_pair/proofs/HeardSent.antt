@@ -1,0 +1,455 @@
+-- What an end was given for a stream is what the items that it has sent carry, with the lists of
+-- its calls.
+use Rattle.std.proofs.Common.{map as each, ◌≡◌, ℕ, zero, suc, ◌+◌, ◌<◌, ◌==◌, nat_le, nat_lt}
+use Rattle.std.proofs.Common.{◌&&◌, not, Bool, true, false, if◌then◌else◌, List, [], ◌∷◌, ◌++◌}
+use Rattle.std.proofs.Common.{length, take, drop, Option, Some, None, refl, sym, ap, ◌∙◌, arith}
+use Rattle.std.proofs.Common.{append_assoc, append-nil, length-drop, inl, inr}
+use Rattle.std.specs.List.{list_any}
+use Rattle.std.proofs.lemmas.Bool.{both_ways, or_parts, leb-false, and_parts, not-true}
+use Rattle.std.proofs.lemmas.Bool.{cases_Bool}
+use Rattle.std.proofs.lemmas.Bool.{eqb-true}
+use Rattle.std.proofs.lemmas.List.{map-append, take-append-drop, length-take}
+use Rattle.hpack.specs.declared.types.field.Field.{Field}
+use Rattle.h2_frame.specs.declared.code.Code.{Code}
+use Rattle.h2_frame.specs.declared.code.Code.TheVariants.{InternalError}
+use Rattle.h2_frame.specs.Codes.{code_number}
+use Rattle.h2_frame.specs.Frames.{Frame, Data, GoAway, WindowUpdate, Settings, Ping}
+use Rattle.h2_wire.specs.Faults.{wire_fault_code}
+use Rattle.h2_block.specs.Grouping.{Item, alone, block}
+use Rattle.h2_log.specs.declared.role.Role.{Role}
+use Rattle.h2_log.specs.declared.refusal.Refusal.{Refusal}
+use Rattle.h2_log.specs.Events.{Event}
+use Rattle.h2_log.specs.Acts.{Values, Act, Answer, Open, SendFields, SendData, Release, ResetStream}
+use Rattle.h2_log.specs.Acts.{Refuse, SendPing, SendGoAway, PutOut, ChangeSettings}
+use Rattle.h2_log.specs.Acts.{Done, OutOfMemory, Refused}
+use Rattle.h2_log.specs.Log.{Log, waiting, last_processed, max_payload_sent, max_payload_sent_by}
+use Rattle.h2_log.specs.LogView.{log_view}
+use Rattle.h2_log.specs.View.{ended_in}
+use Rattle.h2_log.specs.Verdicts.{Verdict, ConnectionFault, StreamFault, NoEvent, Reported}
+use Rattle.h2_log.specs.ItemRules.{Decoded, replies_to, FrameStep, fails_with, begins_block}
+use Rattle.h2_log.specs.ItemRules.{completes, frame_step}
+use Rattle.h2_log.specs.CallRules.{items_of, answer_of, refuse_fault}
+use Rattle.h2_log.specs.CallRules.{returns_before_put_out, data_items, data_frames}
+use Rattle.h2_log.specs.Limits.{full_output}
+use Rattle.h2_log.specs.LogSteps.{read, with_sent, with_reported, with_unreturned, with_failure}
+use Rattle.h2_log.specs.LogSteps.{with_credit_returned, with_verdict, with_step, with_frame, used}
+use Rattle.h2_log.specs.LogCalls.{opened, called, with_items, refused_with, before_put_out}
+use Rattle.h2_log.specs.LogCalls.{with_call, MayAnswer, accepts, refuses, lacks, fails}
+use Rattle.h2_log.specs.Histories.{IsLog, begins, took_some, took_one, met_fault, ran_out_of_memory}
+use Rattle.h2_log.specs.Histories.{reported_one, called_one}
+use Rattle.h2_end_laws.specs.Sendings.{lists_accepted}
+use Rattle.h2_pair.specs.Tokens.{Token, OctetToken, end_tokens, tokens_of_call}
+use Rattle.h2_pair.specs.Tokens.{tokens_sent}
+use Rattle.h2_pair.proofs.HeardTokens.{frame_tokens, item_tokens, tokens_of_items}
+
+-- Items and calls carry the same on the stream.
+abbrev AreTold : ℕ → Log → Type 0
+AreTold i log = tokens_sent i log.calls ≡ tokens_of_items i log.sent (lists_accepted log.calls)
+
+-- Whether an item carries anything of a message.
+unfoldable carries : Item → Bool
+carries (block stream end octets) = true
+carries (alone (Data stream end octets pad)) = true
+carries (alone _) = false
+
+-- An item that carries nothing has no tokens.
+one_untold : (i : ℕ) (item : Item) (sent : List Item) (lists : List (List Field))
+    → carries item ≡ false
+    → tokens_of_items i (item ∷ sent) lists ≡ tokens_of_items i sent lists
+unfolding tokens_of_items item_tokens frame_tokens carries
+one_untold i (block stream end octets) sent lists none = absurd (both_ways true none refl)
+one_untold i (alone (Data stream end octets pad)) sent lists none =
+    absurd (both_ways true none refl)
+one_untold i (alone frame) sent lists none = append-nil (tokens_of_items i sent lists)
+
+-- Nor have such items.
+more_untold : (i : ℕ) (items sent : List Item) (lists : List (List Field))
+    → list_any carries items ≡ false
+    → tokens_of_items i (items ++ sent) lists ≡ tokens_of_items i sent lists
+more_untold i [] sent lists none = refl
+more_untold i (item ∷ items) sent lists none =
+    let parts = or_parts (carries item) (list_any carries items) none in
+    one_untold i item (items ++ sent) lists parts.0 ∙ more_untold i items sent lists parts.1
+
+-- Items that are written keep this, if none carries anything; so do events.
+wrote_told : (i : ℕ) (log : Log) (items : List Item) → list_any carries items ≡ false
+    → AreTold i log → AreTold i (with_sent log items)
+unfolding with_sent
+wrote_told i log [] none is = is
+wrote_told i log (item ∷ items) none is =
+    is ∙ sym (more_untold i (item ∷ items) log.sent (lists_accepted log.calls) none)
+
+reports_told : (i : ℕ) (log : Log) (events : List Event) → AreTold i log
+    → AreTold i (with_reported log events)
+unfolding with_reported
+reports_told i log [] is = is
+reports_told i log (event ∷ events) is = is
+
+-- What is unreturned.
+update_untold : (count : ℕ) → list_any carries (alone (WindowUpdate 0 count) ∷ []) ≡ false
+unfolding carries
+update_untold count = refl
+
+unreturned_by : (i more : ℕ) (log : Log) (b : Bool) → AreTold i log
+    → AreTold i (if b then with_credit_returned (record log { unreturned = log.unreturned + more })
+    else record log { unreturned = log.unreturned + more })
+unreturned_by i more log true is =
+    wrote_told i (record log { unreturned = 0 }) _ (update_untold (log.unreturned + more)) is
+unreturned_by i more log false is = is
+
+unreturned_told : (i more : ℕ) (log : Log) → AreTold i log → AreTold i (with_unreturned more log)
+unfolding with_unreturned
+unreturned_told i more log is =
+    unreturned_by i more log (nat_lt 0 more && nat_lt (waiting log) full_output) is
+
+-- A failure.
+goaway_untold : (last code : ℕ) → list_any carries (alone (GoAway last code []) ∷ []) ≡ false
+unfolding carries
+goaway_untold last code = refl
+
+failure_told : (i : ℕ) (code : Code) (last : ℕ) (log : Log) → AreTold i log
+    → AreTold i (with_failure code last log)
+failure_told i code last log is =
+    wrote_told i log _ (goaway_untold last (code_number code)) is
+
+-- Replies carry nothing.
+replies_untold : (verdict : Verdict) (item : Item)
+    → list_any carries (replies_to verdict item) ≡ false
+unfolding replies_to carries
+replies_untold (ConnectionFault code) item = refl
+replies_untold (StreamFault code) item = refl
+replies_untold Reported item = refl
+replies_untold NoEvent (block stream end octets) = refl
+replies_untold NoEvent (alone (Settings true pairs)) = refl
+replies_untold NoEvent (alone (Settings false pairs)) = refl
+replies_untold NoEvent (alone (Ping true octets)) = refl
+replies_untold NoEvent (alone (Ping false octets)) = refl
+replies_untold NoEvent (alone frame) = refl
+
+-- An item that is read, and replied to.
+replied_told : (i : ℕ) (log : Log) (decoded : Option Decoded) (item : Item) (verdict : Verdict)
+    → AreTold i log
+    → AreTold i (with_sent (read log decoded item) (replies_to verdict item))
+replied_told i log decoded item verdict is =
+    wrote_told i (read log decoded item) (replies_to verdict item) (replies_untold verdict item) is
+
+-- An item, by its verdict.
+verdict_told : (i : ℕ) (log : Log) (decoded : Option Decoded) (item : Item) (verdict : Verdict)
+    → AreTold i log → AreTold i (with_verdict log decoded item verdict)
+unfolding with_verdict
+verdict_told i log decoded item (ConnectionFault code) is = failure_told i code _ log is
+verdict_told i log decoded item (StreamFault code) is =
+    reports_told i _ _ (unreturned_told i _ _ (replied_told i log decoded item (StreamFault code)
+    is))
+verdict_told i log decoded item NoEvent is =
+    reports_told i _ _ (unreturned_told i _ _ (replied_told i log decoded item NoEvent is))
+verdict_told i log decoded item Reported is =
+    reports_told i _ _ (unreturned_told i _ _ (replied_told i log decoded item Reported is))
+
+-- A frame.
+step_told : (i : ℕ) (log : Log) (decoded : Option Decoded) (step : FrameStep) → AreTold i log
+    → AreTold i (with_step log decoded step)
+unfolding with_step
+step_told i log decoded (fails_with code) is = failure_told i code (last_processed log) log is
+step_told i log decoded (begins_block begun) is = is
+step_told i log decoded (completes item) is =
+    verdict_told i (record log { begun = None }) decoded item _ is
+
+frame_told : (i : ℕ) (log : Log) (decoded : Option Decoded) (frame : Frame) → AreTold i log
+    → AreTold i (with_frame log decoded frame)
+unfolding with_frame
+frame_told i log decoded frame is =
+    step_told i (record log { frames = log.frames ++ frame ∷ [] }) decoded
+    (frame_step (log_view log) frame) is
+
+-- what octets of a body carry, by the test whether they are of the stream
+abbrev body_tokens : Bool → List ℕ → Bool → List Token
+body_tokens b octets end = if b then each OctetToken octets ++ end_tokens end else []
+
+-- A front of the octets without END_STREAM, and then the others, are all of them.
+body_joined : (b : Bool) (front back octets : List ℕ) (end : Bool) → front ++ back ≡ octets
+    → body_tokens b front false ++ body_tokens b back end ≡ body_tokens b octets end
+unfolding end_tokens
+body_joined true front back octets end joined =
+    ap (λ (line : List Token). line ++ (each OctetToken back ++ end_tokens end))
+    (append-nil (each OctetToken front))
+    ∙ sym (append_assoc (each OctetToken front) (each OctetToken back) (end_tokens end))
+    ∙ ap (λ (line : List Token). line ++ end_tokens end)
+    (sym (map-append OctetToken front back) ∙ ap (each OctetToken) joined)
+body_joined false front back octets end joined = refl
+
+-- One DATA.
+one_data : (i id : ℕ) (octets : List ℕ) (end : Bool) (sent : List Item)
+    (lists : List (List Field))
+    → tokens_of_items i (alone (Data id end octets None) ∷ sent) lists
+    ≡ tokens_of_items i sent lists ++ body_tokens (id == i) octets end
+unfolding tokens_of_items item_tokens frame_tokens
+one_data i id octets end sent lists = refl
+
+-- The last DATA, or one and those after it, by the test.
+frames_by : (i most id : ℕ) (octets : List ℕ) (end b : Bool) (after sent : List Item)
+    (lists : List (List Field))
+    → (b ≡ false → tokens_of_items i (after ++ alone (Data id false (take most octets) None) ∷ sent)
+    lists ≡ tokens_of_items i (alone (Data id false (take most octets) None) ∷ sent) lists
+    ++ body_tokens (id == i) (drop most octets) end)
+    → tokens_of_items i ((if b then alone (Data id end octets None) ∷ []
+    else after ++ alone (Data id false (take most octets) None) ∷ []) ++ sent) lists
+    ≡ tokens_of_items i sent lists ++ body_tokens (id == i) octets end
+frames_by i most id octets end true after sent lists before = one_data i id octets end sent lists
+frames_by i most id octets end false after sent lists before =
+    let first = alone (Data id false (take most octets) None) in
+    let tokens = tokens_of_items i sent lists in
+    ap (λ (items : List Item). tokens_of_items i items lists)
+    (append_assoc after (first ∷ []) sent)
+    ∙ before refl
+    ∙ ap (λ (line : List Token). line ++ body_tokens (id == i) (drop most octets) end)
+    (one_data i id (take most octets) false sent lists)
+    ∙ append_assoc tokens (body_tokens (id == i) (take most octets) false)
+    (body_tokens (id == i) (drop most octets) end)
+    ∙ ap (λ (line : List Token). tokens ++ line) (body_joined (id == i) (take most octets)
+    (drop most octets) octets end (take-append-drop most octets))
+
+-- The DATA of octets.
+frames_told : (i count most id : ℕ) (octets : List ℕ) (end : Bool) (sent : List Item)
+    (lists : List (List Field)) → 0 < most → length octets < count
+    → tokens_of_items i (data_frames count most id octets end ++ sent) lists
+    ≡ tokens_of_items i sent lists ++ body_tokens (id == i) octets end
+unfolding data_frames
+frames_told i zero most id octets end sent lists some enough = absurd (omega arith)
+frames_told i (suc count) most id octets end sent lists some enough =
+    frames_by i most id octets end (nat_le (length octets) most)
+    (data_frames count most id (drop most octets) end) sent lists
+    (λ more. let above = leb-false (length octets) most more in
+    frames_told i count most id (drop most octets) end
+    (alone (Data id false (take most octets) None) ∷ sent) lists some
+    (omega (arith, length-drop most octets)))
+
+-- Nothing isn't some.
+not_none : (size : ℕ) → (0 == suc size) ≡ false
+not_none size = elim (cases_Bool (0 == suc size)) [
+  | inl same ↦ let wrong : 0 ≡ suc size = eqb-true 0 (suc size) same in absurd (omega arith)
+  | inr other ↦ other
+]
+
+-- No octets of some, without END_STREAM.
+other_size : (size : ℕ) (octets : List ℕ) → (size == 0 && true) ≡ false
+    → each OctetToken (take 0 octets) ++ end_tokens (true && 0 == size) ≡ []
+unfolding end_tokens
+other_size zero octets some = absurd (both_ways true some refl)
+other_size (suc size) octets some = rw (not_none size) refl
+
+-- Where the octets and END_STREAM are none, so are their tokens.
+none_body : (b : Bool) (count size : ℕ) (octets : List ℕ) (end : Bool)
+    → (count == 0 && not (size == 0 && end)) ≡ true
+    → body_tokens b (take count octets) (end && count == size) ≡ []
+unfolding end_tokens
+none_body false count size octets end none = refl
+none_body true count size octets true none =
+    let parts = and_parts (count == 0) (not (size == 0 && true)) none in
+    let zero_count = eqb-true count 0 parts.0 in
+    let some = not-true (size == 0 && true) parts.1 in
+    rw zero_count (other_size size octets some)
+none_body true count size octets false none =
+    let parts = and_parts (count == 0) (not (size == 0 && false)) none in
+    let zero_count = eqb-true count 0 parts.0 in
+    rw zero_count refl
+
+-- The octets of a call, by the test whether there are any.
+items_by : (i : ℕ) (items sent : List Item) (lists : List (List Field)) (tokens : List Token)
+    (b : Bool) → (b ≡ true → tokens ≡ [])
+    → tokens_of_items i (items ++ sent) lists ≡ tokens_of_items i sent lists ++ tokens
+    → tokens_of_items i ((if b then [] else items) ++ sent) lists
+    ≡ tokens_of_items i sent lists ++ tokens
+items_by i items sent lists tokens true none is =
+    sym (append-nil (tokens_of_items i sent lists))
+    ∙ ap (λ (line : List Token). tokens_of_items i sent lists ++ line) (sym (none refl))
+items_by i items sent lists tokens false none is = is
+
+-- What a call that sends octets writes.
+items_told : (i most id : ℕ) (octets : List ℕ) (end : Bool) (count : ℕ) (sent : List Item)
+    (lists : List (List Field)) → 0 < most
+    → tokens_of_items i (data_items most id octets end count ++ sent) lists
+    ≡ tokens_of_items i sent lists
+    ++ body_tokens (id == i) (take count octets) (end && count == length octets)
+unfolding data_items
+items_told i most id octets end count sent lists some =
+    items_by i (data_frames (suc count) most id (take count octets) (end && count == length octets))
+    sent lists (body_tokens (id == i) (take count octets) (end && count == length octets))
+    (count == 0 && not (length octets == 0 && end))
+    (none_body (id == i) count (length octets) octets end)
+    (frames_told i (suc count) most id (take count octets) (end && count == length octets) sent
+    lists some (omega (arith, length-take count octets)))
+
+-- A payload has some octets.
+some_payload : (received : List Item) → 0 < max_payload_sent_by received
+unfolding max_payload_sent_by
+some_payload received = omega arith
+
+-- A call that carries nothing and writes nothing of a message.
+called_told : (i : ℕ) (log : Log) (act : Act) (answer : Answer)
+    → tokens_of_call i act answer ≡ []
+    → lists_accepted ((act, answer) ∷ log.calls) ≡ lists_accepted log.calls → AreTold i log
+    → AreTold i (called log act answer)
+unfolding tokens_sent
+called_told i log act answer none lists is =
+    ap (λ (line : List Token). tokens_sent i log.calls ++ line) none
+    ∙ append-nil (tokens_sent i log.calls) ∙ is
+    ∙ ap (λ (line : List (List Field)). tokens_of_items i log.sent line) (sym lists)
+
+quiet_told : (i : ℕ) (log : Log) (act : Act) (answer : Answer)
+    → list_any carries (items_of (log_view log) act answer) ≡ false
+    → tokens_of_call i act answer ≡ []
+    → lists_accepted ((act, answer) ∷ log.calls) ≡ lists_accepted log.calls → AreTold i log
+    → AreTold i (with_items log act answer)
+unfolding with_items
+quiet_told i log act answer untold none lists is =
+    unreturned_told i _ _ (wrote_told i (called log act answer) _ untold
+    (called_told i log act answer none lists is))
+
+-- Where what a call writes carries the call's tokens.
+wrote_call : (i : ℕ) (log : Log) (act : Act) (answer : Answer) (items : List Item)
+    → tokens_of_items i (items ++ log.sent) (lists_accepted ((act, answer) ∷ log.calls))
+    ≡ tokens_of_items i log.sent (lists_accepted log.calls) ++ tokens_of_call i act answer
+    → AreTold i log → AreTold i (with_sent (called log act answer) items)
+unfolding with_sent tokens_sent
+wrote_call i log act answer [] same is =
+    ap (λ (line : List Token). line ++ tokens_of_call i act answer) is ∙ sym same
+wrote_call i log act answer (item ∷ items) same is =
+    ap (λ (line : List Token). line ++ tokens_of_call i act answer) is ∙ sym same
+
+telling_call : (i : ℕ) (log : Log) (act : Act) (answer : Answer)
+    → tokens_of_items i (items_of (log_view log) act answer ++ log.sent)
+    (lists_accepted ((act, answer) ∷ log.calls))
+    ≡ tokens_of_items i log.sent (lists_accepted log.calls) ++ tokens_of_call i act answer
+    → AreTold i log → AreTold i (with_items log act answer)
+unfolding with_items
+telling_call i log act answer same is =
+    unreturned_told i _ _ (wrote_call i log act answer (items_of (log_view log) act answer) same is)
+
+-- A stream that was refused.
+refused_told : (i : ℕ) (log : Log) (id code : ℕ) (fault : Option Code) → AreTold i log
+    → AreTold i (refused_with log (Refuse id code) Done fault)
+unfolding refused_with items_of lists_accepted tokens_of_call carries
+refused_told i log id code (Some fault) is =
+    failure_told i fault (last_processed log) (called log (Refuse id code) Done)
+    (called_told i log (Refuse id code) Done refl refl is)
+refused_told i log id code None is = quiet_told i log (Refuse id code) Done refl refl refl is
+
+-- Output that is put out.
+ready_by : (i : ℕ) (log : Log) (b : Bool) → AreTold i log
+    → AreTold i (if b then with_credit_returned log else log)
+ready_by i log true is =
+    wrote_told i (record log { unreturned = 0 }) _ (update_untold log.unreturned) is
+ready_by i log false is = is
+
+ready_told : (i : ℕ) (log : Log) → AreTold i log → AreTold i (before_put_out log)
+unfolding before_put_out
+ready_told i log is = ready_by i log (returns_before_put_out (log_view log)) is
+
+-- Nor does what a release writes carry anything.
+updates_untold : (id count : ℕ) (ended : Bool) → list_any carries (alone
+    (WindowUpdate 0 count) ∷ (if ended then [] else alone (WindowUpdate id count) ∷ [])) ≡ false
+unfolding carries
+updates_untold id count true = refl
+updates_untold id count false = refl
+
+-- A call that is accepted.
+accepted_told : (i : ℕ) (log : Log) (act : Act) → AreTold i log
+    → AreTold i (with_call log act (answer_of (log_view log) act))
+unfolding with_call items_of lists_accepted tokens_of_call carries tokens_of_items item_tokens
+accepted_told i log (Open fields end) is =
+    telling_call i log (Open fields end) (answer_of (log_view log) (Open fields end)) refl is
+accepted_told i log (SendFields id fields end) is =
+    telling_call i log (SendFields id fields end) Done refl is
+accepted_told i log (SendData id octets end) is =
+    telling_call i log (SendData id octets end) (answer_of (log_view log) (SendData id octets end))
+    (items_told i (max_payload_sent log) id octets end _ log.sent (lists_accepted log.calls)
+    (some_payload log.received)) is
+accepted_told i log (Release id count) is =
+    quiet_told i log (Release id count) Done (updates_untold id count (ended_in
+    ((log_view log).stream id))) refl refl is
+accepted_told i log (ResetStream id code) is =
+    quiet_told i log (ResetStream id code) Done refl refl refl is
+accepted_told i log (Refuse id code) is =
+    refused_told i log id code (refuse_fault (log_view log) code) is
+accepted_told i log (SendPing octets) is =
+    quiet_told i log (SendPing octets) Done refl refl refl is
+accepted_told i log SendGoAway is = quiet_told i log SendGoAway Done refl refl refl is
+accepted_told i log (PutOut count) is =
+    ready_told i (called log (PutOut count) (answer_of (log_view log) (PutOut count)))
+    (called_told i log (PutOut count) (answer_of (log_view log) (PutOut count)) refl refl is)
+accepted_told i log (ChangeSettings values) is =
+    quiet_told i log (ChangeSettings values) Done refl refl refl is
+
+-- A refused call carries nothing; nor does one in which memory ran out.
+refused_nothing : (i : ℕ) (act : Act) (refusal : Refusal) (calls : List (Act × Answer))
+    → (tokens_of_call i act (Refused refusal) ≡ [])
+    × (lists_accepted ((act, Refused refusal) ∷ calls) ≡ lists_accepted calls)
+unfolding lists_accepted tokens_of_call
+refused_nothing i (Open fields end) refusal calls = (refl, refl)
+refused_nothing i (SendFields id fields end) refusal calls = (refl, refl)
+refused_nothing i (SendData id octets end) refusal calls = (refl, refl)
+refused_nothing i (Release id count) refusal calls = (refl, refl)
+refused_nothing i (ResetStream id code) refusal calls = (refl, refl)
+refused_nothing i (Refuse id code) refusal calls = (refl, refl)
+refused_nothing i (SendPing octets) refusal calls = (refl, refl)
+refused_nothing i SendGoAway refusal calls = (refl, refl)
+refused_nothing i (PutOut count) refusal calls = (refl, refl)
+refused_nothing i (ChangeSettings values) refusal calls = (refl, refl)
+
+failed_nothing : (i : ℕ) (act : Act) (calls : List (Act × Answer))
+    → (tokens_of_call i act OutOfMemory ≡ [])
+    × (lists_accepted ((act, OutOfMemory) ∷ calls) ≡ lists_accepted calls)
+unfolding lists_accepted tokens_of_call
+failed_nothing i (Open fields end) calls = (refl, refl)
+failed_nothing i (SendFields id fields end) calls = (refl, refl)
+failed_nothing i (SendData id octets end) calls = (refl, refl)
+failed_nothing i (Release id count) calls = (refl, refl)
+failed_nothing i (ResetStream id code) calls = (refl, refl)
+failed_nothing i (Refuse id code) calls = (refl, refl)
+failed_nothing i (SendPing octets) calls = (refl, refl)
+failed_nothing i SendGoAway calls = (refl, refl)
+failed_nothing i (PutOut count) calls = (refl, refl)
+failed_nothing i (ChangeSettings values) calls = (refl, refl)
+
+-- A call.
+refused_call : (i : ℕ) (log : Log) (act : Act) (refusal : Refusal) → AreTold i log
+    → AreTold i (called log act (Refused refusal))
+refused_call i log act refusal is =
+    let same = refused_nothing i act refusal log.calls in
+    called_told i log act (Refused refusal) same.0 same.1 is
+
+call_told : (i : ℕ) (log : Log) (act : Act) (answer : Answer) → AreTold i log
+    → MayAnswer log act answer → AreTold i (with_call log act answer)
+unfolding with_call
+call_told i log act answer is (accepts none same) = rw same (accepted_told i log act is)
+call_told i log act answer is (refuses refusal condition same) =
+    rw same (refused_call i log act refusal is)
+call_told i log act answer is (lacks none may same) = rw same (refused_call i log act _ is)
+call_told i log act answer is (fails none may same) =
+    let nothing = failed_nothing i act log.calls in
+    rw same (failure_told i InternalError (last_processed log) (called log act OutOfMemory)
+    (called_told i log act OutOfMemory nothing.0 nothing.1 is))
+
+-- A new log.
+begins_told : (i : ℕ) (role : Role) (values : Values) → AreTold i (opened role values)
+unfolding opened with_sent lists_accepted tokens_sent tokens_of_items item_tokens frame_tokens
+begins_told i role values = refl
+
+-- Every log.
+pub tokens_told : (i : ℕ) (role : Role) (values : Values) (log : Log) → IsLog role values log
+    → tokens_sent i log.calls ≡ tokens_of_items i log.sent (lists_accepted log.calls)
+unfolding used
+tokens_told i role values _ (begins in_range) = begins_told i role values
+tokens_told i role values _ (took_some {log = log} is takes octets unparsed read) =
+    tokens_told i role values log is
+tokens_told i role values _ (took_one {log = log} is takes octets frame decoded read sees) =
+    frame_told i (used log octets []) decoded frame (tokens_told i role values log is)
+tokens_told i role values _ (met_fault {log = log} is takes octets fault at) =
+    failure_told i (wire_fault_code fault) _ (used log octets []) (tokens_told i role values log is)
+tokens_told i role values _ (ran_out_of_memory {log = log} is up octets may) =
+    failure_told i InternalError _ (used log octets []) (tokens_told i role values log is)
+tokens_told i role values _ (reported_one {log = log} is up some) =
+    reports_told i _ _ (unreturned_told i _ log (tokens_told i role values log is))
+tokens_told i role values _ (called_one {log = log} is act answer typed may) =
+    call_told i log act answer (tokens_told i role values log is) may
