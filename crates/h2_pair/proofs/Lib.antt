@@ -34,3 +34,4 @@ pub mod FaultsOfGrouping
 pub mod FaultsOfItems
 pub mod FaultsOfReads
 pub mod FaultsOfPairs
+pub mod examples

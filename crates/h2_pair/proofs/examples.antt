@@ -1,0 +1,4 @@
+-- Worked examples of pairs.
+pub mod Steps
+pub mod SmallPair
+pub mod SmallPairComes
