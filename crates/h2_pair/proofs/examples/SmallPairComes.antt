@@ -10,26 +10,23 @@ use Rattle.h2_log.proofs.examples.Coming.{values_are, are_octets, are_pairs, fie
 use Rattle.h2_log.proofs.examples.Coming.{fields_are, pairs_are, below, long_block, answer_block}
 use Rattle.h2_log.proofs.examples.Words.{default_values, request, request_block, short_answer}
 use Rattle.h2_log.proofs.examples.Words.{table_with_authority}
-use Rattle.h2_pair.specs.Pairs.{begins}
-use Rattle.h2_pair.proofs.examples.Steps.{Comes, new_pair, client_calls_comes, server_calls_comes}
+use Rattle.h2_pair.proofs.examples.Steps.{Comes, new_pair, new_pair_comes}
+use Rattle.h2_pair.proofs.examples.Steps.{client_calls_comes, server_calls_comes}
 use Rattle.h2_pair.proofs.examples.Steps.{client_takes_comes, server_takes_comes, client_takes}
 use Rattle.h2_pair.proofs.examples.SmallPair.{client_opening, server_opening, asked_pair}
 use Rattle.h2_pair.proofs.examples.SmallPair.{request_on_pipe, settings_delivered}
 use Rattle.h2_pair.proofs.examples.SmallPair.{request_delivered, answered_pair, answer_on_pipe}
 use Rattle.h2_pair.proofs.examples.SmallPair.{answer_delivered, acknowledgment_on_pipe, quiet_pair}
 
-new_pair_comes : Comes default_values default_values (new_pair default_values default_values)
-unfolding computing
-new_pair_comes =
-    begins (values_are default_values refl refl refl refl refl)
-    (values_are default_values refl refl refl refl refl)
-
 request_on_pipe_comes : Comes default_values default_values request_on_pipe
 unfolding computing fields_are_octets are_octets
 request_on_pipe_comes =
     client_calls_comes default_values default_values asked_pair (PutOut 83)
     (client_calls_comes default_values default_values (new_pair default_values default_values)
-    (Open request true) new_pair_comes (fields_are request refl)) (below _ _ refl)
+    (Open request true) (new_pair_comes default_values default_values
+    (values_are default_values refl refl refl refl refl)
+    (values_are default_values refl refl refl refl refl)) (fields_are request refl) tt)
+    (below _ _ refl) tt
 
 settings_delivered_comes : Comes default_values default_values settings_delivered
 unfolding computing are_pairs
@@ -70,7 +67,7 @@ answer_on_pipe_comes =
     server_calls_comes default_values default_values answered_pair (PutOut 52)
     (server_calls_comes default_values default_values request_delivered
     (SendFields 1 short_answer true) request_delivered_comes
-    (below _ _ refl, fields_are short_answer refl)) (below _ _ refl)
+    (below _ _ refl, fields_are short_answer refl) tt) (below _ _ refl) tt
 
 opening_delivered_comes :
     Comes default_values default_values (client_takes answer_on_pipe (Settings false server_opening))
@@ -126,7 +123,7 @@ unfolding computing
 quiet_pair_comes =
     server_takes_comes default_values default_values acknowledgment_on_pipe None (Settings true [])
     (client_calls_comes default_values default_values answer_delivered (PutOut 9)
-    answer_delivered_comes (below _ _ refl))
+    answer_delivered_comes (below _ _ refl) tt)
     (record {
       takes = record { up = refl; all_reported = refl };
       whole = refl;

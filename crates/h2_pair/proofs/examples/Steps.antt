@@ -11,7 +11,10 @@ use Rattle.h2_log.specs.declared.role.Role.{Role}
 use Rattle.h2_log.specs.declared.role.Role.TheVariants.{Client, Server}
 use Rattle.h2_log.specs.declared.refusal.Refusal.{Refusal}
 use Rattle.h2_log.specs.Settings.{is_server, payload_limit}
-use Rattle.h2_log.specs.Acts.{Values, AreInRange, Act, Answer, IsTypedAct}
+use Rattle.h2_log.specs.Acts.{Values, AreInRange, Act, Answer, Open, SendFields, SendData, Release}
+use Rattle.h2_log.specs.Acts.{ResetStream, Refuse, SendPing, SendGoAway, PutOut, ChangeSettings}
+use Rattle.h2_log.specs.Acts.{OutOfMemory, IsTypedAct}
+use Rattle.h2_log.specs.View.{View}
 use Rattle.h2_log.specs.Log.{Log, acked}
 use Rattle.h2_log.specs.LogView.{log_view}
 use Rattle.h2_log.specs.LogCalls.{MayAnswer, accepts, refuses, with_call, opened}
@@ -24,10 +27,12 @@ use Rattle.h2_log.proofs.EncodingLemmas.{taken_frame}
 use Rattle.h2_log.proofs.StreamLemmas.{stream_of_log, Keeps-frame}
 use Rattle.h2_log.proofs.examples.Words.{answer_by, answered}
 use Rattle.h2_log.proofs.examples.Coming.{within}
-use Rattle.h2_wire.specs.Streams.{Frames, Limits}
-use Rattle.h2_machine_laws.specs.Machines.{Step, ends_frame, is_called, MayStep, log_after}
+use Rattle.h2_wire.specs.Streams.{Frames}
+use Rattle.h2_machine_laws.specs.Machines.{ends_frame, runs_out_of_memory, is_called}
+use Rattle.h2_machine_laws.specs.Machines.{MayStep, log_after}
 use Rattle.h2_pair.specs.Pairs.{Half, HalfStep, calls, takes, IsPair, begins, client_steps}
 use Rattle.h2_pair.specs.Pairs.{server_steps, given_since}
+use Rattle.h2_pair.specs.Undisturbed.{IsUndisturbed, IsUndisturbedStep, LeavesUp}
 use Rattle.h2_pair.proofs.PairLogs.{both_logs}
 
 -- two ends
@@ -107,10 +112,18 @@ server_takes_block pair stream end octets fields after =
           (Headers stream end true octets None None);
     }
 
--- The pair comes about.
-abbrev pub Comes : (client_values server_values : Values) → Pair → Type 0
-Comes client_values server_values pair =
-    IsPair client_values server_values pair.client pair.server
+-- The pair comes about, and was never disturbed.
+pub record Comes (client_values server_values : Values) (pair : Pair) : Type 0 where
+  pub steps : IsPair client_values server_values pair.client pair.server
+  pub undisturbed : IsUndisturbed steps
+
+-- Two new ends are such a pair.
+pub new_pair_comes : (client_values server_values : Values) → AreInRange client_values
+    → AreInRange server_values
+    → Comes client_values server_values (new_pair client_values server_values)
+unfolding IsUndisturbed
+new_pair_comes client_values server_values in_range others_in_range =
+    record { steps = begins in_range others_in_range; undisturbed = tt }
 
 -- An answer of the rules may be had.
 may_answer_by : (log : Log) (act : Act) (refused : Option Refusal)
@@ -122,18 +135,50 @@ may_answer_by log act (Some refusal) some = refuses refusal some refl
 may_answer : (log : Log) (act : Act) → MayAnswer log act (answered (log_view log) act)
 may_answer log act = may_answer_by log act (refusal_of (log_view log) act) refl
 
+-- The rules never answer that memory was refused.
+answer_in_memory : (view : View) (act : Act) → answer_of view act ≢ OutOfMemory
+answer_in_memory view (Open fields end) same = cc
+answer_in_memory view (SendFields id fields end) same = cc
+answer_in_memory view (SendData id octets end) same = cc
+answer_in_memory view (Release id count) same = cc
+answer_in_memory view (ResetStream id code) same = cc
+answer_in_memory view (Refuse id code) same = cc
+answer_in_memory view (SendPing octets) same = cc
+answer_in_memory view SendGoAway same = cc
+answer_in_memory view (PutOut count) same = cc
+answer_in_memory view (ChangeSettings values) same = cc
+
+in_memory_by : (view : View) (act : Act) (refused : Option Refusal)
+    → answer_by refused (answer_of view act) ≢ OutOfMemory
+in_memory_by view act None same = answer_in_memory view act same
+in_memory_by view act (Some refusal) same = cc
+
 -- So calls come about.
 pub client_calls_comes : (client_values server_values : Values) (pair : Pair) (act : Act)
-    → Comes client_values server_values pair → IsTypedAct act
+    → Comes client_values server_values pair → IsTypedAct act → LeavesUp pair.client.log act
     → Comes client_values server_values (client_calls pair act)
-client_calls_comes client_values server_values pair act comes typed =
-    client_steps comes (calls act _ typed (may_answer pair.client.log act))
+unfolding IsUndisturbed IsUndisturbedStep
+client_calls_comes client_values server_values pair act comes typed up =
+    record {
+      steps = client_steps comes.steps (calls act _ typed (may_answer pair.client.log act));
+      undisturbed = (
+        comes.undisturbed,
+        (in_memory_by (log_view pair.client.log) act _, up),
+      );
+    }
 
 pub server_calls_comes : (client_values server_values : Values) (pair : Pair) (act : Act)
-    → Comes client_values server_values pair → IsTypedAct act
+    → Comes client_values server_values pair → IsTypedAct act → LeavesUp pair.server.log act
     → Comes client_values server_values (server_calls pair act)
-server_calls_comes client_values server_values pair act comes typed =
-    server_steps comes (calls act _ typed (may_answer pair.server.log act))
+unfolding IsUndisturbed IsUndisturbedStep
+server_calls_comes client_values server_values pair act comes typed up =
+    record {
+      steps = server_steps comes.steps (calls act _ typed (may_answer pair.server.log act));
+      undisturbed = (
+        comes.undisturbed,
+        (in_memory_by (log_view pair.server.log) act _, up),
+      );
+    }
 
 -- What is tested of a frame that is delivered: it can be written, and stands first on the pipe; the
 -- end takes octets, has no part of a frame, and doesn't fail.
@@ -196,23 +241,38 @@ half_takes role values one other decoded frame is next =
     (step_of_frame role values one decoded frame is next)
     (no_call _ frame decoded) next.first
 
+-- It is not refused memory.
+in_memory : (taken : List ℕ) (frame : Frame) (decoded : Option Decoded) (octets : List ℕ)
+    → ends_frame taken frame decoded ≢ runs_out_of_memory octets
+in_memory taken frame decoded octets same = cc
+
 pub client_takes_comes : (client_values server_values : Values) (pair : Pair)
     (decoded : Option Decoded) (frame : Frame)
     → Comes client_values server_values pair → IsNext pair.client decoded frame
     → Comes client_values server_values
     (record pair { client = reader pair.client decoded frame })
+unfolding IsUndisturbed IsUndisturbedStep half_takes
 client_takes_comes client_values server_values pair decoded frame comes next =
-    client_steps comes (half_takes Client client_values pair.client pair.server decoded frame
-    (both_logs client_values server_values pair.client pair.server comes).client_log next)
+    record {
+      steps = client_steps comes.steps (half_takes Client client_values pair.client pair.server
+          decoded frame (both_logs client_values server_values pair.client pair.server
+          comes.steps).client_log next);
+      undisturbed = (comes.undisturbed, in_memory _ frame decoded);
+    }
 
 pub server_takes_comes : (client_values server_values : Values) (pair : Pair)
     (decoded : Option Decoded) (frame : Frame)
     → Comes client_values server_values pair → IsNext pair.server decoded frame
     → Comes client_values server_values
     (record pair { server = reader pair.server decoded frame })
+unfolding IsUndisturbed IsUndisturbedStep half_takes
 server_takes_comes client_values server_values pair decoded frame comes next =
-    server_steps comes (half_takes Server server_values pair.server pair.client decoded frame
-    (both_logs client_values server_values pair.client pair.server comes).server_log next)
+    record {
+      steps = server_steps comes.steps (half_takes Server server_values pair.server pair.client
+          decoded frame (both_logs client_values server_values pair.client pair.server
+          comes.steps).server_log next);
+      undisturbed = (comes.undisturbed, in_memory _ frame decoded);
+    }
 
 -- 0 whatever is tested
 pub either_zero : (test : Bool) → ◌≡◌ {A = ℕ} (if test then 0 else 0) 0
