@@ -2,3 +2,5 @@
 pub mod Steps
 pub mod SmallPair
 pub mod SmallPairComes
+pub mod WrittenBlocks
+pub mod TableLimitZero

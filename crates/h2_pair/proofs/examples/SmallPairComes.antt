@@ -33,16 +33,7 @@ unfolding computing are_pairs
 settings_delivered_comes =
     server_takes_comes default_values default_values request_on_pipe None
     (Settings false client_opening) request_on_pipe_comes
-    (record {
-      takes = record { up = refl; all_reported = refl };
-      whole = refl;
-      typed = pairs_are client_opening refl;
-      writable = refl;
-      fits = refl;
-      says = refl;
-      first = refl;
-      up = refl;
-    })
+    refl refl refl (pairs_are client_opening refl) refl refl refl refl refl
 
 request_delivered_comes : Comes default_values default_values request_delivered
 unfolding computing
@@ -50,16 +41,7 @@ request_delivered_comes =
     server_takes_comes default_values default_values settings_delivered
     (Some (record { fields = request; after = table_with_authority }))
     (Headers 1 true true request_block None None) settings_delivered_comes
-    (record {
-      takes = record { up = refl; all_reported = refl };
-      whole = refl;
-      typed = (tt, tt);
-      writable = refl;
-      fits = refl;
-      says = long_block;
-      first = refl;
-      up = refl;
-    })
+    refl refl refl (tt, tt) refl refl long_block refl refl
 
 answer_on_pipe_comes : Comes default_values default_values answer_on_pipe
 unfolding computing fields_are_octets are_octets
@@ -75,16 +57,7 @@ unfolding computing are_pairs
 opening_delivered_comes =
     client_takes_comes default_values default_values answer_on_pipe None
     (Settings false server_opening) answer_on_pipe_comes
-    (record {
-      takes = record { up = refl; all_reported = refl };
-      whole = refl;
-      typed = pairs_are server_opening refl;
-      writable = refl;
-      fits = refl;
-      says = refl;
-      first = refl;
-      up = refl;
-    })
+    refl refl refl (pairs_are server_opening refl) refl refl refl refl refl
 
 answer_delivered_comes : Comes default_values default_values answer_delivered
 unfolding computing
@@ -96,41 +69,14 @@ answer_delivered_comes =
     (client_takes_comes default_values default_values
     (client_takes answer_on_pipe (Settings false server_opening)) None (Settings true [])
     opening_delivered_comes
-    (record {
-      takes = record { up = refl; all_reported = refl };
-      whole = refl;
-      typed = tt;
-      writable = refl;
-      fits = refl;
-      says = refl;
-      first = refl;
-      up = refl;
-    }))
-    (record {
-      takes = record { up = refl; all_reported = refl };
-      whole = refl;
-      typed = (tt, tt);
-      writable = refl;
-      fits = refl;
-      says = answer_block;
-      first = refl;
-      up = refl;
-    })
+    refl refl refl tt refl refl refl refl refl)
+    refl refl refl (tt, tt) refl refl answer_block refl refl
 
--- Each step from two new ends on may be the next one.
+-- Each step from two new ends on may be the next one, and none disturbs the pair.
 pub quiet_pair_comes : Comes default_values default_values quiet_pair
 unfolding computing
 quiet_pair_comes =
     server_takes_comes default_values default_values acknowledgment_on_pipe None (Settings true [])
     (client_calls_comes default_values default_values answer_delivered (PutOut 9)
     answer_delivered_comes (below _ _ refl) tt)
-    (record {
-      takes = record { up = refl; all_reported = refl };
-      whole = refl;
-      typed = tt;
-      writable = refl;
-      fits = refl;
-      says = refl;
-      first = refl;
-      up = refl;
-    })
+    refl refl refl tt refl refl refl refl refl

@@ -15,7 +15,7 @@ use Rattle.h2_log.specs.Acts.{Values, AreInRange, Act, Answer, Open, SendFields,
 use Rattle.h2_log.specs.Acts.{ResetStream, Refuse, SendPing, SendGoAway, PutOut, ChangeSettings}
 use Rattle.h2_log.specs.Acts.{OutOfMemory, IsTypedAct}
 use Rattle.h2_log.specs.View.{View}
-use Rattle.h2_log.specs.Log.{Log, acked}
+use Rattle.h2_log.specs.Log.{Log, acked, next_unprocessed}
 use Rattle.h2_log.specs.LogView.{log_view}
 use Rattle.h2_log.specs.LogCalls.{MayAnswer, accepts, refuses, with_call, opened}
 use Rattle.h2_log.specs.LogSteps.{limits_from, took_frame, used}
@@ -182,17 +182,17 @@ server_calls_comes client_values server_values pair act comes typed up =
 
 -- What is tested of a frame that is delivered: it can be written, and stands first on the pipe; the
 -- end takes octets, has no part of a frame, and doesn't fail.
-pub record IsNext (one : Half) (decoded : Option Decoded) (frame : Frame) : Type 0 where
-  pub takes : TakesOctets one.log
-  pub whole : one.log.unparsed ≡ []
-  pub typed : IsTyped frame
-  pub writable : refusal frame ≡ None
-  pub fits : nat_le (length (payload_of frame)) (payload_limit (acked one.log) one.log.sent) ≡ true
-  pub says : IsDecodedFor one.log decoded frame
-  pub first : one.incoming
+record IsNext (one : Half) (decoded : Option Decoded) (frame : Frame) : Type 0 where
+  takes : TakesOctets one.log
+  whole : one.log.unparsed ≡ []
+  typed : IsTyped frame
+  writable : refusal frame ≡ None
+  fits : nat_le (length (payload_of frame)) (payload_limit (acked one.log) one.log.sent) ≡ true
+  says : IsDecodedFor one.log decoded frame
+  first : one.incoming
       ≡ next_octets one.log frame
       ++ drop (length (next_octets one.log frame)) one.incoming
-  pub up : (took_frame one.log (next_octets one.log frame) decoded frame).failed ≡ None
+  up : (took_frame one.log (next_octets one.log frame) decoded frame).failed ≡ None
 
 -- The octets of such a frame are those with which it ends.
 frame_taken : (role : Role) (values : Values) (log : Log) (decoded : Option Decoded) (frame : Frame)
@@ -248,11 +248,29 @@ in_memory taken frame decoded octets same = cc
 
 pub client_takes_comes : (client_values server_values : Values) (pair : Pair)
     (decoded : Option Decoded) (frame : Frame)
-    → Comes client_values server_values pair → IsNext pair.client decoded frame
+    → Comes client_values server_values pair → pair.client.log.failed ≡ None
+    → next_unprocessed pair.client.log ≡ 0 → pair.client.log.unparsed ≡ [] → IsTyped frame
+    → refusal frame ≡ None → nat_le (length (payload_of frame))
+    (payload_limit (acked pair.client.log) pair.client.log.sent) ≡ true
+    → IsDecodedFor pair.client.log decoded frame
+    → pair.client.incoming ≡ next_octets pair.client.log frame
+    ++ drop (length (next_octets pair.client.log frame)) pair.client.incoming
+    → (took_frame pair.client.log (next_octets pair.client.log frame) decoded frame).failed ≡ None
     → Comes client_values server_values
     (record pair { client = reader pair.client decoded frame })
 unfolding IsUndisturbed IsUndisturbedStep half_takes
-client_takes_comes client_values server_values pair decoded frame comes next =
+client_takes_comes client_values server_values pair decoded frame comes is_up reported whole typed
+    writable fits says first up =
+    let next : IsNext pair.client decoded frame = record {
+      takes = record { up = is_up; all_reported = reported };
+      whole = whole;
+      typed = typed;
+      writable = writable;
+      fits = fits;
+      says = says;
+      first = first;
+      up = up;
+    } in
     record {
       steps = client_steps comes.steps (half_takes Client client_values pair.client pair.server
           decoded frame (both_logs client_values server_values pair.client pair.server
@@ -262,11 +280,29 @@ client_takes_comes client_values server_values pair decoded frame comes next =
 
 pub server_takes_comes : (client_values server_values : Values) (pair : Pair)
     (decoded : Option Decoded) (frame : Frame)
-    → Comes client_values server_values pair → IsNext pair.server decoded frame
+    → Comes client_values server_values pair → pair.server.log.failed ≡ None
+    → next_unprocessed pair.server.log ≡ 0 → pair.server.log.unparsed ≡ [] → IsTyped frame
+    → refusal frame ≡ None → nat_le (length (payload_of frame))
+    (payload_limit (acked pair.server.log) pair.server.log.sent) ≡ true
+    → IsDecodedFor pair.server.log decoded frame
+    → pair.server.incoming ≡ next_octets pair.server.log frame
+    ++ drop (length (next_octets pair.server.log frame)) pair.server.incoming
+    → (took_frame pair.server.log (next_octets pair.server.log frame) decoded frame).failed ≡ None
     → Comes client_values server_values
     (record pair { server = reader pair.server decoded frame })
 unfolding IsUndisturbed IsUndisturbedStep half_takes
-server_takes_comes client_values server_values pair decoded frame comes next =
+server_takes_comes client_values server_values pair decoded frame comes is_up reported whole typed
+    writable fits says first up =
+    let next : IsNext pair.server decoded frame = record {
+      takes = record { up = is_up; all_reported = reported };
+      whole = whole;
+      typed = typed;
+      writable = writable;
+      fits = fits;
+      says = says;
+      first = first;
+      up = up;
+    } in
     record {
       steps = server_steps comes.steps (half_takes Server server_values pair.server pair.client
           decoded frame (both_logs client_values server_values pair.client pair.server
