@@ -4,3 +4,6 @@ pub mod SmallPair
 pub mod SmallPairComes
 pub mod WrittenBlocks
 pub mod TableLimitZero
+pub mod Terms
+pub mod ChangedTableLimit
+pub mod ResetUnderWay
