@@ -4,6 +4,7 @@ pub mod SmallPair
 pub mod SmallPairComes
 pub mod WrittenBlocks
 pub mod TableLimitZero
+pub mod Moves
 pub mod Terms
 pub mod ChangedTableLimit
 pub mod ResetUnderWay

@@ -16,85 +16,76 @@ use Rattle.h2_log.proofs.examples.Words.{short_answer, short_request}
 use Rattle.h2_end_laws.specs.Sendings.{lists_accepted}
 use Rattle.h2_pair.specs.Directions.{AreUnderWay}
 use Rattle.h2_pair.specs.HeaderTables.{TablesInStep, block_count}
-use Rattle.h2_pair.proofs.examples.Steps.{Pair, new_pair, client_calls, server_calls, client_takes}
-use Rattle.h2_pair.proofs.examples.Steps.{server_takes, client_takes_block, server_takes_block}
+use Rattle.h2_pair.proofs.examples.Steps.{Pair, new_pair}
+use Rattle.h2_pair.proofs.examples.Moves.{client_call, server_call, to_client, to_server}
+use Rattle.h2_pair.proofs.examples.Moves.{block_to_client, block_to_server, after_move, after_moves}
+use Rattle.h2_pair.proofs.examples.Moves.{under_way_by}
 use Rattle.h2_pair.proofs.examples.SmallPair.{client_opening, server_opening}
 use Rattle.h2_pair.proofs.examples.WrittenBlocks.{remembering_table, remembered_block}
 use Rattle.h2_pair.proofs.examples.WrittenBlocks.{forgetting_block, growing_answer}
 
--- the client opens streams 1 and 3, and that is delivered
-abbrev pub openings_delivered : Pair
-openings_delivered =
-    server_takes_block (server_takes_block (server_takes (client_calls (client_calls (client_calls
-    (new_pair default_values default_values) (Open short_request false)) (Open short_request false))
-    (PutOut 81)) (Settings false client_opening)) 1 false get_block short_request
-    (empty_table 4096)) 3 false get_block short_request (empty_table 4096)
-
--- the server's SETTINGS and acknowledgment are delivered, and the client's acknowledgment
+-- the client opens streams 1 and 3, and all is delivered, both ways
 abbrev pub settled_pair : Pair
 settled_pair =
-    server_takes (client_calls (client_takes (client_takes (server_calls openings_delivered
-    (PutOut 42)) (Settings false server_opening)) (Settings true [])) (PutOut 9)) (Settings true [])
+    after_moves (new_pair default_values default_values) (client_call (Open short_request false)
+    ∷ client_call (Open short_request false) ∷ client_call (PutOut 81)
+    ∷ to_server (Settings false client_opening)
+    ∷ block_to_server 1 false get_block short_request (empty_table 4096)
+    ∷ block_to_server 3 false get_block short_request (empty_table 4096)
+    ∷ server_call (PutOut 42) ∷ to_client (Settings false server_opening)
+    ∷ to_client (Settings true []) ∷ client_call (PutOut 9) ∷ to_server (Settings true []) ∷ [])
 
--- the server answers on stream 1
-abbrev pub answered_pair : Pair
-answered_pair = server_calls settled_pair (SendFields 1 remembered_answer false)
-
--- the client allows no table any more
+-- the server answers on stream 1, and the client allows no table any more
 abbrev pub changed_pair : Pair
-changed_pair = client_calls answered_pair (ChangeSettings tableless_values)
+changed_pair =
+    after_moves settled_pair (server_call (SendFields 1 remembered_answer false)
+    ∷ client_call (ChangeSettings tableless_values) ∷ client_call (PutOut 21) ∷ [])
 
--- that is delivered
-abbrev pub change_delivered : Pair
-change_delivered =
-    server_takes (client_calls changed_pair (PutOut 21)) (Settings false ((1, 0) ∷ (4, 65535) ∷ []))
-
--- the server answers on stream 3, and its output is put out
+-- that is delivered, the server answers on stream 3, and its output is put out
 abbrev pub both_answered : Pair
 both_answered =
-    server_calls (server_calls change_delivered (SendFields 3 remembered_answer false)) (PutOut 40)
+    after_moves changed_pair (to_server (Settings false ((1, 0) ∷ (4, 65535) ∷ []))
+    ∷ server_call (SendFields 3 remembered_answer false) ∷ server_call (PutOut 40) ∷ [])
 
 -- the first answer is delivered
 abbrev pub one_delivered : Pair
 one_delivered =
-    client_takes_block both_answered 1 false (octets (codes "884081f381f5")) remembered_answer
-    remembering_table
+    after_moves both_answered (block_to_client 1 false (octets (codes "884081f381f5"))
+    remembered_answer remembering_table ∷ [])
 
 -- and the acknowledgment, and the other answer
 abbrev pub both_delivered : Pair
 both_delivered =
-    client_takes_block (client_takes one_delivered (Settings true [])) 3 false
-    (octets (codes "20880081f381f5")) remembered_answer (empty_table 0)
+    after_moves one_delivered (to_client (Settings true [])
+    ∷ block_to_client 3 false (octets (codes "20880081f381f5")) remembered_answer (empty_table 0)
+    ∷ [])
 
--- the client allows a table again, and that is delivered
-abbrev pub change_back_delivered : Pair
-change_back_delivered =
-    server_takes (client_calls (client_calls both_delivered (ChangeSettings default_values))
-    (PutOut 21)) (Settings false ((1, 4096) ∷ (4, 65535) ∷ []))
-
--- the server ends stream 1, and its output is put out
+-- the client allows a table again, that is delivered, the server ends stream 1, and its output is
+-- put out
 abbrev pub ended_pair : Pair
 ended_pair =
-    server_calls (server_calls change_back_delivered (SendFields 1 short_answer true)) (PutOut 22)
+    after_moves both_delivered (client_call (ChangeSettings default_values)
+    ∷ client_call (PutOut 21) ∷ to_server (Settings false ((1, 4096) ∷ (4, 65535) ∷ []))
+    ∷ server_call (SendFields 1 short_answer true) ∷ server_call (PutOut 22) ∷ [])
 
 -- that is delivered
 abbrev pub end_delivered : Pair
 end_delivered =
-    client_takes_block (client_takes ended_pair (Settings true [])) 1 true
-    (octets (codes "3fe11f88")) short_answer (empty_table 4096)
+    after_moves ended_pair (to_client (Settings true [])
+    ∷ block_to_client 1 true (octets (codes "3fe11f88")) short_answer (empty_table 4096) ∷ [])
 
 -- The octets that are put out after the opening.
 on_the_pipes :
     (settled_pair.client.incoming ≡ []) × (settled_pair.server.incoming ≡ [])
-    × (answered (log_view answered_pair.client.log) (ChangeSettings tableless_values) ≡ Done)
-    × ((client_calls changed_pair (PutOut 21)).server.incoming
+    × (answered (log_view settled_pair.client.log) (ChangeSettings tableless_values) ≡ Done)
+    × (changed_pair.server.incoming
     ≡ octets (codes "00000c 04 00 00000000 000100000000 00040000ffff"))
     × (both_answered.client.incoming
     ≡ octets (codes "000006 01 04 00000001 884081f381f5") ++ acknowledgment
     ++ octets (codes "000007 01 04 00000003 20880081f381f5"))
     × (ended_pair.client.incoming
     ≡ acknowledgment ++ octets (codes "000004 01 05 00000001 3fe11f88"))
-unfolding computing
+unfolding computing after_moves after_move
 on_the_pipes = (refl, refl, refl, refl, refl, refl)
 
 -- The client reads all three.
@@ -103,7 +94,7 @@ read_by_the_client :
     ≡ FieldsEvent 1 short_answer true ∷ AckedEvent ∷ FieldsEvent 3 remembered_answer false
     ∷ AckedEvent ∷ FieldsEvent 1 remembered_answer false ∷ AckedEvent ∷ [])
     × (end_delivered.client.log.failed ≡ None)
-unfolding computing
+unfolding computing after_moves after_move
 read_by_the_client = (refl, refl)
 
 -- what is under way to the client while both answers are
@@ -120,34 +111,42 @@ way_of_one = block 3 false (octets (codes "20880081f381f5")) ∷ alone (Settings
 abbrev pub way_of_end : List Item
 way_of_end = block 1 true (octets (codes "3fe11f88")) ∷ alone (Settings true []) ∷ []
 
-answers_under_way :
-    AreUnderWay answered_pair.server.log answered_pair.client.log
-    (block 1 false (octets (codes "884081f381f5")) ∷ [])
-    × AreUnderWay both_answered.server.log both_answered.client.log way_of_both
-    × AreUnderWay one_delivered.server.log one_delivered.client.log way_of_one
-    × AreUnderWay ended_pair.server.log ended_pair.client.log way_of_end
-    × AreUnderWay end_delivered.server.log end_delivered.client.log []
-unfolding computing
-answers_under_way = (refl, refl, refl, refl, refl)
+-- and before both
+abbrev pub way_of_opening : List Item
+way_of_opening = alone (Settings true []) ∷ alone (Settings false server_opening) ∷ []
+
+both_under_way : AreUnderWay both_answered.server.log both_answered.client.log way_of_both
+unfolding computing after_moves after_move
+both_under_way = under_way_by both_answered.server.log both_answered.client.log way_of_both way_of_opening refl refl
+
+one_under_way : AreUnderWay one_delivered.server.log one_delivered.client.log way_of_one
+unfolding computing after_moves after_move
+one_under_way =
+    under_way_by one_delivered.server.log one_delivered.client.log way_of_one
+    (block 1 false (octets (codes "884081f381f5")) ∷ way_of_opening) refl refl
+
+end_under_way : AreUnderWay ended_pair.server.log ended_pair.client.log way_of_end
+unfolding computing after_moves after_move
+end_under_way = under_way_by ended_pair.server.log ended_pair.client.log way_of_end (way_of_both ++ way_of_opening) refl refl
 
 -- The tables of the client, and of the server's encoder; and how many of the client's SETTINGS were
 -- acknowledged.
 tables :
-    (answered_pair.client.log.table ≡ empty_table 4096)
-    × (answered_pair.server.log.encoder.table ≡ remembering_table)
+    (changed_pair.client.log.table ≡ empty_table 4096)
+    × (changed_pair.server.log.encoder.table ≡ remembering_table)
     × (acked both_answered.client.log ≡ 1) × (both_answered.client.log.table ≡ empty_table 4096)
     × (both_answered.server.log.encoder.table ≡ empty_table 0)
     × (one_delivered.client.log.table ≡ remembering_table)
     × (acked both_delivered.client.log ≡ 2) × (both_delivered.client.log.table ≡ empty_table 0)
     × (ended_pair.server.log.encoder.table ≡ empty_table 4096)
     × (acked end_delivered.client.log ≡ 3) × (end_delivered.client.log.table ≡ empty_table 4096)
-unfolding computing
+unfolding computing after_moves after_move
 tables = (refl, refl, refl, refl, refl, refl, refl, refl, refl, refl, refl)
 
 -- Both answers decode in order, the first with the limit of 4,096 and the other with that of 0.
 tables_while_both_are_under_way :
     TablesInStep both_answered.server.log both_answered.client.log way_of_both
-unfolding computing lists_accepted block_count
+unfolding computing after_moves after_move lists_accepted block_count
 tables_while_both_are_under_way =
     record {
       read = [];
@@ -167,7 +166,7 @@ tables_while_both_are_under_way =
 -- Once the first was read, the other one does.
 tables_while_one_is_under_way :
     TablesInStep one_delivered.server.log one_delivered.client.log way_of_one
-unfolding computing lists_accepted block_count
+unfolding computing after_moves after_move lists_accepted block_count
 tables_while_one_is_under_way =
     record {
       read = remembered_answer ∷ [];
@@ -180,7 +179,7 @@ tables_while_one_is_under_way =
 -- After the change back a block raises the table's maximum again.
 tables_after_the_change_back :
     TablesInStep ended_pair.server.log ended_pair.client.log way_of_end
-unfolding computing lists_accepted block_count
+unfolding computing after_moves after_move lists_accepted block_count
 tables_after_the_change_back =
     record {
       read = remembered_answer ∷ remembered_answer ∷ [];

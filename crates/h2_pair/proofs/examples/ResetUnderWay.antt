@@ -11,9 +11,9 @@ use Rattle.h2_log.proofs.examples.Words.{default_values, get_block, short_reques
 use Rattle.h2_log_laws.specs.Sums.{sum_below}
 use Rattle.h2_pair.proofs.examples.Steps.{Pair, new_pair}
 use Rattle.h2_pair.proofs.examples.SmallPair.{client_opening, server_opening}
-use Rattle.h2_pair.proofs.examples.Terms.{Move, client_call, server_call, to_client, to_server}
-use Rattle.h2_pair.proofs.examples.Terms.{block_to_server, Terms, terms, sum, after_move}
-use Rattle.h2_pair.proofs.examples.Terms.{after_moves, terms_after_each}
+use Rattle.h2_pair.proofs.examples.Moves.{Move, client_call, server_call, to_client, to_server}
+use Rattle.h2_pair.proofs.examples.Moves.{block_to_server, after_move}
+use Rattle.h2_pair.proofs.examples.Terms.{Terms, terms, sum, terms_after_each}
 
 -- the client opens streams 1 and 3, and sends a body of 20,000 octets on the first, and of one of
 -- 65,535 on the other as much as goes; that is put out, and up to the openings delivered

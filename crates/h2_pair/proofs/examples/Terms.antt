@@ -1,16 +1,12 @@
 -- The terms of the windows' laws, as numbers, after each step of a pair.
-use Rattle.std.specs.Prelude.{ℕ, ◌+◌, ◌-◌, Bool, ℤ, pos, ◌+ℤ◌, List, [], ◌∷◌, length, take}
-use Rattle.hpack.specs.declared.types.field.Field.{Field}
-use Rattle.hpack.specs.Tables.{Entries}
-use Rattle.h2_frame.specs.Frames.{Frame}
+use Rattle.std.specs.Prelude.{ℕ, ◌+◌, ◌-◌, ℤ, pos, ◌+ℤ◌, List, [], ◌∷◌, length, take}
 use Rattle.h2_block.specs.Grouping.{Item}
-use Rattle.h2_log.specs.Acts.{Act}
 use Rattle.h2_log.specs.Items.{data_on, data_of, increment_on, total}
 use Rattle.h2_log.specs.Log.{Log, owed, send_window}
 use Rattle.h2_log.specs.Windows.{connection_send_window}
 use Rattle.h2_log_laws.specs.Sums.{sum_below}
-use Rattle.h2_pair.proofs.examples.Steps.{Pair, client_calls, server_calls, client_takes}
-use Rattle.h2_pair.proofs.examples.Steps.{server_takes, server_takes_block}
+use Rattle.h2_pair.proofs.examples.Steps.{Pair}
+use Rattle.h2_pair.proofs.examples.Moves.{Move, after_move}
 
 -- What the client may send, DATA under way, increments that come back, and what the server owes or
 -- has unreturned.
@@ -58,28 +54,6 @@ both_terms i pair = (
   connection_terms pair.client.log pair.server.log,
   stream_terms i pair.client.log pair.server.log,
 )
-
--- a step of an example
-pub data Move : Type 0 where
-  client_call : (act : Act) → Move
-  server_call : (act : Act) → Move
-  to_client : (frame : Frame) → Move
-  to_server : (frame : Frame) → Move
-  block_to_server : (stream : ℕ) (end : Bool) (octets : List ℕ) (fields : List Field)
-      (after : Entries) → Move
-
-unfoldable pub after_move : Pair → Move → Pair
-after_move pair (client_call act) = client_calls pair act
-after_move pair (server_call act) = server_calls pair act
-after_move pair (to_client frame) = client_takes pair frame
-after_move pair (to_server frame) = server_takes pair frame
-after_move pair (block_to_server stream end octets fields after) =
-    server_takes_block pair stream end octets fields after
-
--- the pair after all of them
-unfoldable pub after_moves : Pair → List Move → Pair
-after_moves pair [] = pair
-after_moves pair (move ∷ moves) = after_moves (after_move pair move) moves
 
 -- the terms after each of them
 unfoldable pub terms_after_each : ℕ → Pair → List Move → List (Terms × Terms)
