@@ -8,3 +8,5 @@ pub mod Moves
 pub mod Terms
 pub mod ChangedTableLimit
 pub mod ResetUnderWay
+pub mod ChangedWindow
+pub mod ResetUnderWayLists

@@ -2,17 +2,21 @@
 -- the connection's window, and the other stream's body is heard whole (RFC 9113, sections 5.1, 5.4.2
 -- and 6.9).
 use Rattle.std.specs.Prelude.{◌≡◌, ℕ, true, false, List, [], ◌∷◌, ◌++◌, map, replicate, None}
-use Rattle.std.specs.Prelude.{pos, refl}
+use Rattle.std.specs.Prelude.{pos, refl, codes, length}
 use Rattle.hpack.specs.Lists.{empty_table}
 use Rattle.h2_frame.specs.Frames.{Data, Reset, Settings, WindowUpdate}
 use Rattle.h2_log.specs.Acts.{Open, SendData, ResetStream, Release, PutOut}
 use Rattle.h2_log.proofs.Computing.{computing}
-use Rattle.h2_log.proofs.examples.Words.{default_values, get_block, short_request}
+use Rattle.h2_log.proofs.examples.Octets.{octets}
+use Rattle.h2_log.proofs.examples.Words.{acknowledgment, default_values, get_block, reset_frame}
+use Rattle.h2_log.proofs.examples.Words.{server_settings, short_request}
 use Rattle.h2_log_laws.specs.Sums.{sum_below}
+use Rattle.h2_pair.specs.Tokens.{FieldsToken, OctetToken, EndToken, tokens_sent, tokens_heard}
+use Rattle.h2_pair.specs.Tokens.{tokens_of_call, tokens_of_event, end_tokens}
 use Rattle.h2_pair.proofs.examples.Steps.{Pair, new_pair}
 use Rattle.h2_pair.proofs.examples.SmallPair.{client_opening, server_opening}
 use Rattle.h2_pair.proofs.examples.Moves.{Move, client_call, server_call, to_client, to_server}
-use Rattle.h2_pair.proofs.examples.Moves.{block_to_server, after_move}
+use Rattle.h2_pair.proofs.examples.Moves.{block_to_server, after_move, after_moves}
 use Rattle.h2_pair.proofs.examples.Terms.{Terms, terms, sum, terms_after_each}
 
 -- the client opens streams 1 and 3, and sends a body of 20,000 octets on the first, and of one of
@@ -109,3 +113,37 @@ windows_after_each = refl
 -- The connection's are 65,535 octets.
 connection_is_conserved : map (λ both. sum both.0) all_terms ≡ replicate 31 (pos 65535)
 connection_is_conserved = refl
+
+-- the pair when the output of the server is on the pipe, and at the end
+abbrev pub credit_on_pipe : Pair
+credit_on_pipe = after_moves started (openings ++ drops ++ releases)
+
+abbrev pub quiet_pair : Pair
+quiet_pair = after_moves started (openings ++ drops ++ releases ++ increments ++ others)
+
+-- What is dropped is returned by WINDOW_UPDATE on stream 0, of 0x4000 and of 0xe20 octets.
+returns_what_is_dropped :
+    credit_on_pipe.client.incoming
+    ≡ server_settings ++ acknowledgment ++ reset_frame 1 8
+    ++ octets (codes "000004 08 00 00000000 00004000 000004 08 00 00000000 00000e20")
+    ++ octets (codes "000004 08 00 00000003 0000b1df 000004 08 00 00000000 0000b1df")
+unfolding computing after_move after_moves
+returns_what_is_dropped = refl
+
+-- On stream 3 all that was sent was heard.
+heard_whole :
+    (tokens_heard 3 quiet_pair.server.log.reported ≡ FieldsToken short_request
+    ∷ map OctetToken (replicate 65535 3) ++ EndToken ∷ [])
+    × (tokens_sent 3 quiet_pair.client.log.calls ≡ FieldsToken short_request
+    ∷ map OctetToken (replicate 65535 3) ++ EndToken ∷ [])
+unfolding computing after_move after_moves tokens_heard tokens_sent tokens_of_call tokens_of_event
+    end_tokens
+heard_whole = (refl, refl)
+
+-- On stream 1 the fields were heard, of the fields, 20,000 octets and the end that were sent.
+heard_in_part :
+    (tokens_heard 1 quiet_pair.server.log.reported ≡ FieldsToken short_request ∷ [])
+    × (length (tokens_sent 1 quiet_pair.client.log.calls) ≡ 20002)
+unfolding computing after_move after_moves tokens_heard tokens_sent tokens_of_call tokens_of_event
+    end_tokens
+heard_in_part = (refl, refl)
