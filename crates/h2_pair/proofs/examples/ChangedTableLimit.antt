@@ -1,6 +1,6 @@
 -- A client that changes the limit of its table while a field block is under way: each block decodes
 -- with the limit that is in force at its place (RFC 9113, section 4.3.1; RFC 7541, section 4.2).
-use Rattle.std.specs.Prelude.{◌≡◌, ℕ, true, false, List, [], ◌∷◌, ◌++◌, codes, refl, None}
+use Rattle.std.specs.Prelude.{◌≡◌, true, false, List, [], ◌∷◌, ◌++◌, codes, refl, None}
 use Rattle.hpack.specs.Lists.{empty_table}
 use Rattle.h2_frame.specs.Frames.{Settings}
 use Rattle.h2_block.specs.Grouping.{Item, alone, block}
@@ -117,7 +117,9 @@ way_of_opening = alone (Settings true []) ∷ alone (Settings false server_openi
 
 both_under_way : AreUnderWay both_answered.server.log both_answered.client.log way_of_both
 unfolding computing after_moves after_move
-both_under_way = under_way_by both_answered.server.log both_answered.client.log way_of_both way_of_opening refl refl
+both_under_way =
+    under_way_by both_answered.server.log both_answered.client.log way_of_both way_of_opening
+    refl refl
 
 one_under_way : AreUnderWay one_delivered.server.log one_delivered.client.log way_of_one
 unfolding computing after_moves after_move
@@ -127,7 +129,9 @@ one_under_way =
 
 end_under_way : AreUnderWay ended_pair.server.log ended_pair.client.log way_of_end
 unfolding computing after_moves after_move
-end_under_way = under_way_by ended_pair.server.log ended_pair.client.log way_of_end (way_of_both ++ way_of_opening) refl refl
+end_under_way =
+    under_way_by ended_pair.server.log ended_pair.client.log way_of_end
+    (way_of_both ++ way_of_opening) refl refl
 
 -- The tables of the client, and of the server's encoder; and how many of the client's SETTINGS were
 -- acknowledged.

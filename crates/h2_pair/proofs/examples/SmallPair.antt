@@ -7,17 +7,15 @@ use Rattle.h2_block.specs.Grouping.{alone, block}
 use Rattle.h2_log.specs.Acts.{Open, SendFields, PutOut, Number, Count, Done}
 use Rattle.h2_log.specs.Events.{FieldsEvent, AckedEvent}
 use Rattle.h2_log.specs.Log.{owed, waiting}
-use Rattle.h2_log.specs.LogView.{log_view}
 use Rattle.h2_log.proofs.Computing.{computing}
 use Rattle.h2_log.proofs.examples.Octets.{octets}
-use Rattle.h2_log.proofs.examples.Words.{acknowledgment, answered, client_settings, default_values}
+use Rattle.h2_log.proofs.examples.Words.{acknowledgment, client_settings, default_values}
 use Rattle.h2_log.proofs.examples.Words.{preface_octets, request, request_block, request_octets}
 use Rattle.h2_log.proofs.examples.Words.{server_settings, short_answer, table_with_authority}
 use Rattle.h2_pair.specs.Directions.{AreUnderWay}
-use Rattle.h2_pair.specs.Pairs.{Half}
 use Rattle.h2_pair.specs.Tokens.{FieldsToken, EndToken, tokens_sent, tokens_heard}
 use Rattle.h2_pair.specs.Tokens.{tokens_of_call, tokens_of_event, end_tokens}
-use Rattle.h2_pair.specs.Quiet.{IsQuiet, IsQuietTo}
+use Rattle.h2_pair.specs.Quiet.{IsQuiet}
 use Rattle.h2_pair.proofs.examples.Steps.{Pair, new_pair, client_calls, server_calls, client_takes}
 use Rattle.h2_pair.proofs.examples.Steps.{server_takes, client_takes_block, server_takes_block}
 use Rattle.h2_pair.proofs.examples.Steps.{either_zero}

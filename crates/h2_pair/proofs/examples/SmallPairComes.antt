@@ -52,7 +52,8 @@ answer_on_pipe_comes =
     (below _ _ refl, fields_are short_answer refl) tt) (below _ _ refl) tt
 
 opening_delivered_comes :
-    Comes default_values default_values (client_takes answer_on_pipe (Settings false server_opening))
+    Comes default_values default_values
+    (client_takes answer_on_pipe (Settings false server_opening))
 unfolding computing are_pairs
 opening_delivered_comes =
     client_takes_comes default_values default_values answer_on_pipe None

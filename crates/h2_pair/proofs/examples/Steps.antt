@@ -205,11 +205,11 @@ frame_taken : (role : Role) (values : Values) (log : Log) (decoded : Option Deco
 unfolding used
 frame_taken role values log decoded frame is opened whole typed writable fits says up =
     let after = taken_frame role values log frame decoded is opened whole typed writable
-        (within _ _ fits) says in
+    (within _ _ fits) says in
     let k = Keeps-frame (used log (next_octets log frame) []) decoded frame in
     let framed = (stream_of_log role values _ after).framed up in
     let here : Frames (is_server role) (limits_from log) (log.input ++ next_octets log frame)
-        (log.frames ++ frame ∷ []) [] = rw (k.limits, k.input, k.frames, k.unparsed) at framed in
+    (log.frames ++ frame ∷ []) [] = rw (k.limits, k.input, k.frames, k.unparsed) at framed in
     subst (λ (r : Role). Frames (is_server r) (limits_from log)
     (log.input ++ next_octets log frame) (log.frames ++ frame ∷ []) [])
     (sym (stream_of_log role values log is).role) here
@@ -222,7 +222,7 @@ unfolding MayStep
 step_of_frame role values one decoded frame is next = (
   next.takes,
   frame_taken role values one.log decoded frame is next.takes next.whole next.typed next.writable
-  next.fits next.says next.up,
+      next.fits next.says next.up,
   next.says,
 )
 

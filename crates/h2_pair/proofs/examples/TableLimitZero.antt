@@ -1,6 +1,6 @@
 -- A client that allows no table of fields: what its server writes, and that both tables stay in
 -- step (RFC 9113, section 4.3.1; RFC 7541, section 4.2).
-use Rattle.std.specs.Prelude.{◌≡◌, ℕ, true, false, List, [], ◌∷◌, ◌++◌, drop, codes, refl, Some}
+use Rattle.std.specs.Prelude.{◌≡◌, ℕ, true, false, List, [], ◌∷◌, ◌++◌, codes, refl, Some}
 use Rattle.std.specs.Prelude.{None}
 use Rattle.hpack.specs.Lists.{empty_table}
 use Rattle.h2_frame.specs.Frames.{Settings, Headers}
