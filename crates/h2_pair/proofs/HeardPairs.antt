@@ -30,7 +30,7 @@ use Rattle.h2_pair.specs.Tokens.{tokens_sent, tokens_heard, IsPrefixOf}
 use Rattle.h2_pair.proofs.StepsOfLogs.{IsNoCall}
 use Rattle.h2_pair.proofs.PairLogs.{both_logs}
 use Rattle.h2_pair.proofs.CarriedItems.{items_both_ways}
-use Rattle.h2_pair.proofs.TablesOfPairs.{tables_in_step_of_pair}
+use Rattle.h2_pair.proofs.TablesOfPairs.{tables_to_server, tables_to_client}
 use Rattle.h2_pair.proofs.HeardTokens.{tokens_of_items, tokens_split, prefix_more}
 use Rattle.h2_pair.proofs.HeardSent.{tokens_told}
 use Rattle.h2_pair.proofs.HeardReads.{LogHeard, heard_prefix, lists_after}
@@ -216,7 +216,7 @@ pair_heard client_values server_values new_client new_server
     (client_steps is step)).1 in (
       writer_heard client server step before.0,
       reader_heard server client Client client_values both.client_log
-          (tables_in_step_of_pair client_values server_values client server is).1 way.0 step way.1
+          tables_to_client client_values server_values client server way.0 is way.1
           before.1,
     )
 pair_heard client_values server_values new_client new_server
@@ -226,7 +226,7 @@ pair_heard client_values server_values new_client new_server
     let way = (items_both_ways client_values server_values new_client new_server
     (server_steps is step)).0 in (
       reader_heard client server Server server_values both.server_log
-          (tables_in_step_of_pair client_values server_values client server is).0 way.0 step way.1
+          tables_to_server client_values server_values client server way.0 is way.1
           before.0,
       writer_heard server client step before.1,
     )

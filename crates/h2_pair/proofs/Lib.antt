@@ -45,3 +45,4 @@ pub mod HeardGoAways
 pub mod HeardWhole
 pub mod HeardMessages
 pub mod HeardQuiet
+pub mod examples
