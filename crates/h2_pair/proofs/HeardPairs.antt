@@ -216,7 +216,8 @@ pair_heard client_values server_values new_client new_server
     (client_steps is step)).1 in (
       writer_heard client server step before.0,
       reader_heard server client Client client_values both.client_log
-          tables_to_client client_values server_values client server way.0 is way.1
+          (λ items up under_way. tables_to_client client_values server_values client server items is
+          under_way) way.0 step way.1
           before.1,
     )
 pair_heard client_values server_values new_client new_server
@@ -226,7 +227,8 @@ pair_heard client_values server_values new_client new_server
     let way = (items_both_ways client_values server_values new_client new_server
     (server_steps is step)).0 in (
       reader_heard client server Server server_values both.server_log
-          tables_to_server client_values server_values client server way.0 is way.1
+          (λ items up under_way. tables_to_server client_values server_values client server items is
+          under_way) way.0 step way.1
           before.0,
       writer_heard server client step before.1,
     )
