@@ -123,8 +123,8 @@ opening_uses Client i end octets received sent is odd =
 opening_uses Server i end octets received sent is odd = cc
 
 -- Nothing was ended and no DATA sent.
-abbrev pub IsQuiet : ℕ → List Item → Type 0
-IsQuiet i items = (list_any (ends i) items ≡ false) × (total (data_on i) items ≡ 0)
+abbrev pub IsUntouched : ℕ → List Item → Type 0
+IsUntouched i items = (list_any (ends i) items ≡ false) × (total (data_on i) items ≡ 0)
 
 -- an item that may be written doesn't concern a number that isn't used then
 item_quiet : (role : Role) (i : ℕ) (received sent : List Item) (item : Item)
@@ -175,7 +175,7 @@ item_quiet role i received sent (alone (Unknown kind flags stream payload)) allo
 
 -- A number that wasn't used was neither ended nor sent DATA on.
 pub sent_quiet : (role : Role) (i : ℕ) (received sent : List Item)
-    → AllowedHistory role received sent → is_used role i received sent ≡ false → IsQuiet i sent
+    → AllowedHistory role received sent → is_used role i received sent ≡ false → IsUntouched i sent
 unfolding ends data_on total
 sent_quiet role i _ _ (starts values ok) unused = (refl, refl)
 sent_quiet role i _ sent (reads {received = received} item with_sent) unused =

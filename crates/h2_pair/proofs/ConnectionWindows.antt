@@ -14,12 +14,12 @@ use Rattle.h2_machine.specs.Represents.{Represents}
 use Rattle.h2_machine_laws.proofs.EveryStep.{every_log_has_machine}
 use Rattle.h2_machine_laws.proofs.OwedOnStreams.{window_of_a_log}
 use Rattle.h2_pair.specs.Pairs.{Half}
-use Rattle.h2_pair.specs.Directions.{AreUnderWay, AreBelow, ConservesConnection}
+use Rattle.h2_pair.specs.Directions.{AreUnderWay, BoundsStreams, ConservesConnection}
 use Rattle.h2_pair.proofs.BothWays.{AreEnds}
 
 -- All numbers that a machine has used are below what those of its log are below.
 below_of : (values : Values) (e : End) (log : Log) (bound : ℕ) → Represents values e log
-    → AreBelow log bound → e.streams.highest < bound
+    → BoundsStreams log bound → e.streams.highest < bound
 below_of values e log bound represents below =
     let same = represents.streams.highest in omega (arith, same, below)
 
@@ -32,7 +32,7 @@ in_steps send_window back others = omega (arith, ints)
 pub connection_conserved : (writer reader : Half) (way back : List Item) (bound : ℕ)
     → AreEnds writer reader → reader.log.failed ≡ None
     → AreUnderWay writer.log reader.log way → AreUnderWay reader.log writer.log back
-    → AreBelow reader.log bound
+    → BoundsStreams reader.log bound
     → ConservesConnection writer.log reader.log way back bound
 connection_conserved writer reader way back bound ends up sent returned below =
     let machine = every_log_has_machine ends.reader_role ends.reader_values reader.log

@@ -30,7 +30,7 @@ use Rattle.h2_log_laws.proofs.AcceptedWrites.{written_lem}
 use Rattle.h2_log_laws.proofs.AllowedHistories.{origin_lem}
 use Rattle.h2_log_laws.proofs.ItemLists.{total_none}
 use Rattle.h2_end_laws.specs.Sendings.{lists_accepted}
-use Rattle.h2_pair.specs.HeaderTables.{DecodeInOrder, TablesInStep}
+use Rattle.h2_pair.specs.HeaderTables.{DecodeInOrder, HeaderTablesInStep}
 use Rattle.h2_pair.proofs.NamedUnprocessed.{IsNamed}
 use Rattle.h2_pair.proofs.FaultsInvariant.{first_in, later_in}
 
@@ -98,7 +98,7 @@ pub item_decodable : (writer reader : Log) (newer : List Item) (item : Item)
     (decoded : Option Decoded)
     → ((fields : List Field) → Contains (lists_accepted writer.calls) fields
     → list_size fields ≤ max_list)
-    → TablesInStep writer reader (newer ++ item ∷ []) → IsDecodedIn reader decoded (completes item)
+    → HeaderTablesInStep writer reader (newer ++ item ∷ []) → IsDecodedIn reader decoded (completes item)
     → IsDecodable decoded item
 item_decodable writer reader newer (alone frame) decoded small tables none = none
 item_decodable writer reader newer (block stream end octets) decoded small tables sees =

@@ -33,7 +33,7 @@ use Rattle.h2_machine_laws.specs.Machines.{reports_unprocessed, is_called, Step,
 use Rattle.h2_pair.specs.Pairs.{Half, HalfStep, calls, takes, loses, IsPair, begins, client_steps}
 use Rattle.h2_pair.specs.Pairs.{server_steps, octets_used}
 use Rattle.h2_pair.specs.Directions.{AreUnderWay, CarriesOctets}
-use Rattle.h2_pair.specs.HeaderTables.{TablesInStep}
+use Rattle.h2_pair.specs.HeaderTables.{HeaderTablesInStep}
 use Rattle.h2_pair.specs.Undisturbed.{IsUndisturbedStep, IsUndisturbed, IsFaultless}
 use Rattle.h2_pair.proofs.PairLogs.{other_same}
 use Rattle.h2_pair.proofs.StepsOfLogs.{IsNoCall}
@@ -59,7 +59,7 @@ record IsKnown (writer reader : Half) : Type 0 where
   pub returned : AreUnderWay reader.log writer.log back
   pub awaited : acked reader.log ≡ total one_ack reader.log.received
   pub tables : (way : List Item) → AreUnderWay writer.log reader.log way
-      → TablesInStep writer.log reader.log way
+      → HeaderTablesInStep writer.log reader.log way
   pub low : waiting reader.log ≤ 210000
   pub writer_clean : LogIsClean writer.log
   pub reader_clean : LogIsClean reader.log

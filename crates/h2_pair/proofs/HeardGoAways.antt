@@ -55,26 +55,26 @@ speaks i (alone (Data stream end octets pad)) = stream == i
 speaks i item = false
 
 -- The stream was processed, and stands above no last stream of these items.
-pub record IsKept (processed i : ℕ) (sent : List Item) : Type 0 where
+pub record IsStillProcessed (processed i : ℕ) (sent : List Item) : Type 0 where
   pub low : i ≤ processed
   pub below : list_any (is_goaway_below i) sent ≡ false
 
 -- Each stream on which something was sent.
 abbrev pub IsBelow : Log → Type 0
 IsBelow log = (i : ℕ) → list_any (speaks i) log.sent ≡ true
-    → IsKept (greatest_processed log.reported) i log.sent
+    → IsStillProcessed (greatest_processed log.reported) i log.sent
 
 -- What may be written: parts of messages on streams that were processed, and GOAWAYs above these.
-record AreFit (processed : ℕ) (sent items : List Item) : Type 0 where
-  pub spoken : (i : ℕ) → list_any (speaks i) items ≡ true → IsKept processed i sent
+record KeepProcessed (processed : ℕ) (sent items : List Item) : Type 0 where
+  pub spoken : (i : ℕ) → list_any (speaks i) items ≡ true → IsStillProcessed processed i sent
   pub above : (i : ℕ) → i ≤ processed → list_any (is_goaway_below i) items ≡ false
 
 -- Items that keep it.
-below_more : (processed : ℕ) (sent items : List Item) → AreFit processed sent items
-    → ((i : ℕ) → list_any (speaks i) sent ≡ true → IsKept processed i sent)
-    → (i : ℕ) → list_any (speaks i) (items ++ sent) ≡ true → IsKept processed i (items ++ sent)
+below_more : (processed : ℕ) (sent items : List Item) → KeepProcessed processed sent items
+    → ((i : ℕ) → list_any (speaks i) sent ≡ true → IsStillProcessed processed i sent)
+    → (i : ℕ) → list_any (speaks i) (items ++ sent) ≡ true → IsStillProcessed processed i (items ++ sent)
 below_more processed sent items fit before i here =
-    let old : IsKept processed i sent = elim (any_either (speaks i) items sent here) [
+    let old : IsStillProcessed processed i sent = elim (any_either (speaks i) items sent here) [
       | inl now ↦ fit.spoken i now
       | inr was ↦ before i was
     ] in
@@ -85,7 +85,7 @@ below_more processed sent items fit before i here =
     }
 
 wrote_below : (log : Log) (items : List Item)
-    → AreFit (greatest_processed log.reported) log.sent items → IsBelow log
+    → KeepProcessed (greatest_processed log.reported) log.sent items → IsBelow log
     → IsBelow (with_sent log items)
 unfolding with_sent
 wrote_below log [] fit is = is
@@ -116,7 +116,7 @@ AreQuiet items = (i : ℕ) → (list_any (speaks i) items ≡ false)
     × (list_any (is_goaway_below i) items ≡ false)
 
 quiet_fits : (processed : ℕ) (sent items : List Item) → AreQuiet items
-    → AreFit processed sent items
+    → KeepProcessed processed sent items
 quiet_fits processed sent items quiet =
     record {
       spoken = λ i here. absurd (both_ways _ (quiet i).0 here);
@@ -292,19 +292,19 @@ opens_nothing log fields end server none =
 record IsServer (log : Log) : Type 0 where
   pub server : log.role ≡ Server
   pub up : log.failed ≡ None
-  pub kept : (i : ℕ) → active log i ≡ true → IsKept (greatest_processed log.reported) i log.sent
+  pub kept : (i : ℕ) → active log i ≡ true → IsStillProcessed (greatest_processed log.reported) i log.sent
 
 stream_fits : (log : Log) (id : ℕ) (items : List Item) → IsServer log → active log id ≡ true
-    → IsData id items → AreFit (greatest_processed log.reported) log.sent items
+    → IsData id items → KeepProcessed (greatest_processed log.reported) log.sent items
 stream_fits log id items server alive is =
     record {
-      spoken = λ i here. subst (λ (j : ℕ). IsKept (greatest_processed log.reported) j log.sent)
+      spoken = λ i here. subst (λ (j : ℕ). IsStillProcessed (greatest_processed log.reported) j log.sent)
           (is.only i here) (server.kept id alive);
       above = λ i low. is.stays i;
     }
 
 -- GOAWAY names the last stream that was processed.
-goaway_fits : (log : Log) → log.role ≡ Server → AreFit (greatest_processed log.reported) log.sent
+goaway_fits : (log : Log) → log.role ≡ Server → KeepProcessed (greatest_processed log.reported) log.sent
     (alone (GoAway (last_processed log) 0 []) ∷ [])
 unfolding speaks is_goaway_below last_processed
 goaway_fits log server =
@@ -323,7 +323,7 @@ updates_quiet id count false i = (refl, refl)
 
 -- The items of a call that is accepted.
 items_fit : (log : Log) (act : Act) → IsServer log → refusal_of (log_view log) act ≡ None
-    → AreFit (greatest_processed log.reported) log.sent
+    → KeepProcessed (greatest_processed log.reported) log.sent
     (items_of (log_view log) act (answer_of (log_view log) act))
 unfolding items_of speaks is_goaway_below
 items_fit log (Open fields end) server none =

@@ -21,7 +21,7 @@ use Rattle.h2_log_laws.proofs.ItemLists.{total_none}
 use Rattle.h2_end_laws.specs.Sendings.{lists_accepted, EncodesInOrder, sent_nothing}
 use Rattle.h2_end_laws.specs.Sendings.{sent_acknowledgment, sent_block, sent_other}
 use Rattle.h2_end_laws.specs.Sendings.{changes_encoder}
-use Rattle.h2_pair.specs.HeaderTables.{block_count, DecodeInOrder, TablesInStep}
+use Rattle.h2_pair.specs.HeaderTables.{block_count, DecodeInOrder, HeaderTablesInStep}
 use Rattle.h2_pair.proofs.HeardReads.{lists_after}
 
 -- Where the backs are as long, they are the same, and so are the fronts.
@@ -112,7 +112,7 @@ next_list log octets stream end (Some decoded) lists under_way read accepted fou
 pub next_lists : (writer reader : Log) (newer : List Item) (item : Item)
     (decoded : Option Decoded) (lists later : List (List Field))
     → lists_accepted writer.calls ≡ later ++ lists → length lists ≡ block_count reader.received
-    → TablesInStep writer reader (newer ++ item ∷ []) → IsDecodedIn reader decoded (completes item)
+    → HeaderTablesInStep writer reader (newer ++ item ∷ []) → IsDecodedIn reader decoded (completes item)
     → (rest : List (List Field))
     × (lists_accepted writer.calls ≡ rest ++ lists_after decoded item lists)
 next_lists writer reader newer (alone frame) decoded lists later accepted many tables sees =

@@ -18,7 +18,7 @@ use Rattle.h2_log.specs.States.{openings}
 use Rattle.h2_log_laws.proofs.ItemLists.{any_after}
 use Rattle.h2_log_laws.proofs.ReaderStates.{active_parts}
 use Rattle.h2_pair.specs.HeaderTables.{block_count}
-use Rattle.h2_pair.specs.Tokens.{Token, FieldsToken, OctetToken, EndToken, end_tokens, Message}
+use Rattle.h2_pair.specs.Tokens.{Token, FieldsToken, OctetToken, EndToken, end_tokens, SentMessage}
 use Rattle.h2_pair.specs.Tokens.{trailers_tokens, message_tokens}
 use Rattle.h2_pair.proofs.HeardTokens.{item_tokens, frame_tokens, tokens_of_items}
 use Rattle.h2_pair.proofs.HeardGoAways.{speaks}
@@ -197,11 +197,11 @@ ended_tokens i (block stream end octets ∷ items) (list ∷ lists) many here =
     ]
 
 -- A message has its end last.
-abbrev before_end : Message → List Token
+abbrev before_end : SentMessage → List Token
 before_end message =
     FieldsToken message.head ∷ (each OctetToken message.body ++ trailers_tokens message.trailers)
 
-message_ends : (message : Message) → message_tokens message ≡ before_end message ++ EndToken ∷ []
+message_ends : (message : SentMessage) → message_tokens message ≡ before_end message ++ EndToken ∷ []
 unfolding message_tokens
 message_ends message =
     ap (λ (line : List Token). FieldsToken message.head ∷ line)
@@ -219,7 +219,7 @@ unfolding trailers_tokens is_end
 trailers_endless None = refl
 trailers_endless (Some list) = refl
 
-front_endless : (message : Message) → list_any is_end (before_end message) ≡ false
+front_endless : (message : SentMessage) → list_any is_end (before_end message) ≡ false
 unfolding is_end
 front_endless message =
     list_any-append is_end (each OctetToken message.body) (trailers_tokens message.trailers)
@@ -248,7 +248,7 @@ proper_front (first ∷ tokens) (one ∷ front) token last others is here =
     ]
 
 -- As long as something waits of a message, its end wasn't sent.
-pub unended : (message : Message) (tokens : List Token) (token : Token) (others : List Token)
+pub unended : (message : SentMessage) (tokens : List Token) (token : Token) (others : List Token)
     → message_tokens message ≡ tokens ++ token ∷ others → list_any is_end tokens ≡ true → ⊥
 unended message tokens token others is here =
     both_ways _ (front_endless message) (proper_front tokens (before_end message) token EndToken

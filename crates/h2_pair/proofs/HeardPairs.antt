@@ -25,14 +25,14 @@ use Rattle.h2_machine_laws.specs.Machines.{reports_unprocessed, is_called, Step,
 use Rattle.h2_pair.specs.Pairs.{Half, HalfStep, calls, takes, loses, IsPair, begins, client_steps}
 use Rattle.h2_pair.specs.Pairs.{server_steps}
 use Rattle.h2_pair.specs.Directions.{AreUnderWay}
-use Rattle.h2_pair.specs.HeaderTables.{TablesInStep, block_count}
-use Rattle.h2_pair.specs.Tokens.{tokens_sent, tokens_heard, IsPrefixOf}
+use Rattle.h2_pair.specs.HeaderTables.{HeaderTablesInStep, block_count}
+use Rattle.h2_pair.specs.Tokens.{Token, tokens_sent, tokens_heard, IsPrefixOfTokens}
 use Rattle.h2_pair.proofs.StepsOfLogs.{IsNoCall}
 use Rattle.h2_pair.proofs.PairLogs.{both_logs}
 use Rattle.h2_pair.proofs.CarriedItems.{items_both_ways}
 use Rattle.h2_pair.proofs.TablesOfPairs.{tables_to_server, tables_to_client}
 use Rattle.h2_pair.proofs.HeardTokens.{tokens_of_items, tokens_split, prefix_more}
-use Rattle.h2_pair.proofs.HeardSent.{tokens_told}
+use Rattle.h2_pair.proofs.HeardSent.{tokens_carried}
 use Rattle.h2_pair.proofs.HeardReads.{LogHeard, heard_prefix, lists_after}
 use Rattle.h2_pair.proofs.HeardSteps.{heard_grows, heard_failure, heard_unprocessed}
 use Rattle.h2_pair.proofs.HeardSteps.{no_item, one_item, frame_heard, heard_used, opened_heard}
@@ -92,7 +92,7 @@ record IsStepped (writer reader : Half) (new : Log) : Type 0 where
   pub values : Values
   pub reader_log : IsLog role values reader.log
   pub tables : (way : List Item) → reader.log.failed ≡ None
-      → AreUnderWay writer.log reader.log way → TablesInStep writer.log reader.log way
+      → AreUnderWay writer.log reader.log way → HeaderTablesInStep writer.log reader.log way
   pub way : List Item
   pub under_way : AreUnderWay writer.log new way
   pub before : IsHeardBy writer.log reader.log
@@ -164,7 +164,7 @@ step_read writer reader (is_called act answer) none may known = absurd (none act
 reader_heard : (writer reader : Half) {new_writer new_reader : Half} (role : Role)
     (values : Values) → IsLog role values reader.log
     → ((way : List Item) → reader.log.failed ≡ None → AreUnderWay writer.log reader.log way
-    → TablesInStep writer.log reader.log way)
+    → HeaderTablesInStep writer.log reader.log way)
     → (way : List Item) → HalfStep reader writer new_reader new_writer
     → AreUnderWay new_writer.log new_reader.log way → IsHeardBy writer.log reader.log
     → IsHeardBy new_writer.log new_reader.log
@@ -253,7 +253,7 @@ given_in_order i role values writer reader way log under_way is =
       length-append is.later is.lists,
       blocks_joined way reader.received,
     ) in
-    tokens_told i role values writer log
+    tokens_carried i role values writer log
     ∙ ap (λ (items : List Item). tokens_of_items i items (lists_accepted writer.calls)) under_way
     ∙ ap (λ (lists : List (List Field)). tokens_of_items i (way ++ reader.received) lists)
     is.accepted
@@ -263,7 +263,7 @@ given_in_order i role values writer reader way log under_way is =
 prefix_of_given : (i : ℕ) (role : Role) (values : Values) (writer reader : Log)
     (way : List Item) → IsLog role values writer → AreUnderWay writer reader way
     → IsHeardBy writer reader
-    → IsPrefixOf (tokens_heard i reader.reported) (tokens_sent i writer.calls)
+    → IsPrefixOfTokens (tokens_heard i reader.reported) (tokens_sent i writer.calls)
 prefix_of_given i role values writer reader way log under_way is =
     rw (given_in_order i role values writer reader way log under_way is)
     (prefix_more (tokens_heard i reader.reported) (tokens_of_items i reader.received is.lists)
@@ -273,7 +273,7 @@ prefix_of_given i role values writer reader way log under_way is =
 -- At the server, and at the client.
 pub server_hears : (client_values server_values : Values) (client server : Half) (i : ℕ)
     → IsPair client_values server_values client server
-    → IsPrefixOf (tokens_heard i server.log.reported) (tokens_sent i client.log.calls)
+    → IsPrefixOfTokens (tokens_heard i server.log.reported) (tokens_sent i client.log.calls)
 server_hears client_values server_values client server i is =
     let way = (items_both_ways client_values server_values client server is).0 in
     prefix_of_given i Client client_values client.log server.log way.0
@@ -282,9 +282,17 @@ server_hears client_values server_values client server i is =
 
 pub client_hears : (client_values server_values : Values) (client server : Half) (i : ℕ)
     → IsPair client_values server_values client server
-    → IsPrefixOf (tokens_heard i client.log.reported) (tokens_sent i server.log.calls)
+    → IsPrefixOfTokens (tokens_heard i client.log.reported) (tokens_sent i server.log.calls)
 client_hears client_values server_values client server i is =
     let way = (items_both_ways client_values server_values client server is).1 in
     prefix_of_given i Server server_values server.log client.log way.0
     (both_logs client_values server_values client server is).server_log way.1
     (pair_heard client_values server_values client server is).1
+
+-- What is heard is a prefix of the message that the tokens sent begin.
+pub begins_message : (heard sent waiting whole : List Token) → IsPrefixOfTokens heard sent
+    → whole ≡ sent ++ waiting → IsPrefixOfTokens heard whole
+begins_message heard sent waiting whole (rest, is) joined = (
+  rest ++ waiting,
+  joined ∙ ap (λ (line : List Token). line ++ waiting) is ∙ append_assoc heard rest waiting,
+)

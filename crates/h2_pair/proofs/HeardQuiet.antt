@@ -31,9 +31,9 @@ use Rattle.h2_end_laws.proofs.Sendings.{log_sent}
 use Rattle.h2_pair.specs.Pairs.{Half, IsPair}
 use Rattle.h2_pair.specs.Directions.{AreUnderWay}
 use Rattle.h2_pair.specs.Undisturbed.{IsUndisturbed}
-use Rattle.h2_pair.specs.Quiet.{IsQuiet, WasReset, IsSending, CouldGo, NoneCouldGo}
+use Rattle.h2_pair.specs.Quiet.{IsQuiet, WasReset, IsSending, IsStuck, CouldGo, NoneCouldGo}
 use Rattle.h2_pair.specs.Tokens.{Token, FieldsToken, OctetToken, EndToken, tokens_sent}
-use Rattle.h2_pair.specs.Tokens.{tokens_heard, Message, message_tokens}
+use Rattle.h2_pair.specs.Tokens.{tokens_heard, SentMessage, message_tokens}
 use Rattle.h2_pair.proofs.PairLogs.{both_logs}
 use Rattle.h2_pair.proofs.BothWays.{AreEnds, ends_to_server, ends_to_client}
 use Rattle.h2_pair.proofs.ConnectionWindows.{connection_conserved}
@@ -43,8 +43,8 @@ use Rattle.h2_pair.proofs.HeardGoAways.{speaks}
 use Rattle.h2_pair.proofs.HeardLists.{blocks_of_lists}
 use Rattle.h2_pair.proofs.HeardMessages.{spoken_opened, silent_tokens, ended_tokens}
 use Rattle.h2_pair.proofs.HeardMessages.{unended}
-use Rattle.h2_pair.proofs.HeardSent.{tokens_told}
-use Rattle.h2_pair.proofs.HeardWhole.{not_so, IsSettled, client_kept, server_kept, unnamed}
+use Rattle.h2_pair.proofs.HeardSent.{tokens_carried}
+use Rattle.h2_pair.proofs.HeardWhole.{not_so, IsQuietStream, client_kept, server_kept, unnamed}
 use Rattle.h2_pair.proofs.HeardWhole.{closed_how, above_server, client_above, cut_off, pair_settled}
 use Rattle.h2_pair.proofs.HeardWhole.{server_hears_all, client_hears_all}
 
@@ -152,12 +152,12 @@ spoken_by : (role : Role) (values : Values) (log : Log) (i : ℕ) → IsLog role
     → tokens_sent i log.calls ≢ [] → list_any (speaks i) log.sent ≡ true
 spoken_by role values log i is some = elim (cases_Bool (list_any (speaks i) log.sent)) [
   | inl spoken ↦ spoken
-  | inr silent ↦ absurd (some (tokens_told i role values log is
+  | inr silent ↦ absurd (some (tokens_carried i role values log is
       ∙ silent_tokens i log.sent (lists_accepted log.calls) silent))
 ]
 
 -- As long as something waits of a message, the stream wasn't ended.
-goes_on_by : (role : Role) (values : Values) (log : Log) (i : ℕ) (message : Message)
+goes_on_by : (role : Role) (values : Values) (log : Log) (i : ℕ) (message : SentMessage)
     (token : Token) (others : List Token) → IsLog role values log
     → message_tokens message ≡ tokens_sent i log.calls ++ token ∷ others
     → list_any (ends i) log.sent ≡ false
@@ -166,7 +166,7 @@ goes_on_by role values log i message token others is waits = not_so _ (λ here.
     blocks_of_lists log.sent (settings_received log.received) (lists_accepted log.calls)
     log.encoder (log_sent role values log is) in
     unended message (tokens_sent i log.calls) token others waits
-    (rw (tokens_told i role values log is)
+    (rw (tokens_carried i role values log is)
     (ended_tokens i log.sent (lists_accepted log.calls) many here)))
 
 -- A stream is active on which something was sent, that wasn't ended, reset or named unprocessed.
@@ -195,7 +195,7 @@ active_by role values log i is own spoken below goes unreset kept unnamed =
     and_none false b none = refl
 
 -- Where nothing waits, or what waits could go, all of a message was sent.
-all_sent : (log : Log) (i : ℕ) (message : Message) (waiting : List Token)
+all_sent : (log : Log) (i : ℕ) (message : SentMessage) (waiting : List Token)
     → message_tokens message ≡ tokens_sent i log.calls ++ waiting
     → (active log i ≡ true → NoneCouldGo log i waiting)
     → ((token : Token) (others : List Token) → waiting ≡ token ∷ others
@@ -208,9 +208,9 @@ all_sent log i message (token ∷ others) sent stuck goes =
 
 -- A stream of a client goes on at the server.
 client_idle : (client_values server_values : Values) (client server : Half) (i : ℕ)
-    (message : Message) (token : Token) (others : List Token)
+    (message : SentMessage) (token : Token) (others : List Token)
     (pair : IsPair client_values server_values client server) → IsQuiet client server
-    → IsSettled client.log server.log i → server.log.failed ≡ None
+    → IsQuietStream client.log server.log i → server.log.failed ≡ None
     → tokens_sent i client.log.calls ≢ []
     → message_tokens message ≡ tokens_sent i client.log.calls ++ token ∷ others
     → IsIdle client server i
@@ -247,9 +247,9 @@ server_unnamed values log i is own = not_so _ (λ here.
     both_ways _ (log_named Server values log is i here).0 (ap is_server own))
 
 server_idle : (client_values server_values : Values) (client server : Half) (i : ℕ)
-    (message : Message) (token : Token) (others : List Token)
+    (message : SentMessage) (token : Token) (others : List Token)
     (pair : IsPair client_values server_values client server) → IsQuiet client server
-    → IsSettled client.log server.log i → client.log.failed ≡ None
+    → IsQuietStream client.log server.log i → client.log.failed ≡ None
     → tokens_sent i server.log.calls ≢ []
     → message_tokens message ≡ tokens_sent i server.log.calls ++ token ∷ others
     → IsIdle server client i
@@ -281,16 +281,17 @@ server_idle client_values server_values client server i message token others pai
 
 -- A message was heard whole, at the server and at the client.
 pub server_hears_whole : (client_values server_values : Values) (client server : Half) (i : ℕ)
-    (message : Message) (pair : IsPair client_values server_values client server)
+    (message : SentMessage) (waiting : List Token)
+    (pair : IsPair client_values server_values client server)
     → IsUndisturbed pair → IsQuiet client server → (WasReset client.log server.log i → ⊥)
-    → IsSending client.log i message
+    → IsSending client.log i message waiting → IsStuck client.log i waiting
     → tokens_heard i server.log.reported ≡ message_tokens message
-server_hears_whole client_values server_values client server i message pair calm quiet unreset
-    sending =
+server_hears_whole client_values server_values client server i message waiting pair calm quiet unreset
+    sending stuck =
     let settled = pair_settled client_values server_values client server i pair calm quiet unreset
     in
     server_hears_all client_values server_values client server i pair calm quiet unreset
-    ∙ all_sent client.log i message sending.waiting sending.sent sending.stuck
+    ∙ all_sent client.log i message waiting sending.sent stuck
     (λ token others waits.
     let idle = client_idle client_values server_values client server i message token others pair
     quiet settled settled.server_clean.up sending.begun
@@ -298,16 +299,17 @@ server_hears_whole client_values server_values client server i message pair calm
     (idle.alive, could_go client server i token idle))
 
 pub client_hears_whole : (client_values server_values : Values) (client server : Half) (i : ℕ)
-    (message : Message) (pair : IsPair client_values server_values client server)
+    (message : SentMessage) (waiting : List Token)
+    (pair : IsPair client_values server_values client server)
     → IsUndisturbed pair → IsQuiet client server → (WasReset client.log server.log i → ⊥)
-    → IsSending server.log i message
+    → IsSending server.log i message waiting → IsStuck server.log i waiting
     → tokens_heard i client.log.reported ≡ message_tokens message
-client_hears_whole client_values server_values client server i message pair calm quiet unreset
-    sending =
+client_hears_whole client_values server_values client server i message waiting pair calm quiet unreset
+    sending stuck =
     let settled = pair_settled client_values server_values client server i pair calm quiet unreset
     in
     client_hears_all client_values server_values client server i pair calm quiet unreset
-    ∙ all_sent server.log i message sending.waiting sending.sent sending.stuck
+    ∙ all_sent server.log i message waiting sending.sent stuck
     (λ token others waits.
     let idle = server_idle client_values server_values client server i message token others pair
     quiet settled settled.client_clean.up sending.begun

@@ -31,7 +31,7 @@ use Rattle.h2_log_laws.proofs.ReplyInvariant.{used_more, used_here}
 use Rattle.h2_end_laws.proofs.ReadVerdicts.{Says, says_data}
 use Rattle.h2_end_laws.proofs.ReadingRules.{IsFaulty, IsUnreported, IsSaid}
 use Rattle.h2_pair.specs.Tokens.{Token, tokens_of_event}
-use Rattle.h2_pair.specs.Tokens.{tokens_heard, IsPrefixOf}
+use Rattle.h2_pair.specs.Tokens.{tokens_heard, IsPrefixOfTokens}
 use Rattle.h2_pair.proofs.HeardTokens.{frame_tokens, item_tokens, tokens_of_items, prefix_same}
 
 -- This end has closed the stream, and its number is used.
@@ -71,7 +71,7 @@ pub data AreHeard (role : Role) (i : ℕ) (received sent : List Item) (reported 
   all_heard : tokens_heard i reported ≡ tokens_of_items i received lists
       → AreHeard role i received sent reported lists
   some_heard : IsGone role i received sent
-      → IsPrefixOf (tokens_heard i reported) (tokens_of_items i received lists)
+      → IsPrefixOfTokens (tokens_heard i reported) (tokens_of_items i received lists)
       → AreHeard role i received sent reported lists
 
 -- the lists after an item
@@ -244,7 +244,7 @@ silent_gone log (alone frame) closed used = tt
 
 -- A prefix, where what goes on is longer.
 pub prefix_by : (tokens heard whole all more : List Token) → heard ≡ tokens → all ≡ whole ++ more
-    → IsPrefixOf tokens whole → IsPrefixOf heard all
+    → IsPrefixOfTokens tokens whole → IsPrefixOfTokens heard all
 prefix_by tokens heard whole all more same is (rest, before) = (
   rest ++ more,
   is ∙ ap (λ (line : List Token). line ++ more) before ∙ append_assoc tokens rest more
@@ -254,7 +254,7 @@ prefix_by tokens heard whole all more same is (rest, before) = (
 -- What was heard is a prefix.
 pub heard_prefix : (role : Role) (i : ℕ) (received sent : List Item) (reported : List Event)
     (lists : List (List Field)) → AreHeard role i received sent reported lists
-    → IsPrefixOf (tokens_heard i reported) (tokens_of_items i received lists)
+    → IsPrefixOfTokens (tokens_heard i reported) (tokens_of_items i received lists)
 heard_prefix role i received sent reported lists (all_heard same) = prefix_same _ _ same
 heard_prefix role i received sent reported lists (some_heard gone prefix) = prefix
 

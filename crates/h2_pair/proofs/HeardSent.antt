@@ -437,19 +437,19 @@ unfolding opened with_sent lists_accepted tokens_sent tokens_of_items item_token
 begins_told i role values = refl
 
 -- Every log.
-pub tokens_told : (i : ℕ) (role : Role) (values : Values) (log : Log) → IsLog role values log
+pub tokens_carried : (i : ℕ) (role : Role) (values : Values) (log : Log) → IsLog role values log
     → tokens_sent i log.calls ≡ tokens_of_items i log.sent (lists_accepted log.calls)
 unfolding used
-tokens_told i role values _ (begins in_range) = begins_told i role values
-tokens_told i role values _ (took_some {log = log} is takes octets unparsed read) =
-    tokens_told i role values log is
-tokens_told i role values _ (took_one {log = log} is takes octets frame decoded read sees) =
-    frame_told i (used log octets []) decoded frame (tokens_told i role values log is)
-tokens_told i role values _ (met_fault {log = log} is takes octets fault at) =
-    failure_told i (wire_fault_code fault) _ (used log octets []) (tokens_told i role values log is)
-tokens_told i role values _ (ran_out_of_memory {log = log} is up octets may) =
-    failure_told i InternalError _ (used log octets []) (tokens_told i role values log is)
-tokens_told i role values _ (reported_one {log = log} is up some) =
-    reports_told i _ _ (unreturned_told i _ log (tokens_told i role values log is))
-tokens_told i role values _ (called_one {log = log} is act answer typed may) =
-    call_told i log act answer (tokens_told i role values log is) may
+tokens_carried i role values _ (begins in_range) = begins_told i role values
+tokens_carried i role values _ (took_some {log = log} is takes octets unparsed read) =
+    tokens_carried i role values log is
+tokens_carried i role values _ (took_one {log = log} is takes octets frame decoded read sees) =
+    frame_told i (used log octets []) decoded frame (tokens_carried i role values log is)
+tokens_carried i role values _ (met_fault {log = log} is takes octets fault at) =
+    failure_told i (wire_fault_code fault) _ (used log octets []) (tokens_carried i role values log is)
+tokens_carried i role values _ (ran_out_of_memory {log = log} is up octets may) =
+    failure_told i InternalError _ (used log octets []) (tokens_carried i role values log is)
+tokens_carried i role values _ (reported_one {log = log} is up some) =
+    reports_told i _ _ (unreturned_told i _ log (tokens_carried i role values log is))
+tokens_carried i role values _ (called_one {log = log} is act answer typed may) =
+    call_told i log act answer (tokens_carried i role values log is) may

@@ -6,7 +6,7 @@ use Rattle.hpack.specs.declared.types.field.Field.{Field}
 use Rattle.h2_frame.specs.Frames.{Frame, Data}
 use Rattle.h2_block.specs.Grouping.{Item, alone, block}
 use Rattle.h2_pair.specs.HeaderTables.{block_count}
-use Rattle.h2_pair.specs.Tokens.{Token, FieldsToken, OctetToken, end_tokens, IsPrefixOf}
+use Rattle.h2_pair.specs.Tokens.{Token, FieldsToken, OctetToken, end_tokens, IsPrefixOfTokens}
 
 -- what a frame that is no part of a field block carries on the stream
 unfoldable pub frame_tokens : ℕ → Frame → List Token
@@ -52,11 +52,11 @@ tokens_split i (block stream end octets ∷ newer) older (list ∷ lists) others
     (item_tokens i (block stream end octets) list)
 
 -- A list is a prefix of itself.
-pub prefix_same : (tokens whole : List Token) → tokens ≡ whole → IsPrefixOf tokens whole
+pub prefix_same : (tokens whole : List Token) → tokens ≡ whole → IsPrefixOfTokens tokens whole
 prefix_same tokens whole same = ([], sym same ∙ sym (append-nil tokens))
 
 -- A prefix is one of what goes on.
-pub prefix_more : (tokens whole more : List Token) → IsPrefixOf tokens whole
-    → IsPrefixOf tokens (whole ++ more)
+pub prefix_more : (tokens whole more : List Token) → IsPrefixOfTokens tokens whole
+    → IsPrefixOfTokens tokens (whole ++ more)
 prefix_more tokens whole more (rest, is) =
     (rest ++ more, ap (λ (line : List Token). line ++ more) is ∙ append_assoc tokens rest more)

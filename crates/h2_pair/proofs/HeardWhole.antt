@@ -27,7 +27,7 @@ use Rattle.h2_log_laws.proofs.ReaderStates.{active_parts, active_from, lasts_fro
 use Rattle.h2_pair.specs.Pairs.{Half, IsPair}
 use Rattle.h2_pair.specs.Undisturbed.{IsUndisturbed}
 use Rattle.h2_pair.specs.Quiet.{IsQuiet, WasReset}
-use Rattle.h2_pair.specs.Tokens.{Token, tokens_sent, tokens_heard, IsPrefixOf}
+use Rattle.h2_pair.specs.Tokens.{Token, tokens_sent, tokens_heard, IsPrefixOfTokens}
 use Rattle.h2_pair.proofs.PairLogs.{both_logs}
 use Rattle.h2_pair.proofs.BothWays.{ends_to_server, ends_to_client}
 use Rattle.h2_pair.proofs.CarriedOctets.{carried_both_ways}
@@ -190,7 +190,7 @@ none_above log i client none opened below alive =
     (least_found test i log.sent (above_nonzero log) passes opened).0 least
 
 -- What is known of a quiet, undisturbed pair in which a stream wasn't reset.
-pub record IsSettled (client server : Log) (i : ℕ) : Type 0 where
+pub record IsQuietStream (client server : Log) (i : ℕ) : Type 0 where
   pub client_role : client.role ≡ Client
   pub server_role : server.role ≡ Server
   pub client_clean : LogIsClean client
@@ -203,19 +203,19 @@ pub record IsSettled (client server : Log) (i : ℕ) : Type 0 where
   pub allowed : AllowedHistory Client client.received client.sent
 
 -- Neither end has reset the stream, and it wasn't named unprocessed.
-pub client_kept : (client server : Log) (i : ℕ) → IsSettled client server i
+pub client_kept : (client server : Log) (i : ℕ) → IsQuietStream client server i
     → list_any (resets i) client.sent ≡ false
 client_kept client server i settled = not_so _ (λ here.
     let found = reset_found i client.sent here in
     settled.unreset (inl (found.0, settled.client_clean.asked i found.0 found.1)))
 
-pub server_kept : (client server : Log) (i : ℕ) → IsSettled client server i
+pub server_kept : (client server : Log) (i : ℕ) → IsQuietStream client server i
     → list_any (resets i) server.sent ≡ false
 server_kept client server i settled = not_so _ (λ here.
     let found = reset_found i server.sent here in
     settled.unreset (inr (inl (found.0, settled.server_clean.asked i found.0 found.1))))
 
-pub unnamed : (client server : Log) (i : ℕ) → IsSettled client server i
+pub unnamed : (client server : Log) (i : ℕ) → IsQuietStream client server i
     → list_any (reports_unprocessed i) client.reported ≡ false
 unnamed client server i settled = not_so _ (λ here.
     settled.unreset (inr (inr (named_found i client.reported here))))
@@ -242,7 +242,7 @@ unfolding is_above
 client_above Client i sent client = refl
 client_above Server i sent client = absurd (cc)
 
-pub cut_off : (client server : Log) (i : ℕ) → IsSettled client server i → i % 2 == 1 ≡ true
+pub cut_off : (client server : Log) (i : ℕ) → IsQuietStream client server i → i % 2 == 1 ≡ true
     → list_any (is_block_on i) client.sent ≡ true
     → list_any (is_goaway_below i) server.sent ≡ true → ⊥
 cut_off client server i settled odd opened below =
@@ -292,7 +292,7 @@ given_whole i role values writer reader log all is =
     ∙ append-nil (tokens_of_items i reader.received is.lists)
 
 -- A prefix of nothing is nothing.
-none_heard : (tokens whole : List Token) → whole ≡ [] → IsPrefixOf tokens whole → tokens ≡ whole
+none_heard : (tokens whole : List Token) → whole ≡ [] → IsPrefixOfTokens tokens whole → tokens ≡ whole
 none_heard [] whole none prefix = sym none
 none_heard (token ∷ tokens) whole none (rest, is) = absurd (nothing_more (sym none ∙ is))
   where
@@ -301,7 +301,7 @@ none_heard (token ∷ tokens) whole none (rest, is) = absurd (nothing_more (sym 
 
 -- What a server has heard is all that the items carry.
 server_all : (client server : Log) (i : ℕ) (lists : List (List Field))
-    → IsSettled client server i
+    → IsQuietStream client server i
     → AreHeard server.role i server.received server.sent server.reported lists
     → tokens_heard i server.reported ≡ tokens_of_items i server.received lists
 server_all client server i lists settled (all_heard is) = is
@@ -320,7 +320,7 @@ server_all client server i lists settled (some_heard gone prefix) =
 
 -- So is what a client has heard.
 client_all : (client server : Log) (i : ℕ) (lists : List (List Field))
-    → IsSettled client server i
+    → IsQuietStream client server i
     → AreHeard client.role i client.received client.sent client.reported lists
     → tokens_heard i client.reported ≡ tokens_of_items i client.received lists
 client_all client server i lists settled (all_heard is) = is
@@ -335,7 +335,7 @@ client_all client server i lists settled (some_heard gone prefix) =
 pub pair_settled : (client_values server_values : Values) (client server : Half) (i : ℕ)
     (pair : IsPair client_values server_values client server) → IsUndisturbed pair
     → IsQuiet client server → (WasReset client.log server.log i → ⊥)
-    → IsSettled client.log server.log i
+    → IsQuietStream client.log server.log i
 pair_settled client_values server_values client server i pair calm quiet unreset =
     let both = both_logs client_values server_values client server pair in
     let clean = pair_clean client_values server_values client server pair calm in

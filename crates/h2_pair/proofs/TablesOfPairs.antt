@@ -18,7 +18,7 @@ use Rattle.h2_end_laws.proofs.Sendings.{log_sent}
 use Rattle.h2_pair.specs.Pairs.{Half, HalfStep, calls, takes, loses, IsPair, begins, client_steps}
 use Rattle.h2_pair.specs.Pairs.{server_steps}
 use Rattle.h2_pair.specs.Directions.{AreUnderWay}
-use Rattle.h2_pair.specs.HeaderTables.{DecodeInOrder, TablesInStep}
+use Rattle.h2_pair.specs.HeaderTables.{DecodeInOrder, HeaderTablesInStep}
 use Rattle.h2_pair.proofs.PairLogs.{other_same, both_logs}
 use Rattle.h2_pair.proofs.CarriedItems.{items_both_ways}
 use Rattle.h2_pair.proofs.TablesValues.{pairs_counted, pairs_append}
@@ -106,7 +106,7 @@ both_in_step client_values server_values _ _
 pub tables_in_step_of_ends : (role : Role) (values : Values) (writer reader : Log)
     (way back : List Item) → IsLog role values writer → LogInStep reader
     → AreUnderWay writer reader way → AreUnderWay reader writer back
-    → TablesInStep writer reader way
+    → HeaderTablesInStep writer reader way
 tables_in_step_of_ends role values writer reader way back is reads wrote read =
     let all = sent_decodes reader.sent writer.sent (settings_received back)
     (settings_received writer.received) (lists_accepted writer.calls) writer.encoder
@@ -137,7 +137,7 @@ tables_in_step_of_ends role values writer reader way back is reads wrote read =
 -- The tables of both ends of a pair are in step, whether or not the reader has failed.
 pub tables_to_server : (client_values server_values : Values) (client server : Half)
     (way : List Item) → IsPair client_values server_values client server
-    → AreUnderWay client.log server.log way → TablesInStep client.log server.log way
+    → AreUnderWay client.log server.log way → HeaderTablesInStep client.log server.log way
 tables_to_server client_values server_values client server way is under_way =
     let back = (items_both_ways client_values server_values client server is).1 in
     tables_in_step_of_ends Client client_values client.log server.log way back.0
@@ -146,7 +146,7 @@ tables_to_server client_values server_values client server way is under_way =
 
 pub tables_to_client : (client_values server_values : Values) (client server : Half)
     (way : List Item) → IsPair client_values server_values client server
-    → AreUnderWay server.log client.log way → TablesInStep server.log client.log way
+    → AreUnderWay server.log client.log way → HeaderTablesInStep server.log client.log way
 tables_to_client client_values server_values client server way is under_way =
     let back = (items_both_ways client_values server_values client server is).0 in
     tables_in_step_of_ends Server server_values server.log client.log way back.0

@@ -30,8 +30,8 @@ ConservesConnection writer reader way back bound =
     ≡ pos first_window
 
 -- The numbers of all streams of an end are below the bound.
-abbrev pub AreBelow : Log → ℕ → Type 0
-AreBelow log bound = greatest_block (openings log.role log.received log.sent) < bound
+abbrev pub BoundsStreams : Log → ℕ → Type 0
+BoundsStreams log bound = greatest_block (openings log.role log.received log.sent) < bound
 
 -- A stream that is active at the writer, that the reader hasn't closed by itself, and of which it
 -- hasn't read the end.

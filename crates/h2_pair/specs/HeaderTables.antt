@@ -33,7 +33,7 @@ DecodeInOrder sent count first (block stream end octets ∷ items) lists last =
 -- The lists that the writer was given are those of the blocks that the reader has read and of those
 -- under way. The reader's table, after the blocks under way, is the writer's, and each of them
 -- decodes at its place to its list, whatever limits change meanwhile.
-pub record TablesInStep (writer reader : Log) (way : List Item) : Type 0 where
+pub record HeaderTablesInStep (writer reader : Log) (way : List Item) : Type 0 where
   pub read : List (List Field)
   pub under_way : List (List Field)
   pub accepted : lists_accepted writer.calls ≡ under_way ++ read

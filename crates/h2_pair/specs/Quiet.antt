@@ -7,7 +7,7 @@ use Rattle.h2_log.specs.Log.{Log, active, owed, send_window, next_unprocessed}
 use Rattle.h2_log.specs.Windows.{connection_send_window}
 use Rattle.h2_pair.specs.Pairs.{Half}
 use Rattle.h2_pair.specs.Undisturbed.{WasAsked}
-use Rattle.h2_pair.specs.Tokens.{Token, FieldsToken, OctetToken, EndToken, tokens_sent, Message}
+use Rattle.h2_pair.specs.Tokens.{Token, FieldsToken, OctetToken, EndToken, tokens_sent, SentMessage}
 use Rattle.h2_pair.specs.Tokens.{message_tokens}
 
 -- All output of one end was given out and delivered to the other, which owes nothing on any stream
@@ -24,8 +24,8 @@ pub record IsQuiet (client server : Half) : Type 0 where
   pub to_client : IsQuietTo server client
   pub all_reported : next_unprocessed client.log ≡ 0
 
--- A reset of the stream was asked for at either end, or the client was told that the server does
--- not process it.
+-- A reset of the stream was asked for at either end, or the client has reported that the server
+-- does not process it.
 abbrev pub WasReset : (client server : Log) → ℕ → Type 0
 WasReset client server i =
     ((code : ℕ) × WasAsked client.calls i code) ⊎ (((code : ℕ) × WasAsked server.calls i code)
@@ -45,10 +45,13 @@ abbrev pub NoneCouldGo : Log → ℕ → List Token → Type 0
 NoneCouldGo log i [] = Unit {0}
 NoneCouldGo log i (token ∷ tokens) = CouldGo log i token → ⊥
 
--- An end was given the message for the stream and has sent a prefix of it, its head at least; what
--- waits of it cannot go as long as the stream is active.
-pub record IsSending (log : Log) (i : ℕ) (message : Message) : Type 0 where
-  pub waiting : List Token
-  pub sent : message_tokens message ≡ tokens_sent i log.calls ++ waiting
-  pub begun : tokens_sent i log.calls ≢ []
-  pub stuck : active log i ≡ true → NoneCouldGo log i waiting
+-- An end was given the message for the stream and has sent a prefix of it, its head at least; these
+-- tokens of it wait.
+pub record IsSending (log : Log) (i : ℕ) (message : SentMessage) (waiting : List Token) : Type 0
+  where
+    pub sent : message_tokens message ≡ tokens_sent i log.calls ++ waiting
+    pub begun : tokens_sent i log.calls ≢ []
+
+-- What waits cannot go, as long as the stream is active.
+abbrev pub IsStuck : Log → ℕ → List Token → Type 0
+IsStuck log i waiting = active log i ≡ true → NoneCouldGo log i waiting

@@ -51,11 +51,11 @@ tokens_heard i [] = []
 tokens_heard i (event ∷ events) = tokens_heard i events ++ tokens_of_event i event
 
 -- The first list is a prefix of the second.
-abbrev pub IsPrefixOf : (tokens whole : List Token) → Type 0
-IsPrefixOf tokens whole = (rest : List Token) × (whole ≡ tokens ++ rest)
+abbrev pub IsPrefixOfTokens : (tokens whole : List Token) → Type 0
+IsPrefixOfTokens tokens whole = (rest : List Token) × (whole ≡ tokens ++ rest)
 
 -- a message that an end is given for a stream: its head, its body, and its trailers if it has any
-pub record Message : Type 0 where
+pub record SentMessage : Type 0 where
   pub head : List Field
   pub body : List ℕ
   pub trailers : Option (List Field)
@@ -66,7 +66,7 @@ trailers_tokens None = []
 trailers_tokens (Some list) = FieldsToken list ∷ []
 
 -- the tokens of a message
-unfoldable pub message_tokens : Message → List Token
+unfoldable pub message_tokens : SentMessage → List Token
 message_tokens message =
     FieldsToken message.head ∷ (each OctetToken message.body ++ (trailers_tokens message.trailers
     ++ EndToken ∷ []))

@@ -8,7 +8,7 @@ ghost use Rattle.h2_log.specs.Settings.{one_ack};
 ghost use Rattle.h2_log.specs.Log.{acked};
 ghost use Rattle.h2_pair.specs.Pairs.{Half, IsPair};
 ghost use Rattle.h2_pair.specs.Directions.{AreUnderWay};
-ghost use Rattle.h2_pair.specs.HeaderTables.{TablesInStep};
+ghost use Rattle.h2_pair.specs.HeaderTables.{HeaderTablesInStep};
 
 /// Each acknowledgment of SETTINGS that an end has received was awaited, and was reported.
 pub fn acknowledgments_are_awaited()
@@ -27,9 +27,9 @@ pub fn tables_of_a_pair()
     ensures to_server { (client_values server_values : Values) (client server : Half)
         (way : List Item) → IsPair client_values server_values client server
         → AreUnderWay client.log server.log way
-        → TablesInStep client.log server.log way }
+        → HeaderTablesInStep client.log server.log way }
     ensures to_client { (client_values server_values : Values) (client server : Half)
         (way : List Item) → IsPair client_values server_values client server
         → AreUnderWay server.log client.log way
-        → TablesInStep server.log client.log way }
+        → HeaderTablesInStep server.log client.log way }
 {}

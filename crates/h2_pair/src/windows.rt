@@ -4,7 +4,7 @@ ghost use Rattle.std.specs.Prelude.{◌≡◌, ℕ, List, None};
 ghost use Rattle.h2_block.specs.Grouping.{Item};
 ghost use Rattle.h2_log.specs.Acts.{Values};
 ghost use Rattle.h2_pair.specs.Pairs.{Half, IsPair};
-ghost use Rattle.h2_pair.specs.Directions.{AreUnderWay, ConservesConnection, AreBelow, IsCarried};
+ghost use Rattle.h2_pair.specs.Directions.{AreUnderWay, ConservesConnection, BoundsStreams, IsCarried};
 ghost use Rattle.h2_pair.specs.Directions.{ConservesStream};
 
 /// As long as the reader hasn't failed, nothing of the connection's window is lost, in either
@@ -14,13 +14,13 @@ pub fn connection_window_of_a_pair()
         (way back : List Item) (bound : ℕ) → IsPair client_values server_values client server
         → server.log.failed ≡ None
         → AreUnderWay client.log server.log way → AreUnderWay server.log client.log back
-        → AreBelow server.log bound
+        → BoundsStreams server.log bound
         → ConservesConnection client.log server.log way back bound }
     ensures to_client { (client_values server_values : Values) (client server : Half)
         (way back : List Item) (bound : ℕ) → IsPair client_values server_values client server
         → client.log.failed ≡ None
         → AreUnderWay server.log client.log way → AreUnderWay client.log server.log back
-        → AreBelow client.log bound
+        → BoundsStreams client.log bound
         → ConservesConnection server.log client.log way back bound }
 {}
 

@@ -15,7 +15,7 @@ use Rattle.h2_log.proofs.examples.Words.{acknowledgment, answered, default_value
 use Rattle.h2_log.proofs.examples.Words.{short_answer, short_request}
 use Rattle.h2_end_laws.specs.Sendings.{lists_accepted}
 use Rattle.h2_pair.specs.Directions.{AreUnderWay}
-use Rattle.h2_pair.specs.HeaderTables.{TablesInStep, block_count}
+use Rattle.h2_pair.specs.HeaderTables.{HeaderTablesInStep, block_count}
 use Rattle.h2_pair.proofs.examples.Steps.{Pair, new_pair}
 use Rattle.h2_pair.proofs.examples.Moves.{client_call, server_call, to_client, to_server}
 use Rattle.h2_pair.proofs.examples.Moves.{block_to_client, block_to_server, after_move, after_moves}
@@ -149,7 +149,7 @@ tables = (refl, refl, refl, refl, refl, refl, refl, refl, refl, refl, refl)
 
 -- Both answers decode in order, the first with the limit of 4,096 and the other with that of 0.
 tables_while_both_are_under_way :
-    TablesInStep both_answered.server.log both_answered.client.log way_of_both
+    HeaderTablesInStep both_answered.server.log both_answered.client.log way_of_both
 unfolding computing after_moves after_move lists_accepted block_count
 tables_while_both_are_under_way =
     record {
@@ -169,7 +169,7 @@ tables_while_both_are_under_way =
 
 -- Once the first was read, the other one does.
 tables_while_one_is_under_way :
-    TablesInStep one_delivered.server.log one_delivered.client.log way_of_one
+    HeaderTablesInStep one_delivered.server.log one_delivered.client.log way_of_one
 unfolding computing after_moves after_move lists_accepted block_count
 tables_while_one_is_under_way =
     record {
@@ -182,7 +182,7 @@ tables_while_one_is_under_way =
 
 -- After the change back a block raises the table's maximum again.
 tables_after_the_change_back :
-    TablesInStep ended_pair.server.log ended_pair.client.log way_of_end
+    HeaderTablesInStep ended_pair.server.log ended_pair.client.log way_of_end
 unfolding computing after_moves after_move lists_accepted block_count
 tables_after_the_change_back =
     record {

@@ -17,7 +17,7 @@ use Rattle.h2_log.proofs.examples.Words.{acknowledgment, default_values, get_blo
 use Rattle.h2_log.proofs.examples.Words.{short_answer, short_request}
 use Rattle.h2_end_laws.specs.Sendings.{lists_accepted}
 use Rattle.h2_pair.specs.Directions.{AreUnderWay}
-use Rattle.h2_pair.specs.HeaderTables.{TablesInStep, block_count}
+use Rattle.h2_pair.specs.HeaderTables.{HeaderTablesInStep, block_count}
 use Rattle.h2_pair.proofs.examples.Steps.{Pair, Comes, new_pair, client_calls, server_calls}
 use Rattle.h2_pair.proofs.examples.Steps.{client_takes, server_takes, client_takes_block}
 use Rattle.h2_pair.proofs.examples.Steps.{server_takes_block, new_pair_comes, client_calls_comes}
@@ -101,7 +101,7 @@ tables = (refl, refl, refl, refl, refl)
 
 -- The limit is in force from the acknowledgment on, and so where the block is read.
 tables_while_under_way :
-    TablesInStep answer_on_pipe.server.log answer_on_pipe.client.log way_of_answer
+    HeaderTablesInStep answer_on_pipe.server.log answer_on_pipe.client.log way_of_answer
 unfolding computing lists_accepted block_count
 tables_while_under_way =
     record {
@@ -113,7 +113,7 @@ tables_while_under_way =
     }
 
 tables_once_delivered :
-    TablesInStep answer_delivered.server.log answer_delivered.client.log []
+    HeaderTablesInStep answer_delivered.server.log answer_delivered.client.log []
 unfolding computing lists_accepted block_count
 tables_once_delivered =
     record {
