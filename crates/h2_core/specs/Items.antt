@@ -48,7 +48,7 @@ pub record ItemTaken (e : End) (decoded : Option Decoded) (item : Item) (list : 
 
 -- Whether a step may take memory for an item with this verdict: where the item is replied to, a
 -- stream is opened, reset or over, or credit is returned for DATA that is discarded. A fault of the
--- connection takes none, so that want of memory hides none.
+-- connection takes none, so that being out of memory hides none.
 abbrev pub needs_memory : Verdict → Item → Bool
 needs_memory (StreamFault code) item = true
 needs_memory NoEvent (alone (DataFrame stream end octets pad)) = true

@@ -30,7 +30,8 @@ use Rattle.h2_log_laws.proofs.LogHistory.{history_of}
 use Rattle.h2_end_laws.specs.Sendings.{lists_accepted}
 use Rattle.h2_pair.specs.Undisturbed.{WasAsked, LeavesUp}
 use Rattle.h2_pair.proofs.FaultsInvariant.{LogIsClean, clean_moved, clean_sent, clean_unreturned}
-use Rattle.h2_pair.proofs.FaultsInvariant.{writes_clean, none_in, one_in, first_in, later_in, first_or_later}
+use Rattle.h2_pair.proofs.FaultsInvariant.{writes_clean, none_in, one_in, first_in, later_in}
+use Rattle.h2_pair.proofs.FaultsInvariant.{first_or_later}
 
 -- There is no reset among the items.
 abbrev NoResets : List Item → Type 0

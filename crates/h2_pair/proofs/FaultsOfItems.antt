@@ -98,7 +98,8 @@ pub item_decodable : (writer reader : Log) (newer : List Item) (item : Item)
     (decoded : Option Decoded)
     → ((fields : List Field) → Contains (lists_accepted writer.calls) fields
     → list_size fields ≤ max_list)
-    → HeaderTablesInStep writer reader (newer ++ item ∷ []) → IsDecodedIn reader decoded (completes item)
+    → HeaderTablesInStep writer reader (newer ++ item ∷ [])
+    → IsDecodedIn reader decoded (completes item)
     → IsDecodable decoded item
 item_decodable writer reader newer (alone frame) decoded small tables none = none
 item_decodable writer reader newer (block stream end octets) decoded small tables sees =

@@ -72,7 +72,8 @@ record KeepProcessed (processed : ℕ) (sent items : List Item) : Type 0 where
 -- Items that keep it.
 below_more : (processed : ℕ) (sent items : List Item) → KeepProcessed processed sent items
     → ((i : ℕ) → list_any (speaks i) sent ≡ true → IsStillProcessed processed i sent)
-    → (i : ℕ) → list_any (speaks i) (items ++ sent) ≡ true → IsStillProcessed processed i (items ++ sent)
+    → (i : ℕ) → list_any (speaks i) (items ++ sent) ≡ true
+    → IsStillProcessed processed i (items ++ sent)
 below_more processed sent items fit before i here =
     let old : IsStillProcessed processed i sent = elim (any_either (speaks i) items sent here) [
       | inl now ↦ fit.spoken i now
@@ -292,19 +293,22 @@ opens_nothing log fields end server none =
 record IsServer (log : Log) : Type 0 where
   pub server : log.role ≡ Server
   pub up : log.failed ≡ None
-  pub kept : (i : ℕ) → active log i ≡ true → IsStillProcessed (greatest_processed log.reported) i log.sent
+  pub kept : (i : ℕ) → active log i ≡ true
+      → IsStillProcessed (greatest_processed log.reported) i log.sent
 
 stream_fits : (log : Log) (id : ℕ) (items : List Item) → IsServer log → active log id ≡ true
     → IsData id items → KeepProcessed (greatest_processed log.reported) log.sent items
 stream_fits log id items server alive is =
     record {
-      spoken = λ i here. subst (λ (j : ℕ). IsStillProcessed (greatest_processed log.reported) j log.sent)
+      spoken = λ i here. subst (λ (j : ℕ). IsStillProcessed (greatest_processed log.reported) j
+          log.sent)
           (is.only i here) (server.kept id alive);
       above = λ i low. is.stays i;
     }
 
 -- GOAWAY names the last stream that was processed.
-goaway_fits : (log : Log) → log.role ≡ Server → KeepProcessed (greatest_processed log.reported) log.sent
+goaway_fits : (log : Log) → log.role ≡ Server
+    → KeepProcessed (greatest_processed log.reported) log.sent
     (alone (GoAway (last_processed log) 0 []) ∷ [])
 unfolding speaks is_goaway_below last_processed
 goaway_fits log server =

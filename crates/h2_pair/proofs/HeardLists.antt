@@ -112,7 +112,8 @@ next_list log octets stream end (Some decoded) lists under_way read accepted fou
 pub next_lists : (writer reader : Log) (newer : List Item) (item : Item)
     (decoded : Option Decoded) (lists later : List (List Field))
     → lists_accepted writer.calls ≡ later ++ lists → length lists ≡ block_count reader.received
-    → HeaderTablesInStep writer reader (newer ++ item ∷ []) → IsDecodedIn reader decoded (completes item)
+    → HeaderTablesInStep writer reader (newer ++ item ∷ [])
+    → IsDecodedIn reader decoded (completes item)
     → (rest : List (List Field))
     × (lists_accepted writer.calls ≡ rest ++ lists_after decoded item lists)
 next_lists writer reader newer (alone frame) decoded lists later accepted many tables sees =

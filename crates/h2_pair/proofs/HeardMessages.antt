@@ -201,7 +201,8 @@ abbrev before_end : SentMessage → List Token
 before_end message =
     FieldsToken message.head ∷ (each OctetToken message.body ++ trailers_tokens message.trailers)
 
-message_ends : (message : SentMessage) → message_tokens message ≡ before_end message ++ EndToken ∷ []
+message_ends : (message : SentMessage)
+    → message_tokens message ≡ before_end message ++ EndToken ∷ []
 unfolding message_tokens
 message_ends message =
     ap (λ (line : List Token). FieldsToken message.head ∷ line)

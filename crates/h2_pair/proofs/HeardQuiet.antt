@@ -286,7 +286,8 @@ pub server_hears_whole : (client_values server_values : Values) (client server :
     → IsUndisturbed pair → IsQuiet client server → (WasReset client.log server.log i → ⊥)
     → IsSending client.log i message waiting → IsStuck client.log i waiting
     → tokens_heard i server.log.reported ≡ message_tokens message
-server_hears_whole client_values server_values client server i message waiting pair calm quiet unreset
+server_hears_whole client_values server_values client server i message waiting pair calm quiet
+    unreset
     sending stuck =
     let settled = pair_settled client_values server_values client server i pair calm quiet unreset
     in
@@ -304,7 +305,8 @@ pub client_hears_whole : (client_values server_values : Values) (client server :
     → IsUndisturbed pair → IsQuiet client server → (WasReset client.log server.log i → ⊥)
     → IsSending server.log i message waiting → IsStuck server.log i waiting
     → tokens_heard i client.log.reported ≡ message_tokens message
-client_hears_whole client_values server_values client server i message waiting pair calm quiet unreset
+client_hears_whole client_values server_values client server i message waiting pair calm quiet
+    unreset
     sending stuck =
     let settled = pair_settled client_values server_values client server i pair calm quiet unreset
     in

@@ -446,7 +446,8 @@ tokens_carried i role values _ (took_some {log = log} is takes octets unparsed r
 tokens_carried i role values _ (took_one {log = log} is takes octets frame decoded read sees) =
     frame_told i (used log octets []) decoded frame (tokens_carried i role values log is)
 tokens_carried i role values _ (met_fault {log = log} is takes octets fault at) =
-    failure_told i (wire_fault_code fault) _ (used log octets []) (tokens_carried i role values log is)
+    failure_told i (wire_fault_code fault) _ (used log octets []) (tokens_carried i role values
+    log is)
 tokens_carried i role values _ (ran_out_of_memory {log = log} is up octets may) =
     failure_told i InternalError _ (used log octets []) (tokens_carried i role values log is)
 tokens_carried i role values _ (reported_one {log = log} is up some) =

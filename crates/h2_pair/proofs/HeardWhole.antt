@@ -292,7 +292,8 @@ given_whole i role values writer reader log all is =
     ∙ append-nil (tokens_of_items i reader.received is.lists)
 
 -- A prefix of nothing is nothing.
-none_heard : (tokens whole : List Token) → whole ≡ [] → IsPrefixOfTokens tokens whole → tokens ≡ whole
+none_heard : (tokens whole : List Token) → whole ≡ [] → IsPrefixOfTokens tokens whole
+    → tokens ≡ whole
 none_heard [] whole none prefix = sym none
 none_heard (token ∷ tokens) whole none (rest, is) = absurd (nothing_more (sym none ∙ is))
   where

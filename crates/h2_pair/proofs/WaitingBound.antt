@@ -100,7 +100,8 @@ writer_lies writer reader {new_writer} {new_reader} ends step lies =
       octets = carries_is_kept.by_writer writer reader ends step lies.octets;
       items = subst (λ (items : List Item). LieIn (before new_writer.log.role)
           new_writer.log.given items) (sym (reader_same writer reader step))
-          (subst (λ (role : Role). LieIn (before role) new_writer.log.given reader.log.received) role
+          (subst (λ (role : Role). LieIn (before role) new_writer.log.given reader.log.received)
+          role
           (lie_more (before writer.log.role) writer.log.given new_writer.log.given
           reader.log.received (writer_gives writer reader step) lies.items));
     }
@@ -228,7 +229,8 @@ waits_at writer reader way back ends lies up under_way returns =
     let left : replies_left (before writer.log.role) writer.log.given writer.log.sent
     ≤ octets_by_kind (total one_ack way) (total one_answer way) (total one_reset way)
     + replies_left (before writer.log.role) writer.log.given reader.log.received =
-    rw under_way (left_of_both (before writer.log.role) writer.log.given way reader.log.received can)
+    rw under_way (left_of_both (before writer.log.role) writer.log.given way reader.log.received
+    can)
     in
     let few = few_wait writer reader way back ends up under_way returns in
     omega (

@@ -1,5 +1,6 @@
 -- What an end has received lies in what the other has given out.
-use Rattle.std.proofs.Common.{◌≡◌, ◌⊎◌, inl, inr, ℕ, ◌+◌, ◌≤◌, not, Bool, List, [], ◌∷◌, ◌++◌, length}
+use Rattle.std.proofs.Common.{◌≡◌, ◌⊎◌, inl, inr, ℕ, ◌+◌, ◌≤◌, not, Bool, List, [], ◌∷◌, ◌++◌}
+use Rattle.std.proofs.Common.{length}
 use Rattle.std.proofs.Common.{take, drop, None, refl, sym, ap, ◌∙◌, arith, subst, append_assoc}
 use Rattle.std.proofs.Common.{length-append, length-take, append-nil, Option, true, false, nat_le}
 use Rattle.std.proofs.Common.{if◌then◌else◌}
@@ -128,7 +129,8 @@ written_parts role log way received same sent written =
     (encoding_of_items max_frame_size_sent received) (encoding_of_items max_frame_size_sent way))
 
 -- The items that an end that is up has received lie in the octets that it has used.
-pub received_lie : (role other : Role) (values others : Values) (writer reader : Log) (rest : List ℕ)
+pub received_lie : (role other : Role) (values others : Values) (writer reader : Log) (rest : List
+    ℕ)
     → is_server other ≡ not (is_server role) → IsLog role values writer
     → IsLog other others reader → writer.written ≡ reader.input ++ rest → reader.failed ≡ None
     → LieIn (length (expected_preface (not (is_server role)))) (length reader.input) reader.received
@@ -142,7 +144,8 @@ received_lie role other values others writer reader rest opposite wrote came joi
     (subst (λ (items : List Item). AllByRecursion (IsSendable max_frame_size_sent) items) way.1
     (written_sendable role values writer wrote)) in
     let parts = written_parts role writer way.0 reader.received
-    (stream_of_log role values writer wrote).role way.1 (turns_report role values writer wrote).items
+    (stream_of_log role values writer wrote).role way.1 (turns_report role values writer
+    wrote).items
     in
     elim (overlap reader.input rest (expected_preface (not (is_server role))
     ++ encoding_of_items max_frame_size_sent reader.received)

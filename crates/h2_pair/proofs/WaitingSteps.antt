@@ -72,7 +72,8 @@ has_space log space = omega (arith, space)
 
 -- Items are sent where the output isn't full.
 pub fits_small : (before : ℕ) (log : Log) (items : List Item)
-    → length log.written < log.given + full_output → size_of items ≤ 131113 → Fits before log → Fits before (with_sent log items)
+    → length log.written < log.given + full_output → size_of items ≤ 131113 → Fits before log
+    → Fits before (with_sent log items)
 unfolding with_sent
 fits_small before log [] space small fits = fits
 fits_small before log (item ∷ items) space small fits =

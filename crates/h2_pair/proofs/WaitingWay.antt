@@ -103,11 +103,18 @@ settings_wait role received _ (writes {sent = sent} item history allowed) =
           let may = (rw is at allowed).1 in
           let one : one_settings item ≡ 1 = rw is (settings_one pairs) in
           omega (arith, count_next item sent, may.none_waits, settings_one pairs, one)
-      | inr none ↦ omega (arith, count_next item sent, none, settings_wait role received sent history)
+      | inr none ↦ omega (
+        arith,
+        count_next item sent,
+        none,
+        settings_wait role received sent
+            history,
+      )
     ]
 
 -- And one PING more than were answered, by the item.
-ping_item : (role : Role) (received sent : List Item) (item : Item) → Allowed role received sent item
+ping_item : (role : Role) (received sent : List Item) (item : Item)
+    → Allowed role received sent item
     → total one_ping sent ≤ total one_answer received + 1
     → one_ping item + total one_ping sent ≤ total one_answer received + 1
 unfolding one_ping

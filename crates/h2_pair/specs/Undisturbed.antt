@@ -17,8 +17,8 @@ LeavesUp log (Refuse id code) =
     refusal_of (log_view log) (Refuse id code) ≡ None → refuse_fault (log_view log) code ≡ None
 LeavesUp log act = Unit {0}
 
--- The connection does not fail for want of memory in the step, nor by the layer above. A call may
--- be refused for want of memory.
+-- The connection does not fail in the step because it is out of memory, nor by the layer above. A
+-- call may be refused when out of memory.
 unfoldable pub IsUndisturbedStep : (one other : Half) → {new_one new_other : Half}
     → HalfStep one other new_one new_other → Type 0
 IsUndisturbedStep one other (calls act answer typed may) =

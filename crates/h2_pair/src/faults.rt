@@ -18,7 +18,8 @@ pub fn waiting_of_a_pair()
         → waiting server.log ≤ 210000 }
 {}
 
-/// Where no connection failed for want of memory or by the layer above, neither end has failed,
+/// Where no connection failed because it was out of memory or by the layer above, neither end has
+/// failed,
 /// none has reset a stream for a fault of the other, and each reset was asked for (RFC 9113,
 /// section 5.4).
 pub fn no_faults_of_a_pair()

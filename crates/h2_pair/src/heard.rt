@@ -44,7 +44,8 @@ pub fn all_is_heard()
 {}
 
 /// Once an undisturbed pair is quiet, and what waits of a message could not go, the message was
-/// heard whole on its stream, unless that was reset: in a quiet pair no window holds it back. That a
+/// heard whole on its stream, unless that was reset: in a quiet pair no window holds it back. That
+/// a
 /// pair becomes quiet isn't promised.
 pub fn quiet_messages_are_whole()
     ensures at_server { (client_values server_values : Values) (client server : Half) (i : ℕ)

@@ -4,7 +4,8 @@ ghost use Rattle.std.specs.Prelude.{◌≡◌, ℕ, List, None};
 ghost use Rattle.h2_block.specs.Grouping.{Item};
 ghost use Rattle.h2_log.specs.Acts.{Values};
 ghost use Rattle.h2_pair.specs.Pairs.{Half, IsPair};
-ghost use Rattle.h2_pair.specs.Directions.{AreUnderWay, ConservesConnection, BoundsStreams, IsCarried};
+ghost use Rattle.h2_pair.specs.Directions.{AreUnderWay, ConservesConnection, BoundsStreams};
+ghost use Rattle.h2_pair.specs.Directions.{IsCarried};
 ghost use Rattle.h2_pair.specs.Directions.{ConservesStream};
 
 /// As long as the reader hasn't failed, nothing of the connection's window is lost, in either

@@ -13,7 +13,8 @@ use std::io::{Read, Write};
 
 /// Runs `h2 replay` with the words after `replay`: hands the input to one end of a new connection,
 /// and prints a line for each event, then the fault with which the connection fails, if it does,
-/// and then all that the end sends. Where the first octets aren't the preface that a server expects,
+/// and then all that the end sends. Where the first octets aren't the preface that a server
+/// expects,
 /// a line on standard error names the option that is likely missing.
 ///
 /// The words are checked before anything is read. Lines are written at the end of each piece that

@@ -2,7 +2,8 @@
 //!
 //! [`Cutter::cut`] takes pieces of any length, and lends each frame once it is complete: from the
 //! piece, or from the cutter where it was cut in two. [`Cutter::advance`] and [`Cutter::frame`] are
-//! its two halves, for whoever changes something in between. The frames that `cut` answers are those
+//! its two halves, for whoever changes something in between. The frames that `cut` answers are
+//! those
 //! of the joined octets, and a fault comes at its place in them, however they were cut into pieces.
 #![tactic(auto)]
 

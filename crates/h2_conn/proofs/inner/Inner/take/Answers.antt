@@ -22,7 +22,8 @@ invariant_of-self c =
       cuts = λ going. c.args.self.now.cuts up;
     }
 
-pub returns-in_err-close_unprocessed-clause-takes : goal.returns-in_err-close_unprocessed-clause-takes
+pub returns-in_err-close_unprocessed-clause-takes :
+    goal.returns-in_err-close_unprocessed-clause-takes
 returns-in_err-close_unprocessed-clause-takes c =
     let answer = err_from_is_err_and c.from_residual.result c.from_residual.ensures.1 in
     rw (answer.1, answer.2) (λ octets body values log p.
