@@ -118,7 +118,7 @@ impl Conn {
 
     /// Changes this end's settings (section 6.5): SETTINGS with the header table's limit, the
     /// initial window and, at a server, the number of streams joins the output. The values hold
-    /// from the peer's acknowledgment on, of which [`Event::Acked`] tells.
+    /// from the peer's acknowledgment on, which [`Event::Acked`] reports.
     ///
     /// # Errors
     ///

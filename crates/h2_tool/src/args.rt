@@ -132,7 +132,9 @@ preface, or server [default: client]";
 /// The lines that `replay` prints, how it ends, how octets are had, and an example.
 const EVENTS_AND_STATUSES: &str =
     r"The octets are handed to one end of a new connection, which has the default
-settings and makes no call of its own. Each event has a line:
+settings and makes no call of its own: it answers no request, opens no stream
+and releases no octets. So the 101st request is reset with code 7, a body above
+65535 octets is a fault, and so is a response at a client. Each event has a line:
   fields ID          a field block has come on stream ID; `end` after it, as
                      after `data`: nothing follows on the stream
     name: value      a header field, as `h2 show` prints it
@@ -141,7 +143,7 @@ settings and makes no call of its own. Each event has a line:
   reset ID code=N ours
                      this end has reset the stream, for a fault of the peer;
                      `theirs`: the peer has
-  goaway last=N code=N
+  goaway last=N code=M
                      the peer takes no streams above N
   unprocessed ID, pong OCTETS
                      of a stream or a PING of this end, which makes none here
