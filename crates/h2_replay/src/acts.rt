@@ -37,7 +37,7 @@ pub enum Act {
     Release {
         /// The stream.
         id: u32,
-        /// How many octets are given back.
+        /// How many octets are released.
         count: u32,
     },
     /// [`Conn::reset`](h2_conn::Conn::reset).
