@@ -1,12 +1,13 @@
 //! The calls of a client.
 
+use super::end::End;
 use super::frames::*;
 use super::notes::Note;
 use super::steps::{Step, first_undone};
 use crate::{Refusal, Role};
+use std::alloc::Global;
 
-/// What a client does that has taken its peer's opening and opened stream 1, and where its output
-/// was taken away.
+/// What a client does.
 const CALLS: &[&[Step]] = &[
     // It opens with its preface, and opens streams with odd numbers.
     &[
@@ -15,7 +16,7 @@ const CALLS: &[&[Step]] = &[
         Step::Writes(&[REQUEST]),
         Step::Opens(false, Ok(3)),
     ],
-    // Windows hold a body back: DATA of 16,384 octets, and a last one of 16,383, are sent.
+    // Windows hold a body back: three DATA of 16,384 octets and one of 16,383 are sent.
     &[
         Step::Opens(false, Ok(1)),
         Step::GivesOut,
@@ -31,6 +32,13 @@ const CALLS: &[&[Step]] = &[
         Step::Sends(1, 4_465, true, Ok(4_465)),
         Step::WritesAt(0, LAST_HEAD),
         Step::Sends(1, 1, false, Err(Refusal::Ended)),
+    ],
+    // The third of these DATA has 16,384 octets too.
+    &[
+        Step::Opens(false, Ok(1)),
+        Step::GivesOut,
+        Step::Sends(1, 70_000, true, Ok(65_535)),
+        Step::WritesAt(2 * (9 + 16_384), FULL_HEAD),
     ],
     // SETTINGS lower a window below zero, and DATA without octets needs none.
     &[
@@ -96,4 +104,29 @@ const CALLS: &[&[Step]] = &[
 #[test]
 fn calls_of_a_client(rt: HostRuntime) {
     assert_eq!(rt; first_undone(rt.alloc(), Role::Client, CALLS), None);
+}
+
+/// Whether a client that has filled both windows sends the rest of a body after updates of them that
+/// are cut in two.
+fn sends_the_rest(alloc: Global, front: &[u8], back: &[u8]) -> bool {
+    let Some(mut end) = End::new(alloc, Role::Client, 65_535) else {
+        return false;
+    };
+    end.feed(SETTINGS, usize::MAX)
+        && end.open(false) == Ok(1)
+        && end.data(1, 65_535, false) == Ok(65_535)
+        && end.has_at(9, &[])
+        && end.feed(front, usize::MAX)
+        && end.feed(back, 1)
+        && end.data(1, 4_465, true) == Ok(4_465)
+        && end.has_at(0, LAST_HEAD)
+}
+
+#[test]
+fn updates_cut_anywhere_let_the_rest_through(rt: HostRuntime) {
+    for cut in 0..UPDATES.len() {
+        let front = UPDATES.get(..cut).unwrap_or(&[]);
+        let back = UPDATES.get(cut..).unwrap_or(&[]);
+        assert!(rt; sends_the_rest(rt.alloc(), front, back), "{cut}");
+    }
 }

@@ -91,6 +91,20 @@ impl End {
         false
     }
 
+    /// Requests that go on open so many streams, from stream 1 on; whether all is reported, of which
+    /// nothing is kept.
+    pub(crate) fn feed_requests(&mut self, count: u8) -> bool {
+        for place in 0..count {
+            let id = place.wrapping_mul(2).wrapping_add(1);
+            if !self.feed(&[0, 0, 1, 1, 4, 0, 0, 0, id, 0x82], usize::MAX) {
+                return false;
+            }
+        }
+        let all = self.notes.len() == usize::from(count);
+        self.notes.clear();
+        all
+    }
+
     /// The last that was reported is a fault.
     pub(crate) fn has_failed(&self) -> bool {
         matches!(self.notes.last(), Some(Note::Fault(_)))

@@ -163,3 +163,15 @@ pub(crate) const CHANGED_SETTINGS: &[u8] = b"\
 /// PRIORITY of stream 1.
 pub(crate) const PRIORITY: &[u8] = b"\
     \x00\x00\x05\x02\x00\x00\x00\x00\x01\x00\x00\x00\x00\x10";
+
+/// Stream 201 is refused.
+pub(crate) const REFUSED_201: &[u8] = b"\x00\x00\x04\x03\x00\x00\x00\x00\xc9\x00\x00\x00\x07";
+
+/// Four octets of stream 201.
+pub(crate) const DATA_201: &[u8] = b"\x00\x00\x04\x00\x00\x00\x00\x00\xc9\x61\x62\x63\x64";
+
+/// The field block of a request on stream 201.
+pub(crate) const HEAD_201: &[u8] = b"\x00\x00\x03\x01\x04\x00\x00\x00\xc9\x82\x86\x84";
+
+/// A head of DATA with 16,384 octets of stream 1.
+pub(crate) const FULL_HEAD: &[u8] = b"\x00\x40\x00\x00\x00\x00\x00\x00\x01";

@@ -37,7 +37,7 @@ const ROWS: &[Row] = &[
     Row {
         role: Role::Server,
         window: 65_535,
-        input: &[SETTINGS, REQUEST],
+        input: &[CLIENT_SETTINGS, REQUEST],
         notes: &[Note::Fields(1, 4, true)],
         output: &[ACK],
     },

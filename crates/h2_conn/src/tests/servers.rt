@@ -79,6 +79,27 @@ const CALLS: &[&[Step]] = &[
         Step::Pings(Err(Refusal::Closed)),
         Step::Writes(&[INTERNAL_ERROR_1]),
     ],
+    // An increment can bring a window to the greatest.
+    &[
+        Step::Takes(PREFACE),
+        Step::Takes(SETTINGS),
+        Step::Takes(HEAD),
+        Step::Takes(UPDATE_1_TO_GREATEST),
+        Step::HasRoom(1, Some(2_147_483_647)),
+    ],
+    // A stream above the limit is refused; its DATA is dropped, and its window returned.
+    &[
+        Step::Takes(PREFACE),
+        Step::Takes(SETTINGS),
+        Step::TakesRequests(100),
+        Step::GivesOut,
+        Step::Takes(HEAD_201),
+        Step::Reports(&[Note::Reset(201, 7, true)]),
+        Step::Writes(&[REFUSED_201]),
+        Step::Takes(DATA_201),
+        Step::Reports(&[]),
+        Step::Writes(&[RELEASED]),
+    ],
     // The octets of a partial frame are held.
     &[
         Step::Takes(PREFACE),

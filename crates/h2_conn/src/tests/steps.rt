@@ -9,6 +9,8 @@ use std::alloc::Global;
 pub(crate) enum Step {
     /// Octets come.
     Takes(&'static [u8]),
+    /// Requests open so many streams.
+    TakesRequests(u8),
     /// This was reported since the last such step.
     Reports(&'static [Note]),
     /// All output is taken away.
@@ -55,6 +57,7 @@ pub(crate) enum Step {
 fn does(end: &mut End, step: &Step) -> bool {
     match *step {
         Step::Takes(octets) => end.feed(octets, usize::MAX),
+        Step::TakesRequests(count) => end.feed_requests(count),
         Step::Opens(ends, answer) => end.open(ends) == answer,
         Step::Responds(id, answer) => end.respond(id) == answer,
         Step::Sends(id, count, ends, answer) => end.data(id, count, ends) == answer,
