@@ -106,8 +106,8 @@ fn calls_of_a_client(rt: HostRuntime) {
     assert_eq!(rt; first_undone(rt.alloc(), Role::Client, CALLS), None);
 }
 
-/// Whether a client that has filled both windows sends the rest of a body after updates of them that
-/// are cut in two.
+/// Whether a client that has filled both windows sends the rest of a body after updates of them,
+/// which are cut in two.
 fn sends_the_rest(alloc: Global, front: &[u8], back: &[u8]) -> bool {
     let Some(mut end) = End::new(alloc, Role::Client, 65_535) else {
         return false;

@@ -91,8 +91,8 @@ impl End {
         false
     }
 
-    /// Requests that go on open so many streams, from stream 1 on; whether all is reported, of which
-    /// nothing is kept.
+    /// Requests that go on open so many streams, from stream 1 on. It answers whether each is
+    /// reported, and keeps no note of them.
     pub(crate) fn feed_requests(&mut self, count: u8) -> bool {
         for place in 0..count {
             let id = place.wrapping_mul(2).wrapping_add(1);
