@@ -9,7 +9,7 @@ const ENTRY: u32 = 34;
 const METHOD_GET: u64 = 42;
 
 /// The table of the peer's blocks.
-#[derive(Clone, Copy, Debug)]
+#[derive(Clone, Copy)]
 pub(crate) struct Decoding {
     pub(crate) maximum: u32,
     /// The greatest maximum that is allowed.
@@ -56,7 +56,7 @@ impl Decoding {
 }
 
 /// A list of this end's.
-#[derive(Clone, Copy, Debug)]
+#[derive(Clone, Copy)]
 pub(crate) enum OwnList {
     /// `:method` GET.
     Get,
@@ -100,7 +100,7 @@ fn length_of_integer(value: usize, full: usize) -> usize {
 }
 
 /// The table of this end's blocks: limits alone, since no entry is added.
-#[derive(Clone, Copy, Debug)]
+#[derive(Clone, Copy)]
 pub(crate) struct Encoding {
     maximum: u32,
     limit: u32,

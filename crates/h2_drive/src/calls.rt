@@ -15,7 +15,7 @@ const MAX_DATA: i64 = 65_536;
 const MAX_PAYLOAD: usize = 16_384;
 
 /// A call.
-#[derive(Clone, Copy, Debug)]
+#[derive(Clone, Copy)]
 pub(crate) enum Call {
     Open { list: OwnList, end: bool },
     Fields { id: u32, list: OwnList, end: bool },
@@ -158,15 +158,21 @@ impl Model {
             }
             Call::ChangeSettings { config } => {
                 marks.reach(Mark::SettingsChanged);
-                self.write(match self.role {
-                    Role::Client => 12,
-                    Role::Server => 18,
-                });
-                self.asked = Some(config);
+                self.change_settings(config);
                 Ok(0)
             }
             Call::PutOut { count } => Ok(self.put_out(count, marks)),
         }
+    }
+
+    /// Two values at a client, three at a server.
+    fn change_settings(&mut self, config: Config) {
+        let length = match self.role {
+            Role::Client => 12,
+            Role::Server => 18,
+        };
+        self.write(length);
+        self.asked = Some(config);
     }
 
     fn open_stream(&mut self, list: OwnList, end: bool) -> Result<usize, Halt> {

@@ -5,7 +5,7 @@ use crate::random::Random;
 use h2_conn::{BadConfig, Config, Role};
 
 /// What a connection is driven to.
-#[derive(Clone, Copy, Debug, PartialEq, Eq)]
+#[derive(Clone, Copy, PartialEq, Eq)]
 pub(crate) enum Mood {
     /// Mostly what is allowed.
     Calm,
@@ -22,7 +22,7 @@ pub(crate) enum Mood {
 }
 
 impl Mood {
-    /// The mood of a connection, by its number: the long ones are few, and each comes at both roles.
+    /// The mood of a connection, by its number: the long ones are few, and come at both roles.
     pub(crate) fn of(number: u32) -> Mood {
         match number {
             10 | 31 | 52 | 73 => Mood::Resets,
@@ -46,7 +46,7 @@ impl Mood {
 }
 
 /// What is done.
-#[derive(Clone, Copy, Debug, PartialEq, Eq)]
+#[derive(Clone, Copy)]
 pub(crate) enum Kind {
     Frame,
     Poll,

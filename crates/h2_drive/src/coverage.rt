@@ -1,7 +1,7 @@
 //! What a drive has reached.
 
 /// A rule that was decided.
-#[derive(Clone, Copy, Debug, PartialEq, Eq)]
+#[derive(Clone, Copy)]
 pub(crate) enum Mark {
     BadPreface,
     Malformed,

@@ -46,7 +46,7 @@ pub enum Stop {
 }
 
 /// Why a step has stopped.
-#[derive(Debug, Drop)]
+#[derive(Drop)]
 enum Halted {
     Memory,
     Differs(Difference),

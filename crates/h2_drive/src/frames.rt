@@ -3,7 +3,7 @@
 use std::alloc::AllocError;
 
 /// A field block of the peer (RFC 7541, section 6).
-#[derive(Clone, Copy, Debug)]
+#[derive(Clone, Copy)]
 pub(crate) enum Block {
     /// So many times `:method` GET, indexed.
     Indexed(u32),
@@ -20,14 +20,14 @@ pub(crate) enum Block {
 }
 
 /// Up to three pairs of SETTINGS.
-#[derive(Clone, Copy, Debug)]
+#[derive(Clone, Copy)]
 pub(crate) struct Pairs {
     pub(crate) all: [(u16, u32); 3],
     pub(crate) count: usize,
 }
 
 /// A frame of the peer.
-#[derive(Clone, Copy, Debug)]
+#[derive(Clone, Copy)]
 pub(crate) enum Frame {
     Data {
         stream: u32,
@@ -253,6 +253,12 @@ fn append_settings(pairs: &Pairs, out: &mut Vec<u8>) -> Result<(), AllocError> {
     Ok(())
 }
 
+/// Appends PING, or its answer.
+fn append_ping(ack: bool, octets: [u8; 8], out: &mut Vec<u8>) -> Result<(), AllocError> {
+    append_head(8, 6, flag(ack, 0x01), 0, out)?;
+    out.extend_from_slice(&octets)
+}
+
 impl Frame {
     /// Appends the frame.
     pub(crate) fn append_to(&self, out: &mut Vec<u8>) -> Result<(), AllocError> {
@@ -283,10 +289,7 @@ impl Frame {
             }
             Frame::Settings { pairs } => append_settings(&pairs, out),
             Frame::Ack => append_head(0, 4, 0x01, 0, out),
-            Frame::Ping { ack, octets } => {
-                append_head(8, 6, flag(ack, 0x01), 0, out)?;
-                out.extend_from_slice(&octets)
-            }
+            Frame::Ping { ack, octets } => append_ping(ack, octets, out),
             Frame::GoAway { last, code } => {
                 append_head(13, 7, 0, 0, out)?;
                 out.extend_from_slice(&(last & GREATEST).to_be_bytes())?;

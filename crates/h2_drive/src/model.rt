@@ -20,7 +20,7 @@ const MOST: usize = 262_144;
 pub(crate) const RESETS: u32 = 1_000;
 
 /// Why a reckoning stops.
-#[derive(Clone, Copy, Debug)]
+#[derive(Clone, Copy)]
 pub(crate) enum Halt {
     /// The connection fails with this code.
     Fault(u32),
@@ -35,7 +35,7 @@ impl From<AllocError> for Halt {
 }
 
 /// What is to be reported.
-#[derive(Clone, Copy, Debug, PartialEq, Eq)]
+#[derive(Clone, Copy, PartialEq, Eq)]
 pub(crate) enum Seen {
     Nothing,
     Fields {
@@ -71,7 +71,7 @@ pub(crate) enum Seen {
 }
 
 /// An active stream.
-#[derive(Clone, Copy, Debug)]
+#[derive(Clone, Copy)]
 pub(crate) struct Stream {
     pub(crate) id: u32,
     /// What this end may send.
@@ -86,7 +86,7 @@ pub(crate) struct Stream {
 }
 
 /// Where a number stands (section 5.1).
-#[derive(Clone, Copy, Debug)]
+#[derive(Clone, Copy)]
 pub(crate) enum State {
     Idle,
     Active(Stream),
@@ -96,7 +96,7 @@ pub(crate) enum State {
 }
 
 /// A field block that has begun.
-#[derive(Clone, Copy, Debug)]
+#[derive(Clone, Copy)]
 pub(crate) struct Partial {
     pub(crate) stream: u32,
     pub(crate) end: bool,

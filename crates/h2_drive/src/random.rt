@@ -1,7 +1,7 @@
 //! Numbers that look random.
 
 /// A generator (xorshift, 64 bits).
-#[derive(Clone, Copy, Debug)]
+#[derive(Clone, Copy)]
 pub(crate) struct Random {
     state: u64,
 }

@@ -13,7 +13,7 @@ const MAX_LIST: u64 = 65_536;
 const MAX_BLOCK: u32 = 65_552;
 
 /// A block, decoded.
-#[derive(Clone, Copy, Debug)]
+#[derive(Clone, Copy)]
 struct List {
     end: bool,
     count: usize,
