@@ -47,13 +47,10 @@ pub(crate) fn call(kind: Kind, mood: Mood, model: &Model, random: &mut Random) -
             id,
             code: random.below(16),
         },
-        Kind::Refuse => {
-            let code = match mood {
-                Mood::Calm | Mood::Wild => random.one_of(&[1, 1, 2, 5, 7, 8, 11, 13]),
-                _ => 1,
-            };
-            Call::Refuse { id, code }
-        }
+        Kind::Refuse => Call::Refuse {
+            id,
+            code: refusal_code(mood, random),
+        },
         Kind::Ping => Call::Ping {
             octets: ping_octets(random),
         },
@@ -68,14 +65,20 @@ pub(crate) fn call(kind: Kind, mood: Mood, model: &Model, random: &mut Random) -
     }
 }
 
+/// A code with which a stream is refused; 2 ends the connection.
+fn refusal_code(mood: Mood, random: &mut Random) -> u32 {
+    match mood {
+        Mood::Calm | Mood::Wild => random.one_of(&[1, 1, 2, 5, 7, 8, 11, 13]),
+        _ => 1,
+    }
+}
+
 /// How much of a body is sent; in a flood, so much that little more than the full output waits
 /// after a further call.
 fn data_length(mood: Mood, model: &Model, random: &mut Random) -> usize {
     if mood == Mood::Flood {
-        return match 60_000_usize.checked_sub(model.waiting) {
-            Some(rest) if rest > 1_000 => rest,
-            _ => 70_000,
-        };
+        let rest = 60_000_usize.saturating_sub(model.waiting);
+        return if rest > 1_000 { rest } else { 70_000 };
     }
     random.one_of(&[0, 0, 1, 10, 1_000, 16_384, 16_385, 70_000]) as usize
 }

@@ -60,6 +60,11 @@ pub(crate) fn frame(mood: Mood, model: &Model, random: &mut Random) -> Frame {
     if is_harmful(place, model.state(id)) && random.percent(mood.patience()) {
         return steady_frame(mood, model, random);
     }
+    frame_of(place, mood, id, model, random)
+}
+
+/// A frame by its place, on a stream if it is a stream's.
+fn frame_of(place: usize, mood: Mood, id: u32, model: &Model, random: &mut Random) -> Frame {
     match place {
         0 => data(id, random),
         1 => headers(mood, model, id, random),
@@ -215,7 +220,10 @@ fn setting(mood: Mood, random: &mut Random) -> (u16, u32) {
                 _ => &[0, 1, 10, 100, 2_000],
             }),
         ),
-        3 if wild => (4, random.one_of(&[2_147_483_647, 2_147_483_647, 2_147_483_648])),
+        3 if wild => (
+            4,
+            random.one_of(&[2_147_483_647, 2_147_483_647, 2_147_483_648]),
+        ),
         3 => (4, random.one_of(&[0, 10, 65_535, 65_536, 100_000])),
         4 => (
             5,

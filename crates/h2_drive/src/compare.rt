@@ -64,12 +64,7 @@ pub(crate) fn take(conn: &mut Conn, piece: &[u8]) -> (usize, Seen) {
 }
 
 /// Hands a part of a piece to an end.
-pub(crate) fn take_part(
-    conn: &mut Conn,
-    piece: &[u8],
-    begin: usize,
-    end: usize,
-) -> (usize, Seen) {
+pub(crate) fn take_part(conn: &mut Conn, piece: &[u8], begin: usize, end: usize) -> (usize, Seen) {
     take(conn, piece.get(begin..end).unwrap_or(&[]))
 }
 

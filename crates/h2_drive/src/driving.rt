@@ -19,7 +19,7 @@ const PREFACE: &[u8] = b"PRI * HTTP/2.0\r\n\r\nSM\r\n\r\n";
 const BAD_PREFACE: &[u8] = b"PRI * HTTP/2.0\r\n\r\nSN";
 
 /// A number that is not the model's.
-#[derive(Clone, Copy, Debug, PartialEq, Eq)]
+#[derive(Clone, Copy, Debug)]
 pub struct Difference {
     /// Which number.
     pub what: &'static str,
@@ -122,7 +122,7 @@ fn require(holds: bool, what: &'static str) -> Result<(), Difference> {
 
 /// What was reported is what is expected.
 fn compare_seen(expected: Seen, found: Seen) -> Result<(), Difference> {
-    require(expected == found, name_of(expected))
+    require(expected.numbers() == found.numbers(), name_of(expected))
 }
 
 /// What is expected, in a word.

@@ -253,6 +253,27 @@ fn append_settings(pairs: &Pairs, out: &mut Vec<u8>) -> Result<(), AllocError> {
     Ok(())
 }
 
+/// Appends a frame with this payload.
+fn append_short(
+    kind: u8,
+    flags: u8,
+    stream: u32,
+    payload: &[u8],
+    out: &mut Vec<u8>,
+) -> Result<(), AllocError> {
+    let length = u32::try_from(payload.len()).unwrap_or(0);
+    append_head(length, kind, flags, stream, out)?;
+    out.extend_from_slice(payload)
+}
+
+/// Appends GOAWAY, with octets that are not looked at.
+fn append_goaway(last: u32, code: u32, out: &mut Vec<u8>) -> Result<(), AllocError> {
+    append_head(13, 7, 0, 0, out)?;
+    out.extend_from_slice(&(last & GREATEST).to_be_bytes())?;
+    out.extend_from_slice(&code.to_be_bytes())?;
+    out.extend_from_slice(b"debug")
+}
+
 /// Appends PING, or its answer.
 fn append_ping(ack: bool, octets: [u8; 8], out: &mut Vec<u8>) -> Result<(), AllocError> {
     append_head(8, 6, flag(ack, 0x01), 0, out)?;
@@ -279,26 +300,14 @@ impl Frame {
                 let flags = flag(end, 0x01) | flag(whole, 0x04);
                 append_headers(stream, flags, block, padded, out)
             }
-            Frame::Priority { stream } => {
-                append_head(5, 2, 0, stream, out)?;
-                out.extend_from_slice(b"\x00\x00\x00\x00\x0f")
-            }
-            Frame::Reset { stream, code } => {
-                append_head(4, 3, 0, stream, out)?;
-                out.extend_from_slice(&code.to_be_bytes())
-            }
+            Frame::Priority { stream } => append_short(2, 0, stream, b"\x00\x00\x00\x00\x0f", out),
+            Frame::Reset { stream, code } => append_short(3, 0, stream, &code.to_be_bytes(), out),
             Frame::Settings { pairs } => append_settings(&pairs, out),
-            Frame::Ack => append_head(0, 4, 0x01, 0, out),
+            Frame::Ack => append_short(4, 0x01, 0, b"", out),
             Frame::Ping { ack, octets } => append_ping(ack, octets, out),
-            Frame::GoAway { last, code } => {
-                append_head(13, 7, 0, 0, out)?;
-                out.extend_from_slice(&(last & GREATEST).to_be_bytes())?;
-                out.extend_from_slice(&code.to_be_bytes())?;
-                out.extend_from_slice(b"debug")
-            }
+            Frame::GoAway { last, code } => append_goaway(last, code, out),
             Frame::Update { stream, increment } => {
-                append_head(4, 8, 0, stream, out)?;
-                out.extend_from_slice(&(increment & GREATEST).to_be_bytes())
+                append_short(8, 0, stream, &(increment & GREATEST).to_be_bytes(), out)
             }
             Frame::Continuation {
                 stream,
@@ -308,10 +317,7 @@ impl Frame {
                 append_head(count, 9, flag(whole, 0x04), stream, out)?;
                 append_many(METHOD_GET, count, out)
             }
-            Frame::Unknown { kind, stream } => {
-                append_head(3, kind, 0xff, stream, out)?;
-                out.extend_from_slice(b"abc")
-            }
+            Frame::Unknown { kind, stream } => append_short(kind, 0xff, stream, b"abc", out),
             Frame::Malformed { octets, .. } => out.extend_from_slice(octets),
         }
     }

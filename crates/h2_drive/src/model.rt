@@ -35,7 +35,7 @@ impl From<AllocError> for Halt {
 }
 
 /// What is to be reported.
-#[derive(Clone, Copy, PartialEq, Eq)]
+#[derive(Clone, Copy)]
 pub(crate) enum Seen {
     Nothing,
     Fields {
@@ -68,6 +68,45 @@ pub(crate) enum Seen {
     Fault {
         code: u32,
     },
+}
+
+impl Seen {
+    /// Its kind and what it says, as numbers: two reports are the same where these are.
+    pub(crate) fn numbers(self) -> [u64; 5] {
+        match self {
+            Seen::Nothing => [0, 0, 0, 0, 0],
+            Seen::Fields { id, count, end } => [1, u64::from(id), wide(count), u64::from(end), 0],
+            Seen::Data {
+                id,
+                length,
+                flow,
+                end,
+            } => [
+                2,
+                u64::from(id),
+                wide(length),
+                u64::from(flow),
+                u64::from(end),
+            ],
+            Seen::Reset { id, code, ours } => [
+                3,
+                u64::from(id),
+                u64::from(code),
+                u64::from(ours),
+                0,
+            ],
+            Seen::GoAway { last, code } => [4, u64::from(last), u64::from(code), 0, 0],
+            Seen::Unprocessed { id } => [5, u64::from(id), 0, 0, 0],
+            Seen::Acked => [6, 0, 0, 0, 0],
+            Seen::Pong { octets } => [7, u64::from_be_bytes(octets), 0, 0, 0],
+            Seen::Fault { code } => [8, u64::from(code), 0, 0, 0],
+        }
+    }
+}
+
+/// A count.
+fn wide(count: usize) -> u64 {
+    u64::try_from(count).unwrap_or(u64::MAX)
 }
 
 /// An active stream.

@@ -48,17 +48,22 @@ impl Model {
             };
             self.begun = true;
         }
-        if let Some(partial) = self.partial {
-            let Frame::Continuation {
-                stream,
-                whole,
-                count,
-            } = *frame
-            else {
-                return failed(marks, Mark::Interrupted, 1);
-            };
-            return self.take_continuation(partial, stream, whole, count, marks);
-        }
+        let Some(partial) = self.partial else {
+            return self.take_outside(frame, marks);
+        };
+        let Frame::Continuation {
+            stream,
+            whole,
+            count,
+        } = *frame
+        else {
+            return failed(marks, Mark::Interrupted, 1);
+        };
+        self.take_continuation(partial, stream, whole, count, marks)
+    }
+
+    /// A frame that stands in no block.
+    fn take_outside(&mut self, frame: &Frame, marks: &mut Coverage) -> Result<Seen, Halt> {
         match *frame {
             Frame::Data {
                 stream,

@@ -35,6 +35,19 @@ impl Model {
             self.made_due = flow;
             return self.reset_stream(id, 5, marks);
         }
+        self.take_body(stream, flow, end, length as usize, marks)
+    }
+
+    /// DATA on a stream that the peer has not ended.
+    fn take_body(
+        &mut self,
+        stream: Stream,
+        flow: u32,
+        end: bool,
+        length: usize,
+        marks: &mut Coverage,
+    ) -> Result<Seen, Halt> {
+        let id = stream.id;
         if exceeds(flow, stream.receive) {
             return failed(marks, Mark::DataAboveStream, 3);
         }
@@ -47,7 +60,7 @@ impl Model {
         });
         Ok(Seen::Data {
             id,
-            length: length as usize,
+            length,
             flow,
             end,
         })
