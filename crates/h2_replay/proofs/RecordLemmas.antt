@@ -120,6 +120,7 @@ made_call (acts.Refuse id code) is = refl
 made_call (acts.Ping octets) is = refl
 made_call acts.GoAway is = refl
 made_call (acts.PutOut count) is = refl
+made_call (acts.ChangeSettings config) is = refl
 
 -- What was given out and what waits after it.
 given_and_waiting : (before count after : ℕ) (written : List ℕ) → after ≡ before + count

@@ -25,6 +25,7 @@ act_value (acts.Refuse id code) = Make (logs.Refuse id code)
 act_value (acts.Ping octets) = Make (logs.SendPing octets)
 act_value acts.GoAway = Make logs.SendGoAway
 act_value (acts.PutOut count) = Make (logs.PutOut count)
+act_value (acts.ChangeSettings config) = Make (logs.ChangeSettings (values_of config))
 
 -- a list of acts, of which the last one comes first
 unfoldable pub acts_made : List Act → List ReplayAct

@@ -78,12 +78,12 @@ impl ReplayEvent {
             },
             Event::Data {
                 id,
-                octets,
+                bytes,
                 flow,
                 end,
             } => ReplayEvent::Data {
                 id,
-                octets: Vec::from_slice(alloc, octets)?,
+                octets: Vec::from_slice(alloc, bytes)?,
                 flow,
                 end,
             },
