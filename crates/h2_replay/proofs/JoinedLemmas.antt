@@ -1,11 +1,11 @@
 -- What the turns of a replay tell together.
-use Rattle.std.proofs.Common.{◌≡◌, ℕ, List, [], ◌∷◌, ◌++◌, map, reverse, Option, Some, None}
-use Rattle.std.proofs.Common.{refl, sym, ap, subst, ◌∙◌, append_assoc, append-nil}
+use Rattle.std.proofs.Common.{◌≡◌, ℕ, List, [], ◌∷◌, ◌++◌, reverse, Some, None}
+use Rattle.std.proofs.Common.{refl, sym, ap, ◌∙◌, append_assoc, append-nil}
 use Rattle.std.proofs.lemmas.List.{reverse-append}
 use Rattle.h2_log.specs.declared.role.Role.{Role}
 use Rattle.h2_log.specs.Events.{Event}
-use Rattle.h2_log.specs.Acts.{Values, Act, Answer, Turn, In, Out, Happened, Called, Answered}
-use Rattle.h2_log.specs.Acts.{TakeCalled, TakeAnswered, Done}
+use Rattle.h2_log.specs.Acts.{Values, Turn, In, Out, Happened, Called, Answered}
+use Rattle.h2_log.specs.Acts.{TakeCalled, TakeAnswered}
 use Rattle.h2_log.specs.Log.{Log}
 use Rattle.h2_log_laws.specs.Turns.{octets_in, octets_out, events_in}
 use Rattle.h2_end_laws.specs.Replays.{ReplayAct, Take, Make, IsReplay, starts, takes, calls}

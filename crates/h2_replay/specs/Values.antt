@@ -1,5 +1,5 @@
 -- The acts, the events and the turns of a replay's code, as those of the definitions of an end.
-use Rattle.std.specs.Prelude.{◌≡◌, ℕ, List, [], ◌∷◌, ◌++◌, Option, Some, None}
+use Rattle.std.specs.Prelude.{List, [], ◌∷◌, ◌++◌, Some}
 use Rattle.h2_config.specs.ConfigValues.{values_of}
 use Rattle.h2_log.specs.Events as log
 use Rattle.h2_log.specs.Acts as logs

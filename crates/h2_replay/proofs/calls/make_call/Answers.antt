@@ -1,5 +1,5 @@
 -- By the lemmas on each call.
-use Rattle.std.proofs.Common.{◌≡◌, ◌∙◌, ap, sym, refl, subst, List, ℕ, arith}
+use Rattle.std.proofs.Common.{refl, subst, List, ℕ, arith}
 use Rattle.hpack.specs.declared.types.field.Field.{Field}
 use Rattle.hpack.specs.Written.{AreOctets}
 use Rattle.std.specs.List.{AllByRecursion}

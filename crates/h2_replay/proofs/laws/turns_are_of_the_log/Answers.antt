@@ -1,5 +1,5 @@
 -- By the lemmas on what turns tell together.
-use Rattle.std.proofs.Common.{◌≡◌, ◌∙◌, ap, sym, ◌++◌, List, ℕ, reverse}
+use Rattle.std.proofs.Common.{◌∙◌, ap, sym, ◌++◌, List, ℕ, reverse}
 use Rattle.h2_end_laws.proofs.ReplayedOctets.{replay_recorded, replay_used}
 use Rattle.h2_replay.proofs.JoinedLemmas.{used_kept, written_kept, events_kept}
 use Rattle.h2_replay.proofs.laws.turns_are_of_the_log.Goals as goal
