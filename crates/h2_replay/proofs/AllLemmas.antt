@@ -1,5 +1,5 @@
 -- Octets that are handed to `take` again and again.
-use Rattle.std.proofs.Common.{◌≡◌, ℕ, ◌-◌, List, [], ◌∷◌, ◌++◌, length, take, drop, Option, Some}
+use Rattle.std.proofs.Common.{◌≡◌, ℕ, ◌-◌, List, [], ◌++◌, length, take, drop, Option, Some}
 use Rattle.std.proofs.Common.{None, refl, sym, ap, subst, ◌∙◌, append_assoc, append-nil}
 use Rattle.h2_frame.specs.declared.code.Code.{Code}
 use Rattle.h2_log.specs.Acts.{Values}
@@ -11,10 +11,9 @@ use Rattle.h2_conn.specs.Conn.{ConnRepresents}
 use Rattle.h2_replay.specs.declared.taking.Next.{Next}
 use Rattle.h2_replay.specs.declared.taking.Next.TheVariants as nexts
 use Rattle.h2_replay.specs.declared.turns.Turn.{Turn}
-use Rattle.h2_replay.specs.declared.turns.Answer.{Answer}
 use Rattle.h2_replay.specs.declared.turns.Answer.TheVariants as answers
 use Rattle.h2_replay.specs.Replay.{all_by_octets, kept_by_octets}
-use Rattle.h2_replay.specs.Taking.{KeepsNews, GoesOn, TakesPieceOf, TakesAllOf, fault_of}
+use Rattle.h2_replay.specs.Taking.{KeepsNews, GoesOn, TakesPieceOf, TakesAllOf}
 use Rattle.h2_replay.proofs.StepOutput.{all_joined}
 use Rattle.h2_replay.proofs.Octets.{rest_of}
 

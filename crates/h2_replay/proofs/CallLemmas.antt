@@ -1,17 +1,17 @@
 -- What a call makes of a connection, and what it gives out.
-use Rattle.std.proofs.Common.{◌≡◌, ℕ, ◌+◌, List, [], ◌∷◌, ◌++◌, take, drop, Some, None, Result, Ok}
+use Rattle.std.proofs.Common.{◌≡◌, ℕ, ◌+◌, List, [], ◌++◌, take, drop, Result, Ok}
 use Rattle.std.proofs.Common.{Err, IfOk, OnErr, refl, sym, ap, subst, ◌∙◌}
 use Rattle.std.proofs.lemmas.List.{drop-take}
 use Rattle.h2_log.specs.declared.refusal.Refusal.{Refusal}
-use Rattle.h2_log.specs.Acts.{Values, Act, Answer, Open, SendFields, SendData, Release, ResetStream}
-use Rattle.h2_log.specs.Acts.{Refuse, SendPing, SendGoAway, PutOut, ChangeSettings, Number, Count}
-use Rattle.h2_log.specs.Acts.{Done, OutOfMemory, Refused, shown, IsTypedAct}
+use Rattle.h2_log.specs.Acts.{Act, Answer}
+use Rattle.h2_log.specs.Acts.{PutOut, Count}
+use Rattle.h2_log.specs.Acts.{Refused, shown, IsTypedAct}
 use Rattle.h2_log.specs.Log.{Log}
-use Rattle.h2_log.specs.LogCalls.{MayAnswer, with_call}
+use Rattle.h2_log.specs.LogCalls.{with_call}
 use Rattle.h2_conn.specs.declared.conn.Conn.{Conn}
-use Rattle.h2_conn.specs.Conn.{ConnRepresents, ConnAnswers, ConnShows, GivesOut, answer_by}
+use Rattle.h2_conn.specs.Conn.{ConnAnswers, ConnShows, GivesOut, answer_by}
 use Rattle.h2_replay.specs.declared.acts.Act as code
-use Rattle.h2_replay.specs.Calls.{call_of, MakesCall, MakesCallOf}
+use Rattle.h2_replay.specs.Calls.{call_of, MakesCall}
 use Rattle.h2_replay.proofs.StepOutput.{given_by, writes_call}
 
 -- It gives nothing out.

@@ -1,12 +1,13 @@
 -- What the turns of a replay tell together.
-use Rattle.std.proofs.Common.{◌≡◌, ℕ, List, [], ◌∷◌, ◌++◌, map, reverse, Option, Some, None}
-use Rattle.std.proofs.Common.{refl, sym, ap, subst, ◌∙◌, append_assoc, append-nil}
+use Rattle.std.proofs.Common.{◌≡◌, ℕ, List, [], ◌∷◌, ◌++◌, reverse, Some, None}
+use Rattle.std.proofs.Common.{refl, sym, ap, ◌∙◌, append_assoc, append-nil}
+use Rattle.std.proofs.lemmas.List.{reverse-append}
 use Rattle.h2_log.specs.declared.role.Role.{Role}
 use Rattle.h2_log.specs.Events.{Event}
-use Rattle.h2_log.specs.Acts.{Values, Act, Answer, Turn, In, Out, Happened, Called, Answered}
-use Rattle.h2_log.specs.Acts.{TakeCalled, TakeAnswered, Done}
+use Rattle.h2_log.specs.Acts.{Values, Turn, In, Out, Happened, Called, Answered}
+use Rattle.h2_log.specs.Acts.{TakeCalled, TakeAnswered}
 use Rattle.h2_log.specs.Log.{Log}
-use Rattle.h2_log_laws.specs.Turns.{octets_in, octets_out}
+use Rattle.h2_log_laws.specs.Turns.{octets_in, octets_out, events_in}
 use Rattle.h2_end_laws.specs.Replays.{ReplayAct, Take, Make, IsReplay, starts, takes, calls}
 use Rattle.h2_replay.specs.declared.turns.Turn as code
 use Rattle.h2_replay.specs.Values.{turn_value}
@@ -65,6 +66,14 @@ unfolding flat each_octet
 written_none [] = refl
 written_none (octet ∷ octets) = written_none octets
 
+no_event : (turn : List ℕ → Turn) → ((octets : List ℕ) → event_in (turn octets) ≡ [])
+    → (octets : List ℕ) → flat event_in (each_octet turn octets) ≡ []
+unfolding flat each_octet
+no_event turn none [] = refl
+no_event turn none (octet ∷ octets) =
+    ap (λ (all : List Event). all ++ flat event_in (each_octet turn octets)) (none (octet ∷ []))
+    ∙ no_event turn none octets
+
 -- So it is of a turn.
 used_same : (turn : Turn) → flat used_in (by_octets turn) ≡ used_in turn
 unfolding flat
@@ -88,6 +97,17 @@ written_same (TakeCalled octets) = refl
 written_same (TakeAnswered None) = refl
 written_same (TakeAnswered (Some code)) = refl
 
+event_same : (turn : Turn) → flat event_in (by_octets turn) ≡ event_in turn
+unfolding flat
+event_same (In octets) = no_event In (λ octets. refl) octets
+event_same (Out octets) = no_event Out (λ octets. refl) octets
+event_same (Called act) = refl
+event_same (Answered answer) = refl
+event_same (Happened event) = refl
+event_same (TakeCalled octets) = refl
+event_same (TakeAnswered None) = refl
+event_same (TakeAnswered (Some code)) = refl
+
 -- The octets of a log's turns.
 used_all : (turns : List Turn) → flat used_in (all_by_octets turns) ≡ octets_in turns
 unfolding octets_in all_by_octets flat
@@ -109,6 +129,18 @@ written_all (turn ∷ turns) =
     all_flat written_in written_same turn turns
     ∙ append-nil (flat written_in (all_by_octets turns)) ∙ written_all turns
 
+-- Their events, of which the newest comes first there.
+events_all : (turns : List Turn) → flat event_in (all_by_octets turns) ≡ reverse (events_in turns)
+unfolding events_in all_by_octets flat
+events_all [] = refl
+events_all (Happened event ∷ turns) =
+    all_flat event_in event_same (Happened event) turns
+    ∙ ap (λ (all : List Event). all ++ event ∷ []) (events_all turns)
+    ∙ sym (reverse-append (event ∷ []) (events_in turns))
+events_all (turn ∷ turns) =
+    all_flat event_in event_same turn turns
+    ∙ append-nil (flat event_in (all_by_octets turns)) ∙ events_all turns
+
 -- What is kept is what the turns tell.
 pub used_kept : (kept : List code.Turn) (turns : List Turn)
     → kept_by_octets kept ≡ all_by_octets turns → joined used_in kept ≡ octets_in turns
@@ -119,6 +151,11 @@ pub written_kept : (kept : List code.Turn) (turns : List Turn)
     → kept_by_octets kept ≡ all_by_octets turns → joined written_in kept ≡ octets_out turns
 written_kept kept turns same =
     kept_flat written_in written_same kept ∙ ap (flat written_in) same ∙ written_all turns
+
+pub events_kept : (kept : List code.Turn) (turns : List Turn)
+    → kept_by_octets kept ≡ all_by_octets turns → joined event_in kept ≡ reverse (events_in turns)
+events_kept kept turns same =
+    kept_flat event_in event_same kept ∙ ap (flat event_in) same ∙ events_all turns
 
 -- What the last act of a replay says.
 abbrev LastAct : Role → Values → List ReplayAct → Log → Type 0

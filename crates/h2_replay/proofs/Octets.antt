@@ -1,6 +1,6 @@
 -- Parts of lists.
 use Rattle.std.proofs.Common.{◌≡◌, ℕ, zero, suc, ◌+◌, ◌-◌, List, [], ◌∷◌, ◌++◌, length, min, take}
-use Rattle.std.proofs.Common.{drop, refl, sym, ap, ◌∙◌, ◌≤◌, arith, add-one, Some, get_or}
+use Rattle.std.proofs.Common.{drop, refl, sym, ap, ◌∙◌, arith, add-one, Some}
 use Rattle.std.proofs.Common.{length-drop}
 use Rattle.std.proofs.Math.Seq.{take-length, take-suc}
 use Rattle.std.proofs.lemmas.Option.{slice_get_within, get_or_from_slice_get}

@@ -1,6 +1,6 @@
 -- A replay with one act more.
 use Rattle.std.proofs.Common.{◌≡◌, ℕ, ◌+◌, ◌≤◌, List, [], ◌∷◌, ◌++◌, length, take, drop, Option}
-use Rattle.std.proofs.Common.{Some, None, refl, sym, ap, subst, ◌∙◌, append_assoc, append-nil}
+use Rattle.std.proofs.Common.{refl, sym, ap, subst, ◌∙◌, append_assoc, append-nil}
 use Rattle.std.proofs.lemmas.List.{drop-take, drop-drop, take-append-drop}
 use Rattle.h2_frame.specs.declared.code.Code.{Code}
 use Rattle.h2_log.specs.declared.role.Role.{Role}
@@ -9,7 +9,7 @@ use Rattle.h2_log.specs.Acts.{TakeAnswered, Act, Answer, IsTypedAct, OutOfMemory
 use Rattle.h2_log.specs.Acts.{Done, Refused}
 use Rattle.h2_log.specs.Log.{Log, waiting, output}
 use Rattle.h2_log.specs.LogSteps.{with_sent}
-use Rattle.h2_log.specs.LogCalls.{with_call, called, opened}
+use Rattle.h2_log.specs.LogCalls.{with_call, opened}
 use Rattle.h2_log.specs.Histories.{IsLog, begins, took_some, took_one, met_fault, called_one}
 use Rattle.h2_log.specs.Histories.{ran_out_of_memory, reported_one}
 use Rattle.h2_end_laws.specs.Replays.{ReplayAct, Take, Make, IsReplay, starts, takes, calls}
@@ -22,7 +22,6 @@ use Rattle.h2_replay.specs.declared.turns.Answer as answered
 use Rattle.h2_replay.specs.declared.turns.Answer.TheVariants as answers
 use Rattle.h2_replay.specs.Values.{act_value, acts_made, turn_value, answer_turn, call_turn}
 use Rattle.h2_replay.specs.Replay.{each_octet, by_octets, all_by_octets, kept_by_octets}
-use Rattle.h2_replay.specs.Replay.{KeepsReplay}
 use Rattle.h2_replay.specs.Taking.{TakesOctets, IsTakeAnswer, fault_of}
 use Rattle.h2_replay.specs.Calls.{IsCall, call_of, MakesCall, MakesCallOf, answer_value}
 use Rattle.h2_replay.specs.Recording.{Records}
@@ -120,6 +119,7 @@ made_call (acts.Refuse id code) is = refl
 made_call (acts.Ping octets) is = refl
 made_call acts.GoAway is = refl
 made_call (acts.PutOut count) is = refl
+made_call (acts.ChangeSettings config) is = refl
 
 -- What was given out and what waits after it.
 given_and_waiting : (before count after : ℕ) (written : List ℕ) → after ≡ before + count

@@ -1,33 +1,28 @@
 -- What a call of `take` makes of what is kept.
-use Rattle.std.proofs.Common.{◌≡◌, ◌≢◌, ℕ, ◌+◌, ◌-◌, ◌^◌, ◌<◌, ◌≤◌, nat_lt, min, Bool, true, false}
+use Rattle.std.proofs.Common.{◌≡◌, ◌≢◌, ℕ, ◌-◌, ◌^◌, ◌≤◌, nat_lt, Bool, true, false}
 use Rattle.std.proofs.Common.{List, [], ◌∷◌, ◌++◌, length, take, drop, map, Option, Some, None}
 use Rattle.std.proofs.Common.{if◌then◌else◌, refl, sym, ap, subst, ◌∙◌, inl, inr, arith, ltb-true}
 use Rattle.std.proofs.Common.{ltb-false, append_assoc, append-nil, length-drop}
 use Rattle.std.proofs.Math.Seq.{take-length, drop-append_seam}
 use Rattle.std.proofs.lemmas.List.{append_cancel_left, length-append, take-append-le}
 use Rattle.std.proofs.lemmas.List.{drop-append-le}
-use Rattle.std.specs.Option.{option_map}
 use Rattle.h2_frame.specs.declared.code.Code.{Code}
 use Rattle.h2_wire.specs.Cutter.{saturated}
 use Rattle.h2_log.specs.Acts.{Values, In, Out, Happened}
 use Rattle.h2_log.specs.Acts as logs
 use Rattle.h2_log.specs.Events.{Event}
 use Rattle.h2_log.specs.Log.{Log, waiting, output}
-use Rattle.h2_end_laws.specs.Takes.{TakeAnswer, Took, Failed, MayTake, AfterTake}
-use Rattle.h2_end_laws.specs.Replays.{TakesAll, is_done, goes_on, has_fault}
+use Rattle.h2_end_laws.specs.Takes.{TakeAnswer, Took, Failed, MayTake}
 use Rattle.h2_end_laws.proofs.TakeAnswers.{log_after_take}
-use Rattle.h2_conn.specs.declared.conn.Conn.{Conn}
-use Rattle.h2_conn.specs.Conn.{ConnRepresents}
 use Rattle.h2_replay.specs.declared.taking.Taking.{Taking}
-use Rattle.h2_replay.specs.declared.taking.Next.{Next}
 use Rattle.h2_replay.specs.declared.taking.Next.TheVariants as nexts
 use Rattle.h2_replay.specs.declared.turns.Turn.{Turn}
 use Rattle.h2_replay.specs.declared.events.ReplayEvent.{ReplayEvent}
 use Rattle.h2_replay.specs.Values.{event_value, turn_value}
 use Rattle.h2_replay.specs.Replay.{each_octet, by_octets, all_by_octets, kept_by_octets}
 use Rattle.h2_replay.specs.Taking.{answered_by, taken_answer, taken_events, next_by, next_of}
-use Rattle.h2_replay.specs.Taking.{TakesFrom, KeepsNews, GoesOn, TakesPieceOf, IsWithin, TakesAllOf}
-use Rattle.h2_replay.proofs.StepTakes.{take_adds, AddsTake, events_of_answer}
+use Rattle.h2_replay.specs.Taking.{KeepsNews, GoesOn, IsWithin}
+use Rattle.h2_replay.proofs.StepTakes.{AddsTake, events_of_answer}
 
 -- One more turn is kept.
 pub kept_more : (turns : List Turn) (turn : Turn)

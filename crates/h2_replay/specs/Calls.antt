@@ -1,5 +1,5 @@
 -- What a call makes of a connection, and what it gives out.
-use Rattle.std.specs.Prelude.{◌≡◌, ℕ, List, take, drop, Some}
+use Rattle.std.specs.Prelude.{◌≡◌, ℕ, List, take, drop}
 use Rattle.h2_log.specs.Acts as logs
 use Rattle.h2_log.specs.Acts.{Values, shown}
 use Rattle.h2_log.specs.Log.{Log}

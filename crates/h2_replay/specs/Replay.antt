@@ -5,7 +5,7 @@
 -- octet, in order: a turn with octets is one turn for each of them. Since a turn of an act's
 -- beginning stands between the octets of two acts, what came in, what joined the output and what
 -- was reported is the same at the end of each act.
-use Rattle.std.specs.Prelude.{map as each, ◌≡◌, ℕ, List, [], ◌∷◌, ◌++◌, Option, Some, None}
+use Rattle.std.specs.Prelude.{map as each, ◌≡◌, ℕ, List, [], ◌∷◌, ◌++◌, Some, None}
 use Rattle.h2_log.specs.declared.role.Role.{Role}
 use Rattle.h2_log.specs.Acts.{Values, Turn, In, Out, Called, Answered, Happened, TakeCalled, Done}
 use Rattle.h2_log.specs.Acts.{TakeAnswered}
@@ -13,7 +13,7 @@ use Rattle.h2_log.specs.Log.{Log}
 use Rattle.h2_end_laws.specs.Replays.{ReplayAct, IsReplay}
 use Rattle.h2_replay.specs.declared.acts.Act.{Act}
 use Rattle.h2_replay.specs.declared.turns.Turn as code
-use Rattle.h2_replay.specs.Values.{act_value, acts_made, turn_value}
+use Rattle.h2_replay.specs.Values.{acts_made, turn_value}
 
 -- one turn for each octet
 unfoldable pub each_octet : (List ℕ → Turn) → List ℕ → List Turn

@@ -1,5 +1,5 @@
 -- The acts, the events and the turns of a replay's code, as those of the definitions of an end.
-use Rattle.std.specs.Prelude.{◌≡◌, ℕ, List, [], ◌∷◌, ◌++◌, Option, Some, None}
+use Rattle.std.specs.Prelude.{List, [], ◌∷◌, ◌++◌, Some}
 use Rattle.h2_config.specs.ConfigValues.{values_of}
 use Rattle.h2_log.specs.Events as log
 use Rattle.h2_log.specs.Acts as logs
@@ -25,6 +25,7 @@ act_value (acts.Refuse id code) = Make (logs.Refuse id code)
 act_value (acts.Ping octets) = Make (logs.SendPing octets)
 act_value acts.GoAway = Make logs.SendGoAway
 act_value (acts.PutOut count) = Make (logs.PutOut count)
+act_value (acts.ChangeSettings config) = Make (logs.ChangeSettings (values_of config))
 
 -- a list of acts, of which the last one comes first
 unfoldable pub acts_made : List Act → List ReplayAct

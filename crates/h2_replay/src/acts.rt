@@ -1,5 +1,6 @@
 //! What is done to an end.
 
+use h2_conn::Config;
 use hpack::Field;
 
 /// A call with its arguments, or octets that have come.
@@ -60,4 +61,6 @@ pub enum Act {
     GoAway,
     /// [`Conn::put_out`](h2_conn::Conn::put_out), of at most so many octets.
     PutOut(usize),
+    /// [`Conn::change_settings`](h2_conn::Conn::change_settings).
+    ChangeSettings(Config),
 }

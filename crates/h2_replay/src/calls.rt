@@ -45,6 +45,7 @@ pub(crate) fn make_call(conn: &mut Conn, act: &Act, out: &mut Vec<u8>) -> Answer
         }
         Act::GoAway => done(conn.go_away()),
         Act::PutOut(count) => counted(conn.put_out(*count, out)),
+        Act::ChangeSettings(config) => done(conn.change_settings(*config)),
     }
 }
 

@@ -2,7 +2,7 @@
 //! function that does nothing.
 
 ghost use Rattle.std.specs.Prelude.{◌≡◌, ◌<◌, ℕ, Bool, List, ◌∷◌, ◌++◌, not, Some, None, pos};
-ghost use Rattle.std.specs.Prelude.{int_lt, false};
+ghost use Rattle.std.specs.Prelude.{int_lt, false, reverse};
 ghost use Rattle.std.specs.List.{AllByRecursion};
 ghost use Rattle.h2_frame.specs.declared.code.Code.{Code};
 ghost use Rattle.h2_wire.specs.Streams.{expected_preface};
@@ -22,12 +22,13 @@ ghost use Rattle.h2_end_laws.specs.Replays.{ReplayAct, Make, IsReplay, octets_of
 ghost use Rattle.h2_end_laws.specs.Replies.{replies_owed, replies_among};
 ghost use Rattle.h2_end_laws.specs.Sendings.{EncodesInOrder, settings_received, lists_accepted};
 ghost use Rattle.h2_replay.specs.declared.turns.Turn as code;
-ghost use Rattle.h2_replay.specs.Joined.{used_in, written_in, joined, EndsWithCall};
+ghost use Rattle.h2_replay.specs.Joined.{used_in, written_in, event_in, joined};
+ghost use Rattle.h2_replay.specs.Joined.{EndsWithCall};
 ghost use Rattle.h2_replay.specs.Replay.{KeepsReplay};
 
 /// The octets of the turns are those of the log: those that were used are the octets of the acts,
 /// up to a fault and with the octet that made it; those that joined the output are all that was
-/// written.
+/// written. The events are those that were reported, in order.
 pub fn turns_are_of_the_log()
     ensures input { (role : Role) (values : Values) (acts : List ReplayAct)
         (kept : List code.Turn) (log : Log) (turns : List Turn)
@@ -39,6 +40,10 @@ pub fn turns_are_of_the_log()
     ensures output { (role : Role) (values : Values) (acts : List ReplayAct)
         (kept : List code.Turn) (log : Log) (turns : List Turn)
         → KeepsReplay role values acts kept log turns → joined written_in kept ≡ log.written }
+    ensures events { (role : Role) (values : Values) (acts : List ReplayAct)
+        (kept : List code.Turn) (log : Log) (turns : List Turn)
+        → KeepsReplay role values acts kept log turns
+        → joined event_in kept ≡ reverse log.reported }
 {}
 
 /// The output is a client's preface and then the items that were written, each of which can be

@@ -1,5 +1,5 @@
 -- By the lemmas on each call.
-use Rattle.std.proofs.Common.{◌≡◌, ◌∙◌, ap, sym, refl, subst, List, ℕ, arith}
+use Rattle.std.proofs.Common.{refl, subst, List, ℕ, arith}
 use Rattle.hpack.specs.declared.types.field.Field.{Field}
 use Rattle.hpack.specs.Written.{AreOctets}
 use Rattle.std.specs.List.{AllByRecursion}
@@ -123,3 +123,15 @@ returns-in-PutOut-clause-makes c =
     (put_out_call c.put_out.result c.args.conn.now c.put_out.new.self _ _ _ _
     c.counted-in-PutOut.ensures c.requires.none c.put_out.ensures.answers c.put_out.ensures.ok
     c.put_out.ensures.err)
+
+pub returns-in-ChangeSettings-clause-typed : goal.returns-in-ChangeSettings-clause-typed
+unfolding IsTypedAct
+returns-in-ChangeSettings-clause-typed c =
+    typed_as _ _ c.in-ChangeSettings.is c.in-ChangeSettings.config.in_range
+
+pub returns-in-ChangeSettings-clause-makes : goal.returns-in-ChangeSettings-clause-makes
+returns-in-ChangeSettings-clause-makes c =
+    makes_as _ _ c.args.conn.now c.change_settings.new.self _ _ c.in-ChangeSettings.is
+    (answered_call c.args.conn.now c.change_settings.new.self _ _ _ _
+    c.done-in-ChangeSettings.ensures (shows_itself (λ done. Done) c.change_settings.result
+    (λ id. refl)) tt c.requires.none c.change_settings.ensures)

@@ -1,5 +1,5 @@
 -- The next field is copied.
-use Rattle.std.proofs.Common.{◌≡◌, ◌∙◌, ◌++◌, ◌∷◌, [], List, ap, sym, Some, ◌+◌, take}
+use Rattle.std.proofs.Common.{◌≡◌, Some}
 use Rattle.hpack.specs.declared.types.field.Field.{Field}
 use Rattle.std.specs.List.{slice_get}
 use Rattle.h2_replay.proofs.Octets.{take_next}

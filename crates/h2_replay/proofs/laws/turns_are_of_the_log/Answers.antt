@@ -1,7 +1,7 @@
 -- By the lemmas on what turns tell together.
-use Rattle.std.proofs.Common.{◌≡◌, ◌∙◌, ap, sym, ◌++◌, List, ℕ}
+use Rattle.std.proofs.Common.{◌∙◌, ap, sym, ◌++◌, List, ℕ, reverse}
 use Rattle.h2_end_laws.proofs.ReplayedOctets.{replay_recorded, replay_used}
-use Rattle.h2_replay.proofs.JoinedLemmas.{used_kept, written_kept}
+use Rattle.h2_replay.proofs.JoinedLemmas.{used_kept, written_kept, events_kept}
 use Rattle.h2_replay.proofs.laws.turns_are_of_the_log.Goals as goal
 
 pub returns-clause-input : goal.returns-clause-input
@@ -20,3 +20,8 @@ pub returns-clause-output : goal.returns-clause-output
 returns-clause-output c role values acts kept log turns keeps =
     written_kept kept turns keeps.same
     ∙ (replay_recorded role values acts log turns keeps.replay).1
+
+pub returns-clause-events : goal.returns-clause-events
+returns-clause-events c role values acts kept log turns keeps =
+    events_kept kept turns keeps.same
+    ∙ ap reverse (replay_recorded role values acts log turns keeps.replay).2

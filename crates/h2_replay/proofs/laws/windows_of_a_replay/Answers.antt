@@ -1,5 +1,5 @@
 -- A call that is answered with a number was accepted.
-use Rattle.std.proofs.Common.{◌≡◌, ◌<◌, ℕ, Bool, false, List, Some, None, sym, pos, int_lt}
+use Rattle.std.proofs.Common.{◌≡◌, ◌<◌, ℕ, Bool, false, List, sym, pos, int_lt}
 use Rattle.h2_log.specs.Acts.{SendData, Count}
 use Rattle.h2_log.specs.Log.{Log, send_window}
 use Rattle.h2_log.specs.LogCalls.{MayAnswer, with_call, accepts, refuses, lacks, fails}

@@ -1,5 +1,5 @@
 -- By the lemma on octets that are taken.
-use Rattle.std.proofs.Common.{◌≡◌, refl, ◌∙◌, ap, subst, List, ℕ, []}
+use Rattle.std.proofs.Common.{refl, subst, List, ℕ, []}
 use Rattle.h2_replay.specs.declared.turns.Turn.{Turn}
 use Rattle.h2_replay.specs.Taking.{TakesOctets}
 use Rattle.h2_replay.proofs.RecordLemmas.{take_records}

@@ -1,5 +1,5 @@
 -- A new end, and then one act after another.
-use Rattle.std.proofs.Common.{◌≡◌, refl, ◌∙◌, ap, ◌++◌, ◌∷◌, [], List, sym, subst}
+use Rattle.std.proofs.Common.{refl, ◌∙◌, ap, ◌++◌, ◌∷◌, [], List, sym, subst}
 use Rattle.h2_config.specs.ConfigValues.{values_of}
 use Rattle.h2_end_laws.specs.Replays.{ReplayAct}
 use Rattle.h2_log.specs.LogCalls.{opened}

@@ -1,7 +1,5 @@
 -- By the lemmas on octets that are handed to `take` again and again.
-use Rattle.std.proofs.Common.{◌≡◌, ◌≤◌, refl, subst, length, arith}
-use Rattle.h2_replay.specs.declared.taking.Next.{Next}
-use Rattle.h2_replay.specs.Taking.{IsWithin}
+use Rattle.std.proofs.Common.{refl, arith}
 use Rattle.h2_replay.proofs.AllLemmas.{takes_first, takes_again, takes_done, takes_fault}
 use Rattle.h2_replay.proofs.taking.take_all.Goals as goal
 

@@ -1,5 +1,5 @@
 -- By the lemmas on what a call of `take` makes of what is kept.
-use Rattle.std.proofs.Common.{◌≡◌, ◌∙◌, ap, sym, subst, take, length}
+use Rattle.std.proofs.Common.{sym, subst, take, length}
 use Rattle.h2_replay.specs.declared.taking.Next.{Next}
 use Rattle.h2_replay.specs.Taking.{GoesOn, IsWithin, taken_answer, taken_events}
 use Rattle.h2_replay.proofs.StepTakes.{take_adds}
