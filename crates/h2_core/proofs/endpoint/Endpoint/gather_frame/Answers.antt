@@ -50,8 +50,8 @@ returns-in-Err c =
           inr (gathering_lacks e _ frame c.in-Err.fault code c.requires.started m
           (c.in-Err.ensures.reported (c.args.self.now.gathers c.requires.up))
           (λ none single.
-              let wrong = c.in-Err.ensures.alone (c.args.self.now.gathers c.requires.up) none single
-              in cc)
+          let wrong = c.in-Err.ensures.alone (c.args.self.now.gathers c.requires.up) none single
+          in cc)
           (memory_fails e _ code (c.code-code.ensures ∙ ap block_fault_code m) failed))
       | inr bad ↦
           inl (frame_fails e _ frame (block_fault_code c.in-Err.fault) code
