@@ -41,7 +41,7 @@ use Rattle.h2_end_laws.specs.Takes.{has_failed, reports_unprocessed, ends_no_fra
 use Rattle.h2_end_laws.specs.Takes.{meets_fault, runs_out_of_memory}
 use Rattle.h2_end_laws.proofs.PayloadLimits.{limits_to_come}
 use Rattle.h2_core.specs.Failure.{FailsAlike}
-use Rattle.h2_core.specs.Frames.{FrameFails, FailsWithoutMemory}
+use Rattle.h2_core.specs.Frames.{FrameFails, FailsWithoutMemory, FrameLacksMemory}
 use Rattle.h2_conn.specs.declared.happened.Happened.{Happened}
 use Rattle.h2_conn.specs.Events.{happened_value}
 use Rattle.h2_conn.specs.Inner.{PartsRepresent, happened_events, FrameHappens}
@@ -321,12 +321,12 @@ pub frame_stops : (values : Values) (cutter new : CutterState) (e other : End) (
     (piece : List ℕ) (count : ℕ) (frame : Frame) (code : Code)
     → PartsRepresent values cutter e log → TakesOctets log → e.failed ≡ None
     → IsCut cutter new piece count frame
-    → FrameFails e frame code other ⊎ FailsWithoutMemory e code other
+    → FrameFails e frame code other ⊎ FrameLacksMemory e frame code other
     → Takes values log piece (Failed code) new other
 frame_stops values cutter new e other log piece count frame code p takes up cut (inl fails) =
     frame_fails values cutter new e other log piece count frame code p takes up cut fails
 frame_stops values cutter new e other log piece count frame code p takes up cut (inr lacks) =
-    frame_lacks values cutter new e other log piece count frame code p takes cut lacks
+    frame_lacks values cutter new e other log piece count frame code p takes cut lacks.fails
 
 -- A fault of a head or a payload has the code that it names.
 pub code_of : (fault : WireFault) (code : Code)

@@ -14,7 +14,7 @@ use Rattle.h2_log.specs.ItemRules.{Decoded, frame_step}
 use Rattle.h2_machine.specs.End.{End, end_view}
 use Rattle.h2_machine.specs.Machine.{after_frame}
 use Rattle.h2_machine.specs.Represents.{Represents}
-use Rattle.h2_core.specs.Frames.{IsDecodedBy, frame_events, FrameFails, FailsWithoutMemory}
+use Rattle.h2_core.specs.Frames.{IsDecodedBy, frame_events, FrameFails, FrameLacksMemory}
 use Rattle.h2_end_laws.specs.Takes.{MayTake}
 use Rattle.h2_conn.specs.declared.happened.Happened.{Happened}
 use Rattle.h2_conn.specs.declared.happened.Progress.{Progress}
@@ -60,4 +60,4 @@ abbrev pub HappensByFrame : End → Frame → List Field → List ℕ → Result
     → Type 0
 HappensByFrame e frame list octets (Ok happened) new = FrameHappens e frame list octets happened new
 HappensByFrame e frame list octets (Err code) new =
-    FrameFails e frame code new ⊎ FailsWithoutMemory e code new
+    FrameFails e frame code new ⊎ FrameLacksMemory e frame code new

@@ -5,7 +5,9 @@ use Rattle.std.proofs.Common.{Some, None, nat_lt, Err, ◌⊎◌, inl, inr, is_s
 use Rattle.std.proofs.Common.{sym, ap, subst, ◌∙◌, ◌||◌, arith}
 use Rattle.std.proofs.lemmas.Bool.{le-ltb, lt-ltb}
 use Rattle.hpack.specs.Blocks.{Block as BlockSays}
-use Rattle.hpack.specs.Lists.{NoBlock, DecoderState, HoldsList, list_size}
+use Rattle.hpack.specs.Lists.{NoBlock, DecoderState, HoldsList, DecodeFault, list_size}
+use Rattle.hpack.specs.declared.types.fault.Fault.{Fault as DecodingFault}
+use Rattle.hpack.specs.declared.types.fault.Fault.TheVariants as decoding
 use Rattle.hpack.specs.declared.types.field.Decoded.{Decoded as Answered}
 use Rattle.hpack.specs.declared.types.field.Decoded.TheVariants as answered
 use Rattle.hpack.specs.contracts.types.field.Decoded.{the_type}
@@ -36,7 +38,7 @@ use Rattle.h2_core.specs.Endpoint.{IsSound}
 use Rattle.h2_core.specs.Failure.{FailsAlike}
 use Rattle.h2_core.specs.Items.{ItemTaken, TakesItem}
 use Rattle.h2_core.specs.Frames.{FailsWithoutMemory}
-use Rattle.h2_core.specs.Blocks.{BlockTaken, BlockFails}
+use Rattle.h2_core.specs.Blocks.{BlockTaken, BlockFails, decode_fault_code}
 use Rattle.h2_core.specs.Stops.{IsSmall, FailsBy}
 use Rattle.h2_core.specs.declared.reader.Reported.{Reported as Answer}
 use Rattle.h2_core.specs.declared.reader.StepError.{StepError}
@@ -323,6 +325,18 @@ memory_fails e new code is failed =
       lacks = is;
       after = subst (λ (x : Code). FailsAlike (fail x e.streams.last_processed e) new) is failed;
     }
+
+-- A block that isn't decoded fails the connection: it is none, or memory was refused.
+pub undecoded_fails : (e new : End) (id : ℕ) (end : Bool) (octets : List ℕ) (fault : DecodingFault)
+    (code : Code) → code ≡ decode_fault_code fault
+    → DecodeFault e.reading.table e.own.in_force.table_limit octets fault
+    → FailsAlike (fail code e.streams.last_processed e) new
+    → BlockFails e id end octets code new ⊎ FailsWithoutMemory e code new
+undecoded_fails e new id end octets decoding.Compression code is says failed =
+    inl (decode_fails e new id end octets code is says failed)
+undecoded_fails e new id end octets decoding.Memory code is says failed =
+    inr (memory_fails e new code is failed)
+undecoded_fails e new id end octets decoding.Failed code is says failed = absurd says
 
 -- an end with another decoder
 abbrev pub with_decoder : End → DecoderState → End

@@ -18,9 +18,9 @@ use Rattle.h2_machine.specs.Machine.{with_begun, after_frame, after_step, after_
 use Rattle.h2_machine.specs.Machine.{fail}
 use Rattle.h2_core.specs.Endpoint.{IsSound}
 use Rattle.h2_core.specs.Failure.{FailsAlike}
-use Rattle.h2_core.specs.Items.{ItemTaken, TakesItem, item_events}
-use Rattle.h2_core.specs.Frames.{FrameTaken, FrameFails, FailsWithoutMemory, TakesFrame}
-use Rattle.h2_core.specs.Frames.{IsDecodedBy, step_events}
+use Rattle.h2_core.specs.Items.{ItemTaken, TakesItem, item_events, needs_memory}
+use Rattle.h2_core.specs.Frames.{FrameTaken, FrameFails, FrameLacksMemory, TakesFrame}
+use Rattle.h2_core.specs.Frames.{IsDecodedBy, step_events, step_needs_memory}
 use Rattle.h2_core.specs.Blocks.{TakesBlock, IsDecodedOf}
 use Rattle.h2_core.specs.Stops.{IsSmall, FailsBy}
 use Rattle.h2_core.specs.declared.reader.Reported.{Reported as Answer}
@@ -141,7 +141,8 @@ same_alike e code last =
 pub alone_stopped : (e mid new : End) (frame : Frame) (list : List Field) (stop : StepError)
     (answer : Code) → frame_step (end_view e) frame ≡ completes (alone frame)
     → e.reading.begun ≡ None → TakesItem e None (alone frame) list (Err stop) mid
-    → FailsBy mid stop answer new → FrameFails e frame answer new ⊎ FailsWithoutMemory e answer new
+    → FailsBy mid stop answer new
+    → FrameFails e frame answer new ⊎ FrameLacksMemory e frame answer new
 unfolding after_frame after_step after_verdict
 alone_stopped e mid new frame list (Fault code opened) answer is none stopped fails =
     let last : ℕ = max e.streams.last_processed opened in
@@ -160,8 +161,14 @@ alone_stopped e mid new frame list (Fault code opened) answer is none stopped fa
     })
 alone_stopped e mid new frame list OutOfMemory answer is none stopped fails =
     inr (record {
-      lacks = fails.0;
-      after = rw (fails.1, stopped.1) (same_alike e InternalError e.streams.last_processed);
+      needs = ap (step_needs_memory e) is
+          ∙ ap (λ (x : End). needs_memory (verdict_of (end_view x) None (alone frame)) (alone frame))
+          (outside e none)
+          ∙ stopped.0;
+      fails = record {
+        lacks = fails.0;
+        after = rw (fails.1, stopped.1) (same_alike e InternalError e.streams.last_processed);
+      };
     })
 
 -- It opens nothing.
@@ -203,14 +210,17 @@ block_frame e new frame id end octets list (Err code) is (inl t) =
     })
 block_frame e new frame id end octets list (Err code) is (inr t) =
     inr (record {
-      lacks = t.lacks;
-      after = record {
-        down = λ wrong. cc;
-        role = t.after.role;
-        failed = t.after.failed;
-        streams = t.after.streams;
-        windows = t.after.windows;
-        waiting = t.after.waiting;
+      needs = ap (step_needs_memory e) is;
+      fails = record {
+        lacks = t.lacks;
+        after = record {
+          down = λ wrong. cc;
+          role = t.after.role;
+          failed = t.after.failed;
+          streams = t.after.streams;
+          windows = t.after.windows;
+          waiting = t.after.waiting;
+        };
       };
     })
 

@@ -24,6 +24,7 @@ mod ItemData
 -- Field blocks and frames that are received.
 mod FrameFailures
 mod FrameGroups
+mod FrameMemory
 mod FrameTables
 mod FrameTaking
 mod FrameVerdicts

@@ -4,7 +4,10 @@ use Rattle.std.specs.Prelude.{Option, Some, None, Result, Ok, Err}
 use Rattle.hpack.specs.declared.types.field.Field.{Field}
 use Rattle.hpack.specs.Blocks.{Block as BlockSays}
 use Rattle.hpack.specs.Lists.{NoBlock, list_size}
+use Rattle.hpack.specs.declared.types.fault.Fault.{Fault}
+use Rattle.hpack.specs.declared.types.fault.Fault.TheVariants as faults
 use Rattle.h2_frame.specs.declared.code.Code.{Code}
+use Rattle.h2_frame.specs.declared.code.Code.TheVariants.{CompressionError, InternalError}
 use Rattle.h2_block.specs.Grouping.{block}
 use Rattle.h2_log.specs.ItemRules.{Decoded}
 use Rattle.h2_log.specs.Limits.{max_list}
@@ -34,6 +37,13 @@ abbrev pub IsDecodedOf : End → List ℕ → Option Decoded → Type 0
 IsDecodedOf e octets None = NoBlock e.reading.table e.own.in_force.table_limit octets
 IsDecodedOf e octets (Some decoded) =
     BlockSays e.reading.table e.own.in_force.table_limit octets decoded.fields decoded.after
+
+-- The code with which the connection ends where a block isn't decoded: what is no block is a
+-- COMPRESSION_ERROR (RFC 9113, section 4.3), and lack of memory an INTERNAL_ERROR.
+abbrev pub decode_fault_code : Fault → Code
+decode_fault_code faults.Compression = CompressionError
+decode_fault_code faults.Memory = InternalError
+decode_fault_code faults.Failed = InternalError
 
 -- The end is the machine after the block, and answers what is reported of it.
 pub record BlockTaken (e : End) (id : ℕ) (end : Bool) (octets : List ℕ) (list : List Field)

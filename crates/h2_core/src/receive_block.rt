@@ -7,7 +7,7 @@ ghost use Rattle.h2_machine.specs.End.{stream_at};
 ghost use Rattle.h2_machine.specs.Machine.{is_fresh, new_stream};
 ghost use Rattle.std.specs.Option.{option_map};
 ghost use Rattle.h2_core.specs.Endpoint.{end_of, IsSound};
-ghost use Rattle.h2_core.specs.Blocks.{TakesBlock, TakesDecoded};
+ghost use Rattle.h2_core.specs.Blocks.{TakesBlock, TakesDecoded, decode_fault_code};
 
 use crate::endpoint::Endpoint;
 use crate::limits::MAX_LIST;
@@ -42,10 +42,7 @@ impl Endpoint {
         let decoded = match self.decoder.decode_into(octets, MAX_LIST, &mut self.list) {
             Ok(decoded) => decoded,
             Err(fault) => {
-                let code = match fault {
-                    Fault::Compression => Code::CompressionError,
-                    Fault::Memory | Fault::Failed => Code::InternalError,
-                };
+                let code = code_of_fault(fault);
                 self.failed = Some(code);
                 self.output
                     .end_with_goaway(self.last_processed, code.number());
@@ -158,5 +155,15 @@ impl Endpoint {
             owed: 0,
             state,
         }
+    }
+}
+
+/// The code with which the connection ends where a block is not decoded (section 4.3).
+fn code_of_fault(fault: Fault) -> Code
+    ensures { result ≡ decode_fault_code fault }
+{
+    match fault {
+        Fault::Compression => Code::CompressionError,
+        Fault::Memory | Fault::Failed => Code::InternalError,
     }
 }

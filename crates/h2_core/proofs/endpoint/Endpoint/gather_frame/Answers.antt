@@ -19,6 +19,7 @@ use Rattle.h2_core.proofs.FrameTaking.{begun_sound, step_grouped, step_faulty, m
 use Rattle.h2_core.proofs.FrameTaking.{alone_taken, alone_stopped, alone_small, block_frame}
 use Rattle.h2_core.proofs.FrameTaking.{frame_fails}
 use Rattle.h2_core.proofs.FrameFailures.{alike, memory_fails, stopped_same}
+use Rattle.h2_core.proofs.FrameMemory.{gathering_lacks}
 use Rattle.h2_core.proofs.endpoint.Endpoint.gather_frame.Goals as goal
 
 pub invariant_of-self : goal.invariant_of-self
@@ -45,7 +46,13 @@ returns-in-Err c =
     let failed = alike e _ code e.streams.last_processed refl refl refl refl waits in
     elim (gather_fault c.args.self.now.gather c.take.new.self frame c.in-Err.fault
     (c.args.self.now.gathers c.requires.up) c.in-Err.ensures.takes) [
-      | inl m ↦ inr (memory_fails e _ code (c.code-code.ensures ∙ ap block_fault_code m) failed)
+      | inl m ↦
+          inr (gathering_lacks e _ frame c.in-Err.fault code c.requires.started m
+          (c.in-Err.ensures.reported (c.args.self.now.gathers c.requires.up))
+          (λ none single.
+          let wrong = c.in-Err.ensures.alone (c.args.self.now.gathers c.requires.up) none single
+          in cc)
+          (memory_fails e _ code (c.code-code.ensures ∙ ap block_fault_code m) failed))
       | inr bad ↦
           inl (frame_fails e _ frame (block_fault_code c.in-Err.fault) code
           (step_faulty e frame c.in-Err.fault c.requires.started bad) c.code-code.ensures failed)

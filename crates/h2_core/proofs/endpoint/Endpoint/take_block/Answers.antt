@@ -1,4 +1,4 @@
-use Rattle.std.proofs.Common.{◌≡◌, ◌++◌, ℕ, [], Some, Ok, Err, inl, inr, refl, sym, ap}
+use Rattle.std.proofs.Common.{◌≡◌, ◌++◌, ℕ, [], Some, Ok, Err, refl, sym, ap}
 use Rattle.std.proofs.Common.{subst, ◌∙◌}
 use Rattle.hpack.specs.Lists.{DecoderState}
 use Rattle.h2_frame.specs.Encoding.{encoding_of}
@@ -8,11 +8,10 @@ use Rattle.h2_log.specs.ItemRules.{Decoded}
 use Rattle.h2_machine.specs.End.{End}
 use Rattle.h2_core.specs.Endpoint.{end_of, IsSound}
 use Rattle.h2_core.specs.Items.{TakesItem}
-use Rattle.h2_core.proofs.FrameFailures.{table_sound, block_taken, block_stopped, decode_fails}
-use Rattle.h2_core.proofs.FrameFailures.{memory_fails, alike, at_table, from_table, stopped_same}
+use Rattle.h2_core.proofs.FrameFailures.{table_sound, block_taken, block_stopped, undecoded_fails}
+use Rattle.h2_core.proofs.FrameFailures.{alike, at_table, from_table, stopped_same}
 use Rattle.h2_core.proofs.FrameFailures.{stopped_small, held, with_decoder}
 use Rattle.h2_core.proofs.endpoint.Endpoint.take_block.Goals as goal
-use Rattle.h2_core.proofs.endpoint.Endpoint.take_block.Goals.{in-Compression, in-Memory}
 
 pub returns-in-Err : goal.returns-in-Err
 returns-in-Err c =
@@ -20,14 +19,11 @@ returns-in-Err c =
     let waits = c.end_with_goaway.ensures.waiting
     ∙ ap (λ (n : ℕ). e.output.waiting ++ encoding_of (GoAway e.streams.last_processed n []))
     c.number.ensures in
-    let failed = alike e _ c.match-fault.code e.streams.last_processed refl refl refl refl waits in
-    elim c.match-fault.branch [
-      | in-Compression w ↦
-          inl (decode_fails e _ c.args.id c.args.end c.args.octets.now c.match-fault.code w.code-is
-          (rw w.in-Compression.is at
-          (c.in-Err.ensures.fault (c.args.self.now.decodes c.requires.up))) failed)
-      | in-Memory w ↦ inr (memory_fails e _ c.match-fault.code w.code-is failed)
-    ]
+    let code = c.code_of_fault-code.result in
+    let failed = alike e _ code e.streams.last_processed refl refl refl refl waits in
+    undecoded_fails e _ c.args.id c.args.end c.args.octets.now c.in-Err.fault code
+    c.code_of_fault-code.ensures (c.in-Err.ensures.fault (c.args.self.now.decodes c.requires.up))
+    failed
 
 pub take_decoded-requires-clause-sound : goal.take_decoded-requires-clause-sound
 take_decoded-requires-clause-sound c =

@@ -1,0 +1,108 @@
+-- Memory is refused to a gatherer only with a part of a field block that has no fault.
+use Rattle.std.proofs.Common.{◌≡◌, ◌+◌, ◌==◌, nat_lt, not, ◌&&◌, Bool, true, false}
+use Rattle.std.proofs.Common.{if◌then◌else◌, length, Option, Some, None, Err, refl, ap, ◌∙◌}
+use Rattle.h2_frame.specs.declared.code.Code.{Code}
+use Rattle.h2_frame.specs.Frames.{Frame, Data, Headers, Priority, Reset, Settings, Ping, GoAway}
+use Rattle.h2_frame.specs.Frames.{WindowUpdate, Continuation, Unknown}
+use Rattle.h2_block.specs.declared.fault.BlockFault.{BlockFault}
+use Rattle.h2_block.specs.declared.fault.BlockFault.TheVariants as faults
+use Rattle.h2_block.specs.Grouping.{Begun, next_fault, fault_outside, fault_inside, is_standalone}
+use Rattle.h2_block.specs.Grouping.{max_block_octets}
+use Rattle.h2_block.specs.Gather.{ReportsFault}
+use Rattle.h2_log.specs.ItemRules.{grouped, may_be_first}
+use Rattle.h2_machine.specs.End.{End}
+use Rattle.h2_core.specs.Frames.{FailsWithoutMemory, FrameLacksMemory, step_needs_memory}
+use Rattle.h2_core.proofs.FrameTaking.{step_grouped}
+
+-- No frame is at fault for memory.
+long_only : (b : Bool)
+    → (if b then Some faults.TooLong else None) ≡ Some faults.Memory → ⊥
+long_only true is = cc
+long_only false is = cc
+
+inside_only : (same long : Bool)
+    → (if not same then Some faults.Interrupted else if long then Some faults.TooLong else None)
+    ≡ Some faults.Memory → ⊥
+inside_only false long is = cc
+inside_only true long is = long_only long is
+
+never_memory : (begun : Option Begun) (frame : Frame)
+    → next_fault begun frame ≡ Some faults.Memory → ⊥
+unfolding fault_outside fault_inside
+never_memory None (Data stream end octets pad) is = cc
+never_memory None (Headers stream end whole fragment pad priority) is =
+    long_only (nat_lt max_block_octets (length fragment)) is
+never_memory None (Priority stream octets) is = cc
+never_memory None (Reset stream code) is = cc
+never_memory None (Settings ack pairs) is = cc
+never_memory None (Ping ack octets) is = cc
+never_memory None (GoAway last code debug) is = cc
+never_memory None (WindowUpdate stream increment) is = cc
+never_memory None (Continuation stream whole fragment) is = cc
+never_memory None (Unknown kind flags stream payload) is = cc
+never_memory (Some begun) (Continuation stream whole fragment) is =
+    inside_only (stream == begun.stream)
+    (nat_lt max_block_octets (length begun.octets + length fragment)) is
+never_memory (Some begun) (Data stream end octets pad) is = cc
+never_memory (Some begun) (Headers stream end whole fragment pad priority) is = cc
+never_memory (Some begun) (Priority stream octets) is = cc
+never_memory (Some begun) (Reset stream code) is = cc
+never_memory (Some begun) (Settings ack pairs) is = cc
+never_memory (Some begun) (Ping ack octets) is = cc
+never_memory (Some begun) (GoAway last code debug) is = cc
+never_memory (Some begun) (WindowUpdate stream increment) is = cc
+never_memory (Some begun) (Unknown kind flags stream payload) is = cc
+
+-- A frame at fault is reported, so one for which memory lacks has none.
+lacking_unfaulty : (begun : Option Begun) (frame : Frame) (fault : BlockFault)
+    (found : Option BlockFault) → next_fault begun frame ≡ found → fault ≡ faults.Memory
+    → ReportsFault begun frame (Err fault) → found ≡ None
+lacking_unfaulty begun frame fault None is lacks reports = refl
+lacking_unfaulty begun frame fault (Some other) is lacks reports =
+    let told = reports other is in
+    let same : other ≡ faults.Memory = cc in
+    absurd (never_memory begun frame (is ∙ ap Some same))
+
+-- A frame without a fault that isn't passed on by itself is a part of a block.
+part_needs : (e : End) (begun : Option Begun) (frame : Frame) → next_fault begun frame ≡ None
+    → (begun ≡ None → is_standalone frame ≡ true → ⊥)
+    → step_needs_memory e (grouped begun frame) ≡ true
+unfolding fault_outside fault_inside grouped is_standalone
+part_needs e None (Data stream end octets pad) good part = absurd (part refl refl)
+part_needs e None (Headers stream end true fragment pad priority) good part = refl
+part_needs e None (Headers stream end false fragment pad priority) good part = refl
+part_needs e None (Priority stream octets) good part = absurd (part refl refl)
+part_needs e None (Reset stream code) good part = absurd (part refl refl)
+part_needs e None (Settings ack pairs) good part = absurd (part refl refl)
+part_needs e None (Ping ack octets) good part = absurd (part refl refl)
+part_needs e None (GoAway last code debug) good part = absurd (part refl refl)
+part_needs e None (WindowUpdate stream increment) good part = absurd (part refl refl)
+part_needs e None (Continuation stream whole fragment) good part = cc
+part_needs e None (Unknown kind flags stream payload) good part = absurd (part refl refl)
+part_needs e (Some begun) (Continuation stream true fragment) good part = refl
+part_needs e (Some begun) (Continuation stream false fragment) good part = refl
+part_needs e (Some begun) (Data stream end octets pad) good part = cc
+part_needs e (Some begun) (Headers stream end whole fragment pad priority) good part = cc
+part_needs e (Some begun) (Priority stream octets) good part = cc
+part_needs e (Some begun) (Reset stream code) good part = cc
+part_needs e (Some begun) (Settings ack pairs) good part = cc
+part_needs e (Some begun) (Ping ack octets) good part = cc
+part_needs e (Some begun) (GoAway last code debug) good part = cc
+part_needs e (Some begun) (WindowUpdate stream increment) good part = cc
+part_needs e (Some begun) (Unknown kind flags stream payload) good part = cc
+
+-- The connection fails for a frame that the gatherer lacked memory for.
+pub gathering_lacks : (e new : End) (frame : Frame) (fault : BlockFault) (code : Code)
+    → (not e.reading.started && not (may_be_first frame)) ≡ false → fault ≡ faults.Memory
+    → ReportsFault e.reading.begun frame (Err fault)
+    → (e.reading.begun ≡ None → is_standalone frame ≡ true → ⊥)
+    → FailsWithoutMemory e code new → FrameLacksMemory e frame code new
+gathering_lacks e new frame fault code started lacks reports part fails =
+    let good : next_fault e.reading.begun frame ≡ None =
+    lacking_unfaulty e.reading.begun frame fault (next_fault e.reading.begun frame) refl lacks
+    reports in
+    record {
+      needs = ap (step_needs_memory e) (step_grouped e frame started good)
+          ∙ part_needs e e.reading.begun frame good part;
+      fails = fails;
+    }
