@@ -1,6 +1,6 @@
 //! What a connection answers of itself. None of it takes memory.
 
-ghost use Rattle.std.specs.Prelude.{◌≡◌};
+ghost use Rattle.std.specs.Prelude.{◌≡◌, ◌≤◌};
 ghost use Rattle.h2_log.specs.Acts.{Values};
 ghost use Rattle.h2_log.specs.Log.{Log, waiting, reader_held, reader_next_live};
 ghost use Rattle.h2_log.specs.LogView.{log_view};
@@ -10,10 +10,13 @@ ghost use Rattle.h2_conn.specs.Conn.{ConnRepresents};
 use crate::conn::Conn;
 
 impl Conn {
-    /// How many octets of output wait. It goes on once the connection has failed.
+    /// How many octets of output wait: at most 262,144, and 262,161 with the GOAWAY of a failed
+    /// connection (RFC 9113, section 10.5). It goes on once the connection has failed.
     pub fn waiting(&self) -> usize
-        ensures { (values : Values) (log : Log) → ConnRepresents values self.now log
+        ensures count { (values : Values) (log : Log) → ConnRepresents values self.now log
             → result ≡ waiting log }
+        ensures bound { (values : Values) (log : Log) → ConnRepresents values self.now log
+            → result ≤ 262161 }
     {
         self.inner.end.waiting()
     }

@@ -49,7 +49,7 @@ pub record IsSound (log : Log) : Type 0 where
   pub clear : log.role ≡ Client → (i : ℕ) → greatest_block log.sent < i → IsClear (core log) i
 
 -- A log that refuses no call, other than one that puts output out, hasn't failed.
-up_since : (log : Log) (act : Act) → ((count : ℕ) → act ≡ PutOut count → ⊥)
+pub up_since : (log : Log) (act : Act) → ((count : ℕ) → act ≡ PutOut count → ⊥)
     → refusal_of (log_view log) act ≡ None → log.failed ≡ None
 unfolding conditions
 up_since log (PutOut count) other none = absurd (other count refl)

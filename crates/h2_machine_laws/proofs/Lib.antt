@@ -2,6 +2,7 @@
 pub mod AlikeAnswers
 pub mod AlikeFrames
 mod BlocksBegun
+pub mod BoundedLogs
 pub mod BoundsOfCalls
 pub mod BoundsOfFrames
 pub mod BoundsOfSteps

@@ -13,6 +13,8 @@ ghost use Rattle.h2_log.specs.ItemRules.{Decoded};
 ghost use Rattle.h2_machine.specs.Machine.{new_end, after_frame, after_call, fail};
 ghost use Rattle.h2_machine.specs.Machine.{close_unprocessed, unprocessed_of_end};
 ghost use Rattle.h2_log.specs.CallRules.{refusal_of};
+ghost use Rattle.h2_log.specs.Histories.{IsLog};
+ghost use Rattle.h2_log.specs.Log.{Log, waiting, resets_written, active_count};
 ghost use Rattle.h2_log.specs.declared.role.Role.{Role};
 ghost use Rattle.h2_machine_laws.specs.Bounds.{IsBounded, KeepsConnectionWindow};
 ghost use Rattle.h2_machine_laws.specs.Ranges.{ValuesAreInRange, IsDecodedAt, CountsEntries};
@@ -31,6 +33,20 @@ pub fn everything_is_bounded()
         → IsBounded (close_unprocessed e i) }
     ensures call { (e : End) (act : Act) → refusal_of (end_view e) act ≡ None → IsTypedAct act
         → IsBounded e → IsBounded (after_call e act) }
+{}
+
+/// By every log that comes about an end has at most 262,144 octets of output waiting, and 262,161
+/// once it has failed, with the GOAWAY that says so; it has reset at most 1,000 streams, and at
+/// most 1,000 are active (own; RFC 9113, section 10.5).
+pub fn logs_are_bounded()
+    ensures waiting { (role : Role) (values : Values) (log : Log) → IsLog role values log
+        → waiting log ≤ 262161 }
+    ensures up { (role : Role) (values : Values) (log : Log) → IsLog role values log
+        → log.failed ≡ None → waiting log ≤ 262144 }
+    ensures resets { (role : Role) (values : Values) (log : Log) → IsLog role values log
+        → resets_written log ≤ 1000 }
+    ensures active { (role : Role) (values : Values) (log : Log) → IsLog role values log
+        → active_count log ≤ 1000 }
 {}
 
 /// What the peer may send on the connection, what is owed on all streams, and what is unreturned,

@@ -12,7 +12,8 @@ mod windows;
 
 pub use answers::{frames_are_taken_alike, machines_answer_alike};
 pub use bounds::{
-    connection_window_is_kept, entries_are_counted, everything_is_bounded, values_are_in_range,
+    connection_window_is_kept, entries_are_counted, everything_is_bounded, logs_are_bounded,
+    values_are_in_range,
 };
 pub use machine::{
     calls_preserve_representation, frames_preserve_representation, new_end_represents,

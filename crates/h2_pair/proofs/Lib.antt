@@ -18,7 +18,6 @@ pub mod WaitingFrames
 pub mod WaitingGroups
 pub mod WaitingCarried
 pub mod WaitingWay
-pub mod WaitingResets
 pub mod WaitingBound
 pub mod TablesValues
 pub mod TablesDecoded

@@ -1,5 +1,5 @@
 -- How much output waits at an end of a pair.
-use Rattle.std.proofs.Common.{◌≡◌, ◌⊎◌, inl, inr, ℕ, ◌+◌, ◌≤◌, not, List, [], ◌∷◌, ◌++◌, length}
+use Rattle.std.proofs.Common.{◌≡◌, inl, inr, ℕ, ◌+◌, ◌≤◌, not, List, [], ◌∷◌, ◌++◌, length}
 use Rattle.std.proofs.Common.{take, drop}
 use Rattle.std.proofs.Common.{None, refl, sym, ap, ◌∙◌, arith, subst, append_assoc, length-append}
 use Rattle.std.proofs.Common.{length-take}
@@ -20,26 +20,25 @@ use Rattle.h2_log.proofs.StreamLemmas.{stream_of_log}
 use Rattle.h2_log_laws.specs.Sending.{IsSendable}
 use Rattle.h2_log_laws.proofs.InvariantLogs.{log_represents, written_is_allowed}
 use Rattle.h2_log_laws.proofs.ItemLists.{settings_after, total_after}
-use Rattle.h2_log_laws.proofs.ItemSizes.{size_of}
 use Rattle.h2_log_laws.proofs.LogGrowth.{grows_call}
 use Rattle.h2_log_laws.proofs.WindowsOfTwoEnds.{total-append}
 use Rattle.h2_end_laws.proofs.SendableCalls.{written_sendable}
-use Rattle.h2_machine_laws.specs.Machines.{Step, log_after}
+use Rattle.h2_machine_laws.specs.Machines.{log_after}
+use Rattle.h2_machine_laws.proofs.BoundedLogs.{few_resets}
 use Rattle.h2_pair.specs.Pairs.{Half, HalfStep, calls, takes, loses, IsPair, given_out}
 use Rattle.h2_pair.specs.Directions.{CarriesOctets, AreUnderWay}
-use Rattle.h2_pair.proofs.BothWays.{AreEnds, IsKept, both_ways}
+use Rattle.h2_pair.proofs.BothWays.{AreEnds, both_ways}
 use Rattle.h2_pair.proofs.BothWays.{new_half, ends_to_server, ends_to_client}
 use Rattle.h2_pair.proofs.CarriedItems.{items_both_ways}
 use Rattle.h2_pair.proofs.CarriedOctets.{carries_is_kept}
 use Rattle.h2_pair.proofs.ItemsRead.{step_same_or_up}
 use Rattle.h2_pair.proofs.LogOutput.{gives_call}
 use Rattle.h2_pair.proofs.PairLogs.{half_comes_about, step_comes_about}
-use Rattle.h2_pair.proofs.StepsOfLogs.{IsNoCall, step_up, step_adds}
+use Rattle.h2_pair.proofs.StepsOfLogs.{step_up, step_adds}
 use Rattle.h2_pair.proofs.WaitingReplies.{replies_left}
 use Rattle.h2_pair.proofs.WaitingSteps.{Fits}
 use Rattle.h2_pair.proofs.WaitingFrames.{fits_log}
 use Rattle.h2_pair.proofs.WaitingCarried.{LieIn, received_lie}
-use Rattle.h2_pair.proofs.WaitingResets.{few_resets}
 use Rattle.h2_pair.proofs.WaitingWay.{left_of_both, none_left, settings_wait, pings_wait}
 use Rattle.h2_pair.proofs.WaitingWay.{octets_by_kind}
 
@@ -201,7 +200,7 @@ few_wait writer reader way back ends up under_way returns =
     let other = written_is_allowed ends.reader_role ends.reader_values reader.log ends.reader_log in
     let settings = settings_wait ends.reader_role reader.log.received reader.log.sent other in
     let pings = pings_wait ends.reader_role reader.log.received reader.log.sent other in
-    let resets = few_resets ends.writer_role ends.writer_values writer.log ends.writer_log up in
+    let resets = few_resets ends.writer_role ends.writer_values writer.log ends.writer_log in
     let came : settings_count writer.log.received ≤ settings_count reader.log.sent =
     rw returns (settings_after back writer.log.received) in
     let asked : total one_ping writer.log.received ≤ total one_ping reader.log.sent =

@@ -1,10 +1,21 @@
--- The machine answers as the log does.
-use Rattle.std.proofs.Common.{◌∙◌}
+-- The machine answers as the log does, and every log is bounded.
+use Rattle.std.proofs.Common.{◌∙◌, arith}
 use Rattle.h2_core.specs.Endpoint.{end_of}
 use Rattle.h2_machine_laws.proofs.AlikeAnswers.{waiting_alike}
+use Rattle.h2_machine_laws.proofs.BoundedLogs.{few_wait}
 use Rattle.h2_conn.proofs.conn.Conn.waiting.Goals as goal
 
-pub returns : goal.returns
-returns c values log parts =
+pub returns-clause-count : goal.returns-clause-count
+returns-clause-count c values log parts =
     c.waiting.ensures
     ∙ waiting_alike values (end_of c.args.self.now.inner.end) log parts.machine
+
+pub returns-clause-bound : goal.returns-clause-bound
+returns-clause-bound c values log parts =
+    let e = end_of c.args.self.now.inner.end in
+    omega (
+      arith,
+      c.waiting.ensures,
+      waiting_alike values e log parts.machine,
+      few_wait e.role values log parts.machine.came,
+    )
