@@ -11,7 +11,7 @@ returns c role values acts before =
     c.push.new.self.items c.push-2.new.self.items c.push-3.new.self.items c.args.conn.now
     c.make_call-answer.new.conn _ _ _ waited given c.in_ok-joined.joined.items c.requires
     c.make_call-answer.ensures.typed refl refl refl c.in_ok-push.ensures.items
-    c.in_ok-push-2.ensures.items c.in_ok-push-3.ensures.items c.waiting-waited.ensures
+    c.in_ok-push-2.ensures.items c.in_ok-push-3.ensures.items c.waiting-waited.ensures.count
     (λ values log represents. c.in_ok-joined.ensures values log represents
     ∙ ap (λ (o : List ℕ). drop waited (o ++ drop log.given log.written)) c.deref.ensures.value)
     c.make_call-answer.ensures.makes before

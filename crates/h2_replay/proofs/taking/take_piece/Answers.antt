@@ -28,7 +28,7 @@ returns-clause-takes c values log represents =
           (used_are log from.after (taken_answer taking) (take taking.used piece) adds from.input)
           (joined_are log from.after (taken_answer taking) c.waiting-waited.result
           c.in_ok-joined.joined.items adds represents.machine.output.given
-          (c.waiting-waited.ensures values log represents)
+          (c.waiting-waited.ensures.count values log represents)
           (c.in_ok-joined.ensures values from.after from.represents))
           (same_events taking) c.in_ok-next.ensures.kept;
       represents = from.represents;
