@@ -134,7 +134,9 @@ const EVENTS_AND_STATUSES: &str =
     r"The octets are handed to one end of a new connection, which has the default
 settings and makes no call of its own: it answers no request, opens no stream
 and releases no octets. So the 101st request is reset with code 7, a body above
-65535 octets is a fault, and so is a response at a client. Each event has a line:
+65535 octets is a fault, and so is a response at a client.
+
+Each event has a line:
   fields ID          a field block has come on stream ID; `end` after it, as
                      after `data`: nothing follows on the stream
     name: value      a header field, as `h2 show` prints it
