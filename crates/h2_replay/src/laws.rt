@@ -11,6 +11,7 @@ ghost use Rattle.h2_log.specs.Acts.{Values, Act, SendData, Count, Turn};
 ghost use Rattle.h2_log.specs.Items.{encoding_of_items};
 ghost use Rattle.h2_log.specs.Limits.{max_frame_size_sent};
 ghost use Rattle.h2_log.specs.Log.{Log, send_window};
+ghost use Rattle.h2_log.specs.Histories.{IsLog};
 ghost use Rattle.h2_log.specs.LogCalls.{MayAnswer, with_call};
 ghost use Rattle.h2_log.specs.Settings.{is_server};
 ghost use Rattle.h2_log.specs.Windows.{connection_send_window};
@@ -20,14 +21,15 @@ ghost use Rattle.h2_end_laws.specs.Grouped.{AreGrouped};
 ghost use Rattle.h2_end_laws.specs.Readings.{HasReadings};
 ghost use Rattle.h2_end_laws.specs.Replays.{ReplayAct, Make, IsReplay, octets_of_acts};
 ghost use Rattle.h2_end_laws.specs.Replies.{replies_owed, replies_among};
+ghost use Rattle.h2_end_laws.specs.Scripts.{script_of};
 ghost use Rattle.h2_end_laws.specs.Sendings.{EncodesInOrder, settings_received, lists_accepted};
 ghost use Rattle.h2_replay.specs.declared.turns.Turn as code;
 ghost use Rattle.h2_replay.specs.Joined.{used_in, written_in, event_in, joined};
 ghost use Rattle.h2_replay.specs.Joined.{EndsWithCall};
 ghost use Rattle.h2_replay.specs.Replay.{KeepsReplay};
 
-/// The octets of the turns are those of the log: those that were used are the octets of the acts,
-/// up to a fault and with the octet that made it; those that joined the output are all that was
+/// The octets of the turns are those of the log: those that were used are a prefix of the octets of
+/// the acts, and all of them as long as the connection has not failed; those that joined the output are all that was
 /// written. The events are those that were reported, in order.
 pub fn turns_are_of_the_log()
     ensures input { (role : Role) (values : Values) (acts : List ReplayAct)
@@ -37,6 +39,10 @@ pub fn turns_are_of_the_log()
         (kept : List code.Turn) (log : Log) (turns : List Turn)
         → KeepsReplay role values acts kept log turns
         → (unused : List ℕ) × (octets_of_acts acts ≡ joined used_in kept ++ unused) }
+    ensures all_used { (role : Role) (values : Values) (acts : List ReplayAct)
+        (kept : List code.Turn) (log : Log) (turns : List Turn)
+        → KeepsReplay role values acts kept log turns → log.failed ≡ None
+        → octets_of_acts acts ≡ joined used_in kept }
     ensures output { (role : Role) (values : Values) (acts : List ReplayAct)
         (kept : List code.Turn) (log : Log) (turns : List Turn)
         → KeepsReplay role values acts kept log turns → joined written_in kept ≡ log.written }
@@ -68,12 +74,19 @@ pub fn output_of_a_replay()
 {}
 
 /// The events are those of the items that were read, which are the frames, grouped (sections 4.3
-/// and 6.10).
+/// and 6.10). How the octets are cut into acts does not matter: replays that used the same octets,
+/// with the same calls and answers at the same places among them, report the same.
 pub fn events_of_a_replay()
     ensures grouped { (role : Role) (values : Values) (acts : List ReplayAct) (log : Log)
         (turns : List Turn) → IsReplay role values acts log turns → AreGrouped log }
     ensures readings { (role : Role) (values : Values) (acts : List ReplayAct) (log : Log)
         (turns : List Turn) → IsReplay role values acts log turns → HasReadings log }
+    ensures however_cut { (role : Role) (values : Values) (acts others : List ReplayAct)
+        (kept also : List code.Turn) (log other : Log) (turns more : List Turn)
+        (history : IsLog role values log) (another : IsLog role values other)
+        → KeepsReplay role values acts kept log turns
+        → KeepsReplay role values others also other more
+        → script_of history ≡ script_of another → joined event_in kept ≡ joined event_in also }
 {}
 
 /// Where the connection has failed, the last frame of the output is GOAWAY with its code (section
@@ -85,7 +98,7 @@ pub fn fault_of_a_replay()
 {}
 
 /// Each call has an answer that it may have after the acts before it: it is refused for the first
-/// condition that holds, or for want of memory, and otherwise answered as the rules say.
+/// condition that holds, or when out of memory, and otherwise answered as the rules say.
 pub fn calls_of_a_replay()
     ensures { (role : Role) (values : Values) (acts : List ReplayAct) (act : Act) (after : Log)
         (turns : List Turn) → IsReplay role values (Make act ∷ acts) after turns

@@ -1,4 +1,9 @@
--- By the laws of what an end reads.
+-- By the laws of what an end reads, and of logs with one script.
+use Rattle.std.proofs.Common.{sym, ap, ◌∙◌, reverse}
+use Rattle.h2_log.specs.Log.{Log}
+use Rattle.h2_end_laws.proofs.ReplayedOctets.{replay_recorded}
+use Rattle.h2_end_laws.proofs.RunsOfLogs.{same_but_turns}
+use Rattle.h2_replay.proofs.JoinedLemmas.{events_kept}
 use Rattle.h2_end_laws.proofs.Grouped.{items_grouped}
 use Rattle.h2_end_laws.proofs.ReadingCalls.{log_has_readings}
 use Rattle.h2_end_laws.proofs.ReplayedLogs.{replay_closed}
@@ -11,3 +16,14 @@ returns-clause-grouped c role values acts log turns is =
 pub returns-clause-readings : goal.returns-clause-readings
 returns-clause-readings c role values acts log turns is =
     log_has_readings role values log (replay_closed role values acts log turns is)
+
+pub returns-clause-however_cut : goal.returns-clause-however_cut
+returns-clause-however_cut c role values acts others kept also log other turns more history another
+    keeps keeps_also same =
+    let reported = ap (λ (l : Log). l.reported)
+    (same_but_turns role values log other history another same) in
+    events_kept kept turns keeps.same
+    ∙ ap reverse (replay_recorded role values acts log turns keeps.replay).2
+    ∙ ap reverse reported
+    ∙ sym (events_kept also more keeps_also.same
+    ∙ ap reverse (replay_recorded role values others other more keeps_also.replay).2)

@@ -1,6 +1,6 @@
 -- By the lemmas on what turns tell together.
 use Rattle.std.proofs.Common.{◌∙◌, ap, sym, ◌++◌, List, ℕ, reverse}
-use Rattle.h2_end_laws.proofs.ReplayedOctets.{replay_recorded, replay_used}
+use Rattle.h2_end_laws.proofs.ReplayedOctets.{replay_recorded, replay_used, replay_all_used}
 use Rattle.h2_replay.proofs.JoinedLemmas.{used_kept, written_kept, events_kept}
 use Rattle.h2_replay.proofs.laws.turns_are_of_the_log.Goals as goal
 
@@ -15,6 +15,12 @@ returns-clause-used c role values acts kept log turns keeps =
     let input = used_kept kept turns keeps.same
     ∙ (replay_recorded role values acts log turns keeps.replay).0 in
     (used.0, used.1 ∙ ap (λ (o : List ℕ). o ++ used.0) (sym input))
+
+pub returns-clause-all_used : goal.returns-clause-all_used
+returns-clause-all_used c role values acts kept log turns keeps up =
+    replay_all_used role values acts log turns keeps.replay up
+    ∙ sym (used_kept kept turns keeps.same
+    ∙ (replay_recorded role values acts log turns keeps.replay).0)
 
 pub returns-clause-output : goal.returns-clause-output
 returns-clause-output c role values acts kept log turns keeps =
