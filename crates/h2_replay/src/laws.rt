@@ -29,8 +29,8 @@ ghost use Rattle.h2_replay.specs.Joined.{EndsWithCall};
 ghost use Rattle.h2_replay.specs.Replay.{KeepsReplay};
 
 /// The octets of the turns are those of the log: those that were used are a prefix of the octets of
-/// the acts, and all of them as long as the connection has not failed; those that joined the output are all that was
-/// written. The events are those that were reported, in order.
+/// the acts, and all of them as long as the connection has not failed; those that joined the output
+/// are all that was written. The events are those that were reported, in order.
 pub fn turns_are_of_the_log()
     ensures input { (role : Role) (values : Values) (acts : List ReplayAct)
         (kept : List code.Turn) (log : Log) (turns : List Turn)
