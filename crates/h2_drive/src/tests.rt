@@ -1,6 +1,22 @@
 //! The drive agrees with the model, and reaches every rule.
 
-use crate::drive;
+mod blocks;
+mod calls;
+mod choose;
+mod choose_call;
+mod choose_frame;
+mod compare;
+mod coverage;
+mod driving;
+mod frames;
+mod model;
+mod random;
+mod receive;
+mod receive_block;
+mod receive_data;
+mod receive_settings;
+
+use crate::tests::driving::drive;
 use std::test::Fail;
 
 /// All refusals but C12: memory is ample.

@@ -1,7 +1,7 @@
 //! What a drive does next: its moods.
 
-use crate::model::Model;
-use crate::random::Random;
+use crate::tests::model::Model;
+use crate::tests::random::Random;
 use h2_conn::{BadConfig, Config, Role};
 
 /// What a connection is driven to.

@@ -1,9 +1,9 @@
 //! Random frames.
 
-use crate::choose::{Mood, next_stream, stream};
-use crate::frames::{Block, Frame, MALFORMED, Pairs};
-use crate::model::{GREATEST, Model, Partial, State};
-use crate::random::Random;
+use crate::tests::choose::{Mood, next_stream, stream};
+use crate::tests::frames::{Block, Frame, MALFORMED, Pairs};
+use crate::tests::model::{GREATEST, Model, Partial, State};
+use crate::tests::random::Random;
 use h2_conn::Role;
 
 /// The greatest increment.

@@ -1,10 +1,10 @@
 //! Random calls.
 
-use crate::blocks::OwnList;
-use crate::calls::Call;
-use crate::choose::{Kind, Mood, config, stream};
-use crate::model::Model;
-use crate::random::Random;
+use crate::tests::blocks::OwnList;
+use crate::tests::calls::Call;
+use crate::tests::choose::{Kind, Mood, config, stream};
+use crate::tests::model::Model;
+use crate::tests::random::Random;
 
 /// A list: a short one mostly, and at times a great one, or one above the limit.
 fn list(random: &mut Random) -> OwnList {
