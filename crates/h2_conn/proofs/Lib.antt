@@ -7,6 +7,7 @@ pub mod AskOutput
 pub mod AskRefusing
 -- What a connection answers of itself.
 pub mod AskReaders
+pub mod AskNumbers
 -- Frames that are taken, and the octets that are kept of them.
 mod TakeFrames
 -- What is reported of a frame.

@@ -1,8 +1,10 @@
 -- When a connection represents the log of an end, and what its calls make of it.
-use Rattle.std.specs.Prelude.{◌≡◌, ℕ, ◌+◌, List, ◌++◌, take, drop, Result, Ok, Err}
+use Rattle.std.specs.Prelude.{◌≡◌, ℕ, ◌+◌, ◌||◌, if◌then◌else◌, List, ◌++◌, take, drop}
+use Rattle.std.specs.Prelude.{Option, Some, None, is_some, Result, Ok, Err}
 use Rattle.h2_log.specs.declared.refusal.Refusal.{Refusal}
 use Rattle.h2_log.specs.Acts.{Values, Act, Answer, Refused, PutOut, Count, Done, shown}
-use Rattle.h2_log.specs.Log.{Log}
+use Rattle.h2_log.specs.Settings.{is_server}
+use Rattle.h2_log.specs.Log.{Log, next_number}
 use Rattle.h2_log.specs.LogCalls.{MayAnswer, with_call}
 use Rattle.h2_end_laws.specs.Takes.{MayTake}
 use Rattle.h2_core.specs.Endpoint.{end_of}
@@ -10,7 +12,8 @@ use Rattle.h2_conn.specs.declared.conn.Conn.{Conn}
 use Rattle.h2_conn.specs.declared.event.Taken.{Taken}
 use Rattle.h2_conn.specs.declared.event.ConnFault.{ConnFault}
 use Rattle.h2_conn.specs.Inner.{PartsRepresent}
-use Rattle.h2_conn.specs.Events.{answer_taken}
+use Rattle.h2_conn.specs.declared.happened.Progress.{Progress}
+use Rattle.h2_conn.specs.Events.{answer_taken, answer_progress, code_result}
 
 -- The connection represents the log of an end with these values of its own settings.
 abbrev pub ConnRepresents : Values → Conn → Log → Type 0
@@ -22,6 +25,15 @@ abbrev pub ConnTakes : Conn → List ℕ → Result Taken ConnFault → Conn →
 ConnTakes old piece result new =
     (values : Values) (log : Log) → ConnRepresents values old log
     → (after : Log) × MayTake log piece (answer_taken result) after
+    × ConnRepresents values new after
+
+-- The same before anything is lent, where the fields that are kept and these octets are reported.
+abbrev pub ConnAdvances : Conn → List ℕ → (octets : List ℕ) → Result Progress ConnFault → Conn
+    → Type 0
+ConnAdvances old piece octets result new =
+    (values : Values) (log : Log) → ConnRepresents values old log
+    → (after : Log)
+    × MayTake log piece (answer_progress new.inner.end.list octets (code_result result)) after
     × ConnRepresents values new after
 
 -- the answer of a call, by its result
@@ -50,3 +62,9 @@ GivesOut old count given before after =
     (values : Values) (log : Log) → ConnRepresents values old log
     → after ≡ before ++ drop log.given
     (take (log.given + given) (with_call log (PutOut count) (Count given)).written)
+
+-- the number of the stream that a client opens next; none once the connection has failed, and at a
+-- server
+abbrev pub reader_next_number : Log → Option ℕ
+reader_next_number log =
+    if is_some log.failed || is_server log.role then None else Some (next_number log)

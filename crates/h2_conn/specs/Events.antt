@@ -42,3 +42,8 @@ abbrev pub answer_progress : List Field → List ℕ → Result Progress Code �
 answer_progress list octets (Ok progress) =
     Took progress.used (option_map (happened_value list octets) progress.happened)
 answer_progress list octets (Err code) = Failed code
+
+-- the same result with the code alone
+abbrev pub code_result : Result Progress ConnFault → Result Progress Code
+code_result (Ok progress) = Ok progress
+code_result (Err fault) = Err fault.code

@@ -1,6 +1,6 @@
 //! The calls of a connection.
 
-ghost use Rattle.std.specs.Prelude.{◌≡◌, IfOk, OnErr};
+ghost use Rattle.std.specs.Prelude.{◌≡◌, ◌≤◌, length, IfOk, OnErr};
 ghost use Rattle.h2_log.specs.Acts.{Open, SendFields, SendData, Release, ResetStream, Refuse};
 ghost use Rattle.h2_log.specs.Acts.{SendPing, SendGoAway, ChangeSettings, PutOut};
 ghost use Rattle.h2_log.specs.Acts.{Number, Count, Done};
@@ -46,8 +46,9 @@ impl Conn {
     ///
     /// C1, C2, C3, C7 and C12, in this order. Nothing has changed.
     pub fn data(&mut self, id: u32, octets: &[u8], end: bool) -> Result<usize, Refusal>
-        ensures { ConnAnswers self.old (SendData id octets.now end)
+        ensures answers { ConnAnswers self.old (SendData id octets.now end)
             (answer_by (λ count. Count count) result) self.new }
+        ensures within { IfOk result (λ count. count ≤ length octets.now) }
     {
         self.inner.end.send_data(id, octets, end)
     }

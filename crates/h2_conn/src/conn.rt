@@ -1,26 +1,29 @@
 //! One end of a connection.
 
-ghost use Rattle.std.specs.Prelude.{◌≡◌, ◌≤◌, length, IfOk, IfErr};
+ghost use Rattle.std.specs.Prelude.{◌≡◌, ◌≤◌, ℕ, List, length, IfOk, IfErr};
 ghost use Rattle.std.specs.Borrow.{sem};
 ghost use Rattle.std.specs.Io.BufRead.{Rests};
-ghost use Rattle.h2_frame.specs.Frames.{frame_of};
+ghost use Rattle.h2_frame.specs.Frames.{Frame, Encodes, frame_of};
+ghost use Rattle.h2_wire.specs.Cutter.{HasFrame, octets_of};
 ghost use Rattle.h2_config.specs.ConfigValues.{values_of};
 ghost use Rattle.h2_log.specs.declared.role.Role.TheVariants.{Client, Server};
 ghost use Rattle.h2_log.specs.LogCalls.{opened};
 ghost use Rattle.h2_core.specs.Endpoint.{end_of};
 ghost use Rattle.h2_conn.specs.Inner.{PartsRepresent};
-ghost use Rattle.h2_conn.specs.Conn.{ConnRepresents, ConnTakes};
-ghost use Rattle.h2_conn.specs.Loans.{octets_in};
+ghost use Rattle.h2_conn.specs.Conn.{ConnRepresents, ConnTakes, ConnAdvances};
+ghost use Rattle.h2_conn.specs.Events.{code_result};
+ghost use Rattle.h2_conn.specs.Loans.{octets_in, LiesThere, IsBodyOf};
 ghost use Rattle.h2_conn.specs.contracts.conn.Conn.{the_row};
 
 use crate::event::{ConnFault, Event, Taken};
-use crate::happened::Happened;
+use crate::happened::{Happened, Progress};
 use crate::inner::Inner;
 use h2_config::Config;
 use h2_core::Endpoint;
 use h2_frame::FrameRef;
 use h2_log::{Refusal, Role};
-use h2_wire::Cutter;
+use h2_wire::{Complete, Cutter};
+use hpack::FieldList;
 use std::alloc::Global;
 
 /// The most octets of a payload that an end reads (RFC 9113, section 4.2).
@@ -64,6 +67,43 @@ impl Conn {
         })
     }
 
+    /// [`Conn::take`] without lending: what is reported is answered without its fields and octets,
+    /// which [`Conn::list`] and [`Conn::octets`] lend until the next call of `advance`, `take` or a
+    /// method that changes the connection. So a layer above can look at them and then call again.
+    ///
+    /// # Errors
+    ///
+    /// [`ConnFault`] where the connection fails, and at every call from then on.
+    pub fn advance(&mut self, piece: &[u8]) -> Result<Progress, ConnFault>
+        ensures used { IfOk result (λ progress. progress.used ≤ length piece.now) }
+        ensures lies { LiesThere self.new.inner.cutter piece.now (code_result result) }
+        ensures takes { (octets : List ℕ)
+            → IsBodyOf self.new.inner.cutter piece.now octets (code_result result)
+            → ConnAdvances self.old piece.now octets result self.new }
+    {
+        match self.inner.take(piece) {
+            Ok(progress) => Ok(progress),
+            Err(code) => Err(ConnFault { code }),
+        }
+    }
+
+    /// The fields of the block that was reported last. It takes no memory.
+    pub fn list(&self) -> &FieldList
+        ensures { result.now ≡ self.now.inner.end.list }
+    {
+        self.inner.end.fields()
+    }
+
+    /// The octets of the body that [`Conn::advance`] has reported of this piece. It takes no
+    /// memory.
+    pub fn octets<'a>(&'a self, piece: &'a [u8], frame: Complete) -> &'a [u8]
+        requires lies { HasFrame self.now.inner.cutter piece.now frame }
+        ensures { (value : Frame) × Encodes value (octets_of self.now.inner.cutter piece.now frame)
+            × (result.now ≡ octets_in value) }
+    {
+        body(self.inner.cutter.frame(piece, frame))
+    }
+
     /// Takes octets of the piece, up to the end of one frame or else all of them, and answers what
     /// is reported: at most one event. Call it again until the piece is used and nothing is
     /// reported: streams that the peer does not process are reported one a call, with no octets
@@ -80,10 +120,7 @@ impl Conn {
         ensures* after { sem 𝓛 (Rests the_row self.entry
             (λ new. ConnTakes self.old piece.now result new)) }
     {
-        let progress = match self.inner.take(piece) {
-            Ok(progress) => progress,
-            Err(code) => return Err(ConnFault { code }),
-        };
+        let progress = self.advance(piece)?;
         let Some(happened) = progress.happened else {
             return Ok(Taken {
                 used: progress.used,
@@ -93,7 +130,7 @@ impl Conn {
         let event = match happened {
             Happened::Fields { id, end } => Event::Fields {
                 id,
-                list: self.inner.end.fields(),
+                list: self.list(),
                 end,
             },
             Happened::Data {
@@ -103,7 +140,7 @@ impl Conn {
                 end,
             } => Event::Data {
                 id,
-                bytes: body(self.inner.cutter.frame(piece, frame)),
+                bytes: self.octets(piece, frame),
                 flow,
                 end,
             },

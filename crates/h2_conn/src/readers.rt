@@ -1,13 +1,15 @@
 //! What a connection answers of itself. None of it takes memory.
 
-ghost use Rattle.std.specs.Prelude.{◌≡◌, ◌≤◌};
+ghost use Rattle.std.specs.Prelude.{◌≡◌, ◌≤◌, ◌<◌, IfSome};
 ghost use Rattle.h2_log.specs.Acts.{Values};
-ghost use Rattle.h2_log.specs.Log.{Log, waiting, reader_held, reader_next_live};
+ghost use Rattle.h2_log.specs.Log.{Log, active, waiting, reader_held, reader_next_live};
 ghost use Rattle.h2_log.specs.LogView.{log_view};
 ghost use Rattle.h2_log.specs.CallRules.{reader_room, reader_owed, reader_due};
-ghost use Rattle.h2_conn.specs.Conn.{ConnRepresents};
+ghost use Rattle.h2_conn.specs.Conn.{ConnRepresents, reader_next_number};
 
 use crate::conn::Conn;
+use h2_frame::Code;
+use h2_log::Role;
 
 impl Conn {
     /// How many octets of output wait: at most 262,144, and 262,161 with the GOAWAY of a failed
@@ -63,9 +65,39 @@ impl Conn {
 
     /// The least active stream above a number; none once the connection has failed.
     pub fn next_live(&self, above: u32) -> Option<u32>
-        ensures { (values : Values) (log : Log) → ConnRepresents values self.now log
+        ensures number { (values : Values) (log : Log) → ConnRepresents values self.now log
             → result ≡ reader_next_live log above }
+        ensures above { IfSome result (λ number. above < number) }
     {
         self.inner.end.next_live(above)
+    }
+
+    /// The code with which the connection has failed.
+    pub fn failed(&self) -> Option<Code>
+        ensures { (values : Values) (log : Log) → ConnRepresents values self.now log
+            → result ≡ log.failed }
+    {
+        let endpoint = &self.inner.end;
+        endpoint.failed()
+    }
+
+    /// Whether a stream is active (RFC 9113, section 5.1). That does not end with the connection.
+    pub fn is_active(&self, id: u32) -> bool
+        ensures { (values : Values) (log : Log) → ConnRepresents values self.now log
+            → result ≡ active log id }
+    {
+        self.inner.end.is_active(id)
+    }
+
+    /// The number of the stream that a client opens next: 1, 3, 5 and so on (section 5.1.1). None
+    /// once the connection has failed, and at a server.
+    pub fn next_number(&self) -> Option<u32>
+        ensures { (values : Values) (log : Log) → ConnRepresents values self.now log
+            → result ≡ reader_next_number log }
+    {
+        if self.inner.end.failed().is_some() || self.inner.end.role() == Role::Server {
+            return None;
+        }
+        Some(self.inner.end.next_number())
     }
 }

@@ -305,8 +305,8 @@ impl Endpoint {
         }
     }
 
-    /// The number for the next stream: 1, 3, 5 and so on (section 5.1.1).
-    fn next_number(&self) -> u32
+    /// The number for the next stream: 1, 3, 5 and so on (section 5.1.1). It takes no memory.
+    pub fn next_number(&self) -> u32
         requires { self.now.highest < 2 ^ 31 }
         ensures { result ≡ number_after self.now.highest }
     {

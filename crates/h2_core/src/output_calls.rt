@@ -6,7 +6,7 @@ ghost use Rattle.std.specs.Vec.{vec_capacity};
 ghost use Rattle.std.specs.FinMap as map;
 ghost use Rattle.h2_streams.specs.Streams.{number_or_none};
 ghost use Rattle.h2_log.specs.CallRules.{returns_before_put_out};
-ghost use Rattle.h2_machine.specs.End.{end_view};
+ghost use Rattle.h2_machine.specs.End.{end_view, stream_at};
 ghost use Rattle.h2_machine.specs.Machine.{fail, unprocessed_of_end, before_put_out_at};
 ghost use Rattle.h2_machine.specs.Machine.{close_unprocessed, first_active};
 ghost use Rattle.h2_core.specs.Endpoint.{end_of, IsSound};
@@ -134,6 +134,20 @@ impl Endpoint {
         ensures { result.now ≡ self.now.list }
     {
         &self.list
+    }
+
+    /// Which of the two ends it is. It takes no memory.
+    pub fn role(&self) -> Role
+        ensures { result ≡ self.now.role }
+    {
+        self.role
+    }
+
+    /// Whether a stream is active; that does not end with the connection. It takes no memory.
+    pub fn is_active(&self, id: u32) -> bool
+        ensures { result ≡ is_some (stream_at (end_of self.now) id) }
+    {
+        self.streams.stream(id).is_some()
     }
 
     /// How many octets of output wait. It takes no memory.

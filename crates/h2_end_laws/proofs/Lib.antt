@@ -11,6 +11,13 @@ pub mod Grouped
 pub mod GroupedPrefixes
 pub mod OneTake
 pub mod OutputPrefixes
+pub mod OverCalls
+pub mod OverEvents
+pub mod OverLists
+pub mod OverNumbers
+pub mod OverReads
+pub mod OverRoom
+pub mod OverSteps
 pub mod Overlaps
 pub mod PayloadLimits
 pub mod PieceParts

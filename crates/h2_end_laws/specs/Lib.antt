@@ -1,3 +1,4 @@
+pub mod Over
 pub mod Failures
 pub mod Grouped
 pub mod Prefixes

@@ -6,6 +6,7 @@
 mod pieces;
 mod reads;
 mod replays;
+mod streams;
 mod takes;
 #[cfg(test)]
 mod tests;
@@ -14,6 +15,10 @@ mod writes;
 pub use pieces::{pieces_do_not_matter, prefix_of_the_output};
 pub use reads::{events_are_of_the_items, items_are_frames_grouped};
 pub use replays::replays_are_logs;
+pub use streams::{
+    events_are_of_streams_in_use, opened_numbers_are_new, over_streams_stay_over,
+    released_is_not_owed, sending_gives_no_room,
+};
 pub use takes::take_answers;
 pub use writes::{
     blocks_are_of_the_lists, each_is_replied_to, each_step_writes_what_it_owes,

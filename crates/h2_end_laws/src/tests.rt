@@ -2,9 +2,11 @@
 
 use crate::{
     blocks_are_of_the_lists, each_is_replied_to, each_step_writes_what_it_owes,
-    events_are_of_the_items, items_are_frames_grouped, nothing_follows_a_failure,
-    pieces_do_not_matter, prefix_of_the_output, receive_window_is_kept, replays_are_logs,
-    stream_window_is_conserved, take_answers, windows_hold_data, written_items_can_be_sent,
+    events_are_of_streams_in_use, events_are_of_the_items, items_are_frames_grouped,
+    nothing_follows_a_failure, opened_numbers_are_new, over_streams_stay_over,
+    pieces_do_not_matter, prefix_of_the_output, receive_window_is_kept, released_is_not_owed,
+    replays_are_logs, sending_gives_no_room, stream_window_is_conserved, take_answers,
+    windows_hold_data, written_items_can_be_sent,
 };
 
 #[test]
@@ -12,13 +14,18 @@ fn laws_are_called() {
     blocks_are_of_the_lists();
     each_is_replied_to();
     each_step_writes_what_it_owes();
+    events_are_of_streams_in_use();
     events_are_of_the_items();
     items_are_frames_grouped();
     nothing_follows_a_failure();
+    opened_numbers_are_new();
+    over_streams_stay_over();
     pieces_do_not_matter();
     prefix_of_the_output();
     receive_window_is_kept();
+    released_is_not_owed();
     replays_are_logs();
+    sending_gives_no_room();
     stream_window_is_conserved();
     take_answers();
     windows_hold_data();

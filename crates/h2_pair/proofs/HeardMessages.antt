@@ -18,7 +18,8 @@ use Rattle.h2_log.specs.States.{openings}
 use Rattle.h2_log_laws.proofs.ItemLists.{any_after}
 use Rattle.h2_log_laws.proofs.ReaderStates.{active_parts}
 use Rattle.h2_pair.specs.HeaderTables.{block_count}
-use Rattle.h2_pair.specs.Tokens.{Token, FieldsToken, OctetToken, EndToken, end_tokens, SentMessage}
+use Rattle.h2_message.specs.Messages.{SentMessage}
+use Rattle.h2_pair.specs.Tokens.{Token, FieldsToken, OctetToken, EndToken, end_tokens}
 use Rattle.h2_pair.specs.Tokens.{trailers_tokens, message_tokens}
 use Rattle.h2_pair.proofs.HeardTokens.{item_tokens, frame_tokens, tokens_of_items}
 use Rattle.h2_pair.proofs.HeardGoAways.{speaks}

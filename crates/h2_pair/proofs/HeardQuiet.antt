@@ -33,7 +33,8 @@ use Rattle.h2_pair.specs.Directions.{AreUnderWay}
 use Rattle.h2_pair.specs.Undisturbed.{IsUndisturbed}
 use Rattle.h2_pair.specs.Quiet.{IsQuiet, WasReset, IsSending, IsStuck, CouldGo, NoneCouldGo}
 use Rattle.h2_pair.specs.Tokens.{Token, FieldsToken, OctetToken, EndToken, tokens_sent}
-use Rattle.h2_pair.specs.Tokens.{tokens_heard, SentMessage, message_tokens}
+use Rattle.h2_message.specs.Messages.{SentMessage}
+use Rattle.h2_pair.specs.Tokens.{tokens_heard, message_tokens}
 use Rattle.h2_pair.proofs.PairLogs.{both_logs}
 use Rattle.h2_pair.proofs.BothWays.{AreEnds, ends_to_server, ends_to_client}
 use Rattle.h2_pair.proofs.ConnectionWindows.{connection_conserved}

@@ -7,7 +7,8 @@ use Rattle.h2_log.specs.Log.{Log, active, owed, send_window, next_unprocessed}
 use Rattle.h2_log.specs.Windows.{connection_send_window}
 use Rattle.h2_pair.specs.Pairs.{Half}
 use Rattle.h2_pair.specs.Undisturbed.{WasAsked}
-use Rattle.h2_pair.specs.Tokens.{Token, FieldsToken, OctetToken, EndToken, tokens_sent, SentMessage}
+use Rattle.h2_message.specs.Messages.{SentMessage}
+use Rattle.h2_pair.specs.Tokens.{Token, FieldsToken, OctetToken, EndToken, tokens_sent}
 use Rattle.h2_pair.specs.Tokens.{message_tokens}
 
 -- All output of one end was given out and delivered to the other, which owes nothing on any stream

@@ -2,6 +2,7 @@
 use Rattle.std.specs.Prelude.{map as each, ◌≡◌, ℕ, ◌==◌, ◌&&◌, Bool, true, false, if◌then◌else◌}
 use Rattle.std.specs.Prelude.{List, [], ◌∷◌, ◌++◌, length, take, Option, Some, None}
 use Rattle.hpack.specs.declared.types.field.Field.{Field}
+use Rattle.h2_message.specs.Messages.{SentMessage}
 use Rattle.h2_log.specs.Events.{Event, FieldsEvent, DataEvent}
 use Rattle.h2_log.specs.Acts.{Act, Answer, Open, SendFields, SendData, Number, Count, Done}
 
@@ -53,12 +54,6 @@ tokens_heard i (event ∷ events) = tokens_heard i events ++ tokens_of_event i e
 -- The first list is a prefix of the second.
 abbrev pub IsPrefixOfTokens : (tokens whole : List Token) → Type 0
 IsPrefixOfTokens tokens whole = (rest : List Token) × (whole ≡ tokens ++ rest)
-
--- a message that an end is given for a stream: its head, its body, and its trailers if it has any
-pub record SentMessage : Type 0 where
-  pub head : List Field
-  pub body : List ℕ
-  pub trailers : Option (List Field)
 
 -- the trailers' token
 unfoldable pub trailers_tokens : Option (List Field) → List Token

@@ -5,7 +5,7 @@ ghost use Rattle.h2_log.specs.Acts.{Values};
 ghost use Rattle.h2_pair.specs.Pairs.{Half, IsPair};
 ghost use Rattle.h2_pair.specs.Undisturbed.{IsUndisturbed};
 ghost use Rattle.h2_pair.specs.Tokens.{Token, tokens_sent, tokens_heard, IsPrefixOfTokens};
-ghost use Rattle.h2_pair.specs.Tokens.{SentMessage};
+ghost use Rattle.h2_message.specs.Messages.{SentMessage};
 ghost use Rattle.h2_pair.specs.Tokens.{message_tokens};
 ghost use Rattle.h2_pair.specs.Quiet.{IsQuiet, WasReset, IsSending, IsStuck};
 

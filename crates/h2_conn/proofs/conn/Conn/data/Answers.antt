@@ -24,9 +24,9 @@ invariant_of-self c =
       cuts = λ up. let before : e.failed ≡ None = was up in search rules;
     }
 
-pub returns : goal.returns
+pub returns-clause-answers : goal.returns-clause-answers
 unfolding IsTypedAct may_lack_memory
-returns c =
+returns-clause-answers c =
     answers_by Count _ _ _ _ _ refl
     (c.ranges.id.fits, all_octets c.args.octets.now c.type_inv.octets) refl
     (value_as _ _ _ c.send_data.result (λ value is. ap Count is)

@@ -5,8 +5,8 @@ use Rattle.h2_machine_laws.proofs.AlikeAnswers.{live_alike}
 use Rattle.h2_conn.proofs.AskReaders.{live_by}
 use Rattle.h2_conn.proofs.conn.Conn.next_live.Goals as goal
 
-pub returns : goal.returns
-returns c values log parts =
+pub returns-clause-number : goal.returns-clause-number
+returns-clause-number c values log parts =
     live_by c.next_live.result (end_of c.args.self.now.inner.end).failed c.args.above _
     c.next_live.ensures.number c.next_live.ensures.above
     ∙ live_alike values (end_of c.args.self.now.inner.end) log c.args.above parts.machine

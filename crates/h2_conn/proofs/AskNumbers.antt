@@ -1,0 +1,32 @@
+-- The number of the stream that a client opens next, as a connection answers it.
+use Rattle.std.proofs.Common.{◌≡◌, ℕ, false, List, Some}
+use Rattle.std.proofs.Common.{is_some, ap, sym, ◌∙◌}
+use Rattle.h2_block.specs.Grouping.{Item}
+use Rattle.h2_log.specs.declared.role.Role.{Role}
+use Rattle.h2_log.specs.declared.role.Role.TheVariants.{Client, Server}
+use Rattle.h2_log.specs.Acts.{Values}
+use Rattle.h2_log.specs.Items.{greatest_block}
+use Rattle.h2_log.specs.Log.{Log, next_number}
+use Rattle.h2_log.specs.Settings.{is_server}
+use Rattle.h2_log.specs.States.{openings}
+use Rattle.h2_machine.specs.End.{End, number_after}
+use Rattle.h2_machine.specs.Represents.{Represents}
+use Rattle.h2_conn.specs.Conn.{reader_next_number}
+
+-- A client's greatest number is that of the blocks that it has sent.
+client_number : (role : Role) (highest : ℕ) (received sent : List Item) → is_server role ≡ false
+    → highest ≡ greatest_block (openings role received sent)
+    → number_after highest ≡ number_after (greatest_block sent)
+client_number Client highest received sent client is = ap number_after is
+client_number Server highest received sent client is = absurd (cc)
+
+-- The next number, where the connection is up and a client's.
+pub number_by : (values : Values) (e : End) (log : Log) → Represents values e log
+    → is_some e.failed ≡ false → is_server e.role ≡ false
+    → Some (number_after e.streams.highest) ≡ reader_next_number log
+unfolding next_number
+number_by values e log represents up client =
+    let log_up : is_some log.failed ≡ false = ap is_some (sym represents.failed) ∙ up in
+    let log_client : is_server log.role ≡ false = ap is_server (sym represents.role) ∙ client in
+    rw (log_up, log_client) (ap Some (client_number log.role e.streams.highest log.received log.sent
+    log_client represents.streams.highest))

@@ -1,0 +1,145 @@
+-- What calls write on streams that are over: no block.
+use Rattle.std.proofs.Common.{◌≡◌, ℕ, zero, suc, ◌==◌, ◌&&◌, not, nat_le, Bool, true, false}
+use Rattle.std.proofs.Common.{if◌then◌else◌, List, [], ◌∷◌, ◌++◌, length, take, drop, None, refl}
+use Rattle.std.proofs.Common.{inl, inr, arith}
+use Rattle.std.specs.List.{list_any}
+use Rattle.std.proofs.lemmas.Bool.{both_ways, or_from, ne_eqb, false_from_ne_true}
+use Rattle.hpack.specs.declared.types.field.Field.{Field}
+use Rattle.h2_frame.specs.Frames.{Data, WindowUpdate}
+use Rattle.h2_block.specs.Grouping.{Item, alone}
+use Rattle.h2_log.specs.Acts.{Act, Answer, Open, SendFields, SendData, Release, ResetStream}
+use Rattle.h2_log.specs.Acts.{Refuse, SendPing, SendGoAway, ChangeSettings, Number, Count, Done}
+use Rattle.h2_log.specs.Items.{is_block_on}
+use Rattle.h2_log.specs.Log.{Log}
+use Rattle.h2_log.specs.View.{View, ended_in}
+use Rattle.h2_log.specs.LogView.{log_view}
+use Rattle.h2_log.specs.CallRules.{data_frames, data_items, items_of}
+use Rattle.h2_log.specs.LogCalls.{MayAnswer, with_call}
+use Rattle.h2_log_laws.proofs.LogGrowth.{grows_call}
+use Rattle.h2_log_laws.proofs.LogHistory.{any_either}
+use Rattle.h2_log_laws.proofs.ReplyInvariant.{used_more}
+use Rattle.h2_end_laws.specs.Over.{used, IsOver}
+use Rattle.h2_end_laws.proofs.OverLists.{IsPast, past_sent}
+use Rattle.h2_end_laws.proofs.OverNumbers.{open_answer, fields_active, used_below}
+use Rattle.h2_end_laws.proofs.OverSteps.{Holds, call_keeps}
+
+-- Where neither of two lists has such an item, their line has none.
+none_of_both : (p : Item → Bool) (one other : List Item) → list_any p one ≡ false
+    → list_any p other ≡ false → list_any p (one ++ other) ≡ false
+none_of_both p one other none no_other =
+    false_from_ne_true _ (λ some. elim (any_either p one other some) [
+      | inl here ↦ both_ways _ none here
+      | inr there ↦ both_ways _ no_other there
+    ])
+
+-- DATA is no block.
+data_no_block : (i id : ℕ) (end : Bool) (octets : List ℕ)
+    → list_any (is_block_on i) (alone (Data id end octets None) ∷ []) ≡ false
+unfolding is_block_on
+data_no_block i id end octets = refl
+
+-- Nor are the frames of octets, by the test whether one is enough.
+frames_by : (i : ℕ) (b : Bool) (one last : Item) (others : List Item)
+    → list_any (is_block_on i) (one ∷ []) ≡ false → list_any (is_block_on i) (last ∷ []) ≡ false
+    → list_any (is_block_on i) others ≡ false
+    → list_any (is_block_on i) (if b then one ∷ [] else others ++ last ∷ []) ≡ false
+frames_by i true one last others none no_last no_others = none
+frames_by i false one last others none no_last no_others =
+    none_of_both (is_block_on i) others (last ∷ []) no_others no_last
+
+frames_no_block : (i count most id : ℕ) (octets : List ℕ) (end : Bool)
+    → list_any (is_block_on i) (data_frames count most id octets end) ≡ false
+unfolding data_frames
+frames_no_block i zero most id octets end = refl
+frames_no_block i (suc count) most id octets end =
+    frames_by i (nat_le (length octets) most) _ _ _ (data_no_block i id end octets)
+    (data_no_block i id false (take most octets))
+    (frames_no_block i count most id (drop most octets) end)
+
+-- Nor is what is written of a body.
+none_if : (i : ℕ) (b : Bool) (items : List Item) → list_any (is_block_on i) items ≡ false
+    → list_any (is_block_on i) (if b then [] else items) ≡ false
+none_if i true items none = refl
+none_if i false items none = none
+
+body_no_block : (i most id : ℕ) (octets : List ℕ) (end : Bool) (count : ℕ)
+    → list_any (is_block_on i) (data_items most id octets end count) ≡ false
+unfolding data_items
+body_no_block i most id octets end count =
+    none_if i (count == 0 && not (length octets == 0 && end)) _
+    (frames_no_block i (suc count) most id (take count octets) (end && count == length octets))
+
+-- Nor is credit, by whether the stream has ended.
+credit_no_block : (i : ℕ) (b : Bool) (id count : ℕ)
+    → list_any (is_block_on i) (alone (WindowUpdate 0 count) ∷
+    (if b then [] else alone (WindowUpdate id count) ∷ [])) ≡ false
+unfolding is_block_on
+credit_no_block i true id count = refl
+credit_no_block i false id count = refl
+
+-- A call that opens no stream with the number, and writes no fields on it, writes no block on it.
+pub items_no_block : (i : ℕ) (view : View) (act : Act) (answer : Answer)
+    → ((fields : List Field) (end : Bool) (id : ℕ) → act ≡ Open fields end → answer ≡ Number id
+    → (id == i) ≡ false)
+    → ((id : ℕ) (fields : List Field) (end : Bool) → act ≡ SendFields id fields end
+    → answer ≡ Done → (id == i) ≡ false)
+    → list_any (is_block_on i) (items_of view act answer) ≡ false
+unfolding items_of is_block_on
+items_no_block i view (Open fields end) (Number id) opens writes =
+    or_from _ _ (opens fields end id refl refl) refl
+items_no_block i view (SendFields id fields end) Done opens writes =
+    or_from _ _ (writes id fields end refl refl) refl
+items_no_block i view (SendData id octets end) (Count count) opens writes =
+    body_no_block i view.max_payload id octets end count
+items_no_block i view (Release id count) Done opens writes =
+    credit_no_block i (ended_in (view.stream id)) id count
+items_no_block i view (ResetStream id code) Done opens writes = refl
+items_no_block i view (Refuse id code) Done opens writes = refl
+items_no_block i view (SendPing octets) Done opens writes = refl
+items_no_block i view SendGoAway Done opens writes = refl
+items_no_block i view (ChangeSettings values) Done opens writes = refl
+items_no_block i view act answer opens writes = refl
+
+-- So it is with any call on a stream that is over.
+opens_other : (log : Log) (i : ℕ) (act : Act) (answer : Answer) → MayAnswer log act answer
+    → used log i ≡ true → (fields : List Field) (end : Bool) (id : ℕ) → act ≡ Open fields end
+    → answer ≡ Number id → (id == i) ≡ false
+opens_other log i act answer may was fields end id is answers =
+    let opens : MayAnswer log (Open fields end) (Number id) = rw (is, answers) at may in
+    let next = open_answer log fields end id opens in
+    let low = used_below log i next.0 was in
+    let same = next.1 in
+    ne_eqb id i (λ equal. omega (arith, low, same, equal))
+
+writes_other : (log : Log) (i : ℕ) (act : Act) (answer : Answer) → MayAnswer log act answer
+    → IsOver log i → (id : ℕ) (fields : List Field) (end : Bool) → act ≡ SendFields id fields end
+    → answer ≡ Done → (id == i) ≡ false
+writes_other log i act answer may over id fields end is answers =
+    let writes : MayAnswer log (SendFields id fields end) Done = rw (is, answers) at may in
+    let alive = fields_active log id fields end writes in
+    ne_eqb id i (λ equal. both_ways _ over.not_active (rw equal at alive))
+
+-- What is over, by the lists.
+pub past_of : (log : Log) (i : ℕ) → IsOver log i → Holds (IsPast i) log
+past_of log i over = record { was_used = over.was_used; not_active = over.not_active }
+
+pub over_of : (log : Log) (i : ℕ) → Holds (IsPast i) log → IsOver log i
+over_of log i past = record { was_used = past.was_used; not_active = past.not_active }
+
+-- What is over stays so after a call.
+pub over_by_call : (log : Log) (act : Act) (answer : Answer) (i : ℕ) → MayAnswer log act answer
+    → IsOver log i → IsOver (with_call log act answer) i
+over_by_call log act answer i may over =
+    over_of (with_call log act answer) i
+    (call_keeps i (IsPast i) (past_sent i) log act answer
+    (items_no_block i (log_view log) act answer
+    (opens_other log i act answer may over.was_used) (writes_other log i act answer may over))
+    (past_of log i over))
+
+-- What was used stays so.
+pub used_by_call : (log : Log) (act : Act) (answer : Answer) (i : ℕ) → used log i ≡ true
+    → used (with_call log act answer) i ≡ true
+used_by_call log act answer i was =
+    let grows = grows_call log act answer in
+    rw (grows.role, grows.received, grows.sent)
+    (used_more log.role i [] grows.items log.received log.sent was)

@@ -1,0 +1,27 @@
+-- Whether the length of a body is wrong, as the checks say it.
+use Rattle.std.proofs.Common.{◌≡◌, ℕ, ◌||◌, Bool, true, false, List, [], codes, Option}
+use Rattle.std.proofs.Common.{refl, sym, ap, ◌∙◌}
+use Rattle.std.specs.Str.{bytes_eq}
+use Rattle.hpack.specs.declared.types.field.Field.{Field}
+use Rattle.h2_message.specs.Fields.{status_of}
+use Rattle.h2_message.specs.Messages.{is_without_content}
+
+-- What follows a test that holds may be anything.
+pub or-where : (bad first second : Bool) → (bad ≡ false → first ≡ second)
+    → (bad || first) ≡ (bad || second)
+or-where true first second same = refl
+or-where false first second same = same refl
+
+without-by : (to_head first second : Bool)
+    → ((to_head || first) || second) ≡ (to_head || (first || second))
+without-by true first second = refl
+without-by false first second = refl
+
+-- A response has no content to HEAD, or by its status.
+pub without : (to_head none : Bool) (fields : List Field) → none ≡ is_without_content false fields
+    → is_without_content to_head fields ≡ (to_head || none)
+unfolding is_without_content
+without to_head none fields says =
+    without-by to_head (bytes_eq (status_of fields) (codes "204"))
+    (bytes_eq (status_of fields) (codes "304"))
+    ∙ ap (λ (b : Bool). to_head || b) (sym says)

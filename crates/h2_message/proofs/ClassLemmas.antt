@@ -1,0 +1,76 @@
+-- The number that digits write, and when there is one.
+use Rattle.std.proofs.Common.{◌≡◌, ℕ, ◌+◌, ◌-◌, ◌*◌, ◌^◌, ◌<◌, ◌≤◌, List, Some}
+use Rattle.std.proofs.Common.{None, sym, ap, ◌∙◌, ◌&&◌, not, ltb, leb, eqb, length, drop}
+use Rattle.std.proofs.Common.{true, false, Bool, fold, arith, get_or, if◌then◌else◌}
+use Rattle.std.proofs.Math.Nat.{pow-le-pow_right}
+use Rattle.std.proofs.lemmas.Bool.{and_left, and_right, and_from, eqb-true, eqb-false, le-ltb}
+use Rattle.std.proofs.lemmas.Bool.{lt-leb, lt-ltb, le-leb}
+use Rattle.std.proofs.lemmas.List.{drop_more}
+use Rattle.std.specs.Char.{is_ascii_digit}
+use Rattle.std.specs.Str.{all_ascii_digits, byte}
+use Rattle.h2_message.specs.Octets.{is_bad_length, number_of}
+
+-- the number that digits write after those of n
+abbrev pub number_from : ℕ → List ℕ → ℕ
+number_from n digits = fold (λ number digit. number * 10 + (digit - byte "0")) n digits
+
+-- a digit after fewer than 19 of them
+pub digit_fits : (n i digit : ℕ) → n < 10 ^ i → i < 19 → digit < 256
+    → n * 10 + (digit - 48) < 2 ^ 64
+digit_fits n i digit below few octet =
+    let most : 10 ^ i ≤ 10 ^ 18 =
+    pow-le-pow_right {n = 10} (omega arith) {i = i} {j = 18} (omega arith) in
+    omega arith
+
+-- empty: none
+pub none_empty : (value : List ℕ) → eqb (length value) 0 ≡ true → is_bad_length value ≡ true
+unfolding is_bad_length
+none_empty value h =
+    let none : length value ≤ 0 = omega (arith, eqb-true (length value) 0 h) in
+    ap (λ b. not ((b && leb (length value) 19) && all_ascii_digits value))
+    (le-ltb 0 (length value) none)
+
+-- more than 19 octets: none
+pub none_long : (value : List ℕ) → 19 < length value → is_bad_length value ≡ true
+unfolding is_bad_length
+none_long value h =
+    ap not
+    (and_left (ltb 0 (length value) && leb (length value) 19) (all_ascii_digits value)
+    (and_right (ltb 0 (length value)) (leb (length value) 19) (lt-leb (length value) 19 h)))
+
+-- an octet that is no digit, after digits: none
+pub none_other : (value : List ℕ) (i : ℕ) → i < length value
+    → is_ascii_digit (get_or value i 0) ≡ false
+    → all_ascii_digits (drop i value) ≡ all_ascii_digits value → is_bad_length value ≡ true
+unfolding is_bad_length
+none_other value i inside other before =
+    ap not
+    (and_right (ltb 0 (length value) && leb (length value) 19) (all_ascii_digits value)
+    (sym before ∙ ap all_ascii_digits (drop_more value i 0 inside)
+    ∙ and_left (is_ascii_digit (get_or value i 0)) (all_ascii_digits (drop (i + 1) value)) other))
+
+-- 1 to 19 digits: a number
+pub is_number : (value : List ℕ) → eqb (length value) 0 ≡ false → length value ≤ 19
+    → all_ascii_digits value ≡ true → is_bad_length value ≡ false
+unfolding is_bad_length
+is_number value some few digits =
+    let ne = eqb-false (length value) 0 some in
+    let more : 0 < length value = omega arith in
+    ap not
+    (and_from (ltb 0 (length value) && leb (length value) 19) (all_ascii_digits value)
+    (and_from (ltb 0 (length value)) (leb (length value) 19) (lt-ltb 0 (length value) more)
+    (le-leb (length value) 19 few))
+    digits)
+
+-- what is answered where there is no number, and where there is one
+pub no_length : (value : List ℕ) → is_bad_length value ≡ true
+    → None ≡ (if is_bad_length value then None else Some (number_of value))
+no_length value bad =
+    sym (ap (λ (b : Bool). if b then None else Some (number_of value)) bad)
+
+pub some_length : (value : List ℕ) → is_bad_length value ≡ false → (n : ℕ)
+    → n ≡ number_of value
+    → Some n ≡ (if is_bad_length value then None else Some (number_of value))
+some_length value good n is =
+    ap (λ m. Some m) is
+    ∙ sym (ap (λ (b : Bool). if b then None else Some (number_of value)) good)

@@ -1,0 +1,148 @@
+-- A message that breaks no rule as it is sent breaks none as it is read.
+use Rattle.std.proofs.Common.{◌≡◌, ℕ, Bool, true, false, List, length, Option, None, Some}
+use Rattle.std.proofs.Common.{refl, sym, ◌∙◌}
+use Rattle.std.specs.Prelude.{◌==◌, nat_lt, not, if◌then◌else◌}
+use Rattle.std.specs.List.{sum_by}
+use Rattle.std.proofs.lemmas.Bool.{or_parts, eqb-true}
+use Rattle.hpack.specs.declared.types.field.Field.{Field}
+use Rattle.h2_message.specs.declared.reading.Reads.TheVariants.{Requests, Responses}
+use Rattle.h2_message.specs.Fields.{has_bad_name, has_bad_value, has_late_pseudo, has_pseudo}
+use Rattle.h2_message.specs.Fields.{has_connection_field, has_bad_length, declared_length}
+use Rattle.h2_message.specs.Messages.{SentMessage, trailer_fields, differs_from, has_wrong_body}
+use Rattle.h2_message.specs.Messages.{is_without_content, head_rules, request_head_rules}
+use Rattle.h2_message.specs.Messages.{response_head_rules, trailer_rules, request_rules}
+use Rattle.h2_message.specs.Messages.{response_rules, broken_by_request, broken_by_response}
+use Rattle.h2_message.specs.Reading.{IsWellRead, as_read, final_rules, compared_length}
+use Rattle.h2_message.specs.Reading.{IsDeclared, AreSoundTrailers}
+use Rattle.h2_message.proofs.ReadingRules.{NoneHold, none_hold, none_broken}
+use Rattle.h2_message.proofs.ReadingWhole.{no_interims}
+
+-- Trailers of which no condition holds are sound, and so are none.
+sound_trailers : (trailers : Option (List Field))
+    → NoneHold (trailer_rules (trailer_fields trailers)) → AreSoundTrailers trailers
+unfolding AreSoundTrailers trailer_fields
+sound_trailers None hold = tt
+sound_trailers (Some fields) hold = none_broken (trailer_rules fields) hold
+
+-- equal by their test
+same_by_test : (test : Bool) → not test ≡ false → test ≡ true
+same_by_test true same = refl
+same_by_test false same = cc
+
+-- A length that doesn't differ is the declared one.
+declared_same : (declared : Option ℕ) (sum count : ℕ) → differs_from declared count ≡ false
+    → sum ≡ count → IsDeclared declared sum
+unfolding differs_from IsDeclared
+declared_same None sum count same counted = tt
+declared_same (Some number) sum count same counted =
+    eqb-true number count (same_by_test (number == count) same) ∙ sym counted
+
+pub sent_request : (message : SentMessage) (data_parts : List (List ℕ))
+    → broken_by_request message ≡ None → sum_by length data_parts ≡ length message.body
+    → IsWellRead Requests (as_read message data_parts)
+unfolding request_rules final_rules request_head_rules head_rules trailer_rules compared_length
+sent_request message data_parts none counted =
+    let trailers = trailer_fields message.trailers in
+    let hold = none_hold (request_rules message) none in
+    let name = or_parts (has_bad_name message.head) (has_bad_name trailers) hold.0 in
+    let value = or_parts (has_bad_value message.head) (has_bad_value trailers) hold.1.0 in
+    let place = or_parts (has_late_pseudo message.head) (has_pseudo trailers) hold.1.1.0 in
+    let others = hold.1.1.1 in
+    let last = others.1.1.1.1.1 in
+    let connection =
+    or_parts (has_connection_field message.head) (has_connection_field trailers) last.0 in
+    let lengths =
+    or_parts (has_bad_length message.head)
+    (differs_from (declared_length message.head) (length message.body)) last.1.0 in
+    record {
+      interims = no_interims Requests;
+      head = none_broken (request_head_rules message.head) (
+        name.0,
+        (
+          value.0,
+          (
+            place.0,
+            (
+              others.0,
+              (
+                others.1.0,
+                (
+                  others.1.1.0,
+                  (
+                    others.1.1.1.0,
+                    (
+                      others.1.1.1.1.0,
+                      (connection.0, (lengths.0, tt)),
+                    ),
+                  ),
+                ),
+              ),
+            ),
+          ),
+        ),
+      );
+      trailers = sound_trailers message.trailers
+          (name.1, (value.1, (place.1, (connection.1, tt))));
+      declared = declared_same (declared_length message.head) (sum_by length data_parts)
+          (length message.body) lengths.1 counted;
+    }
+
+-- The length that is compared of a response.
+response_declared : (declared : Option ℕ) (without wrong : Bool) (sum count : ℕ)
+    → (if without then wrong else differs_from declared count) ≡ false → sum ≡ count
+    → IsDeclared (if without then None else declared) sum
+unfolding IsDeclared
+response_declared declared true wrong sum count none counted = tt
+response_declared declared false wrong sum count none counted =
+    declared_same declared sum count none counted
+
+pub sent_response : (to_head : Bool) (message : SentMessage) (data_parts : List (List ℕ))
+    → broken_by_response to_head message ≡ None → sum_by length data_parts ≡ length message.body
+    → IsWellRead (Responses to_head) (as_read message data_parts)
+unfolding response_rules final_rules response_head_rules head_rules trailer_rules compared_length
+    has_wrong_body
+sent_response to_head message data_parts none counted =
+    let trailers = trailer_fields message.trailers in
+    let hold = none_hold (response_rules to_head message) none in
+    let name = or_parts (has_bad_name message.head) (has_bad_name trailers) hold.0 in
+    let value = or_parts (has_bad_value message.head) (has_bad_value trailers) hold.1.0 in
+    let place = or_parts (has_late_pseudo message.head) (has_pseudo trailers) hold.1.1.0 in
+    let others = hold.1.1.1 in
+    let last = others.1.1.1.1 in
+    let connection =
+    or_parts (has_connection_field message.head) (has_connection_field trailers) last.0 in
+    let lengths =
+    or_parts (has_bad_length message.head) (has_wrong_body to_head message) last.1.0 in
+    record {
+      interims = no_interims (Responses to_head);
+      head = none_broken (response_head_rules message.head) (
+        name.0,
+        (
+          value.0,
+          (
+            place.0,
+            (
+              others.0,
+              (
+                others.1.0,
+                (
+                  others.1.1.0,
+                  (
+                    others.1.1.1.0,
+                    (
+                      connection.0,
+                      (lengths.0, tt),
+                    ),
+                  ),
+                ),
+              ),
+            ),
+          ),
+        ),
+      );
+      trailers = sound_trailers message.trailers
+          (name.1, (value.1, (place.1, (connection.1, tt))));
+      declared = response_declared (declared_length message.head)
+          (is_without_content to_head message.head) (nat_lt 0 (length message.body))
+          (sum_by length data_parts) (length message.body) lengths.1 counted;
+    }

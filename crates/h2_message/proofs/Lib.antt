@@ -1,0 +1,27 @@
+mod LaneLemmas
+mod OctetLemmas
+mod ClassLemmas
+mod ReadingRules
+mod PhaseSteps
+mod PhaseWhole
+mod ReadingWhole
+mod ReadingSteps
+mod PhaseEnds
+mod ReadingHeads
+mod ReadingParts
+mod ReadingFollows
+mod LawSent
+pub mod examples
+mod CheckBodies
+mod CheckRules
+mod ScanAdds
+mod ScanLists
+mod ScanNames
+mod ScanPseudo
+mod ScanRegular
+mod ScanRequests
+mod ScanResponses
+mod VerdictMethods
+mod VerdictRules
+mod VerdictStatuses
+mod MessageHeads

@@ -1,0 +1,143 @@
+-- Requests that are to be sent, and the rule that each breaks.
+use Rattle.std.specs.Prelude.{[], ◌∷◌, ◌++◌, map, replicate, Some, None, ◌≡◌, refl}
+use Rattle.h2_message.specs.declared.malformed.Malformed.TheVariants.{BadName, BadValue}
+use Rattle.h2_message.specs.declared.malformed.Malformed.TheVariants.{PseudoPlace, PseudoUnknown}
+use Rattle.h2_message.specs.declared.malformed.Malformed.TheVariants.{PseudoTwice}
+use Rattle.h2_message.specs.declared.malformed.Malformed.TheVariants.{PseudoMissing, BadMethod}
+use Rattle.h2_message.specs.declared.malformed.Malformed.TheVariants.{BadPath, ConnectionField}
+use Rattle.h2_message.specs.declared.malformed.Malformed.TheVariants.{BadLength}
+use Rattle.h2_message.specs.Messages.{broken_by_request}
+use Rattle.h2_message.proofs.examples.Words.{computing, field, with_body}
+use Rattle.h2_message.proofs.examples.Words.{with_trailers, of_requests, r, asking}
+
+-- M1 and M2 hold of regular fields and of pseudo-fields.
+names_and_values :
+    (of_requests (
+    (r ++ field "Host" "x" ∷ []) ∷ (r ++ field "" "x" ∷ []) ∷ (r ++ field "a:" "x" ∷ [])
+    ∷ (field ":Method" "GET" ∷ r) ∷ [])
+    ≡ replicate 4 (Some BadName))
+    × (of_requests (
+    (r ++ field "a" " x" ∷ []) ∷ (r ++ field "a" "x " ∷ [])
+    ∷ (field ":scheme" "http " ∷ []) ∷ [])
+    ≡ replicate 3 (Some BadValue))
+    × (of_requests (
+    r ∷ (r ++ field "host" "x" ∷ []) ∷ (r ++ field "a" "" ∷ []) ∷ (r ++ field "a" "x y" ∷ [])
+    ∷ [])
+    ≡ replicate 4 None)
+unfolding computing
+names_and_values = (refl, refl, refl)
+
+-- M3 to M6: where pseudo-fields stand, and which.
+pseudo_fields :
+    (of_requests (
+    (field ":method" "GET" ∷ field ":scheme" "http" ∷ field "accept" "x" ∷ field ":path" "/"
+    ∷ []) ∷ (field "a" "x" ∷ r) ∷ (r ++ field "a" "x" ∷ field ":protocol" "x" ∷ []) ∷ [])
+    ≡ replicate 3 (Some PseudoPlace))
+    × (of_requests (
+    (r ++ field ":protocol" "x" ∷ field "a" "x" ∷ []) ∷ (r ++ field ":status" "200" ∷ [])
+    ∷ (r ++ field ":" "x" ∷ []) ∷ (field ":authoritie" "x" ∷ r) ∷ [])
+    ≡ replicate 4 (Some PseudoUnknown))
+    × (of_requests (
+    (r ++ field ":path" "/" ∷ []) ∷ (r ++ field ":method" "GET" ∷ [])
+    ∷ (r ++ field ":scheme" "x" ∷ []) ∷ (r ++ field ":authority" "x" ∷ []) ∷ (r ++ r) ∷ [])
+    ≡ replicate 5 (Some PseudoTwice))
+    × (of_requests (
+    [] ∷ (field ":method" "GET" ∷ field ":path" "/" ∷ field ":authority" "a" ∷ [])
+    ∷ (field ":method" "CONNECT" ∷ field ":authority" "a:80" ∷ [])
+    ∷ (field ":scheme" "http" ∷ field ":path" "/" ∷ [])
+    ∷ (field ":method" "GET" ∷ field ":scheme" "http" ∷ field "path" "/" ∷ []) ∷ [])
+    ≡ replicate 5 (Some PseudoMissing))
+    × (of_requests (
+    asking "GET" "/"
+    ∷ (field ":path" "/" ∷ field ":scheme" "x" ∷ field ":method" "GET" ∷ []) ∷ [])
+    ≡ replicate 2 None)
+unfolding computing
+pseudo_fields = (refl, refl, refl, refl, refl)
+
+-- M7 and M8: the method, and the path that goes with it.
+methods_and_paths :
+    (of_requests (asking "CONNECT" "/" ∷ asking "" "/" ∷ asking "G T" "/" ∷ [])
+    ≡ replicate 3 (Some BadMethod))
+    × (of_requests (
+    asking "GET" "*" ∷ asking "HEAD" "*" ∷ asking "GET" "" ∷ asking "OPTIONS" "**"
+    ∷ asking "options" "*" ∷ asking "GET" "a" ∷ [])
+    ≡ replicate 6 (Some BadPath))
+    × (of_requests (
+    asking "OPTIONS" "*" ∷ asking "OPTIONS" "/" ∷ asking "connect" "/" ∷ asking "GET" "/*" ∷ [])
+    ≡ replicate 4 None)
+unfolding computing
+methods_and_paths = (refl, refl, refl)
+
+-- M10: the five fields, and `te`, whose letters may be of any case.
+connection_fields :
+    (of_requests (
+    (r ++ field "connection" "close" ∷ []) ∷ (r ++ field "proxy-connection" "x" ∷ [])
+    ∷ (r ++ field "keep-alive" "" ∷ []) ∷ (r ++ field "transfer-encoding" "chunked" ∷ [])
+    ∷ (r ++ field "upgrade" "h2c" ∷ []) ∷ (r ++ field "te" "gzip" ∷ [])
+    ∷ (r ++ field "te" "" ∷ []) ∷ (r ++ field "te" "trailers, x" ∷ [])
+    ∷ (r ++ field "te" "gzip" ∷ field "te" "trailers" ∷ [])
+    ∷ (r ++ field "te" "trailers" ∷ field "te" "gzip" ∷ []) ∷ [])
+    ≡ replicate 10 (Some ConnectionField))
+    × (of_requests (
+    (r ++ field "te" "trailers" ∷ []) ∷ (r ++ field "te" "Trailers" ∷ [])
+    ∷ (r ++ field "te" "TRAILERS" ∷ field "tee" "x" ∷ [])
+    ∷ (r ++ field "connections" "x" ∷ field "upgrad" "x" ∷ []) ∷ [])
+    ≡ replicate 4 None)
+unfolding computing
+connection_fields = (refl, refl)
+
+-- M11: all texts are numbers and equal ones, and the body has so many octets.
+lengths :
+    (map broken_by_request (
+    with_body (r ++ field "content-length" "5" ∷ []) 4
+    ∷ with_body (r ++ field "content-length" "5" ∷ []) 6
+    ∷ with_body (r ++ field "content-length" "5" ∷ field "content-length" "6" ∷ []) 5
+    ∷ with_body (r ++ field "content-length" "5" ∷ field "content-length" "x" ∷ []) 5
+    ∷ with_body (r ++ field "content-length" "x" ∷ field "content-length" "5" ∷ []) 5
+    ∷ with_body (r ++ field "content-length" "" ∷ []) 0
+    ∷ with_body (r ++ field "content-length" "+5" ∷ []) 5
+    ∷ with_body (r ++ field "content-length" "00000000000000000005" ∷ []) 5 ∷ [])
+    ≡ replicate 8 (Some BadLength))
+    × (map broken_by_request (
+    with_body r 3 ∷ with_body (r ++ field "content-length" "0" ∷ []) 0
+    ∷ with_body (r ++ field "content-length" "5" ∷ field "content-length" "05" ∷ []) 5
+    ∷ with_body (r ++ field "content-length" "0000000000000000005" ∷ []) 5
+    ∷ with_body (r ++ field "content-lengths" "5" ∷ []) 4 ∷ [])
+    ≡ replicate 5 None)
+unfolding computing
+lengths = (refl, refl)
+
+-- Trailers: M1, M2, M3 and M10. They may be empty, and their `content-length` says nothing.
+trailers :
+    (map (λ fields. broken_by_request (with_trailers r fields)) (
+    (field "X" "y" ∷ []) ∷ (field "x" "y " ∷ []) ∷ (field ":path" "/" ∷ [])
+    ∷ (field "x" "y" ∷ field ":" "y" ∷ []) ∷ (field "connection" "close" ∷ [])
+    ∷ (field "te" "gzip" ∷ []) ∷ [])
+    ≡ Some BadName ∷ Some BadValue ∷ Some PseudoPlace ∷ Some PseudoPlace
+    ∷ Some ConnectionField ∷ Some ConnectionField ∷ [])
+    × (map (λ fields. broken_by_request (with_trailers r fields)) (
+    [] ∷ (field "x" "y" ∷ []) ∷ (field "te" "trailers" ∷ [])
+    ∷ (field "content-length" "x" ∷ []) ∷ [])
+    ≡ replicate 4 None)
+unfolding computing
+trailers = (refl, refl)
+
+-- Of two rules the least number counts, of the head and of the trailers together.
+least_numbers :
+    (of_requests (
+    (r ++ field "a" " x" ∷ field "A" "x" ∷ []) ∷ (field "a" " x" ∷ r)
+    ∷ (field "a" "x" ∷ field ":x" "y" ∷ r) ∷ (r ++ r ++ field ":x" "y" ∷ [])
+    ∷ (field ":path" "" ∷ field ":path" "" ∷ []) ∷ (field ":method" "" ∷ []) ∷ asking "" ""
+    ∷ (asking "GET" "*" ++ field "te" "x" ∷ [])
+    ∷ (r ++ field "content-length" "x" ∷ field "te" "x" ∷ []) ∷ [])
+    ≡ Some BadName ∷ Some BadValue ∷ Some PseudoPlace ∷ Some PseudoUnknown ∷ Some PseudoTwice
+    ∷ Some PseudoMissing ∷ Some BadMethod ∷ Some BadPath ∷ Some ConnectionField ∷ [])
+    × (map broken_by_request (
+    with_trailers (r ++ field "a" " x" ∷ []) (field "A" "x" ∷ [])
+    ∷ with_trailers [] (field "a" " x" ∷ []) ∷ with_trailers [] (field ":path" "/" ∷ [])
+    ∷ with_trailers [] (field "te" "x" ∷ [])
+    ∷ with_trailers (r ++ field "content-length" "1" ∷ []) (field "te" "x" ∷ []) ∷ [])
+    ≡ Some BadName ∷ Some BadValue ∷ Some PseudoPlace ∷ Some PseudoMissing
+    ∷ Some ConnectionField ∷ [])
+unfolding computing
+least_numbers = (refl, refl)

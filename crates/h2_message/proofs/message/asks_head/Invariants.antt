@@ -1,0 +1,6 @@
+use Rattle.std.proofs.Common.{◌≡◌, drop}
+use Rattle.h2_message.specs.Messages.{asks_head}
+use Rattle.h2_message.proofs.message.asks_head.Given as goal
+
+abbrev pub invariant-loop-field : goal.invariant-loop-field
+invariant-loop-field l = asks_head (drop l.field-index l.head) ≡ asks_head l.head

@@ -1,0 +1,14 @@
+use Rattle.std.proofs.Common.{[], refl}
+use Rattle.h2_message.specs.declared.reading.Phase.TheVariants.{AtHead}
+use Rattle.h2_message.specs.Phases.{phase_after_all, asks_head_first}
+use Rattle.h2_message.proofs.ReadingSteps.{readable}
+use Rattle.h2_message.proofs.reading.Reading.new.Goals as goal
+
+pub returns : goal.returns
+unfolding phase_after_all asks_head_first
+returns c = record {
+  reads_is = refl;
+  phase = refl;
+  readable = readable c.args.reads [] AtHead refl;
+  asks_head = λ requests. refl;
+}

@@ -1,0 +1,44 @@
+use Rattle.std.proofs.Common.{◌≡◌, true, false, codes}
+use Rattle.std.specs.Str.{bytes_eq}
+use Rattle.h2_message.proofs.ScanPseudo.{compared}
+use Rattle.h2_message.proofs.ScanRequests.{method-added, scheme-added, path-added}
+use Rattle.h2_message.proofs.ScanRequests.{authority-added, unknown-added}
+use Rattle.h2_message.proofs.scan.Scan.add_of_request.Goals as goal
+
+pub returns-then-eq-clause-seen : goal.returns-then-eq-clause-seen
+returns-then-eq-clause-seen c fields sensitive colon seen =
+    method-added fields c.args.name.now c.args.value.now sensitive c.args.self.now
+    c.is_some.result c.method_class.result c.or-self.result
+    (compared _ _ (codes ":method") _ true c.eq.ensures c.as_slice.ensures c.if-eq.true) colon
+    c.is_some.ensures c.method_class.ensures c.or-self.ensures seen
+
+pub returns-then-eq-2-clause-seen : goal.returns-then-eq-2-clause-seen
+returns-then-eq-2-clause-seen c fields sensitive colon seen =
+    scheme-added fields c.args.name.now c.args.value.now sensitive c.args.self.now
+    (compared _ _ (codes ":scheme") _ true c.eq-else-eq.ensures c.as_slice-else-eq.ensures
+    c.if-eq-2.true) colon seen
+
+pub returns-then-eq-3-clause-seen : goal.returns-then-eq-3-clause-seen
+returns-then-eq-3-clause-seen c fields sensitive colon seen =
+    path-added fields c.args.name.now c.args.value.now sensitive c.args.self.now
+    c.is_some-then-eq-3.result c.path_class.result c.or-self-then-eq-3.result
+    (compared _ _ (codes ":path") _ true c.eq-else-eq-2.ensures c.as_slice-else-eq-2.ensures
+    c.if-eq-3.true) colon
+    c.is_some-then-eq-3.ensures c.path_class.ensures c.or-self-then-eq-3.ensures seen
+
+pub returns-then-eq-4-clause-seen : goal.returns-then-eq-4-clause-seen
+returns-then-eq-4-clause-seen c fields sensitive colon seen =
+    authority-added fields c.args.name.now c.args.value.now sensitive c.args.self.now
+    (compared _ _ (codes ":authority") _ true c.eq-else-eq-3.ensures c.as_slice-else-eq-3.ensures
+    c.if-eq-4.true) colon seen
+
+pub returns-else-eq-4-clause-seen : goal.returns-else-eq-4-clause-seen
+returns-else-eq-4-clause-seen c fields sensitive colon seen =
+    unknown-added fields c.args.name.now c.args.value.now sensitive c.args.self.now
+    (compared _ _ (codes ":method") _ false c.eq.ensures c.as_slice.ensures c.if-eq.false)
+    (compared _ _ (codes ":scheme") _ false c.eq-else-eq.ensures c.as_slice-else-eq.ensures
+    c.if-eq-2.false)
+    (compared _ _ (codes ":path") _ false c.eq-else-eq-2.ensures c.as_slice-else-eq-2.ensures
+    c.if-eq-3.false)
+    (compared _ _ (codes ":authority") _ false c.eq-else-eq-3.ensures
+    c.as_slice-else-eq-3.ensures c.if-eq-4.false) colon seen

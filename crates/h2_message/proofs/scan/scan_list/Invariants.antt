@@ -1,0 +1,6 @@
+use Rattle.std.proofs.Common.{take}
+use Rattle.h2_message.specs.Scans.{IsScan}
+use Rattle.h2_message.proofs.scan.scan_list.Given as goal
+
+abbrev pub invariant-loop-place : goal.invariant-loop-place
+invariant-loop-place l = IsScan l.kind (take l.place l.list) l.scan

@@ -1,0 +1,9 @@
+pub mod Classes
+pub mod Fields
+pub mod Messages
+pub mod Octets
+pub mod Phases
+pub mod Reading
+pub mod ScanSteps
+pub mod Scans
+pub mod Values

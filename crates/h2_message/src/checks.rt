@@ -1,0 +1,135 @@
+//! Which rule a message breaks.
+
+ghost use Rattle.std.specs.Prelude.{◌≡◌, IfErr, OnOk, None, Some, List, false, nat_lt};
+ghost use Rattle.std.specs.Prelude.{if◌then◌else◌};
+ghost use Rattle.hpack.specs.declared.types.field.Field.{Field};
+ghost use Rattle.h2_message.specs.declared.kind.Kind.TheVariants.{Request, Response};
+ghost use Rattle.h2_message.specs.Fields.{has_bad_length, declared_length};
+ghost use Rattle.h2_message.specs.Messages.{broken_by_request, broken_by_response, differs_from};
+ghost use Rattle.h2_message.specs.Messages.{trailer_fields, is_without_content};
+ghost use Rattle.h2_message.specs.Scans.{IsScan};
+ghost use Rattle.h2_message.specs.Values.{message_value};
+
+use crate::kind::Kind;
+use crate::malformed::Malformed;
+use crate::message::Message;
+use crate::scan::{Scan, scan_fields};
+use crate::verdict::first_broken;
+
+/// Whether a request that is to be sent breaks no rule. It takes no memory.
+///
+/// # Errors
+///
+/// The first of M1 to M8, M10 and M11 that it breaks.
+pub fn check_request(message: &Message) -> Result<(), Malformed>
+    ensures ok { OnOk result (broken_by_request (message_value message.now) ≡ None) }
+    ensures err { IfErr result (λ rule. broken_by_request (message_value message.now)
+        ≡ Some rule) }
+{
+    match broken_by_request(message) {
+        None => Ok(()),
+        Some(rule) => Err(rule),
+    }
+}
+
+/// The rule that a request breaks.
+fn broken_by_request(message: &Message) -> Option<Malformed>
+    ensures { result ≡ broken_by_request (message_value message.now) }
+{
+    let head = scan_fields(Kind::Request, &message.head);
+    let trailers = scan_trailers(message);
+    first_broken(&[
+        (head.bad_name | trailers.bad_name, Malformed::BadName),
+        (head.bad_value | trailers.bad_value, Malformed::BadValue),
+        (head.late_pseudo | trailers.pseudo, Malformed::PseudoPlace),
+        (head.unknown_pseudo, Malformed::PseudoUnknown),
+        (head.pseudo_twice, Malformed::PseudoTwice),
+        (head.lacks_of_request(), Malformed::PseudoMissing),
+        (head.has_bad_method(), Malformed::BadMethod),
+        (head.has_bad_path(), Malformed::BadPath),
+        (
+            head.connection_field | trailers.connection_field,
+            Malformed::ConnectionField,
+        ),
+        (
+            head.bad_length | differs_from(head.length, message.body.len()),
+            Malformed::BadLength,
+        ),
+    ])
+}
+
+/// Whether a response that is to be sent breaks no rule; `to_head` says that it answers HEAD. It
+/// takes no memory.
+///
+/// # Errors
+///
+/// The first of M1 to M6 and M9 to M11 that it breaks: M9 of an interim response too, and M11
+/// where a response has a body that has none (to HEAD, 204 and 304; RFC 9110, section 6.4.1).
+pub fn check_response(message: &Message, to_head: bool) -> Result<(), Malformed>
+    ensures ok { OnOk result (broken_by_response to_head (message_value message.now) ≡ None) }
+    ensures err { IfErr result (λ rule. broken_by_response to_head (message_value message.now)
+        ≡ Some rule) }
+{
+    match broken_by_response(message, to_head) {
+        None => Ok(()),
+        Some(rule) => Err(rule),
+    }
+}
+
+/// The rule that a response breaks.
+fn broken_by_response(message: &Message, to_head: bool) -> Option<Malformed>
+    ensures { result ≡ broken_by_response to_head (message_value message.now) }
+{
+    let head = scan_fields(Kind::Response, &message.head);
+    let trailers = scan_trailers(message);
+    first_broken(&[
+        (head.bad_name | trailers.bad_name, Malformed::BadName),
+        (head.bad_value | trailers.bad_value, Malformed::BadValue),
+        (head.late_pseudo | trailers.pseudo, Malformed::PseudoPlace),
+        (head.unknown_pseudo, Malformed::PseudoUnknown),
+        (head.pseudo_twice, Malformed::PseudoTwice),
+        (head.lacks_of_response(), Malformed::PseudoMissing),
+        (head.has_no_final_status(), Malformed::BadStatus),
+        (
+            head.connection_field | trailers.connection_field,
+            Malformed::ConnectionField,
+        ),
+        (
+            head.bad_length | has_wrong_body(&head, to_head, message.body.len()),
+            Malformed::BadLength,
+        ),
+    ])
+}
+
+/// What is seen of a message's trailers; of none where it has none.
+fn scan_trailers(message: &Message) -> Scan
+    ensures { IsScan Request (trailer_fields (message_value message.now).trailers) result }
+{
+    match &message.trailers {
+        None => scan_fields(Kind::Request, &[]),
+        Some(fields) => scan_fields(Kind::Request, fields),
+    }
+}
+
+/// Whether a head declares another length than this.
+fn differs_from(declared: Option<u64>, count: usize) -> bool
+    ensures { result ≡ differs_from declared count }
+{
+    match declared {
+        None => false,
+        Some(number) => number != count as u64,
+    }
+}
+
+/// Whether the length of a response's body is wrong.
+fn has_wrong_body(head: &Scan, to_head: bool, count: usize) -> bool
+    ensures { (fields : List Field) → IsScan Response fields head.now
+        → has_bad_length fields ≡ false
+        → result ≡ (if is_without_content to_head fields then nat_lt 0 count
+        else differs_from (declared_length fields) count) }
+{
+    if to_head | head.has_no_content() {
+        return count > 0;
+    }
+    differs_from(head.length, count)
+}

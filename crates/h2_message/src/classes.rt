@@ -1,0 +1,154 @@
+//! What the values of `:method`, `:path`, `:status` and `content-length` say.
+
+ghost use Rattle.std.specs.Prelude.{◌≡◌, if◌then◌else◌, Some, None};
+ghost use Rattle.std.specs.List.{list_all};
+ghost use Rattle.h2_message.specs.Octets.{begins_with_slash, is_bad_length, is_interim_status};
+ghost use Rattle.h2_message.specs.Octets.{is_status_code, is_token, is_token_octet, number_of};
+ghost use Rattle.h2_message.specs.Classes.{method_class, path_class, status_class};
+
+/// What a method says of its request (RFC 9110, section 9.1).
+#[derive(Clone, Copy, Debug, PartialEq, Eq)]
+pub(crate) enum Method {
+    /// It is none.
+    Bad,
+    /// HEAD: its answer has no content.
+    Head,
+    /// OPTIONS: its path may be an asterisk.
+    Options,
+    /// Any other.
+    Other,
+}
+
+/// What a path is (RFC 9113, section 8.3.1).
+#[derive(Clone, Copy, Debug, PartialEq, Eq)]
+pub(crate) enum Path {
+    /// It is none.
+    Bad,
+    /// An asterisk, of OPTIONS alone.
+    Asterisk,
+    /// It begins with a slash.
+    Slash,
+}
+
+/// What a status says of its response (RFC 9110, section 15).
+#[derive(Clone, Copy, Debug, PartialEq, Eq)]
+pub(crate) enum Status {
+    /// It is none.
+    Bad,
+    /// 1xx: another head follows.
+    Interim,
+    /// 204 or 304: no content follows.
+    NoContent,
+    /// Any other.
+    Final,
+}
+
+/// What a method says.
+#[tactic(auto, unfolding(crate::specs::Classes::method_class, crate::specs::Octets::is_bad_method))]
+pub(crate) fn method_class(value: &[u8]) -> Method
+    ensures { result ≡ method_class value.now }
+{
+    if !is_token(value) || value == b"CONNECT".as_slice() {
+        Method::Bad
+    } else if value == b"HEAD".as_slice() {
+        Method::Head
+    } else if value == b"OPTIONS".as_slice() {
+        Method::Options
+    } else {
+        Method::Other
+    }
+}
+
+/// What a path is.
+#[tactic(auto, unfolding(crate::specs::Classes::path_class))]
+pub(crate) fn path_class(value: &[u8]) -> Path
+    ensures { result ≡ path_class value.now }
+{
+    if begins_with_slash(value) {
+        Path::Slash
+    } else if value == b"*".as_slice() {
+        Path::Asterisk
+    } else {
+        Path::Bad
+    }
+}
+
+/// Whether the first octet is a slash.
+#[tactic(auto, unfolding(crate::specs::Octets::begins_with_slash))]
+fn begins_with_slash(value: &[u8]) -> bool
+    ensures { result ≡ begins_with_slash value.now }
+{
+    matches!(value, [b'/', ..])
+}
+
+/// What a status says.
+#[tactic(auto, unfolding(crate::specs::Classes::status_class, crate::specs::Octets::is_bad_status))]
+pub(crate) fn status_class(value: &[u8]) -> Status
+    ensures { result ≡ status_class value.now }
+{
+    if !is_status_code(value) || value == b"101".as_slice() {
+        Status::Bad
+    } else if is_interim_status(value) {
+        Status::Interim
+    } else if value == b"204".as_slice() || value == b"304".as_slice() {
+        Status::NoContent
+    } else {
+        Status::Final
+    }
+}
+
+/// Three digits, of which the first one isn't 0.
+#[tactic(auto, unfolding(crate::specs::Octets::is_status_code))]
+fn is_status_code(value: &[u8]) -> bool
+    ensures { result ≡ is_status_code value.now }
+{
+    matches!(value, [b'1'..=b'9', b'0'..=b'9', b'0'..=b'9'])
+}
+
+/// Whether the first digit is a 1.
+#[tactic(auto, unfolding(crate::specs::Octets::is_interim_status))]
+fn is_interim_status(value: &[u8]) -> bool
+    ensures { result ≡ is_interim_status value.now }
+{
+    matches!(value, [b'1', ..])
+}
+
+/// The number of a `content-length`: 1 to 19 digits.
+pub(crate) fn length_number(value: &[u8]) -> Option<u64>
+    ensures { result ≡ (if is_bad_length value.now then None else Some (number_of value.now)) }
+{
+    if value.is_empty() || value.len() > 19 {
+        return None;
+    }
+    let mut number = 0u64;
+    for digit in value {
+        if !digit.is_ascii_digit() {
+            return None;
+        }
+        number = number * 10 + (*digit - b'0') as u64;
+    }
+    Some(number)
+}
+
+/// A token: one or more of its octets (RFC 9110, section 5.6.2).
+#[tactic(auto, unfolding(crate::specs::Octets::is_token))]
+fn is_token(value: &[u8]) -> bool
+    ensures { result ≡ is_token value.now }
+{
+    !value.is_empty() && are_token_octets(value)
+}
+
+/// Octets of a token alone.
+fn are_token_octets(value: &[u8]) -> bool
+    ensures { result ≡ list_all is_token_octet value.now }
+{
+    value.iter().all(|octet| is_token_octet(*octet))
+}
+
+/// An octet of a token: a letter, a digit, or one of fifteen signs.
+#[tactic(auto, unfolding(crate::specs::Octets::is_token_octet))]
+fn is_token_octet(octet: u8) -> bool
+    ensures { result ≡ is_token_octet octet }
+{
+    octet.is_ascii_alphanumeric() || b"!#$%&'*+-.^_`|~".contains(&octet)
+}

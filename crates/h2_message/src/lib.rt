@@ -1,0 +1,27 @@
+//! HTTP messages over HTTP/2: requests and responses, and when one is malformed (RFC 9113,
+//! section 8).
+//!
+//! [`check_request`] and [`check_response`] say which rule a message breaks that is to be sent;
+//! [`Reading`] follows a message part by part as it is read, and says whether it can still be one
+//! that breaks none. Nothing here takes memory.
+#![tactic(auto)]
+
+mod checks;
+mod classes;
+mod kind;
+mod lanes;
+mod laws;
+mod malformed;
+mod message;
+mod octets;
+mod reading;
+mod scan;
+#[cfg(test)]
+mod tests;
+mod verdict;
+
+pub use checks::{check_request, check_response};
+pub use laws::sent_messages_are_well_read;
+pub use malformed::Malformed;
+pub use message::{Message, asks_head};
+pub use reading::{Place, Reading, Reads};

@@ -1,0 +1,56 @@
+//! The octets of names and values (RFC 9113, section 8.2.1).
+
+ghost use Rattle.std.specs.Prelude.{◌≡◌, reverse};
+ghost use Rattle.h2_message.specs.Octets.{begins_blank, is_bad_name, is_bad_value, is_blank};
+
+use crate::lanes::{has_bad_after_first, has_bad_in_value, is_bad_in_name};
+
+/// Whether the octets are no name: empty, or with an octet that no name has.
+#[inline]
+#[tactic(auto, unfolding(crate::specs::Octets::is_bad_name))]
+pub(crate) fn is_bad_name(name: &[u8]) -> bool
+    ensures { result ≡ is_bad_name name.now }
+{
+    let [first, octets @ ..] = name else {
+        return true;
+    };
+    is_bad_in_name(*first) || has_bad_after_first(octets)
+}
+
+/// Whether the octets are no value: with an octet that no value has, or a blank at an end.
+#[inline]
+#[tactic(auto, unfolding(crate::specs::Octets::is_bad_value))]
+pub(crate) fn is_bad_value(value: &[u8]) -> bool
+    ensures { result ≡ is_bad_value value.now }
+{
+    has_bad_in_value(value) || begins_blank(value) || ends_blank(value)
+}
+
+/// Whether the first octet is a space or a tab.
+#[tactic(auto, unfolding(crate::specs::Octets::begins_blank))]
+fn begins_blank(value: &[u8]) -> bool
+    ensures { result ≡ begins_blank value.now }
+{
+    match value {
+        [first, ..] => is_blank(*first),
+        [] => false,
+    }
+}
+
+/// Whether the last octet is a space or a tab.
+fn ends_blank(value: &[u8]) -> bool
+    ensures { result ≡ begins_blank (reverse value.now) }
+{
+    match value {
+        [.., last] => is_blank(*last),
+        [] => false,
+    }
+}
+
+/// A space or a tab.
+#[tactic(auto, unfolding(crate::specs::Octets::is_blank))]
+fn is_blank(octet: u8) -> bool
+    ensures { result ≡ is_blank octet }
+{
+    octet == b' ' || octet == b'\t'
+}

@@ -1,0 +1,200 @@
+//! A message that is read part by part.
+
+ghost use Rattle.std.specs.Prelude.{◌≡◌, ℕ, Bool, List, [], length, false, IsNone, IfSome};
+ghost use Rattle.hpack.specs.declared.types.field.Field.{Field};
+ghost use Rattle.h2_message.specs.declared.reading.Reads.TheVariants.{Requests, Responses};
+ghost use Rattle.h2_message.specs.declared.reading.Phase.TheVariants.{AtHead};
+ghost use Rattle.h2_message.specs.declared.kind.Kind.TheVariants.{Response};
+ghost use Rattle.h2_message.specs.Fields.{has_bad_length};
+ghost use Rattle.h2_message.specs.Messages.{asks_head};
+ghost use Rattle.h2_message.specs.Scans.{IsScan};
+ghost use Rattle.h2_message.specs.Reading.{Part, compared_length};
+ghost use Rattle.h2_message.specs.Phases.{phase_in_body, phase_after_head, phase_if_taken};
+ghost use Rattle.h2_message.specs.Phases.{place_at_head};
+ghost use Rattle.h2_message.specs.Phases.{Follows, FollowsFields, FollowsData, ends};
+
+use crate::kind::Kind;
+use crate::scan::{Scan, scan_list};
+use hpack::FieldList;
+
+/// What an end reads on a stream: the messages of its peer.
+#[derive(Clone, Copy, Debug, PartialEq, Eq)]
+pub enum Reads {
+    /// A server reads requests.
+    Requests,
+    /// A client reads responses; an answer to HEAD has no content (RFC 9110, section 9.3.2).
+    Responses {
+        /// Whether the request was HEAD.
+        to_head: bool,
+    },
+}
+
+/// Which part of a message a field block is (RFC 9113, section 8.1).
+#[derive(Clone, Copy, Debug, PartialEq, Eq)]
+pub enum Place {
+    /// The head of an interim response (1xx).
+    Interim,
+    /// The head.
+    Head,
+    /// The trailers.
+    Trailers,
+}
+
+/// Which part comes next.
+#[derive(Clone, Copy, Debug, PartialEq, Eq)]
+pub(crate) enum Phase {
+    /// The head, or an interim one.
+    AtHead,
+    /// DATA, or the trailers.
+    InBody {
+        /// How many octets of the body are still to come, where the head says so.
+        left: Option<u64>,
+    },
+    /// None: the message was read whole.
+    AtEnd,
+}
+
+/// A message that is read part by part: it takes each part with which what was read still begins a
+/// message that breaks no rule, and refuses every other. It takes no memory.
+#[derive(Clone, Copy, Debug)]
+pub struct Reading {
+    pub(crate) reads: Reads,
+    pub(crate) phase: Phase,
+    /// Whether a request was read whose method is HEAD.
+    pub(crate) asks_head: bool,
+}
+
+impl Reading {
+    /// A message of which nothing was read.
+    pub fn new(reads: Reads) -> Reading
+        ensures { Follows reads [] result }
+    {
+        Reading {
+            reads,
+            phase: Phase::AtHead,
+            asks_head: false,
+        }
+    }
+
+    /// Takes a field block, and answers which part of the message it is; or refuses it, since no
+    /// message that breaks no rule begins so. Then nothing has changed.
+    pub fn fields(&mut self, list: &FieldList, end: bool) -> Option<Place>
+        ensures { (reads : Reads) (parts : List (Part × Bool)) → Follows reads parts self.old
+            → FollowsFields reads parts list.now end result self.old self.new }
+    {
+        match self.phase {
+            Phase::AtHead => self.head(list, end),
+            Phase::InBody { left } => {
+                let trailers = scan_list(Kind::Request, list);
+                if !end || left.unwrap_or(0) > 0 || trailers.broken_by_trailers().is_some() {
+                    return None;
+                }
+                self.phase = Phase::AtEnd;
+                Some(Place::Trailers)
+            }
+            Phase::AtEnd => None,
+        }
+    }
+
+    /// Takes a head, where one comes next.
+    fn head(&mut self, list: &FieldList, end: bool) -> Option<Place>
+        requires { self.old.phase ≡ AtHead }
+        ensures phase { phase_after_head self.old.reads list.now end
+            ≡ phase_if_taken result self.new.phase }
+        ensures none { IsNone result → self.new ≡ self.old }
+        ensures place { IfSome result (λ place. place ≡ place_at_head self.old.reads list.now) }
+        ensures reads { self.new.reads ≡ self.old.reads }
+        ensures asks_head { self.old.reads ≡ Requests → IfSome result (λ place.
+            self.new.asks_head ≡ asks_head list.now) }
+    {
+        match self.reads {
+            Reads::Requests => {
+                let head = scan_list(Kind::Request, list);
+                if head.broken_by_request_head().is_some() {
+                    return None;
+                }
+                self.phase = in_body(head.length, end)?;
+                self.asks_head = head.asks_head();
+                Some(Place::Head)
+            }
+            Reads::Responses { to_head } => {
+                let head = scan_list(Kind::Response, list);
+                if head.has_interim_status() {
+                    if end || head.broken_by_interim().is_some() {
+                        return None;
+                    }
+                    return Some(Place::Interim);
+                }
+                if head.broken_by_response_head().is_some() {
+                    return None;
+                }
+                self.phase = in_body(compared_length(&head, to_head), end)?;
+                Some(Place::Head)
+            }
+        }
+    }
+
+    /// Takes so many octets of a DATA frame, and answers whether it does; or refuses them, since no
+    /// message that breaks no rule begins so. Then nothing has changed.
+    pub fn data(&mut self, count: usize, end: bool) -> bool
+        ensures { (reads : Reads) (parts : List (Part × Bool)) (octets : List ℕ)
+            → length octets ≡ count → Follows reads parts self.old
+            → FollowsData reads parts octets end result self.old self.new }
+    {
+        let Phase::InBody { left } = self.phase else {
+            return false;
+        };
+        let rest = match left {
+            None => None,
+            Some(number) if number < count as u64 => return false,
+            Some(number) => Some(number - count as u64),
+        };
+        let Some(phase) = in_body(rest, end) else {
+            return false;
+        };
+        self.phase = phase;
+        true
+    }
+
+    /// Whether a request was read whose method is HEAD: then its answer has no content (RFC 9110,
+    /// section 9.3.2).
+    pub fn asks_head(&self) -> bool
+        ensures { result ≡ self.now.asks_head }
+    {
+        self.asks_head
+    }
+
+    /// Whether the message was read whole.
+    pub fn is_over(&self) -> bool
+        ensures { (reads : Reads) (parts : List (Part × Bool)) → Follows reads parts self.now
+            → result ≡ ends parts }
+    {
+        matches!(self.phase, Phase::AtEnd)
+    }
+}
+
+/// What comes next where so many octets of the body are to come, and whether the message has ended;
+/// nothing where it has ended too soon.
+fn in_body(left: Option<u64>, end: bool) -> Option<Phase>
+    ensures { result ≡ phase_in_body left end }
+{
+    if !end {
+        return Some(Phase::InBody { left });
+    }
+    if left.unwrap_or(0) > 0 {
+        return None;
+    }
+    Some(Phase::AtEnd)
+}
+
+/// The length of the body that is compared: none where the response has no content.
+fn compared_length(head: &Scan, to_head: bool) -> Option<u64>
+    ensures { (fields : List Field) → IsScan Response fields head.now
+        → has_bad_length fields ≡ false
+        → result ≡ compared_length (Responses to_head) fields }
+{
+    if to_head || head.has_no_content() {
+        return None;
+    }
+    head.length
+}

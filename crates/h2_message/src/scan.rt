@@ -1,0 +1,212 @@
+//! What is seen of a list of fields, one field after another.
+
+ghost use Rattle.std.specs.Prelude.{◌≡◌, Bool, true, List, [], ◌∷◌, ◌++◌};
+ghost use Rattle.std.specs.Prelude.{codes};
+ghost use Rattle.std.specs.List.{list_any};
+ghost use Rattle.std.specs.Str.{bytes_eq};
+ghost use Rattle.hpack.specs.declared.types.field.Field.{Field};
+ghost use Rattle.h2_message.specs.declared.kind.Kind.TheVariants.{Request, Response};
+ghost use Rattle.h2_message.specs.Fields.{connection_names, is_colon_first};
+ghost use Rattle.h2_message.specs.Scans.{IsScan};
+ghost use Rattle.h2_message.specs.ScanSteps.{with_field, HasSeenPseudo, HasSeenRegular};
+ghost use Rattle.h2_message.specs.ScanSteps.{HasSeenLength, IsSameOfAll, IsSameOfPseudo};
+ghost use Rattle.h2_message.specs.ScanSteps.{IsSameOfRegular};
+
+use crate::classes::{Method, Path, Status, length_number, method_class, path_class, status_class};
+use crate::kind::Kind;
+use crate::octets::{is_bad_name, is_bad_value};
+use hpack::{Field, FieldList};
+
+/// Which rules a list of fields breaks, and what its pseudo-fields and its length say (RFC 9113,
+/// sections 8.2 and 8.3).
+#[derive(Clone, Copy, Debug)]
+pub(crate) struct Scan {
+    /// A name is none.
+    pub(crate) bad_name: bool,
+    /// A value is none.
+    pub(crate) bad_value: bool,
+    /// A field is no pseudo-field.
+    pub(crate) regular: bool,
+    /// A field is a pseudo-field.
+    pub(crate) pseudo: bool,
+    /// A pseudo-field stands after a regular field.
+    pub(crate) late_pseudo: bool,
+    /// A pseudo-field is none of this kind of message.
+    pub(crate) unknown_pseudo: bool,
+    /// A pseudo-field stands twice.
+    pub(crate) pseudo_twice: bool,
+    /// The first `:method` of a request.
+    pub(crate) method: Option<Method>,
+    /// Whether a request has `:scheme`.
+    pub(crate) scheme: bool,
+    /// The first `:path` of a request.
+    pub(crate) path: Option<Path>,
+    /// Whether a request has `:authority`.
+    pub(crate) authority: bool,
+    /// The first `:status` of a response.
+    pub(crate) status: Option<Status>,
+    /// A field is specific to one connection.
+    pub(crate) connection_field: bool,
+    /// A `content-length` is none, or several differ.
+    pub(crate) bad_length: bool,
+    /// The first `content-length`, if it is a number.
+    pub(crate) length: Option<u64>,
+}
+
+/// What is seen of no fields.
+fn empty() -> Scan
+    ensures { (kind : Kind) → IsScan kind [] result }
+{
+    Scan {
+        bad_name: false,
+        bad_value: false,
+        regular: false,
+        pseudo: false,
+        late_pseudo: false,
+        unknown_pseudo: false,
+        pseudo_twice: false,
+        method: None,
+        scheme: false,
+        path: None,
+        authority: false,
+        status: None,
+        connection_field: false,
+        bad_length: false,
+        length: None,
+    }
+}
+
+/// What is seen of fields that are to be sent.
+pub(crate) fn scan_fields(kind: Kind, fields: &[Field]) -> Scan
+    ensures { IsScan kind fields.now result }
+{
+    let mut scan = empty();
+    for field in fields {
+        scan.add(kind, field.name.as_slice(), field.value.as_slice());
+    }
+    scan
+}
+
+/// What is seen of fields that were read.
+pub(crate) fn scan_list(kind: Kind, list: &FieldList) -> Scan
+    ensures { IsScan kind list.now result }
+{
+    let mut scan = empty();
+    for place in 0..list.len() {
+        if let Some(field) = list.get(place) {
+            scan.add(kind, field.name, field.value);
+        }
+    }
+    scan
+}
+
+impl Scan {
+    /// Adds what is seen of the next field.
+    #[inline]
+    fn add(&mut self, kind: Kind, name: &[u8], value: &[u8])
+        ensures { (fields : List Field) (sensitive : Bool) → IsScan kind fields self.old
+            → IsScan kind (fields ++ record {
+              name = name.now;
+              value = value.now;
+              sensitive = sensitive;
+            } ∷ []) self.new }
+    {
+        self.bad_name |= is_bad_name(name);
+        self.bad_value |= is_bad_value(value);
+        if name.first() == Some(&b':') {
+            self.pseudo = true;
+            self.late_pseudo |= self.regular;
+            match kind {
+                Kind::Request => self.add_of_request(name, value),
+                Kind::Response => self.add_of_response(name, value),
+            }
+        } else {
+            self.regular = true;
+            self.add_regular(name, value);
+        }
+    }
+
+    /// Adds a pseudo-field of a request.
+    fn add_of_request(&mut self, name: &[u8], value: &[u8])
+        ensures seen { (fields : List Field) (sensitive : Bool) → is_colon_first name.now ≡ true
+            → HasSeenPseudo Request fields self.old
+            → HasSeenPseudo Request (with_field fields name.now value.now sensitive) self.new }
+        ensures of_all { IsSameOfAll self.old self.new }
+        ensures of_regular { IsSameOfRegular self.old self.new }
+    {
+        if name == b":method".as_slice() {
+            self.pseudo_twice |= self.method.is_some();
+            self.method = self.method.or(Some(method_class(value)));
+        } else if name == b":scheme".as_slice() {
+            self.pseudo_twice |= self.scheme;
+            self.scheme = true;
+        } else if name == b":path".as_slice() {
+            self.pseudo_twice |= self.path.is_some();
+            self.path = self.path.or(Some(path_class(value)));
+        } else if name == b":authority".as_slice() {
+            self.pseudo_twice |= self.authority;
+            self.authority = true;
+        } else {
+            self.unknown_pseudo = true;
+        }
+    }
+
+    /// Adds a pseudo-field of a response.
+    fn add_of_response(&mut self, name: &[u8], value: &[u8])
+        ensures seen { (fields : List Field) (sensitive : Bool) → is_colon_first name.now ≡ true
+            → HasSeenPseudo Response fields self.old
+            → HasSeenPseudo Response (with_field fields name.now value.now sensitive) self.new }
+        ensures of_all { IsSameOfAll self.old self.new }
+        ensures of_regular { IsSameOfRegular self.old self.new }
+    {
+        if name == b":status".as_slice() {
+            self.pseudo_twice |= self.status.is_some();
+            self.status = self.status.or(Some(status_class(value)));
+        } else {
+            self.unknown_pseudo = true;
+        }
+    }
+
+    /// Adds a regular field.
+    fn add_regular(&mut self, name: &[u8], value: &[u8])
+        ensures seen { (fields : List Field) (sensitive : Bool) → HasSeenRegular fields self.old
+            → HasSeenRegular (with_field fields name.now value.now sensitive) self.new }
+        ensures of_all { IsSameOfAll self.old self.new }
+        ensures of_pseudo { IsSameOfPseudo self.old self.new }
+    {
+        if name == b"content-length".as_slice() {
+            self.add_length(value);
+        } else if is_connection_name(name) {
+            self.connection_field = true;
+        } else if name == b"te".as_slice() {
+            self.connection_field |= !value.eq_ignore_ascii_case(b"trailers");
+        }
+    }
+
+    /// Adds a `content-length`.
+    fn add_length(&mut self, value: &[u8])
+        ensures seen { (fields : List Field) (sensitive : Bool) → HasSeenLength fields self.old
+            → HasSeenLength (with_field fields (codes "content-length") value.now sensitive)
+            self.new }
+        ensures of_all { IsSameOfAll self.old self.new }
+        ensures of_pseudo { IsSameOfPseudo self.old self.new }
+        ensures connection_field { self.new.connection_field ≡ self.old.connection_field }
+    {
+        match (length_number(value), self.length) {
+            (None, _) => self.bad_length = true,
+            (Some(number), None) => self.length = Some(number),
+            (Some(number), Some(first)) => self.bad_length |= number != first,
+        }
+    }
+}
+
+/// Whether a field with this name is specific to one connection (section 8.2.2).
+fn is_connection_name(name: &[u8]) -> bool
+    ensures { result ≡ list_any (λ other. bytes_eq name.now other) connection_names }
+{
+    name == b"connection".as_slice()
+        || name == b"proxy-connection".as_slice()
+        || name == b"keep-alive".as_slice()
+        || name == b"transfer-encoding".as_slice()
+        || name == b"upgrade".as_slice()
+}

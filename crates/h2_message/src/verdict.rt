@@ -1,0 +1,166 @@
+//! What a scan of fields says of a message.
+
+ghost use Rattle.std.specs.Prelude.{◌≡◌, ◌||◌, not, false, List};
+ghost use Rattle.hpack.specs.declared.types.field.Field.{Field};
+ghost use Rattle.h2_message.specs.declared.kind.Kind.TheVariants.{Request, Response};
+ghost use Rattle.h2_message.specs.Fields.{lacks_pseudo, has_bad_method, has_bad_path};
+ghost use Rattle.h2_message.specs.Fields.{has_bad_status, is_interim};
+ghost use Rattle.h2_message.specs.Messages.{first_broken, asks_head, is_without_content};
+ghost use Rattle.h2_message.specs.Messages.{request_head_rules, response_head_rules};
+ghost use Rattle.h2_message.specs.Messages.{interim_rules, trailer_rules};
+ghost use Rattle.h2_message.specs.Scans.{IsScan};
+
+use crate::classes::{Method, Path, Status};
+use crate::malformed::Malformed;
+use crate::scan::Scan;
+
+/// The first rule whose condition holds.
+#[inline]
+pub(crate) fn first_broken(rules: &[(bool, Malformed)]) -> Option<Malformed>
+    ensures { result ≡ first_broken rules.now }
+{
+    for (holds, rule) in rules {
+        if *holds {
+            return Some(*rule);
+        }
+    }
+    None
+}
+
+impl Scan {
+    /// Whether a request lacks a pseudo-field that it must have.
+    pub(crate) fn lacks_of_request(&self) -> bool
+        ensures { (fields : List Field) → IsScan Request fields self.now
+            → result ≡ lacks_pseudo Request fields }
+    {
+        self.method.is_none() || !self.scheme || self.path.is_none()
+    }
+
+    /// Whether a response does.
+    pub(crate) fn lacks_of_response(&self) -> bool
+        ensures { (fields : List Field) → IsScan Response fields self.now
+            → result ≡ lacks_pseudo Response fields }
+    {
+        self.status.is_none()
+    }
+
+    /// Whether the method of a request is none.
+    pub(crate) fn has_bad_method(&self) -> bool
+        ensures { (fields : List Field) → IsScan Request fields self.now
+            → result ≡ has_bad_method fields }
+    {
+        self.method.unwrap_or(Method::Bad) == Method::Bad
+    }
+
+    /// Whether the path of a request is none.
+    pub(crate) fn has_bad_path(&self) -> bool
+        ensures { (fields : List Field) → IsScan Request fields self.now
+            → result ≡ has_bad_path fields }
+    {
+        match self.path.unwrap_or(Path::Bad) {
+            Path::Bad => true,
+            Path::Asterisk => self.method != Some(Method::Options),
+            Path::Slash => false,
+        }
+    }
+
+    /// Whether a request asks with HEAD.
+    pub(crate) fn asks_head(&self) -> bool
+        ensures { (fields : List Field) → IsScan Request fields self.now
+            → result ≡ asks_head fields }
+    {
+        self.method == Some(Method::Head)
+    }
+
+    /// Whether the status of a response is none, or that of an interim response.
+    pub(crate) fn has_no_final_status(&self) -> bool
+        ensures { (fields : List Field) → IsScan Response fields self.now
+            → result ≡ (has_bad_status fields || is_interim fields) }
+    {
+        let status = self.status.unwrap_or(Status::Bad);
+        status == Status::Bad || status == Status::Interim
+    }
+
+    /// Whether the status of a response is that of an interim response.
+    pub(crate) fn has_interim_status(&self) -> bool
+        ensures { (fields : List Field) → IsScan Response fields self.now
+            → result ≡ not (has_bad_status fields || not (is_interim fields)) }
+    {
+        self.status == Some(Status::Interim)
+    }
+
+    /// Whether a response has no content by its status.
+    pub(crate) fn has_no_content(&self) -> bool
+        ensures { (fields : List Field) → IsScan Response fields self.now
+            → result ≡ is_without_content false fields }
+    {
+        self.status == Some(Status::NoContent)
+    }
+
+    /// The rule that the head of a request breaks, of those of the head alone.
+    pub(crate) fn broken_by_request_head(&self) -> Option<Malformed>
+        ensures { (fields : List Field) → IsScan Request fields self.now
+            → result ≡ first_broken (request_head_rules fields) }
+    {
+        first_broken(&[
+            (self.bad_name, Malformed::BadName),
+            (self.bad_value, Malformed::BadValue),
+            (self.late_pseudo, Malformed::PseudoPlace),
+            (self.unknown_pseudo, Malformed::PseudoUnknown),
+            (self.pseudo_twice, Malformed::PseudoTwice),
+            (self.lacks_of_request(), Malformed::PseudoMissing),
+            (self.has_bad_method(), Malformed::BadMethod),
+            (self.has_bad_path(), Malformed::BadPath),
+            (self.connection_field, Malformed::ConnectionField),
+            (self.bad_length, Malformed::BadLength),
+        ])
+    }
+
+    /// The rule that the final head of a response breaks.
+    pub(crate) fn broken_by_response_head(&self) -> Option<Malformed>
+        ensures { (fields : List Field) → IsScan Response fields self.now
+            → result ≡ first_broken (response_head_rules fields) }
+    {
+        first_broken(&[
+            (self.bad_name, Malformed::BadName),
+            (self.bad_value, Malformed::BadValue),
+            (self.late_pseudo, Malformed::PseudoPlace),
+            (self.unknown_pseudo, Malformed::PseudoUnknown),
+            (self.pseudo_twice, Malformed::PseudoTwice),
+            (self.lacks_of_response(), Malformed::PseudoMissing),
+            (self.has_no_final_status(), Malformed::BadStatus),
+            (self.connection_field, Malformed::ConnectionField),
+            (self.bad_length, Malformed::BadLength),
+        ])
+    }
+
+    /// The rule that the head of an interim response breaks.
+    pub(crate) fn broken_by_interim(&self) -> Option<Malformed>
+        ensures { (fields : List Field) → IsScan Response fields self.now
+            → result ≡ first_broken (interim_rules fields) }
+    {
+        first_broken(&[
+            (self.bad_name, Malformed::BadName),
+            (self.bad_value, Malformed::BadValue),
+            (self.late_pseudo, Malformed::PseudoPlace),
+            (self.unknown_pseudo, Malformed::PseudoUnknown),
+            (self.pseudo_twice, Malformed::PseudoTwice),
+            (self.lacks_of_response(), Malformed::PseudoMissing),
+            (!self.has_interim_status(), Malformed::BadStatus),
+            (self.connection_field, Malformed::ConnectionField),
+        ])
+    }
+
+    /// The rule that trailers break.
+    pub(crate) fn broken_by_trailers(&self) -> Option<Malformed>
+        ensures { (fields : List Field) → IsScan Request fields self.now
+            → result ≡ first_broken (trailer_rules fields) }
+    {
+        first_broken(&[
+            (self.bad_name, Malformed::BadName),
+            (self.bad_value, Malformed::BadValue),
+            (self.pseudo, Malformed::PseudoPlace),
+            (self.connection_field, Malformed::ConnectionField),
+        ])
+    }
+}
