@@ -18,6 +18,6 @@ mod waiting;
 
 pub use conn::Conn;
 pub use event::{ConnFault, Event, Taken};
-pub use happened::{Happened, Progress};
 pub use h2_config::{BadConfig, Config};
 pub use h2_log::{Refusal, Role};
+pub use happened::{Happened, Progress};

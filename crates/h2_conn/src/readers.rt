@@ -1,15 +1,16 @@
 //! What a connection answers of itself. None of it takes memory.
 
-ghost use Rattle.std.specs.Prelude.{◌≡◌, ◌≤◌, ◌<◌, IfSome};
-ghost use Rattle.h2_log.specs.Acts.{Values};
+ghost use Rattle.std.specs.Prelude.{◌≡◌, ◌≤◌, ◌<◌, Bool, IfSome};
+ghost use Rattle.h2_log.specs.Acts.{Values, Open};
 ghost use Rattle.h2_log.specs.Log.{Log, active, waiting, reader_held, reader_next_live};
 ghost use Rattle.h2_log.specs.LogView.{log_view};
-ghost use Rattle.h2_log.specs.CallRules.{reader_room, reader_owed, reader_due};
+ghost use Rattle.h2_log.specs.CallRules.{reader_room, reader_owed, reader_due, refusal_of};
 ghost use Rattle.h2_conn.specs.Conn.{ConnRepresents, reader_next_number};
 
 use crate::conn::Conn;
 use h2_frame::Code;
-use h2_log::Role;
+use h2_log::{Refusal, Role};
+use hpack::Field;
 
 impl Conn {
     /// How many octets of output wait: at most 262,144, and 262,161 with the GOAWAY of a failed
@@ -99,5 +100,14 @@ impl Conn {
             return None;
         }
         Some(self.inner.end.next_number())
+    }
+
+    /// Why [`Conn::open`] would refuse a list of fields now: the first of C1, C4, C5 (at a server
+    /// always), C6, C7 and C10. It says nothing of C12.
+    pub fn refusal_to_open(&self, fields: &[Field]) -> Option<Refusal>
+        ensures { (values : Values) (log : Log) → ConnRepresents values self.now log
+            → (end : Bool) → result ≡ refusal_of (log_view log) (Open fields.now end) }
+    {
+        self.inner.end.refusal_to_open(fields)
     }
 }

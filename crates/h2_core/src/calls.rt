@@ -69,6 +69,16 @@ impl Endpoint {
         Ok(id)
     }
 
+    /// Why a list of fields opens no stream now: the first of C1, C4, C5 (at a server always), C6,
+    /// C7 and C10 that holds. It takes no memory.
+    pub fn refusal_to_open(&self, fields: &[Field]) -> Option<Refusal>
+        requires sound { self.now.failed ≡ None → IsSound (end_of self.now) }
+        ensures { (end : Bool)
+            → result ≡ refusal_of (end_view (end_of self.now)) (Open fields.now end) }
+    {
+        self.refusal_of_open(list_size(fields))
+    }
+
     /// Sends a further field block on a stream: a response's, or trailers.
     ///
     /// # Errors

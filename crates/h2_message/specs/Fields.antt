@@ -61,7 +61,7 @@ has_late_pseudo (field ∷ fields) =
 unfoldable pub has_pseudo : List Field → Bool
 has_pseudo fields = list_any is_pseudo fields
 
--- M4: a pseudo-field is none of this kind of message (section 8.3).
+-- M4: this kind of message has no such pseudo-field (section 8.3).
 unfoldable pub is_unknown_pseudo : Kind → Field → Bool
 is_unknown_pseudo kind field =
     is_pseudo field && not (list_any (λ name. is_named name field) (pseudo_names kind))
@@ -70,7 +70,7 @@ unfoldable pub has_unknown_pseudo : Kind → List Field → Bool
 has_unknown_pseudo kind fields = list_any (is_unknown_pseudo kind) fields
 
 -- M5: "The same pseudo-header field name MUST NOT appear more than once in a field block" (section
--- 8.3). One that is none of this kind breaks M4 already.
+-- 8.3). One that this kind does not have breaks M4 already.
 unfoldable pub has_pseudo_twice : Kind → List Field → Bool
 has_pseudo_twice kind fields =
     list_any (λ name. nat_lt 1 (count_by (is_named name) fields)) (pseudo_names kind)

@@ -9,7 +9,7 @@ ghost use Rattle.h2_message.specs.Classes.{method_class, path_class, status_clas
 /// What a method says of its request (RFC 9110, section 9.1).
 #[derive(Clone, Copy, Debug, PartialEq, Eq)]
 pub(crate) enum Method {
-    /// It is none.
+    /// It is not valid.
     Bad,
     /// HEAD: its answer has no content.
     Head,
@@ -22,7 +22,7 @@ pub(crate) enum Method {
 /// What a path is (RFC 9113, section 8.3.1).
 #[derive(Clone, Copy, Debug, PartialEq, Eq)]
 pub(crate) enum Path {
-    /// It is none.
+    /// It is not valid.
     Bad,
     /// An asterisk, of OPTIONS alone.
     Asterisk,
@@ -33,7 +33,7 @@ pub(crate) enum Path {
 /// What a status says of its response (RFC 9110, section 15).
 #[derive(Clone, Copy, Debug, PartialEq, Eq)]
 pub(crate) enum Status {
-    /// It is none.
+    /// It is not valid.
     Bad,
     /// 1xx: another head follows.
     Interim,

@@ -21,6 +21,7 @@ mod tests;
 mod verdict;
 
 pub use checks::{check_request, check_response};
+pub use hpack::{Field, FieldList, FieldRef, Octets};
 pub use laws::sent_messages_are_well_read;
 pub use malformed::Malformed;
 pub use message::{Message, asks_head};

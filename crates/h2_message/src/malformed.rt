@@ -15,7 +15,7 @@ pub enum Malformed {
     /// M3: a pseudo-field stands after a regular field, or in trailers (section 8.3).
     #[error("M3 PseudoPlace: a pseudo-field after a regular field, or in trailers")]
     PseudoPlace,
-    /// M4: a pseudo-field is none of a request, or none of a response (section 8.3).
+    /// M4: a request, or a response, has no such pseudo-field (section 8.3).
     #[error("M4 PseudoUnknown: a pseudo-field that this kind of message does not have")]
     PseudoUnknown,
     /// M5: a pseudo-field stands twice (section 8.3).

@@ -22,7 +22,8 @@ use hpack::FieldList;
 pub enum Reads {
     /// A server reads requests.
     Requests,
-    /// A client reads responses; an answer to HEAD has no content (RFC 9110, section 9.3.2).
+    /// A client reads responses. In an answer to HEAD the declared length is that of what GET would
+    /// get, and is not compared (RFC 9110, section 8.6); DATA in one is read all the same.
     Responses {
         /// Whether the request was HEAD.
         to_head: bool,

@@ -21,9 +21,9 @@ use hpack::{Field, FieldList};
 /// sections 8.2 and 8.3).
 #[derive(Clone, Copy, Debug)]
 pub(crate) struct Scan {
-    /// A name is none.
+    /// A name is not valid.
     pub(crate) bad_name: bool,
-    /// A value is none.
+    /// A value is not valid.
     pub(crate) bad_value: bool,
     /// A field is no pseudo-field.
     pub(crate) regular: bool,
@@ -31,7 +31,7 @@ pub(crate) struct Scan {
     pub(crate) pseudo: bool,
     /// A pseudo-field stands after a regular field.
     pub(crate) late_pseudo: bool,
-    /// A pseudo-field is none of this kind of message.
+    /// This kind of message has no such pseudo-field.
     pub(crate) unknown_pseudo: bool,
     /// A pseudo-field stands twice.
     pub(crate) pseudo_twice: bool,
@@ -47,7 +47,7 @@ pub(crate) struct Scan {
     pub(crate) status: Option<Status>,
     /// A field is specific to one connection.
     pub(crate) connection_field: bool,
-    /// A `content-length` is none, or several differ.
+    /// A `content-length` is not valid, or several differ.
     pub(crate) bad_length: bool,
     /// The first `content-length`, if it is a number.
     pub(crate) length: Option<u64>,

@@ -44,7 +44,7 @@ impl Scan {
         self.status.is_none()
     }
 
-    /// Whether the method of a request is none.
+    /// Whether the method of a request is not valid.
     pub(crate) fn has_bad_method(&self) -> bool
         ensures { (fields : List Field) → IsScan Request fields self.now
             → result ≡ has_bad_method fields }
@@ -52,7 +52,7 @@ impl Scan {
         self.method.unwrap_or(Method::Bad) == Method::Bad
     }
 
-    /// Whether the path of a request is none.
+    /// Whether the path of a request is not valid.
     pub(crate) fn has_bad_path(&self) -> bool
         ensures { (fields : List Field) → IsScan Request fields self.now
             → result ≡ has_bad_path fields }
@@ -72,7 +72,7 @@ impl Scan {
         self.method == Some(Method::Head)
     }
 
-    /// Whether the status of a response is none, or that of an interim response.
+    /// Whether the status of a response is not valid, or that of an interim response.
     pub(crate) fn has_no_final_status(&self) -> bool
         ensures { (fields : List Field) → IsScan Response fields self.now
             → result ≡ (has_bad_status fields || is_interim fields) }

@@ -59,7 +59,7 @@ returns-in-Data-clause-makes c =
     (shows_itself (λ count. Count count) c.data.result (λ id. refl)) tt c.requires.none
     (subst (λ (o : List ℕ). ConnAnswers c.args.conn.now (SendData c.in-Data.id o c.in-Data.end)
     (answer_by (λ count. Count count) c.data.result) c.data.new.self)
-    c.deref-in-Data-2.ensures.value c.data.ensures))
+    c.deref-in-Data-2.ensures.value c.data.ensures.answers))
 
 pub returns-in-Release-clause-typed : goal.returns-in-Release-clause-typed
 unfolding IsTypedAct

@@ -1,0 +1,157 @@
+-- A part of a message is handed out as that part.
+use Rattle.std.proofs.Common.{◌≡◌, ◌≢◌, ℕ, ◌==◌, Bool, true, false, if◌then◌else◌}
+use Rattle.std.proofs.Common.{List, [], ◌∷◌, ◌++◌, Option, None, Some, refl, sym, ap, ◌∙◌}
+use Rattle.std.proofs.lemmas.Bool.{eq-eqb, ne_eqb}
+use Rattle.std.specs.Prelude.{is_some}
+use Rattle.hpack.specs.declared.types.field.Field.{Field}
+use Rattle.h2_message.specs.declared.reading.Reads.{Reads}
+use Rattle.h2_message.specs.declared.reading.Reads.TheVariants.{Requests, Responses}
+use Rattle.h2_message.specs.declared.reading.Phase.{Phase}
+use Rattle.h2_message.specs.declared.reading.Phase.TheVariants.{AtHead, InBody, AtEnd}
+use Rattle.h2_message.specs.declared.reading.Place.{Place}
+use Rattle.h2_message.specs.declared.reading.Place.TheVariants as places
+use Rattle.h2_message.specs.declared.reading.Reading.{Reading}
+use Rattle.h2_message.specs.Messages.{first_broken, interim_rules}
+use Rattle.h2_message.specs.Reading.{Part, FieldsPart, OctetsPart}
+use Rattle.h2_message.specs.Phases.{Follows, phase_after, phase_after_all}
+use Rattle.h2_message.specs.Phases.{phase_after_head, phase_after_final, place_at_head, place_in}
+use Rattle.h2_message.specs.Phases.{place_after}
+use Rattle.h2_ends.specs.Ends.{InterimHanded, HeadHanded, BodyHanded, TrailersHanded}
+use Rattle.h2_ends.specs.Ends.{part_on, handed_at, handed_as}
+
+-- After a part that is not taken nothing is.
+after_none : (reads : Reads) (parts : List (Part × Bool))
+    → phase_after_all reads None parts ≡ None
+unfolding phase_after_all
+after_none reads [] = refl
+after_none reads (part ∷ parts) = refl
+
+-- The parts that follow are taken from the phase after those before.
+after_both : (reads : Reads) (phase : Option Phase) (parts more : List (Part × Bool))
+    → phase_after_all reads phase (parts ++ more)
+    ≡ phase_after_all reads (phase_after_all reads phase parts) more
+unfolding phase_after_all
+after_both reads None parts more =
+    after_none reads (parts ++ more) ∙ sym (after_none reads more)
+    ∙ ap (λ (phase : Option Phase). phase_after_all reads phase more)
+    (sym (after_none reads parts))
+after_both reads (Some phase) [] more = refl
+after_both reads (Some phase) (part ∷ parts) more =
+    after_both reads (phase_after reads phase part) parts more
+
+-- After no part the phase is the same.
+after_no_part : (reads : Reads) (phase : Option Phase) → phase_after_all reads phase [] ≡ phase
+unfolding phase_after_all
+after_no_part reads None = refl
+after_no_part reads (Some phase) = refl
+
+-- One part is taken from its phase.
+after_one : (reads : Reads) (phase : Phase) (part : Part × Bool)
+    → phase_after_all reads (Some phase) (part ∷ []) ≡ phase_after reads phase part
+unfolding phase_after_all
+after_one reads phase part = after_no_part reads (phase_after reads phase part)
+
+-- What is handed out is the part of its own stream.
+head_here : (id : ℕ) (list : List Field) (end : Bool)
+    → part_on id (HeadHanded id list end) ≡ (FieldsPart list, end) ∷ []
+unfolding part_on
+head_here id list end = rw (eq-eqb id id refl) refl
+
+interim_here : (id : ℕ) (list : List Field)
+    → part_on id (InterimHanded id list) ≡ (FieldsPart list, false) ∷ []
+unfolding part_on
+interim_here id list = rw (eq-eqb id id refl) refl
+
+trailers_here : (id : ℕ) (list : List Field)
+    → part_on id (TrailersHanded id list) ≡ (FieldsPart list, true) ∷ []
+unfolding part_on
+trailers_here id list = rw (eq-eqb id id refl) refl
+
+body_here : (id : ℕ) (octets : List ℕ) (end : Bool)
+    → part_on id (BodyHanded id octets end) ≡ (OctetsPart octets, end) ∷ []
+unfolding part_on
+body_here id octets end = rw (eq-eqb id id refl) refl
+
+-- It is no part of any other one.
+none_if_other : (i id : ℕ) (part : Part × Bool) → i ≢ id
+    → (if id == i then part ∷ [] else []) ≡ []
+none_if_other i id part other = rw (ne_eqb id i (λ same. other (sym same))) refl
+
+place_elsewhere : (i id : ℕ) (place : Place) (list : List Field) (end : Bool) → i ≢ id
+    → part_on i (handed_at place id list end) ≡ []
+unfolding part_on handed_at
+place_elsewhere i id places.Interim list end other =
+    none_if_other i id (FieldsPart list, false) other
+place_elsewhere i id places.Head list end other = none_if_other i id (FieldsPart list, end) other
+place_elsewhere i id places.Trailers list end other =
+    none_if_other i id (FieldsPart list, true) other
+
+body_elsewhere : (i id : ℕ) (octets : List ℕ) (end : Bool) → i ≢ id
+    → part_on i (BodyHanded id octets end) ≡ []
+unfolding part_on
+body_elsewhere i id octets end other = none_if_other i id (OctetsPart octets, end) other
+
+pub handed_elsewhere : (reads : Reads) (parts : List (Part × Bool)) (i id : ℕ)
+    (part : Part × Bool) → i ≢ id → part_on i (handed_as reads parts id part) ≡ []
+unfolding handed_as
+handed_elsewhere reads parts i id (FieldsPart list, end) other =
+    place_elsewhere i id (place_after reads parts list) list end other
+handed_elsewhere reads parts i id (OctetsPart octets, end) other =
+    body_elsewhere i id octets end other
+
+-- Where a head is due, an interim one has no END_STREAM.
+here_by : (id : ℕ) (list : List Field) (broken end : Bool) (final : Option Phase) (next : Phase)
+    → (if broken then final else (if end then None else Some AtHead)) ≡ Some next
+    → part_on id (handed_at (if broken then places.Head else places.Interim) id list end)
+    ≡ (FieldsPart list, end) ∷ []
+unfolding handed_at
+here_by id list true end final next is = head_here id list end
+here_by id list false true final next is = cc
+here_by id list false false final next is = interim_here id list
+
+-- So it is with a field block that is taken where a head is due.
+here_at_head : (reads : Reads) (id : ℕ) (list : List Field) (end : Bool) (next : Phase)
+    → phase_after_head reads list end ≡ Some next
+    → part_on id (handed_at (place_at_head reads list) id list end)
+    ≡ (FieldsPart list, end) ∷ []
+unfolding phase_after_head place_at_head handed_at
+here_at_head Requests id list end next is = head_here id list end
+here_at_head (Responses to_head) id list end next is =
+    here_by id list (is_some (first_broken (interim_rules list))) end
+    (phase_after_final (Responses to_head) list end) next is
+
+-- After a final head, trailers have END_STREAM.
+here_in_body : (reads : Reads) (left : Option ℕ) (id : ℕ) (list : List Field) (end : Bool)
+    (next : Phase) → phase_after reads (InBody left) (FieldsPart list, end) ≡ Some next
+    → part_on id (TrailersHanded id list) ≡ (FieldsPart list, end) ∷ []
+unfolding phase_after
+here_in_body reads left id list true next is = trailers_here id list
+here_in_body reads left id list false next is = cc
+
+-- A field block that is taken from this phase.
+here_from : (reads : Reads) (phase : Option Phase) (id : ℕ) (list : List Field) (end : Bool)
+    (next : Phase) → phase_after_all reads phase ((FieldsPart list, end) ∷ []) ≡ Some next
+    → part_on id (handed_at (place_in reads phase list) id list end)
+    ≡ (FieldsPart list, end) ∷ []
+unfolding place_in handed_at phase_after
+here_from reads None id list end next is =
+    let none = after_none reads ((FieldsPart list, end) ∷ []) in cc
+here_from reads (Some AtHead) id list end next is =
+    here_at_head reads id list end next
+    (sym (after_one reads AtHead (FieldsPart list, end)) ∙ is)
+here_from reads (Some (InBody left)) id list end next is =
+    here_in_body reads left id list end next
+    (sym (after_one reads (InBody left) (FieldsPart list, end)) ∙ is)
+here_from reads (Some AtEnd) id list end next is =
+    let none : phase_after_all reads (Some AtEnd) ((FieldsPart list, end) ∷ []) ≡ None =
+    after_one reads AtEnd (FieldsPart list, end) in cc
+
+-- A part that a reading has taken is handed out as that part.
+pub handed_here : (reads : Reads) (parts : List (Part × Bool)) (id : ℕ) (part : Part × Bool)
+    (reading : Reading) → Follows reads (parts ++ part ∷ []) reading
+    → part_on id (handed_as reads parts id part) ≡ part ∷ []
+unfolding handed_as
+handed_here reads parts id (FieldsPart list, end) reading follows =
+    here_from reads (phase_after_all reads (Some AtHead) parts) id list end reading.phase
+    (sym (after_both reads (Some AtHead) parts ((FieldsPart list, end) ∷ [])) ∙ follows.phase)
+handed_here reads parts id (OctetsPart octets, end) reading follows = body_here id octets end

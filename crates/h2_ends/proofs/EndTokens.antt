@@ -1,0 +1,79 @@
+-- What a call and what taking octets leave of what was sent on a stream, and of the role.
+use Rattle.std.proofs.Common.{◌≡◌, ℕ, List, [], ◌++◌, refl, ap, ◌∙◌, append-nil}
+use Rattle.h2_block.specs.Grouping.{Item}
+use Rattle.h2_log.specs.declared.role.Role.{Role}
+use Rattle.h2_log.specs.Acts.{Act, Answer}
+use Rattle.h2_log.specs.Events.{Event}
+use Rattle.h2_log.specs.Log.{Log}
+use Rattle.h2_log.specs.LogView.{log_view}
+use Rattle.h2_log.specs.LogCalls.{with_call}
+use Rattle.h2_log.specs.ItemRules.{verdict_by_rules}
+use Rattle.h2_log.specs.Verdicts.{Verdict, ConnectionFault, StreamFault, NoEvent, Reported}
+use Rattle.h2_end_laws.specs.Takes.{TakeAnswer, MayTake, has_failed, reports_unprocessed}
+use Rattle.h2_end_laws.specs.Takes.{ends_no_frame, ends_frame, meets_fault, runs_out_of_memory}
+use Rattle.h2_end_laws.proofs.OverSteps.{HoldsRead, take_keeps}
+use Rattle.h2_machine_laws.specs.Machines as steps
+use Rattle.h2_machine_laws.specs.Machines.{Step, log_after}
+use Rattle.h2_pair.specs.Tokens.{Token, tokens_of_call, tokens_sent}
+use Rattle.h2_pair.proofs.HeardCalls.{call_calls, step_calls}
+
+-- After a call its tokens follow those that were sent before.
+pub call_tokens : (i : ℕ) (log : Log) (act : Act) (answer : Answer)
+    → tokens_sent i (with_call log act answer).calls
+    ≡ tokens_sent i log.calls ++ tokens_of_call i act answer
+unfolding tokens_sent
+call_tokens i log act answer = ap (tokens_sent i) (call_calls log act answer)
+
+-- A call without tokens leaves those that were sent.
+pub call_adds_none : (i : ℕ) (log : Log) (act : Act) (answer : Answer)
+    → tokens_of_call i act answer ≡ []
+    → tokens_sent i (with_call log act answer).calls ≡ tokens_sent i log.calls
+call_adds_none i log act answer none =
+    call_tokens i log act answer
+    ∙ ap (λ (more : List Token). tokens_sent i log.calls ++ more) none
+    ∙ append-nil (tokens_sent i log.calls)
+
+-- Taking octets is no call.
+pub take_calls : (log after : Log) (piece : List ℕ) (answer : TakeAnswer)
+    → MayTake log piece answer after → after.calls ≡ log.calls
+unfolding log_after
+take_calls log after piece answer (has_failed code failed answers same) =
+    ap (λ (new : Log). new.calls) same
+take_calls log after piece answer (reports_unprocessed up some answers same) =
+    ap (λ (new : Log). new.calls) same
+    ∙ step_calls log steps.reports_unprocessed (λ act said wrong. cc)
+take_calls log after piece answer (ends_no_frame takes unparsed part answers same) =
+    ap (λ (new : Log). new.calls) same
+    ∙ step_calls log (steps.uses_part piece unparsed) (λ act said wrong. cc)
+take_calls log after piece answer
+    (ends_frame takes octets unused joined frame decoded framed sees same answers) =
+    ap (λ (new : Log). new.calls) same
+    ∙ step_calls log (steps.ends_frame octets frame decoded) (λ act said wrong. cc)
+take_calls log after piece answer
+    (meets_fault takes octets unused joined fault at answers same) =
+    ap (λ (new : Log). new.calls) same
+    ∙ step_calls log (steps.meets_fault octets fault) (λ act said wrong. cc)
+take_calls log after piece answer
+    (runs_out_of_memory up octets unused joined may answers same) =
+    ap (λ (new : Log). new.calls) same
+    ∙ step_calls log (steps.runs_out_of_memory octets) (λ act said wrong. cc)
+
+-- The end has this role.
+abbrev HasRole : Role → Role → List Item → List Item → List Event → Type 0
+HasRole one role received sent reported = role ≡ one
+
+-- Reading leaves the role.
+role_by : (one : Role) (log : Log) (item : Item) (verdict : Verdict) → log.role ≡ one
+    → HoldsRead (HasRole one) log item verdict
+role_by one log item (ConnectionFault code) is = tt
+role_by one log item (StreamFault code) is = is
+role_by one log item NoEvent is = is
+role_by one log item Reported is = is
+
+pub take_role : (log after : Log) (piece : List ℕ) (answer : TakeAnswer)
+    → MayTake log piece answer after → after.role ≡ log.role
+take_role log after piece answer may =
+    take_keeps 0 (HasRole log.role) (λ role received sent reported items none is. is)
+    (λ role received sent reported events is. is)
+    (λ at decoded item is. role_by log.role at item (verdict_by_rules (log_view at) decoded item)
+    is) log after piece answer may refl

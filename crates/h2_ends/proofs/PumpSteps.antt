@@ -1,0 +1,112 @@
+-- The calls of a pump, one more at their end; and which streams come next.
+use Rattle.std.proofs.Common.{◌≡◌, ◌≢◌, inl, inr, ℕ, ◌+◌, ◌<◌, ◌≤◌, ◌==◌, ◌&&◌, ◌||◌, nat_lt, Bool}
+use Rattle.std.proofs.Common.{true, false, if◌then◌else◌, List, Option, Some, None, is_some, refl}
+use Rattle.std.proofs.Common.{sym, ap, ◌∙◌, subst, arith, ltb-true}
+use Rattle.std.proofs.lemmas.Bool.{both_ways, and_parts, or_parts, eqb-true, cases_Bool}
+use Rattle.std.proofs.lemmas.Bool.{false_from_ne_true, ne_eqb}
+use Rattle.hpack.specs.declared.types.field.Field.{Field}
+use Rattle.h2_log.specs.declared.refusal.Refusal.{Refusal}
+use Rattle.h2_log.specs.Acts.{Act, SendFields, SendData, Count, Done, Refused}
+use Rattle.h2_log.specs.Log.{Log, active, next_active, reader_next_live}
+use Rattle.h2_log.specs.LogCalls.{MayAnswer}
+use Rattle.h2_log_laws.proofs.NextStreams.{next_passes, next_found}
+use Rattle.h2_log_laws.proofs.ReaderStates.{active_parts}
+use Rattle.h2_ends.specs.Ends.{EndLog}
+use Rattle.h2_ends.specs.EndCalls.{IsStuckOn, Pumps, pumps_no_more, pumps_data, pumps_trailers}
+use Rattle.h2_ends.specs.EndCalls.{pumps_refused}
+use Rattle.h2_ends.specs.Pumping.{after_call, Sending, sends_nothing, sends_data, sends_trailers}
+use Rattle.h2_ends.specs.Pumping.{IsStuckBelow}
+
+-- Calls after them are calls of the pump.
+pub pumps_after : (start now after : EndLog) (count more : ℕ) → Sending start count now
+    → Pumps now more after → Pumps start (count + more) after
+pumps_after start _ after _ more sends_nothing pumps =
+    let same : more ≡ 0 + more = omega arith in
+    subst (λ (n : ℕ). Pumps start n after) same pumps
+pumps_after start _ after _ more (sends_data {count = count} {now = now} sending id sent octets
+    ends alive below may) pumps =
+    let same : count + (sent + more) ≡ (count + sent) + more = omega arith in
+    subst (λ (n : ℕ). Pumps start n after) same
+    (pumps_after start now after count (sent + more) sending
+    (pumps_data now id sent more octets ends after alive below may pumps))
+pumps_after start _ after count more (sends_trailers {now = now} sending id list alive below may)
+    pumps =
+    pumps_after start now after count more sending
+    (pumps_trailers now id more list after alive below may pumps)
+
+-- So are they themselves,
+pub pumps_all : (start now : EndLog) (count : ℕ) → Sending start count now → Pumps start count now
+pumps_all start now count sending =
+    let same : count + 0 ≡ count = omega arith in
+    subst (λ (n : ℕ). Pumps start n now) same
+    (pumps_after start now now count 0 sending (pumps_no_more now))
+
+-- and with one that was refused.
+pub pumps_until_refused : (start now : EndLog) (count : ℕ) (act : Act) (refusal : Refusal)
+    → Sending start count now → MayAnswer now.log act (Refused refusal)
+    → Pumps start count (after_call now act (Refused refusal))
+pumps_until_refused start now count act refusal sending may =
+    let same : count + 0 ≡ count = omega arith in
+    subst (λ (n : ℕ). Pumps start n (after_call now act (Refused refusal))) same
+    (pumps_after start now _ count 0 sending (pumps_refused now act refusal may))
+
+-- No stream has the number 0.
+pub zero_inactive : (log : Log) → active log 0 ≡ false
+zero_inactive log = false_from_ne_true _ (λ alive.
+    let odd = (active_parts log.role 0 log.received log.sent log.reported alive).odd in
+    let wrong : 0 ≡ 1 = eqb-true 0 1 odd in omega (arith, wrong))
+
+-- The next stream is active, and none is between.
+pub record IsNext (log : Log) (last id : ℕ) : Type 0 where
+  pub alive : active log id ≡ true
+  pub above : last < id
+  pub between : (j : ℕ) → last < j → j < id → active log j ≡ false
+
+-- Nothing active lies below the next that is.
+none_between : (log : Log) (last j : ℕ) → last < j → j < next_active log last
+    → active log j ≡ false
+none_between log last j above below = false_from_ne_true _ (λ alive.
+    let found = next_found log last j alive above in omega (arith, below, found.1))
+
+next_is : (log : Log) (last : ℕ) → next_active log last ≢ 0 → IsNext log last (next_active log last)
+next_is log last some =
+    let both = and_parts _ _ (next_passes log last some) in
+    record {
+      alive = both.0;
+      above = ltb-true last (next_active log last) both.1;
+      between = none_between log last;
+    }
+
+-- What the reader answers, by its test.
+some_by : (b : Bool) (next id : ℕ) → (if b then None else Some next) ≡ Some id
+    → (b ≡ false) × (next ≡ id)
+some_by true next id is = cc
+some_by false next id is = (refl, cc)
+
+pub next_read : (log : Log) (last id : ℕ) → reader_next_live log last ≡ Some id
+    → IsNext log last id
+next_read log last id is =
+    let both = some_by (is_some log.failed || next_active log last == 0) (next_active log last) id
+    is in
+    let some = (or_parts (is_some log.failed) (next_active log last == 0) both.0).1 in
+    subst (λ (i : ℕ). IsNext log last i) both.1
+    (next_is log last (λ none. zero_test (next_active log last) none some))
+  where
+    zero_test : (n : ℕ) → n ≡ 0 → n == 0 ≡ false → ⊥
+    zero_test n none some = both_ways _ some (rw none refl)
+
+-- Where it answers none, none is above.
+none_by : (b : Bool) (next : ℕ) → (if b then None else Some next) ≡ None → b ≡ true
+none_by true next is = refl
+none_by false next is = cc
+
+up_by : (failed : Bool) (none : Bool) → failed ≡ false → (failed || none) ≡ true → none ≡ true
+up_by true none up is = cc
+up_by false none up is = is
+
+pub none_read : (log : Log) (last : ℕ) → log.failed ≡ None → reader_next_live log last ≡ None
+    → (j : ℕ) → last < j → active log j ≡ false
+none_read log last up is j above = false_from_ne_true _ (λ alive.
+    let test = up_by (is_some log.failed) (next_active log last == 0) (ap is_some up)
+    (none_by (is_some log.failed || next_active log last == 0) (next_active log last) is) in
+    (next_found log last j alive above).0 (eqb-true (next_active log last) 0 test))

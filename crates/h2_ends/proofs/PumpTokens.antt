@@ -1,0 +1,290 @@
+-- What waits of a message, as sending goes on.
+use Rattle.std.proofs.Common.{map as each, ◌≡◌, ◌≢◌, ◌⊎◌, inl, inr, ℕ, zero, suc, ◌+◌, ◌-◌, ◌<◌}
+use Rattle.std.proofs.Common.{◌≤◌}
+use Rattle.std.proofs.Common.{◌==◌, ◌&&◌, Bool, true, false, List, [], ◌∷◌, ◌++◌, length, take}
+use Rattle.std.proofs.Common.{drop}
+use Rattle.std.proofs.Common.{Option, Some, None, is_none, option_map, refl, sym, ap, ◌∙◌, subst}
+use Rattle.std.proofs.Common.{append_assoc, append-nil, length-drop, arith}
+use Rattle.std.specs.List.{list_any}
+use Rattle.std.proofs.lemmas.Bool.{both_ways, and_from, false_from_ne_true, eqb-true, eq-eqb}
+use Rattle.std.proofs.lemmas.List.{map-append, take-append-drop, drop-drop}
+use Rattle.std.proofs.Math.Seq.{drop-append_seam, take-length}
+use Rattle.std.proofs.lemmas.Bool.Decides.{nat_tests}
+use Rattle.h2_log.specs.declared.role.Role.{Role}
+use Rattle.h2_log.specs.Acts.{Values, SendFields, SendData, Count, Done}
+use Rattle.h2_log.specs.Items.{ends}
+use Rattle.h2_log.specs.Log.{Log}
+use Rattle.h2_log.specs.Histories.{IsLog}
+use Rattle.h2_end_laws.specs.Sendings.{lists_accepted, settings_received}
+use Rattle.h2_end_laws.specs.Over.{has_room}
+use Rattle.h2_end_laws.proofs.Sendings.{log_sent}
+use Rattle.hpack.specs.declared.types.field.Field.{Field}
+use Rattle.h2_log.specs.CallRules.{is_too_large}
+use Rattle.h2_message.specs.Messages.{SentMessage, trailer_fields}
+use Rattle.h2_pair.specs.Tokens.{Token, FieldsToken, OctetToken, EndToken, end_tokens}
+use Rattle.h2_pair.specs.Tokens.{tokens_of_call, tokens_sent, trailers_tokens, message_tokens}
+use Rattle.h2_pair.proofs.HeardLists.{blocks_of_lists}
+use Rattle.h2_pair.proofs.HeardMessages.{ended_tokens, unended}
+use Rattle.h2_pair.proofs.HeardSent.{tokens_carried}
+use Rattle.h2_ends.specs.declared.outgoing.Waiting.{Waiting}
+use Rattle.h2_ends.specs.declared.outgoing.Outgoing.TheVariants as outgoings
+use Rattle.h2_ends.specs.Ends.{EndLog, message_for, tokens_given, tokens_out, tokens_said}
+use Rattle.h2_ends.specs.Ends.{tokens_waiting}
+use Rattle.h2_ends.specs.EndCalls.{IsStuckOn}
+use Rattle.h2_ends.specs.Pumping.{after_call}
+use Rattle.h2_ends.specs.Represents.{IsWaiting, IsOutgoing, tokens_kept}
+use Rattle.h2_ends.proofs.PumpStuck.{out_after, stuck_empty, stuck_octet}
+
+-- what waits after the octets of the body
+abbrev tail_kept : Waiting → List Token
+tail_kept waiting =
+    trailers_tokens (option_map (λ fields. fields.items) waiting.trailers) ++ EndToken ∷ []
+
+-- what is left of its body
+abbrev pub octets_left : Waiting → List ℕ
+octets_left waiting = drop waiting.sent waiting.body.items
+
+-- the same after so many octets more
+abbrev pub sent_more : Waiting → ℕ → Waiting
+sent_more waiting n = record waiting { sent = waiting.sent + n }
+
+-- Something is kept: at least the end.
+some_front : (tokens others : List Token) (token : Token)
+    → (first : Token) × (rest : List Token) × (tokens ++ token ∷ others ≡ first ∷ rest)
+some_front [] others token = (token, others, refl)
+some_front (first ∷ tokens) others token = (first, tokens ++ token ∷ others, refl)
+
+some_kept : (waiting : Waiting)
+    → (first : Token) × (rest : List Token) × (tokens_kept waiting ≡ first ∷ rest)
+some_kept waiting =
+    let body = each OctetToken (octets_left waiting) in
+    let trailers = trailers_tokens (option_map (λ fields. fields.items) waiting.trailers) in
+    let front = some_front (body ++ trailers) [] EndToken in
+    (front.0, front.1, sym (append_assoc body trailers (EndToken ∷ [])) ∙ front.2)
+
+-- As long as something waits on a stream, this end hasn't ended it.
+pub waiting_goes_on : (role : Role) (values : Values) (end : EndLog) (id : ℕ) (waiting : Waiting)
+    → IsLog role values end.log → IsWaiting end id waiting → list_any (ends id) end.log.sent ≡ false
+waiting_goes_on role values end id waiting is waits = false_from_ne_true _ (λ here.
+    let log = end.log in
+    let some = some_kept waiting in
+    let many : length (lists_accepted log.calls) ≡ _ =
+    blocks_of_lists log.sent (settings_received log.received) (lists_accepted log.calls)
+    log.encoder (log_sent role values log is) in
+    unended waits.message (tokens_out end id) some.0 some.1
+    (waits.rest ∙ ap (λ (line : List Token). tokens_out end id ++ line) some.2)
+    (rw (tokens_carried id role values log is)
+    (ended_tokens id log.sent (lists_accepted log.calls) many here)))
+
+-- What waits on a stream is what is kept.
+said_is : (end : EndLog) (id : ℕ) (message : SentMessage)
+    → message_for id end.accepted ≡ Some message → tokens_said end id ≡ message_tokens message
+unfolding tokens_given message_tokens
+said_is end id message is = ap tokens_given is
+
+pub waiting_is_kept : (end : EndLog) (id : ℕ) (waiting : Waiting) → IsWaiting end id waiting
+    → tokens_waiting end id ≡ tokens_kept waiting
+waiting_is_kept end id waiting waits =
+    ap (drop (length (tokens_out end id)))
+    (said_is end id waits.message waits.accepted ∙ waits.rest)
+    ∙ drop-append_seam (tokens_out end id) (tokens_kept waiting)
+
+-- Where nothing waits, nothing could go.
+pub stuck_sent : (end : EndLog) (id : ℕ) → IsOutgoing end id outgoings.Sent → IsStuckOn end id
+unfolding IsOutgoing
+stuck_sent end id (message, accepted, all) =
+    stuck_empty end id (ap (drop (length (tokens_out end id)))
+    (said_is end id message accepted ∙ all ∙ sym (append-nil (tokens_out end id)))
+    ∙ drop-append_seam (tokens_out end id) [])
+
+nothing_left : (n : ℕ) → drop n (tokens_given None) ≡ []
+unfolding tokens_given
+nothing_left zero = refl
+nothing_left (suc n) = refl
+
+pub stuck_unsaid : (end : EndLog) (id : ℕ) → message_for id end.accepted ≡ None → IsStuckOn end id
+unfolding tokens_given
+stuck_unsaid end id none =
+    stuck_empty end id (ap (λ (said : Option SentMessage). drop (length (tokens_out end id))
+    (tokens_given said)) none ∙ nothing_left (length (tokens_out end id)))
+
+-- An octet is next, where some are left.
+some_octet : (octets : List ℕ) → length octets ≢ 0
+    → (octet : ℕ) × (rest : List ℕ) × (octets ≡ octet ∷ rest)
+some_octet [] some = absurd (some refl)
+some_octet (octet ∷ rest) some = (octet, rest, refl)
+
+-- Where octets wait that have no room, nothing could go.
+pub stuck_waiting : (end : EndLog) (id : ℕ) (waiting : Waiting) → IsWaiting end id waiting
+    → length (octets_left waiting) ≢ 0 → has_room end.log id ≡ false → IsStuckOn end id
+stuck_waiting end id waiting waits some none =
+    let first = some_octet (octets_left waiting) some in
+    stuck_octet end id first.0 (each OctetToken first.1 ++ tail_kept waiting)
+    (waiting_is_kept end id waiting waits
+    ∙ ap (λ (octets : List ℕ). each OctetToken octets ++ tail_kept waiting) first.2) none
+
+-- What octets of a body send on their stream.
+data_tokens : (id : ℕ) (octets : List ℕ) (end : Bool) (n : ℕ)
+    → tokens_of_call id (SendData id octets end) (Count n)
+    ≡ each OctetToken (take n octets) ++ end_tokens (end && n == length octets)
+unfolding tokens_of_call
+data_tokens id octets end n = rw (eq-eqb id id refl) refl
+
+-- Octets that were sent, and those that are left.
+left_split : (waiting : Waiting) (n : ℕ)
+    → each OctetToken (take n (octets_left waiting)) ++ tokens_kept (sent_more waiting n)
+    ≡ tokens_kept waiting
+left_split waiting n =
+    let octets = octets_left waiting in
+    let tail = tail_kept waiting in
+    ap (λ (rest : List ℕ). each OctetToken (take n octets) ++ (each OctetToken rest ++ tail))
+    (sym (drop-drop n waiting.sent waiting.body.items))
+    ∙ sym (append_assoc (each OctetToken (take n octets)) (each OctetToken (drop n octets)) tail)
+    ∙ ap (λ (line : List Token). line ++ tail)
+    (sym (map-append OctetToken (take n octets) (drop n octets))
+    ∙ ap (each OctetToken) (take-append-drop n octets))
+
+-- So many octets more were sent, without the end: what is kept then waits.
+kept_rest : (waiting : Waiting) (n : ℕ) (ended : Bool) (out out_after tokens : List Token)
+    → ended ≡ false
+    → out_after ≡ out ++ (each OctetToken (take n (octets_left waiting)) ++ end_tokens ended)
+    → tokens ≡ out ++ tokens_kept waiting → tokens ≡ out_after ++ tokens_kept (sent_more waiting n)
+unfolding end_tokens
+kept_rest waiting n true out out_after tokens goes more is = absurd (both_ways _ goes refl)
+kept_rest waiting n false out out_after tokens goes more is =
+    let here = each OctetToken (take n (octets_left waiting)) in
+    let kept = tokens_kept (sent_more waiting n) in
+    is ∙ ap (λ (line : List Token). out ++ line) (sym (left_split waiting n))
+    ∙ sym (append_assoc out here kept)
+    ∙ ap (λ (line : List Token). line ++ kept)
+    (sym (more ∙ ap (λ (line : List Token). out ++ line) (append-nil here)))
+
+-- What is not nothing, with more after it, isn't.
+begun_more : (out more : List Token) → out ≢ [] → (out ++ more) ≢ []
+begun_more [] more some = λ is. some refl
+begun_more (token ∷ out) more some = λ is. cc
+
+less_by : (n left : ℕ) → n ≤ left → n == left ≡ false → n < left
+less_by n left within other = grind (arith, nat_tests)
+
+some_by : {A : Type 0} → (trailers : Option A) → (n sent size : ℕ) → n ≤ size - sent → sent ≤ size
+    → (is_none trailers && n == size - sent) ≡ false → (sent + n < size) ⊎ (trailers ≢ None)
+some_by None n sent size within start goes =
+    let less = less_by n (size - sent) within goes in
+    inl (omega (arith, less, start))
+some_by (Some x) n sent size within start goes = inr (λ none. cc)
+
+pub waits_after : (end : EndLog) (id : ℕ) (waiting : Waiting) (n : ℕ) → IsWaiting end id waiting
+    → waiting.sent ≤ length waiting.body.items → n ≤ length (octets_left waiting)
+    → (is_none waiting.trailers && n == length (octets_left waiting)) ≡ false
+    → IsWaiting (after_call end (SendData id (octets_left waiting) (is_none waiting.trailers))
+    (Count n)) id (sent_more waiting n)
+waits_after end id waiting n waits start within goes =
+    let act = SendData id (octets_left waiting) (is_none waiting.trailers) in
+    let size = length-drop waiting.sent waiting.body.items in
+    let out : tokens_out (after_call end act (Count n)) id ≡ tokens_out end id
+    ++ (each OctetToken (take n (octets_left waiting))
+    ++ end_tokens (is_none waiting.trailers && n == length (octets_left waiting))) =
+    out_after end act (Count n) id ∙ ap (λ (line : List Token). tokens_out end id ++ line)
+    (data_tokens id (octets_left waiting) (is_none waiting.trailers) n) in
+    record {
+      message = waits.message;
+      accepted = waits.accepted;
+      rest = kept_rest waiting n _ (tokens_out end id) _ (message_tokens waits.message) goes out
+          waits.rest;
+      begun = λ none. begun_more (tokens_out end id) _ waits.begun (sym out ∙ none);
+      some = some_by waiting.trailers n waiting.sent (length waiting.body.items)
+          (omega (arith, within, size)) start (rw size at goes);
+      fits = waits.fits;
+    }
+
+-- Once all of the body was sent, and no trailers follow, all was sent.
+all_octets : (octets : List ℕ) (n : ℕ) → n ≡ length octets → take n octets ≡ octets
+all_octets octets n all = rw all (take-length octets)
+
+end_alone : (waiting : Waiting) → is_none waiting.trailers ≡ true
+    → tail_kept waiting ≡ EndToken ∷ []
+unfolding trailers_tokens
+end_alone waiting none =
+    ap (λ (trailers : Option _). trailers_tokens (option_map (λ fields. fields.items) trailers)
+    ++ EndToken ∷ []) (no_trailers waiting.trailers none)
+  where
+    no_trailers : {A : Type 0} → (trailers : Option A) → is_none trailers ≡ true → trailers ≡ None
+    no_trailers None none = refl
+    no_trailers (Some x) none = absurd (both_ways false refl none)
+
+kept_all : (waiting : Waiting) (n : ℕ) (ended : Bool) → n ≡ length (octets_left waiting)
+    → is_none waiting.trailers ≡ true → ended ≡ true
+    → each OctetToken (take n (octets_left waiting)) ++ end_tokens ended ≡ tokens_kept waiting
+unfolding end_tokens
+kept_all waiting n true all none ended =
+    ap (λ (octets : List ℕ). each OctetToken octets ++ EndToken ∷ [])
+    (all_octets (octets_left waiting) n all)
+    ∙ ap (λ (tail : List Token). each OctetToken (octets_left waiting) ++ tail)
+    (sym (end_alone waiting none))
+kept_all waiting n false all none ended = cc
+
+pub sent_after_data : (end : EndLog) (id : ℕ) (waiting : Waiting) (n : ℕ) → IsWaiting end id waiting
+    → is_none waiting.trailers ≡ true → n ≡ length (octets_left waiting)
+    → IsOutgoing (after_call end (SendData id (octets_left waiting) (is_none waiting.trailers))
+    (Count n)) id outgoings.Sent
+unfolding IsOutgoing
+sent_after_data end id waiting n waits none all =
+    let act = SendData id (octets_left waiting) (is_none waiting.trailers) in (
+      waits.message,
+      waits.accepted,
+      waits.rest ∙ ap (λ (line : List Token). tokens_out end id ++ line)
+          (sym (data_tokens id (octets_left waiting) (is_none waiting.trailers) n
+          ∙ kept_all waiting n _ all none
+          (and_from _ _ none (eq-eqb n (length (octets_left waiting)) all))))
+          ∙ sym (out_after end act (Count n) id),
+    )
+
+-- Once no octets are left and the trailers were sent, all was sent.
+fields_tokens : (id : ℕ) (fields : List Field)
+    → tokens_of_call id (SendFields id fields true) Done ≡ FieldsToken fields ∷ (EndToken ∷ [])
+unfolding tokens_of_call end_tokens
+fields_tokens id fields = rw (eq-eqb id id refl) refl
+
+trailers_kept : (waiting : Waiting) (fields : List Field) → length (octets_left waiting) ≡ 0
+    → option_map (λ list. list.items) waiting.trailers ≡ Some fields
+    → tokens_kept waiting ≡ FieldsToken fields ∷ (EndToken ∷ [])
+unfolding trailers_tokens
+trailers_kept waiting fields none are =
+    ap (λ (octets : List ℕ). each OctetToken octets ++ tail_kept waiting)
+    (no_octets (octets_left waiting) none)
+    ∙ ap (λ (trailers : Option (List Field)). trailers_tokens trailers ++ EndToken ∷ []) are
+  where
+    no_octets : (octets : List ℕ) → length octets ≡ 0 → octets ≡ []
+    no_octets [] none = refl
+    no_octets (octet ∷ rest) none = absurd (omega (arith, none))
+
+pub sent_after_fields : (end : EndLog) (id : ℕ) (waiting : Waiting) (fields : List Field)
+    → IsWaiting end id waiting → length (octets_left waiting) ≡ 0
+    → option_map (λ list. list.items) waiting.trailers ≡ Some fields
+    → IsOutgoing (after_call end (SendFields id fields true) Done) id outgoings.Sent
+unfolding IsOutgoing
+sent_after_fields end id waiting fields waits none are = (
+  waits.message,
+  waits.accepted,
+  waits.rest ∙ ap (λ (line : List Token). tokens_out end id ++ line)
+      (trailers_kept waiting fields none are ∙ sym (fields_tokens id fields))
+      ∙ sym (out_after end (SendFields id fields true) Done id),
+)
+
+-- The trailers that wait aren't too large.
+pub trailers_fit : (end : EndLog) (id : ℕ) (waiting : Waiting) (fields : List Field)
+    → IsWaiting end id waiting → option_map (λ list. list.items) waiting.trailers ≡ Some fields
+    → is_too_large fields ≡ false
+unfolding trailer_fields
+trailers_fit end id waiting fields waits are =
+    subst (λ (trailers : Option (List Field)). is_too_large (trailer_fields trailers) ≡ false) are
+    waits.fits
+
+-- Where no octets are left, trailers are.
+pub trailers_left : (end : EndLog) (id : ℕ) (waiting : Waiting) → IsWaiting end id waiting
+    → length waiting.body.items ≤ waiting.sent → waiting.trailers ≢ None
+trailers_left end id waiting waits none = elim waits.some [
+  | inl some ↦ absurd (omega (arith, none, some))
+  | inr trailers ↦ trailers
+]

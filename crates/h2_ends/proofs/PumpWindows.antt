@@ -1,0 +1,253 @@
+-- What sending on a stream makes of windows, and of the output that waits.
+use Rattle.std.proofs.Common.{◌≡◌, ◌≢◌, ◌⊎◌, inl, inr, ℕ, zero, suc, ◌+◌, ◌-◌, ◌≤◌, ◌<◌, ◌==◌, min}
+use Rattle.std.proofs.Common.{nat_lt, nat_le, ◌&&◌, not, Bool, true, false, if◌then◌else◌, List, []}
+use Rattle.std.proofs.Common.{◌∷◌, ◌++◌, length, take, drop, Option, Some, None, is_some, refl, sym}
+use Rattle.std.proofs.Common.{ap, ◌∙◌, arith, subst, length-append, length-take, length-drop, pos}
+use Rattle.std.proofs.Common.{◌-ℤ◌, leb-true, leb-false, ltb-true}
+use Rattle.std.specs.Prelude.{int_lt}
+use Rattle.std.specs.List.{list_any}
+use Rattle.std.proofs.lemmas.Int.{ints}
+use Rattle.std.proofs.lemmas.Bool.{both_ways, and_parts, false_from_ne_true, eqb-true}
+use Rattle.std.proofs.lemmas.Bool.Decides.{nat_tests}
+use Rattle.hpack.specs.declared.types.field.Field.{Field}
+use Rattle.h2_frame.specs.Frames.{Data}
+use Rattle.h2_frame.specs.Encoding.{payload_of}
+use Rattle.h2_block.specs.Grouping.{Item, alone}
+use Rattle.h2_log.specs.declared.refusal.Refusal.{Refusal}
+use Rattle.h2_log.specs.declared.refusal.Refusal.TheVariants.{Closed, NoSuchStream, Ended}
+use Rattle.h2_log.specs.declared.refusal.Refusal.TheVariants.{OutputFull, ListTooLarge, NotOwed}
+use Rattle.h2_log.specs.declared.refusal.Refusal.TheVariants.{Memory}
+use Rattle.h2_log.specs.Acts.{Act, Answer, SendFields, SendData, Release, Count, Done, Refused}
+use Rattle.h2_log.specs.Acts.{Refuse}
+use Rattle.h2_log.specs.Items.{ends, total, data_on, data_of, encoding_of_items}
+use Rattle.h2_log.specs.Limits.{full_output, max_data, max_frame_size_sent}
+use Rattle.h2_log.specs.Windows.{given_on, given_on_connection}
+use Rattle.h2_log.specs.Log.{Log, active, owed, unreleased, waiting, output}
+use Rattle.h2_log.specs.Log.{max_payload_sent}
+use Rattle.h2_log.specs.View.{ended_out, owed_on}
+use Rattle.h2_log.specs.LogView.{log_view, stream_of_log}
+use Rattle.h2_log.specs.CallRules.{conditions, refusal_of, first_of, is_full, is_too_large}
+use Rattle.h2_log.specs.CallRules.{is_no_stream, is_not_owed, has_failed, data_count, data_frames}
+use Rattle.h2_log.specs.CallRules.{data_items, items_of, returns_credit}
+use Rattle.h2_log.specs.LogSteps.{with_sent, with_unreturned, with_credit_returned}
+use Rattle.h2_log.specs.LogCalls.{MayAnswer, accepts, refuses, lacks, fails, with_call, with_items}
+use Rattle.h2_log.specs.LogCalls.{called}
+use Rattle.h2_log.proofs.SentPayloads.{most_is_limit}
+use Rattle.h2_log_laws.proofs.CallConditions.{none_holds}
+use Rattle.h2_log_laws.proofs.ItemSizes.{size_of, size-frame, size-append}
+use Rattle.h2_log_laws.proofs.LogViewLemmas.{stream_is_active, stream_there, count_by_sums}
+use Rattle.h2_end_laws.specs.Over.{has_room}
+use Rattle.h2_end_laws.specs.Written.{Writes}
+use Rattle.h2_end_laws.proofs.WrittenSteps.{call_writes}
+
+-- A call that sends octets is accepted, with the count of the rules.
+pub data_accepted : (log : Log) (id : ℕ) (octets : List ℕ) (end : Bool) (n : ℕ)
+    → MayAnswer log (SendData id octets end) (Count n)
+    → (refusal_of (log_view log) (SendData id octets end) ≡ None)
+    × (n ≡ data_count (log_view log) ((log_view log).stream id) (length octets))
+data_accepted log id octets end n (accepts none is) = (none, cc)
+data_accepted log id octets end n (refuses refusal holds is) = cc
+data_accepted log id octets end n (lacks none may is) = cc
+data_accepted log id octets end n (fails none may is) = cc
+
+-- It is on an active stream.
+pub data_active : (log : Log) (id : ℕ) (octets : List ℕ) (end : Bool) (n : ℕ)
+    → MayAnswer log (SendData id octets end) (Count n) → active log id ≡ true
+unfolding conditions
+data_active log id octets end n may =
+    stream_is_active log id (none_holds _ (data_accepted log id octets end n may).0).1.0
+
+-- It sends no more octets than it was given.
+pub data_within : (log : Log) (id : ℕ) (octets : List ℕ) (end : Bool) (n : ℕ)
+    → MayAnswer log (SendData id octets end) (Count n) → n ≤ length octets
+data_within log id octets end n may =
+    let count = count_by_sums log id (length octets) (data_active log id octets end n may) in
+    let is = (data_accepted log id octets end n may).1 in
+    omega (arith, is, count)
+
+-- A window lets an octet through where less was taken than given.
+window_test : (given consumed : ℕ) → int_lt (pos 0) (pos given -ℤ pos consumed)
+    ≡ nat_lt consumed given
+window_test given consumed = grind (arith, nat_tests, ints)
+
+-- Where none of some octets goes, a window is used up.
+no_room_by : (count given on given_all all : ℕ) → count ≢ 0
+    → 0 ≡ min count (min (min (given - on) (given_all - all)) max_data)
+    → (int_lt (pos 0) (pos given -ℤ pos on) && int_lt (pos 0) (pos given_all -ℤ pos all)) ≡ false
+no_room_by count given on given_all all some is =
+    false_from_ne_true _ (λ both.
+    let parts = and_parts _ _ both in
+    let here = ltb-true on given (sym (window_test given on) ∙ parts.0) in
+    let there = ltb-true all given_all (sym (window_test given_all all) ∙ parts.1) in
+    some (omega (arith, here, there, is)))
+
+-- Where a call sends none of some octets, the stream has no room.
+pub none_without_room : (log : Log) (id : ℕ) (octets : List ℕ) (end : Bool)
+    → MayAnswer log (SendData id octets end) (Count 0) → length octets ≢ 0
+    → has_room log id ≡ false
+none_without_room log id octets end may some =
+    no_room_by (length octets) (given_on id log.received) (total (data_on id) log.sent)
+    (given_on_connection log.received) (total data_of log.sent) some
+    ((data_accepted log id octets end 0 may).1
+    ∙ count_by_sums log id (length octets) (data_active log id octets end 0 may))
+
+-- DATA takes at least its octets, by the test whether one is enough.
+frames_size_by : (most id : ℕ) (octets : List ℕ) (end b : Bool) (others : List Item)
+    → (b ≡ false → length (drop most octets) ≤ size_of others)
+    → length octets ≤ size_of (if b then alone (Data id end octets None) ∷ []
+    else others ++ alone (Data id false (take most octets) None) ∷ [])
+unfolding payload_of
+frames_size_by most id octets end true others many =
+    omega (arith, size-frame (Data id end octets None))
+frames_size_by most id octets end false others many =
+    omega (
+      arith,
+      many refl,
+      length-drop most octets,
+      length-take most octets,
+      size-append others (alone (Data id false (take most octets) None) ∷ []),
+      size-frame (Data id false (take most octets) None),
+    )
+
+frames_size : (count most id : ℕ) (octets : List ℕ) (end : Bool) → 0 < most
+    → length octets < count → length octets ≤ size_of (data_frames count most id octets end)
+unfolding data_frames
+frames_size zero most id octets end some enough = absurd (omega (arith, enough))
+frames_size (suc count) most id octets end some enough =
+    frames_size_by most id octets end (nat_le (length octets) most)
+    (data_frames count most id (drop most octets) end)
+    (λ more. let above = leb-false (length octets) most more in
+    frames_size count most id (drop most octets) end some
+    (omega (arith, length-drop most octets, above, enough, some)))
+
+-- So does a body, of which so many octets are sent.
+body_size_by : (count : ℕ) (items : List Item) (b : Bool) → (b ≡ true → count ≡ 0)
+    → count ≤ size_of items → count ≤ size_of (if b then [] else items)
+body_size_by count items true none many = omega (arith, none refl)
+body_size_by count items false none many = many
+
+body_size : (most id : ℕ) (octets : List ℕ) (end : Bool) (count : ℕ) → 0 < most
+    → count ≤ length octets → count ≤ size_of (data_items most id octets end count)
+unfolding data_items
+body_size most id octets end count some within =
+    body_size_by count _ (count == 0 && not (length octets == 0 && end))
+    (λ none. eqb-true count 0 (and_parts _ _ none).0)
+    (omega (
+      arith,
+      within,
+      length-take count octets,
+      frames_size (suc count) most id (take count octets) (end && count == length octets) some
+          (omega (arith, length-take count octets)),
+    ))
+
+-- As much was given out, by the test whether credit is returned.
+due_given_by : (log : Log) (more : ℕ) (b : Bool)
+    → (if b then with_credit_returned (record log { unreturned = log.unreturned + more })
+    else record log { unreturned = log.unreturned + more }).given ≡ log.given
+unfolding with_sent
+due_given_by log more true = refl
+due_given_by log more false = refl
+
+due_given : (log : Log) (more : ℕ) → (with_unreturned more log).given ≡ log.given
+unfolding with_unreturned
+due_given log more = due_given_by log more (returns_credit more (waiting log))
+
+sent_given : (log : Log) (items : List Item) → (with_sent log items).given ≡ log.given
+unfolding with_sent
+sent_given log [] = refl
+sent_given log (item ∷ items) = refl
+
+-- A call that writes items gives nothing out.
+items_given : (log : Log) (act : Act) (answer : Answer)
+    → (with_items log act answer).given ≡ log.given
+unfolding with_items
+items_given log act answer =
+    due_given _ _ ∙ sent_given (called log act answer) (items_of (log_view log) act answer)
+
+-- What is written waits.
+waits_by : (log after : Log) (items : List Item) → log.given ≤ length log.written
+    → after.given ≡ log.given → Writes log after items
+    → waiting log + size_of items ≤ waiting after
+unfolding waiting output
+waits_by log after items within given writes =
+    let size = size-append writes.credit items in
+    let octets : length after.written ≡ length log.written + size_of (writes.credit ++ items) =
+    ap length writes.written ∙ length-append log.written _ in
+    omega (arith, within, given, size, octets)
+
+-- The octets that a call sends wait.
+pub data_waits : (log : Log) (id : ℕ) (octets : List ℕ) (end : Bool) (n : ℕ)
+    → log.given ≤ length log.written → MayAnswer log (SendData id octets end) (Count n)
+    → waiting log + n ≤ waiting (with_call log (SendData id octets end) (Count n))
+unfolding with_call items_of
+data_waits log id octets end n within may =
+    let act = SendData id octets end in
+    let most = most_is_limit log.received in
+    let writes = call_writes log act (Count n) (ap Count (data_accepted log id octets end n may).1)
+    (λ other code wrong. cc) in
+    let waits = waits_by log (with_items log act (Count n)) (items_of (log_view log) act (Count n))
+    within (items_given log act (Count n)) writes in
+    let size = body_size (max_payload_sent log) id octets end n (omega (arith, most))
+    (data_within log id octets end n may) in
+    omega (arith, waits, size)
+
+-- After fields no less waits.
+pub fields_wait : (log : Log) (id : ℕ) (fields : List Field) (end : Bool)
+    → log.given ≤ length log.written
+    → waiting log ≤ waiting (with_call log (SendFields id fields end) Done)
+unfolding with_call
+fields_wait log id fields end within =
+    let act = SendFields id fields end in
+    let writes = call_writes log act Done refl (λ other code wrong. cc) in
+    let waits = waits_by log (with_items log act Done) (items_of (log_view log) act Done)
+    within (items_given log act Done) writes in
+    omega (arith, waits)
+
+-- After a refused call as much waits, and the connection is as up as before.
+pub refused_waits : (log : Log) (act : Act) (refusal : Refusal)
+    → waiting (with_call log act (Refused refusal)) ≡ waiting log
+unfolding with_call waiting output
+refused_waits log act refusal = refl
+
+pub refused_failed : (log : Log) (act : Act) (refusal : Refusal)
+    → (with_call log act (Refused refusal)).failed ≡ log.failed
+unfolding with_call
+refused_failed log act refusal = refl
+
+-- Nothing that these calls write makes it fail.
+due_failed_by : (log : Log) (more : ℕ) (b : Bool)
+    → (if b then with_credit_returned (record log { unreturned = log.unreturned + more })
+    else record log { unreturned = log.unreturned + more }).failed ≡ log.failed
+unfolding with_sent
+due_failed_by log more true = refl
+due_failed_by log more false = refl
+
+due_failed : (log : Log) (more : ℕ) → (with_unreturned more log).failed ≡ log.failed
+unfolding with_unreturned
+due_failed log more = due_failed_by log more (returns_credit more (waiting log))
+
+sent_failed : (log : Log) (items : List Item) → (with_sent log items).failed ≡ log.failed
+unfolding with_sent
+sent_failed log [] = refl
+sent_failed log (item ∷ items) = refl
+
+items_failed : (log : Log) (act : Act) (answer : Answer)
+    → (with_items log act answer).failed ≡ log.failed
+unfolding with_items
+items_failed log act answer =
+    due_failed _ _ ∙ sent_failed (called log act answer) (items_of (log_view log) act answer)
+
+pub data_failed : (log : Log) (id : ℕ) (octets : List ℕ) (end : Bool) (n : ℕ)
+    → (with_call log (SendData id octets end) (Count n)).failed ≡ log.failed
+unfolding with_call
+data_failed log id octets end n = items_failed log (SendData id octets end) (Count n)
+
+pub fields_failed : (log : Log) (id : ℕ) (fields : List Field) (end : Bool)
+    → (with_call log (SendFields id fields end) Done).failed ≡ log.failed
+unfolding with_call
+fields_failed log id fields end = items_failed log (SendFields id fields end) Done
+
+pub release_failed : (log : Log) (id count : ℕ)
+    → (with_call log (Release id count) Done).failed ≡ log.failed
+unfolding with_call
+release_failed log id count = items_failed log (Release id count) Done

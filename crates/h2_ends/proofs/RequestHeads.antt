@@ -1,0 +1,241 @@
+-- What an end represents once it has sent the head of a message and keeps the rest of it.
+use Rattle.std.proofs.Common.{◌≡◌, ◌≢◌, ◌⊎◌, ℕ, false, [], ◌∷◌, Option, Some, None}
+use Rattle.std.proofs.Common.{refl, sym, ◌∙◌, inl, inr}
+use Rattle.std.proofs.lemmas.Bool.{both_ways, eq-eqb, ne_eqb}
+use Rattle.h2_log.specs.declared.role.Role.TheVariants.{Client, Server}
+use Rattle.h2_log.specs.Acts.{Values, Act, Answer, Open, SendFields, Number, Done}
+use Rattle.std.specs.Prelude.{Ok, Err}
+use Rattle.h2_log.specs.declared.refusal.Refusal.{Refusal}
+use Rattle.h2_message.specs.declared.malformed.Malformed.{Malformed}
+use Rattle.h2_message.specs.Messages.{broken_by_request}
+use Rattle.h2_ends.specs.declared.refusal.EndRefusal.TheVariants as refusals
+use Rattle.h2_ends.specs.EndCalls.{MayRequest, RefusesMessage, IsUnchanged}
+use Rattle.h2_log.specs.CallRules.{is_too_large}
+use Rattle.h2_log.specs.LogCalls.{MayAnswer, with_call}
+use Rattle.h2_conn.specs.Conn.{ConnRepresents}
+use Rattle.h2_log_laws.proofs.LogGrowth.{grows_call}
+use Rattle.h2_end_laws.specs.Over.{IsOver, used}
+use Rattle.h2_end_laws.proofs.OverCalls.{used_by_call}
+use Rattle.h2_end_laws.proofs.OverNumbers.{opened_is_new}
+use Rattle.h2_message.specs.declared.message.Message.{Message}
+use Rattle.h2_message.specs.declared.reading.Reads.TheVariants.{Requests, Responses}
+use Rattle.h2_message.specs.Messages.{SentMessage, asks_head, trailer_fields}
+use Rattle.h2_message.specs.Values.{message_value}
+use Rattle.h2_pair.specs.Tokens.{tokens_of_call}
+use Rattle.h2_ends.specs.declared.end.End.{End}
+use Rattle.h2_ends.specs.declared.outgoing.Outgoing.{Outgoing}
+use Rattle.h2_ends.specs.declared.outgoing.Outgoing.TheVariants as outgoings
+use Rattle.h2_ends.specs.declared.outgoing.Stream.{Stream}
+use Rattle.h2_ends.specs.Ends.{EndLog, message_for, reads_on, tokens_out, asked_head}
+use Rattle.h2_ends.specs.EndCalls.{is_head_alone, end_with_message, IsAsked, MayRespond}
+use Rattle.h2_ends.specs.Represents.{EndRepresents, IsKept, IsStream, IsOutgoing, IsUntouched}
+use Rattle.h2_ends.specs.Represents.{kept_at}
+use Rattle.h2_ends.specs.Heads.{IsGiven, IsOpened, IsAnswered, given_stream}
+use Rattle.h2_ends.proofs.EndSteps.{called_end, stepped, KeepsBut}
+use Rattle.h2_ends.proofs.RequestSent.{head_tokens, begun_by_head, outgoing_after_head}
+use Rattle.h2_ends.proofs.RequestSent.{sent_first, accepted_here, accepted_elsewhere}
+
+-- Nothing was given or handed out on a number that wasn't used.
+untouched_by : (end : EndLog) (id : ℕ) (kept : Option Stream) → used end.log id ≡ false
+    → IsOver end.log id ⊎ IsKept end id kept → IsUntouched end id × (kept ≡ None)
+unfolding IsKept
+untouched_by end id kept new (inl past) = absurd (both_ways _ new past.was_used)
+untouched_by end id None new (inr kept) = (kept, refl)
+untouched_by end id (Some stream) new (inr kept) = absurd (both_ways _ new kept.was_used)
+
+pub untouched : (values : Values) (old : End) (end : EndLog) (id : ℕ)
+    → EndRepresents values old end → used end.log id ≡ false
+    → IsUntouched end id × (kept_at id old.streams.entries ≡ None)
+untouched values old end id is new =
+    untouched_by end id (kept_at id old.streams.entries) new (is.streams id)
+
+-- A client reads the response to its request, and a server requests.
+client_reads : (end : EndLog) (i : ℕ) (message : SentMessage) → end.log.role ≡ Client
+    → message_for i end.accepted ≡ Some message
+    → reads_on end i ≡ Responses (asks_head message.head)
+unfolding reads_on asked_head
+client_reads end i message client accepted = rw (client, accepted) refl
+
+pub server_reads : (end : EndLog) (i : ℕ) → end.log.role ≡ Server → reads_on end i ≡ Requests
+unfolding reads_on
+server_reads end i server = rw server refl
+
+-- A call that sends a block on one stream sends no token on another.
+open_elsewhere : (i id : ℕ) (message : SentMessage) → i ≢ id
+    → tokens_of_call i (Open message.head (is_head_alone message)) (Number id) ≡ []
+unfolding tokens_of_call
+open_elsewhere i id message other = rw (ne_eqb id i (λ same. other (sym same))) refl
+
+open_here : (id : ℕ) (message : SentMessage)
+    → tokens_of_call id (Open message.head (is_head_alone message)) (Number id)
+    ≡ head_tokens message
+unfolding tokens_of_call
+open_here id message = rw (eq-eqb id id refl) refl
+
+fields_elsewhere : (i id : ℕ) (message : SentMessage) → i ≢ id
+    → tokens_of_call i (SendFields id message.head (is_head_alone message)) Done ≡ []
+unfolding tokens_of_call
+fields_elsewhere i id message other = rw (ne_eqb id i (λ same. other (sym same))) refl
+
+fields_here : (id : ℕ) (message : SentMessage)
+    → tokens_of_call id (SendFields id message.head (is_head_alone message)) Done
+    ≡ head_tokens message
+unfolding tokens_of_call
+fields_here id message = rw (eq-eqb id id refl) refl
+
+-- Two values that are one.
+some_same : {A : Type 0} (a b : A) → Some a ≡ Some b → a ≡ b
+some_same a b same = cc
+
+-- An end that has sent the head of a message, and keeps what is read and the rest of the message.
+sent_head : (values : Values) (old given : End) (end : EndLog) (act : Act) (answer : Answer)
+    (id : ℕ) (message : SentMessage) (stream : Stream)
+    → EndRepresents values old end → MayAnswer end.log act answer
+    → tokens_out end id ≡ [] → ((i : ℕ) → i ≢ id → tokens_of_call i act answer ≡ [])
+    → tokens_of_call id act answer ≡ head_tokens message
+    → ConnRepresents values given.conn (with_call end.log act answer)
+    → given.role ≡ old.role → KeepsBut old given id (Some stream)
+    → IsStream (end_with_message end act answer id message) id stream
+    → EndRepresents values given (end_with_message end act answer id message)
+unfolding IsKept
+sent_head values old given end act answer id message stream is may none others tokens conn role
+    keeps one =
+    let after = called_end end act answer ((id, message) ∷ end.accepted) in
+    let sent : tokens_out after id ≡ head_tokens message =
+    sent_first end act answer ((id, message) ∷ end.accepted) id (head_tokens message) none tokens in
+    stepped values old given end act answer id (Some stream) ((id, message) ∷ end.accepted) is may
+    conn role keeps others
+    (λ i other. accepted_elsewhere i id message end.accepted other)
+    (inr one)
+    (λ any accepted.
+    let same : message ≡ any = some_same message any
+    (sym (accepted_here id message end.accepted) ∙ accepted) in
+    rw (← same) (begun_by_head after id message sent))
+
+-- What is kept of a stream to which the message is given.
+kept_given : (opened given : End) (id : ℕ) (message : Message) (stream : Stream)
+    → IsGiven opened given id message → kept_at id opened.streams.entries ≡ Some stream
+    → kept_at id given.streams.entries ≡ Some (given_stream message stream)
+kept_given opened given id message stream gives is =
+    gives.keeps.one ∙ rw is refl
+
+-- An end that has opened a stream with the head of a request, and keeps the rest of it.
+pub request_given : (values : Values) (old opened given : End) (end : EndLog) (id : ℕ)
+    (message : Message) → EndRepresents values old end
+    → IsOpened values end (message_value message) old id opened
+    → IsGiven opened given id message
+    → EndRepresents values given (end_with_message end (Open message.head.items
+    (is_head_alone (message_value message))) (Number id) id (message_value message))
+request_given values old opened given end id message is opens gives =
+    let value = message_value message in
+    let act = Open value.head (is_head_alone value) in
+    let after = end_with_message end act (Number id) id value in
+    let new = opened_is_new _ values end.log value.head (is_head_alone value) id
+    is.conn.machine.came opens.answers in
+    let client : after.log.role ≡ Client =
+    (grows_call end.log act (Number id)).role ∙ new.0 in
+    let before = (untouched values old end id is new.2).0 in
+    let accepted = accepted_here id value end.accepted in
+    let sent : tokens_out after id ≡ head_tokens value =
+    sent_first end act (Number id) after.accepted id (head_tokens value) before.unsent
+    (open_here id value) in
+    sent_head values old given end act (Number id) id value
+    (given_stream message (record { reading = opens.reading; outgoing = outgoings.NotGiven })) is
+    opens.answers before.unsent (λ i other. open_elsewhere i id value other) (open_here id value)
+    (rw gives.conn opens.conn) (gives.role ∙ opens.role)
+    (record {
+      one = kept_given opened given id message _ gives opens.keeps.one;
+      others = λ i other. gives.keeps.others i other ∙ opens.keeps.others i other;
+    })
+    (record {
+      was_used = new.3;
+      reading = rw (client_reads after id value client accepted, before.unread) opens.follows;
+      outgoing = outgoing_after_head after id message accepted sent opens.fits;
+      asked = λ server. let wrong = sym client ∙ server in cc;
+    })
+
+-- What is kept of a stream that is active and on which something was handed out.
+kept_asked : (end : EndLog) (id : ℕ) (kept : Option Stream) → IsAsked end id
+    → IsOver end.log id ⊎ IsKept end id kept
+    → (stream : Stream) × (kept ≡ Some stream) × IsStream end id stream
+unfolding IsKept
+kept_asked end id kept asked (inl past) = absurd (both_ways _ past.not_active asked.active)
+kept_asked end id None asked (inr kept) = absurd (asked.handed kept.unread)
+kept_asked end id (Some stream) asked (inr kept) = (stream, refl, kept)
+
+-- Nothing was sent on a stream for which no message was accepted.
+unsent_by : (end : EndLog) (id : ℕ) (outgoing : Outgoing) → message_for id end.accepted ≡ None
+    → IsOutgoing end id outgoing → tokens_out end id ≡ []
+unfolding IsOutgoing
+unsent_by end id outgoings.NotGiven none is = is.1
+unsent_by end id (outgoings.Waiting waiting) none is = let wrong = is.accepted in cc
+unsent_by end id outgoings.Sent none is = let wrong = is.1 in cc
+
+-- What sending the head of a response has needed.
+answered_parts : (end : EndLog) (id : ℕ) (message : SentMessage) (after : EndLog)
+    → MayRespond end id message (Ok tt) after
+    → IsAsked end id × (message_for id end.accepted ≡ None)
+    × (is_too_large (trailer_fields message.trailers) ≡ false)
+    × MayAnswer end.log (SendFields id message.head (is_head_alone message)) Done
+unfolding MayRespond
+answered_parts end id message after may = (may.0, may.1, may.3, may.4)
+
+-- An end that has answered a request with the head of a response, and keeps the rest of it.
+pub respond_given : (values : Values) (old answered given : End) (end : EndLog) (id : ℕ)
+    (message : Message) → EndRepresents values old end
+    → IsAnswered values end id (message_value message) old answered
+    → IsGiven answered given id message
+    → EndRepresents values given (end_with_message end (SendFields id message.head.items
+    (is_head_alone (message_value message))) Done id (message_value message))
+respond_given values old answered given end id message is answers gives =
+    let value = message_value message in
+    let act = SendFields id value.head (is_head_alone value) in
+    let after = end_with_message end act Done id value in
+    let parts = answered_parts end id value after answers.may in
+    let asked = parts.0 in
+    let server : after.log.role ≡ Server =
+    (grows_call end.log act Done).role ∙ asked.server in
+    let kept = kept_asked end id (kept_at id old.streams.entries) asked (is.streams id) in
+    let stream = kept.0 in
+    let none = unsent_by end id stream.outgoing parts.1 kept.2.outgoing in
+    let accepted = accepted_here id value end.accepted in
+    let sent : tokens_out after id ≡ head_tokens value =
+    sent_first end act Done after.accepted id (head_tokens value) none (fields_here id value) in
+    sent_head values old given end act Done id value (given_stream message stream) is parts.3
+    none (λ i other. fields_elsewhere i id value other) (fields_here id value)
+    (rw gives.conn answers.conn) (gives.role ∙ answers.role)
+    (record {
+      one = kept_given answered given id message stream gives (rw answers.streams kept.1);
+      others = λ i other. gives.keeps.others i other ∙ rw answers.streams refl;
+    })
+    (record {
+      was_used = used_by_call end.log act Done id kept.2.was_used;
+      reading = rw (server_reads after id server, ← server_reads end id asked.server)
+          kept.2.reading;
+      outgoing = outgoing_after_head after id message accepted sent parts.2;
+      asked = λ same. asked.handed;
+    })
+
+-- What `request` may answer then.
+pub may_request : (values : Values) (end : EndLog) (message : SentMessage) (old opened : End)
+    (id : ℕ) → broken_by_request message ≡ None → IsOpened values end message old id opened
+    → MayRequest end message (Ok id) (end_with_message end
+    (Open message.head (is_head_alone message)) (Number id) id message)
+unfolding MayRequest
+may_request values end message old opened id unbroken opens =
+    (unbroken, opens.fits, opens.answers, refl)
+
+-- What it may answer to a message that breaks a rule, and to one that is refused.
+pub breaks_request : (end : EndLog) (message : SentMessage) (rule : Malformed)
+    → broken_by_request message ≡ Some rule
+    → MayRequest end message (Err (refusals.BadMessage rule)) end
+unfolding MayRequest
+breaks_request end message rule broken = (broken, refl)
+
+pub refuses_request : (end after : EndLog) (message : SentMessage) (refusal : Refusal)
+    → broken_by_request message ≡ None
+    → RefusesMessage end.log (Open message.head (is_head_alone message)) message refusal
+    → IsUnchanged end after → MayRequest end message (Err (refusals.Conn refusal)) after
+unfolding MayRequest
+refuses_request end after message refusal unbroken refuses unchanged =
+    (unbroken, refuses, unchanged)

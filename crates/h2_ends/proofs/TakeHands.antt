@@ -1,0 +1,266 @@
+-- What an end hands out of what its connection has reported.
+use Rattle.std.proofs.Common.{◌≡◌, ℕ, Bool, true, false, List, Some, None, Ok, Err}
+use Rattle.std.proofs.Common.{Result, IfOk, inl, inr, refl, sym, ap, ◌∙◌, ◌⊎◌}
+use Rattle.hpack.specs.declared.types.field.Field.{Field}
+use Rattle.h2_frame.specs.Frames.{Frame, Encodes}
+use Rattle.h2_frame.proofs.FrameLemmas.{one_frame_lem}
+use Rattle.h2_conn.specs.Loans.{octets_in}
+use Rattle.h2_frame.specs.declared.code.Code.TheVariants.{InternalError}
+use Rattle.h2_log.specs.Acts.{Values, Answer, Refuse}
+use Rattle.h2_log.specs.Events.{Event, FieldsEvent, DataEvent, ResetEvent}
+use Rattle.h2_log.specs.Log.{Log}
+use Rattle.h2_log.specs.LogCalls.{MayAnswer, with_call}
+use Rattle.h2_end_laws.specs.Over.{IsOver}
+use Rattle.h2_end_laws.specs.Takes.{MayTake, Took}
+use Rattle.h2_end_laws.proofs.OverEvents.{fields_in_use, data_in_use}
+use Rattle.h2_end_laws.proofs.TakeAnswers.{log_after_take}
+use Rattle.h2_conn.specs.declared.event.ConnFault.{ConnFault}
+use Rattle.h2_message.specs.declared.reading.Place.{Place}
+use Rattle.h2_message.specs.Reading.{Part, FieldsPart, OctetsPart}
+use Rattle.h2_ends.specs.declared.end.End.{End}
+use Rattle.h2_ends.specs.declared.taking.HandedOut.{HandedOut}
+use Rattle.h2_ends.specs.declared.taking.Unread.{Unread}
+use Rattle.h2_ends.specs.declared.taking.Unread.TheVariants as unreads
+use Rattle.h2_ends.specs.Ends.{EndLog, Handed, BodyHanded, Passed, EndAnswer, EndTook, EndFailed}
+use Rattle.h2_ends.specs.Ends.{reads_on, parts_on, handed_as, handed_at, part_of_event}
+use Rattle.h2_ends.specs.EndTakes.{EndMayTake, GoesOn, AnswersRefused, end_with_log}
+use Rattle.h2_ends.specs.EndTakes.{end_with_handed, passes, hands_out, refuses}
+use Rattle.h2_ends.specs.EndTakes.{runs_out_of_memory}
+use Rattle.h2_ends.specs.Loans.{BodyLiesIn}
+use Rattle.h2_ends.specs.Represents.{EndRepresents}
+use Rattle.h2_ends.specs.Taking.{IsReadOn, IsRead, ReadsFields, ReadsData, HasReported}
+use Rattle.h2_ends.specs.Taking.{AnswersRefusal, IsResetBy, answer_of_report, code_unread}
+use Rattle.h2_ends.proofs.EndTokens.{take_role}
+use Rattle.h2_ends.proofs.EndSteps.{passed_on}
+use Rattle.h2_ends.proofs.TakeRefusing.{memory_fails}
+
+-- The end may answer so, and represents what has happened then.
+abbrev pub Hands : Values → EndLog → List ℕ → EndAnswer → End → Type 0
+Hands values end piece answer new =
+    (after : EndLog) × EndMayTake end piece answer after × EndRepresents values new after
+
+-- What is kept of the stream of a part is so still, and its number is used.
+kept_still : (P Q : Type 0) → (P → ⊥) → P ⊎ Q → Q
+kept_still P Q up (inl past) = absurd (up past)
+kept_still P Q up (inr kept) = kept
+
+pub fields_on : (values : Values) (now : End) (end : EndLog) (piece : List ℕ) (count id : ℕ)
+    (list : List Field) (last : Bool) (log : Log)
+    → HasReported values now end piece count (FieldsEvent id list last) log
+    → IsReadOn values now (end_with_log end log) id
+fields_on values now end piece count id list last log reported =
+    let of = fields_in_use end.log log piece count id list last reported.took in
+    record {
+      represents = reported.represents;
+      kept = kept_still (IsOver end.log id) _ of.0 (reported.streams id);
+      was_used = of.1;
+    }
+
+pub data_on : (values : Values) (now : End) (end : EndLog) (piece : List ℕ) (count id : ℕ)
+    (octets : List ℕ) (flow : ℕ) (last : Bool) (log : Log)
+    → HasReported values now end piece count (DataEvent id octets flow last) log
+    → IsReadOn values now (end_with_log end log) id
+data_on values now end piece count id octets flow last log reported =
+    let of = data_in_use end.log log piece count id octets flow last reported.took in
+    record {
+      represents = reported.represents;
+      kept = kept_still (IsOver end.log id) _ of.0 (reported.streams id);
+      was_used = of.1;
+    }
+
+-- The same is read on a stream after octets were taken.
+reads_still : (end : EndLog) (log : Log) (id : ℕ) → log.role ≡ end.log.role
+    → reads_on (end_with_log end log) id ≡ reads_on end id
+unfolding reads_on
+reads_still end log id same = rw same refl
+
+reads_after : (values : Values) (now : End) (end : EndLog) (piece : List ℕ) (count : ℕ)
+    (event : Event) (log : Log) (id : ℕ) → HasReported values now end piece count event log
+    → reads_on (end_with_log end log) id ≡ reads_on end id
+reads_after values now end piece count event log id reported =
+    reads_still end log id (take_role end.log log piece (Took count (Some event)) reported.took)
+
+-- So the same goes on, and is handed out.
+goes_before : (end : EndLog) (log : Log) (id : ℕ) (part : Part × Bool)
+    → reads_on (end_with_log end log) id ≡ reads_on end id
+    → GoesOn (end_with_log end log) id part → GoesOn end id part
+goes_before end log id part same goes = rw same at goes
+
+goes_after : (end : EndLog) (log : Log) (id : ℕ) (part : Part × Bool)
+    → reads_on (end_with_log end log) id ≡ reads_on end id
+    → GoesOn end id part → GoesOn (end_with_log end log) id part
+goes_after end log id part same goes = rw same goes
+
+-- A part that was read is handed out.
+pub part_handed : (values : Values) (now new : End) (end : EndLog) (piece : List ℕ) (count : ℕ)
+    (event : Event) (log : Log) (id : ℕ) (part : Part × Bool) (handed : Handed)
+    → HasReported values now end piece count event log → part_of_event event ≡ Some (id, part)
+    → IsRead values (end_with_log end log) id part new
+    → handed
+    ≡ handed_as (reads_on (end_with_log end log) id) (parts_on id end.handed) id part
+    → Hands values end piece (EndTook count (Some handed)) new
+part_handed values now new end piece count event log id part handed reported of read is =
+    let same = reads_after values now end piece count event log id reported in
+    let given = handed_as (reads_on end id) (parts_on id end.handed) id part in (
+      end_with_handed end log given,
+      hands_out count event log reported.took id part of
+          (goes_before end log id part same read.0)
+          (ap (λ (one : Handed). EndTook count (Some one)) (rw same at is)) refl,
+      rw same at read.1,
+    )
+
+-- After octets were taken the connection hasn't failed.
+up_after : (log after : Log) (piece : List ℕ) (count : ℕ) (event : Event)
+    → MayTake log piece (Took count (Some event)) after → after.failed ≡ None
+up_after log after piece count event may =
+    (log_after_take log after piece (Took count (Some event)) may).6
+
+-- One of a part that can't be read is refused.
+pub part_refused : (values : Values) (now new : End) (end : EndLog) (piece : List ℕ) (count : ℕ)
+    (event : Event) (log : Log) (id : ℕ) (part : Part × Bool) (list : List Field)
+    (octets : List ℕ) (one : Answer) (result : Result HandedOut ConnFault)
+    → HasReported values now end piece count event log → part_of_event event ≡ Some (id, part)
+    → (GoesOn (end_with_log end log) id part → ⊥) → MayAnswer log (Refuse id 1) one
+    → AnswersRefusal values
+    (end_with_log (end_with_log end log) (with_call log (Refuse id 1) one)) result new
+    → IsResetBy id 1 result
+    → Hands values end piece (answer_of_report list octets count result) new
+unfolding AnswersRefusal AnswersRefused
+part_refused values now new end piece count event log id part list octets one (Ok handed) reported
+    of stops may answers is =
+    let same = reads_after values now end piece count event log id reported in
+    let after = with_call log (Refuse id 1) one in (
+      end_with_handed end after (Passed (ResetEvent id 1 true)),
+      refuses count event log reported.took id part of
+          (λ goes. stops (goes_after end log id part same goes)) one may
+          (rw (answers.0, is) (refl, refl)),
+      passed_on values new (end_with_log end after) (ResetEvent id 1 true) answers.1,
+    )
+part_refused values now new end piece count event log id part list octets one (Err fault) reported
+    of stops may answers is =
+    let same = reads_after values now end piece count event log id reported in
+    let after = with_call log (Refuse id 1) one in (
+      end_with_log end after,
+      refuses count event log reported.took id part of
+          (λ goes. stops (goes_after end log id part same goes)) one may
+          (rw answers.0 (refl, refl)),
+      answers.1,
+    )
+
+-- Where memory was refused to it, the connection has failed.
+pub part_lacks : (values : Values) (now new : End) (end : EndLog) (piece : List ℕ) (count : ℕ)
+    (event : Event) (log : Log) (id : ℕ) (part : Part × Bool) (list : List Field)
+    (octets : List ℕ) (one : Answer) (result : Result HandedOut ConnFault)
+    → HasReported values now end piece count event log → part_of_event event ≡ Some (id, part)
+    → GoesOn (end_with_log end log) id part → MayAnswer log (Refuse id 2) one
+    → AnswersRefusal values
+    (end_with_log (end_with_log end log) (with_call log (Refuse id 2) one)) result new
+    → Hands values end piece (answer_of_report list octets count result) new
+unfolding AnswersRefusal
+part_lacks values now new end piece count event log id part list octets one (Ok handed) reported
+    of goes may answers =
+    let down = memory_fails log id one
+    (up_after end.log log piece count event reported.took) may in absurd (cc)
+part_lacks values now new end piece count event log id part list octets one (Err fault) reported
+    of goes may answers =
+    let same = reads_after values now end piece count event log id reported in
+    let down = memory_fails log id one
+    (up_after end.log log piece count event reported.took) may in
+    let code : fault.code ≡ InternalError = cc in (
+      end_with_log end (with_call log (Refuse id 2) one),
+      runs_out_of_memory count event log reported.took id part of
+          (goes_before end log id part same goes) one may (ap EndFailed code) refl,
+      answers.1,
+    )
+
+-- What is no part of a message is passed on.
+pub event_passed : (values : Values) (now new : End) (end : EndLog) (piece : List ℕ) (count : ℕ)
+    (event : Event) (log : Log) → HasReported values now end piece count event log
+    → part_of_event event ≡ None → EndRepresents values new (end_with_log end log)
+    → Hands values end piece (EndTook count (Some (Passed event))) new
+event_passed values now new end piece count event log reported none is = (
+  end_with_handed end log (Passed event),
+  passes count event log reported.took none refl refl,
+  passed_on values new (end_with_log end log) event is,
+)
+
+-- A field block that was read.
+pub fields_handed : (values : Values) (now new : End) (end : EndLog) (piece : List ℕ)
+    (count id : ℕ) (list : List Field) (last : Bool) (place : Place) (log : Log)
+    → HasReported values now end piece count (FieldsEvent id list last) log
+    → ReadsFields values (end_with_log end log) id list last (Ok place) new
+    → (fields : List Field) → fields ≡ list
+    → Hands values end piece (EndTook count (Some (handed_at place id fields last))) new
+unfolding ReadsFields handed_as part_of_event
+fields_handed values now new end piece count id list last place log reported read fields same =
+    part_handed values now new end piece count (FieldsEvent id list last) log id
+    (FieldsPart list, last) (handed_at place id fields last) reported refl read.0
+    (rw same (ap (λ (at : Place). handed_at at id list last) read.1))
+
+-- One that wasn't is refused.
+pub fields_not_handed : (values : Values) (now mid new : End) (end : EndLog) (piece : List ℕ)
+    (count id : ℕ) (list : List Field) (last : Bool) (unread : Unread) (log : Log)
+    (fields : List Field) (octets : List ℕ) (result : Result HandedOut ConnFault)
+    → HasReported values now end piece count (FieldsEvent id list last) log
+    → ReadsFields values (end_with_log end log) id list last (Err unread) mid
+    → (EndRepresents values mid (end_with_log end log)
+    → (one : Answer) × MayAnswer log (Refuse id (code_unread unread)) one
+    × AnswersRefusal values
+    (end_with_log (end_with_log end log) (with_call log (Refuse id (code_unread unread)) one))
+    result new)
+    → IsResetBy id (code_unread unread) result
+    → Hands values end piece (answer_of_report fields octets count result) new
+unfolding ReadsFields part_of_event
+fields_not_handed values now mid new end piece count id list last unreads.Malformed log fields
+    octets result reported read refuses_it is =
+    let made = refuses_it read.1 in
+    part_refused values now new end piece count (FieldsEvent id list last) log id
+    (FieldsPart list, last) fields octets made.0 result reported refl read.0 made.1 made.2 is
+fields_not_handed values now mid new end piece count id list last unreads.OutOfMemory log fields
+    octets result reported read refuses_it is =
+    let made = refuses_it read.1 in
+    part_lacks values now new end piece count (FieldsEvent id list last) log id
+    (FieldsPart list, last) fields octets made.0 result reported refl read.0 made.1 made.2
+
+-- Octets of a body that were read.
+pub data_handed : (values : Values) (now new : End) (end : EndLog) (piece : List ℕ)
+    (count id : ℕ) (octets : List ℕ) (flow : ℕ) (last : Bool) (log : Log)
+    → HasReported values now end piece count (DataEvent id octets flow last) log
+    → ReadsData values (end_with_log end log) id octets last true new
+    → Hands values end piece (EndTook count (Some (BodyHanded id octets last))) new
+unfolding ReadsData handed_as part_of_event
+data_handed values now new end piece count id octets flow last log reported read =
+    part_handed values now new end piece count (DataEvent id octets flow last) log id
+    (OctetsPart octets, last) (BodyHanded id octets last) reported refl read refl
+
+-- Those that weren't are refused.
+pub data_not_handed : (values : Values) (now mid new : End) (end : EndLog) (piece : List ℕ)
+    (count id : ℕ) (body : List ℕ) (flow : ℕ) (last : Bool) (log : Log)
+    (fields : List Field) (octets : List ℕ) (result : Result HandedOut ConnFault)
+    → HasReported values now end piece count (DataEvent id body flow last) log
+    → ReadsData values (end_with_log end log) id body last false mid
+    → (EndRepresents values mid (end_with_log end log)
+    → (one : Answer) × MayAnswer log (Refuse id 1) one
+    × AnswersRefusal values
+    (end_with_log (end_with_log end log) (with_call log (Refuse id 1) one)) result new)
+    → IsResetBy id 1 result
+    → Hands values end piece (answer_of_report fields octets count result) new
+unfolding ReadsData part_of_event
+data_not_handed values now mid new end piece count id body flow last log fields octets result
+    reported read refuses_it is =
+    let made = refuses_it read.1 in
+    part_refused values now new end piece count (DataEvent id body flow last) log id
+    (OctetsPart body, last) fields octets made.0 result reported refl read.0 made.1 made.2 is
+
+-- Where a stream was reset nothing is lent.
+pub reset_lies : (end : End) (piece : List ℕ) (id code : ℕ) (result : Result HandedOut ConnFault)
+    → IsResetBy id code result → IfOk result (λ handed. BodyLiesIn end piece (Some handed))
+unfolding BodyLiesIn
+reset_lies end piece id code (Ok handed) is = rw is tt
+reset_lies end piece id code (Err fault) is = tt
+
+-- The octets of a body are those of its frame, which is one.
+pub same_body : (bytes octets lent : List ℕ) (value other : Frame) → Encodes value bytes
+    → Encodes other bytes → octets ≡ octets_in value → lent ≡ octets_in other → octets ≡ lent
+same_body bytes octets lent value other encodes again is lent_is =
+    is ∙ ap octets_in (one_frame_lem value other bytes encodes again) ∙ sym lent_is

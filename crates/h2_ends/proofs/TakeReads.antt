@@ -1,0 +1,264 @@
+-- A part of a message that an end reads.
+use Rattle.std.proofs.Common.{◌≡◌, ℕ, Bool, true, false, if◌then◌else◌, List, [], ◌∷◌, ◌++◌}
+use Rattle.std.proofs.Common.{map as each, Option, Some, None, Ok, Err, refl, sym, ap, subst, ◌∙◌}
+use Rattle.std.proofs.Common.{inl, inr}
+use Rattle.std.proofs.lemmas.Bool.{cases_eq}
+use Rattle.hpack.specs.declared.types.field.Field.{Field}
+use Rattle.h2_log.specs.declared.role.Role.{Role}
+use Rattle.h2_log.specs.declared.role.Role.TheVariants.{Client, Server}
+use Rattle.h2_log.specs.Acts.{Values}
+use Rattle.h2_log.specs.Settings.{is_server}
+use Rattle.h2_message.specs.declared.reading.Place.{Place}
+use Rattle.h2_message.specs.declared.reading.Reads.{Reads}
+use Rattle.h2_message.specs.declared.reading.Reads.TheVariants.{Requests, Responses}
+use Rattle.h2_message.specs.declared.reading.Reading.{Reading}
+use Rattle.h2_message.specs.Messages.{SentMessage}
+use Rattle.h2_message.specs.Reading.{Part, FieldsPart, OctetsPart, IsReadable, ended}
+use Rattle.h2_message.specs.Reading.{message_parts, final_parts, trailers_parts}
+use Rattle.h2_message.specs.Phases.{Follows, FollowsFields, FollowsData}
+use Rattle.h2_ends.specs.declared.end.End.{End}
+use Rattle.h2_ends.specs.declared.outgoing.Outgoing.TheVariants as outgoings
+use Rattle.h2_ends.specs.declared.outgoing.Stream.{Stream}
+use Rattle.h2_ends.specs.declared.taking.Unread.TheVariants as unreads
+use Rattle.h2_ends.specs.Ends.{EndLog, message_for, parts_on, reads_on, asked_head}
+use Rattle.h2_ends.specs.Represents.{EndRepresents, IsKept, IsStream, IsUntouched, reads_of_new}
+use Rattle.h2_ends.specs.Represents.{kept_at}
+use Rattle.h2_ends.specs.Taking.{IsReadOn, ReadsFields, ReadsData, IsRead}
+use Rattle.h2_ends.proofs.EndSteps.{KeepsBut, kept, handed_on, outgoing_of}
+
+-- A stream of which this is kept.
+stream_of : (values : Values) (end : End) (happened : EndLog) (id : ℕ) (stream : Stream)
+    → IsReadOn values end happened id → kept end id ≡ Some stream → IsStream happened id stream
+unfolding IsKept
+stream_of values end happened id stream is found = subst (IsKept happened id) found is.kept
+
+untouched : (values : Values) (end : End) (happened : EndLog) (id : ℕ)
+    → IsReadOn values end happened id → kept end id ≡ None → IsUntouched happened id
+unfolding IsKept
+untouched values end happened id is found = subst (IsKept happened id) found is.kept
+
+-- An end that keeps the same represents the same.
+represents_alike : (values : Values) (end new : End) (happened : EndLog)
+    → EndRepresents values end happened → new.conn ≡ end.conn → new.role ≡ end.role
+    → ((i : ℕ) → kept new i ≡ kept end i) → EndRepresents values new happened
+represents_alike values end new happened is conn role alike =
+    record {
+      conn = rw conn is.conn;
+      role = role ∙ is.role;
+      streams = λ i. rw (alike i) (is.streams i);
+      begun = is.begun;
+    }
+
+-- A part that was taken is read.
+part_read : (values : Values) (end new : End) (happened : EndLog) (id : ℕ) (part : Part × Bool)
+    (stream : Stream) → IsReadOn values end happened id
+    → Follows (reads_on happened id) (parts_on id happened.handed ++ part ∷ []) stream.reading
+    → stream.outgoing ≡ outgoing_of (kept end id) → KeepsBut end new id (Some stream)
+    → new.conn ≡ end.conn → new.role ≡ end.role → IsRead values happened id part new
+part_read values end new happened id part stream is follows outgoing keeps conn role = (
+  follows.readable,
+  handed_on values end new happened id part stream is.represents is.kept is.was_used follows
+      outgoing keeps conn role,
+)
+
+-- What is kept of the stream with another reading.
+abbrev pub with_reading : Stream → Reading → Stream
+with_reading stream reading = record stream { reading = reading }
+
+-- The same reading again.
+same_again : (end new : End) (id : ℕ) (stream : Stream) (reading : Reading)
+    → kept end id ≡ Some stream → reading ≡ stream.reading
+    → KeepsBut end new id (Some (with_reading stream reading)) → (i : ℕ)
+    → kept new i ≡ kept end i
+same_again end new id stream reading found same keeps i = elim (cases_eq i id) [
+  | inl here ↦ rw here
+      (keeps.one ∙ ap (λ (one : Reading). Some (with_reading stream one)) same ∙ sym found)
+  | inr other ↦ keeps.others i other
+]
+
+-- A field block is read, or not, by the reading that is kept.
+pub fields_taken : (values : Values) (end new : End) (happened : EndLog) (id : ℕ)
+    (list : List Field) (last : Bool) (place : Place) (stream : Stream) (reading : Reading)
+    → IsReadOn values end happened id → kept end id ≡ Some stream
+    → ((reads : Reads) (parts : List (Part × Bool)) → Follows reads parts stream.reading
+    → FollowsFields reads parts list last (Some place) stream.reading reading)
+    → KeepsBut end new id (Some (with_reading stream reading)) → new.conn ≡ end.conn
+    → new.role ≡ end.role → ReadsFields values happened id list last (Ok place) new
+unfolding ReadsFields FollowsFields
+fields_taken values end new happened id list last place stream reading is found follows keeps conn
+    role =
+    let now = stream_of values end happened id stream is found in
+    let more = follows (reads_on happened id) (parts_on id happened.handed) now.reading in (
+      part_read values end new happened id (FieldsPart list, last) (with_reading stream reading) is
+          more.0 (sym (ap outgoing_of found)) keeps conn role,
+      more.1,
+    )
+
+pub fields_refused : (values : Values) (end new : End) (happened : EndLog) (id : ℕ)
+    (list : List Field) (last : Bool) (stream : Stream) (reading : Reading)
+    → IsReadOn values end happened id → kept end id ≡ Some stream
+    → ((reads : Reads) (parts : List (Part × Bool)) → Follows reads parts stream.reading
+    → FollowsFields reads parts list last None stream.reading reading)
+    → KeepsBut end new id (Some (with_reading stream reading)) → new.conn ≡ end.conn
+    → new.role ≡ end.role
+    → ReadsFields values happened id list last (Err unreads.Malformed) new
+unfolding ReadsFields FollowsFields
+fields_refused values end new happened id list last stream reading is found follows keeps conn
+    role =
+    let now = stream_of values end happened id stream is found in
+    let more = follows (reads_on happened id) (parts_on id happened.handed) now.reading in (
+      more.0,
+      represents_alike values end new happened is.represents conn role
+          (same_again end new id stream reading found more.1 keeps),
+    )
+
+-- What is read on a stream on which nothing has happened.
+reads_by : (role : Role) (given : Option SentMessage) → given ≡ None
+    → (if is_server role then Requests else Responses (asked_head given)) ≡ reads_of_new role
+unfolding asked_head
+reads_by Client given none = rw none refl
+reads_by Server given none = refl
+
+reads_first : (values : Values) (end : End) (happened : EndLog) (id : ℕ)
+    → EndRepresents values end happened → IsUntouched happened id
+    → reads_of_new end.role ≡ reads_on happened id
+unfolding reads_on
+reads_first values end happened id is none =
+    rw is.role (sym (reads_by happened.log.role (message_for id happened.accepted) none.unsaid))
+
+-- A new reading follows what was read of it.
+follows_first : (values : Values) (end : End) (happened : EndLog) (id : ℕ) (reading : Reading)
+    → IsReadOn values end happened id → kept end id ≡ None
+    → Follows (reads_of_new end.role) [] reading
+    → Follows (reads_on happened id) (parts_on id happened.handed) reading
+follows_first values end happened id reading is found follows =
+    let none = untouched values end happened id is found in
+    rw (none.unread, ← reads_first values end happened id is.represents none) follows
+
+-- The first field block of a stream.
+abbrev pub first_stream : Reading → Stream
+first_stream reading = record { reading = reading; outgoing = outgoings.NotGiven }
+
+pub first_taken : (values : Values) (end new : End) (happened : EndLog) (id : ℕ)
+    (list : List Field) (last : Bool) (place : Place) (old reading : Reading)
+    → IsReadOn values end happened id → kept end id ≡ None
+    → Follows (reads_of_new end.role) [] old
+    → ((reads : Reads) (parts : List (Part × Bool)) → Follows reads parts old
+    → FollowsFields reads parts list last (Some place) old reading)
+    → KeepsBut end new id (Some (first_stream reading)) → new.conn ≡ end.conn
+    → new.role ≡ end.role → ReadsFields values happened id list last (Ok place) new
+unfolding ReadsFields FollowsFields
+first_taken values end new happened id list last place old reading is found start follows keeps
+    conn role =
+    let now = follows_first values end happened id old is found start in
+    let more = follows (reads_on happened id) (parts_on id happened.handed) now in (
+      part_read values end new happened id (FieldsPart list, last) (first_stream reading) is
+          more.0 (sym (ap outgoing_of found)) keeps conn role,
+      more.1,
+    )
+
+pub first_refused : (values : Values) (end : End) (happened : EndLog) (id : ℕ)
+    (list : List Field) (last : Bool) (old reading : Reading)
+    → IsReadOn values end happened id → kept end id ≡ None
+    → Follows (reads_of_new end.role) [] old
+    → ((reads : Reads) (parts : List (Part × Bool)) → Follows reads parts old
+    → FollowsFields reads parts list last None old reading)
+    → ReadsFields values happened id list last (Err unreads.Malformed) end
+unfolding ReadsFields FollowsFields
+first_refused values end happened id list last old reading is found start follows =
+    let now = follows_first values end happened id old is found start in
+    let more = follows (reads_on happened id) (parts_on id happened.handed) now in
+    (more.0, is.represents)
+
+-- Memory was refused to a field block that could be read.
+pub first_lacks : (values : Values) (end new : End) (happened : EndLog) (id : ℕ)
+    (list : List Field) (last : Bool) (place : Place) (old reading : Reading)
+    → IsReadOn values end happened id → kept end id ≡ None
+    → Follows (reads_of_new end.role) [] old
+    → ((reads : Reads) (parts : List (Part × Bool)) → Follows reads parts old
+    → FollowsFields reads parts list last (Some place) old reading)
+    → new.conn ≡ end.conn → new.role ≡ end.role → new.streams.entries ≡ end.streams.entries
+    → ReadsFields values happened id list last (Err unreads.OutOfMemory) new
+unfolding ReadsFields FollowsFields
+first_lacks values end new happened id list last place old reading is found start follows conn role
+    same =
+    let now = follows_first values end happened id old is found start in
+    let more = follows (reads_on happened id) (parts_on id happened.handed) now in (
+      more.0.readable,
+      represents_alike values end new happened is.represents conn role
+          (λ i. ap (kept_at i) same),
+    )
+
+-- Octets of a body.
+pub data_taken : (values : Values) (end new : End) (happened : EndLog) (id : ℕ)
+    (octets : List ℕ) (last : Bool) (stream : Stream) (reading : Reading)
+    → IsReadOn values end happened id → kept end id ≡ Some stream
+    → ((reads : Reads) (parts : List (Part × Bool)) → Follows reads parts stream.reading
+    → FollowsData reads parts octets last true stream.reading reading)
+    → KeepsBut end new id (Some (with_reading stream reading)) → new.conn ≡ end.conn
+    → new.role ≡ end.role → ReadsData values happened id octets last true new
+unfolding ReadsData FollowsData
+data_taken values end new happened id octets last stream reading is found follows keeps conn role =
+    let now = stream_of values end happened id stream is found in
+    let more = follows (reads_on happened id) (parts_on id happened.handed) now.reading in
+    part_read values end new happened id (OctetsPart octets, last) (with_reading stream reading) is
+    more (sym (ap outgoing_of found)) keeps conn role
+
+pub data_refused : (values : Values) (end new : End) (happened : EndLog) (id : ℕ)
+    (octets : List ℕ) (last : Bool) (stream : Stream) (reading : Reading)
+    → IsReadOn values end happened id → kept end id ≡ Some stream
+    → ((reads : Reads) (parts : List (Part × Bool)) → Follows reads parts stream.reading
+    → FollowsData reads parts octets last false stream.reading reading)
+    → KeepsBut end new id (Some (with_reading stream reading)) → new.conn ≡ end.conn
+    → new.role ≡ end.role → ReadsData values happened id octets last false new
+unfolding ReadsData FollowsData
+data_refused values end new happened id octets last stream reading is found follows keeps conn
+    role =
+    let now = stream_of values end happened id stream is found in
+    let more = follows (reads_on happened id) (parts_on id happened.handed) now.reading in (
+      more.0,
+      represents_alike values end new happened is.represents conn role
+          (same_again end new id stream reading found more.1 keeps),
+    )
+
+-- the first part
+abbrev first_part : List (Part × Bool) → Option Part
+first_part [] = None
+first_part (part ∷ parts) = Some part.0
+
+-- No message begins with octets of a body.
+not_octets : (first : Part × Bool) (rest : List (Part × Bool)) (head : List Field)
+    (octets : List ℕ) (last : Bool) (more : List (Part × Bool)) → first.0 ≡ FieldsPart head
+    → first ∷ rest ≡ (OctetsPart octets, last) ∷ more → ⊥
+not_octets first rest head octets last more fields is =
+    let one : Some first.0 ≡ Some (OctetsPart octets) = ap first_part is in absurd (cc)
+
+begins_with_fields : (interims : List (List Field)) (head : List Field) (rest : List Part)
+    (octets : List ℕ) (last : Bool) (more : List (Part × Bool))
+    → each (λ (fields : List Field). (FieldsPart fields, false)) interims
+    ++ ended (FieldsPart head ∷ rest) ≡ (OctetsPart octets, last) ∷ more → ⊥
+unfolding ended
+begins_with_fields [] head [] octets last more is =
+    not_octets (FieldsPart head, true) [] head octets last more refl is
+begins_with_fields [] head (next ∷ rest) octets last more is =
+    not_octets (FieldsPart head, false) (ended (next ∷ rest)) head octets last more refl is
+begins_with_fields (interim ∷ interims) head rest octets last more is =
+    not_octets (FieldsPart interim, false) _ interim octets last more refl is
+
+no_data_first : (reads : Reads) (octets : List ℕ) (last : Bool)
+    → IsReadable reads ((OctetsPart octets, last) ∷ []) → ⊥
+unfolding message_parts final_parts
+no_data_first reads octets last is =
+    begins_with_fields is.message.interims is.message.head
+    (each OctetsPart is.message.data_parts ++ trailers_parts is.message.trailers) octets last
+    is.more is.begins
+
+pub first_data : (values : Values) (end : End) (happened : EndLog) (id : ℕ)
+    (octets : List ℕ) (last : Bool) → IsReadOn values end happened id → kept end id ≡ None
+    → ReadsData values happened id octets last false end
+unfolding ReadsData
+first_data values end happened id octets last is found =
+    let none = untouched values end happened id is found in (
+      λ goes. no_data_first (reads_on happened id) octets last (rw none.unread at goes),
+      is.represents,
+    )

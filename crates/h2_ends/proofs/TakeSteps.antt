@@ -1,0 +1,69 @@
+-- What taking octets makes of an end, as its connection answers.
+use Rattle.std.proofs.Common.{◌≡◌, ℕ, List, Option, Some, None, ◌≤◌, refl, sym, subst}
+use Rattle.h2_frame.specs.declared.code.Code.{Code}
+use Rattle.h2_log.specs.Acts.{Values}
+use Rattle.h2_log.specs.Events.{Event}
+use Rattle.h2_log.specs.Log.{Log}
+use Rattle.h2_end_laws.specs.Takes.{TakeAnswer, MayTake, Took, Failed}
+use Rattle.h2_conn.specs.Conn.{ConnRepresents}
+use Rattle.h2_ends.specs.declared.end.End.{End}
+use Rattle.h2_ends.specs.Ends.{EndLog, Handed, EndAnswer, EndTook, EndFailed}
+use Rattle.h2_ends.specs.EndTakes.{end_with_log, fails, hands_nothing}
+use Rattle.h2_ends.specs.Represents.{EndRepresents}
+use Rattle.h2_ends.specs.Taking.{HasReported}
+use Rattle.h2_ends.proofs.EndSteps.{taken, taken_kept, kept}
+use Rattle.h2_ends.proofs.TakeHands.{Hands}
+
+-- The connection may answer so, and represents the log then.
+abbrev pub Tells : Values → EndLog → List ℕ → TakeAnswer → End → Type 0
+Tells values end piece answer new =
+    (after : Log) × MayTake end.log piece answer after × ConnRepresents values new.conn after
+
+-- It fails, or reports nothing.
+pub fails_so : (values : Values) (old new : End) (end : EndLog) (piece : List ℕ) (code : Code)
+    → EndRepresents values old end → Tells values end piece (Failed code) new
+    → new.role ≡ old.role → new.streams ≡ old.streams
+    → Hands values end piece (EndFailed code) new
+fails_so values old new end piece code is told role streams = (
+  end_with_log end told.0,
+  fails code told.0 told.1 refl refl,
+  taken values old new end piece (Failed code) told.0 is told.1 told.2 role streams,
+)
+
+pub nothing_so : (values : Values) (old new : End) (end : EndLog) (piece : List ℕ) (count : ℕ)
+    → EndRepresents values old end → Tells values end piece (Took count None) new
+    → new.role ≡ old.role → new.streams ≡ old.streams
+    → Hands values end piece (EndTook count None) new
+nothing_so values old new end piece count is told role streams = (
+  end_with_log end told.0,
+  hands_nothing count told.0 told.1 refl refl,
+  taken values old new end piece (Took count None) told.0 is told.1 told.2 role streams,
+)
+
+-- It reports an event.
+pub reports_so : (values : Values) (old new : End) (end : EndLog) (piece : List ℕ) (count : ℕ)
+    (event : Event) → EndRepresents values old end
+    → (told : Tells values end piece (Took count (Some event)) new)
+    → new.role ≡ old.role → new.streams ≡ old.streams
+    → HasReported values new end piece count event told.0
+reports_so values old new end piece count event is told role streams =
+    record {
+      took = told.1;
+      represents = taken values old new end piece (Took count (Some event)) told.0 is told.1
+          told.2 role streams;
+      streams = λ i. rw streams (taken_kept end piece (Took count (Some event)) told.0 i
+          (kept old i) told.1 (is.streams i));
+    }
+
+-- The same answer may be said in another way.
+pub lent_so : (values : Values) (end : EndLog) (piece : List ℕ) (answer other : EndAnswer)
+    (new : End) → other ≡ answer → Hands values end piece answer new
+    → Hands values end piece other new
+lent_so values end piece answer other new same hands =
+    subst (λ (one : EndAnswer). Hands values end piece one new) (sym same) hands
+
+-- As many octets were used as it says.
+pub used_so : (count most other : ℕ) (handed lent : Option Handed)
+    → EndTook other lent ≡ EndTook count handed → count ≤ most → other ≤ most
+used_so count most other handed lent same within =
+    let counted : other ≡ count = cc in rw counted within

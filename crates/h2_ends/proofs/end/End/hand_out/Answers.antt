@@ -1,0 +1,172 @@
+-- What is reported is handed out, or the stream is refused.
+use Rattle.std.proofs.Common.{[], refl, ap, length}
+use Rattle.h2_log.specs.Events.{ResetEvent, GoAwayEvent, UnprocessedEvent, AckedEvent, PongEvent}
+use Rattle.h2_conn.specs.declared.conn.Conn.{Conn}
+use Rattle.h2_ends.specs.Ends.{part_of_event}
+use Rattle.h2_ends.specs.EndTakes.{end_with_log}
+use Rattle.h2_ends.specs.Loans.{BodyLiesIn, IsBodyIn}
+use Rattle.h2_ends.specs.Taking.{code_unread}
+use Rattle.h2_ends.proofs.TakeHands.{fields_on, data_on, event_passed, fields_handed}
+use Rattle.h2_ends.proofs.TakeHands.{fields_not_handed, data_handed, data_not_handed, same_body}
+use Rattle.h2_ends.proofs.TakeHands.{reset_lies}
+use Rattle.h2_ends.proofs.end.End.hand_out.Goals as goal
+
+pub returns-then-read_data-clause-lies : goal.returns-then-read_data-clause-lies
+unfolding BodyLiesIn
+returns-then-read_data-clause-lies c =
+    rw c.read_data.ensures.conn (rw c.in-Data.is at c.requires.lies)
+
+pub returns-then-read_data-clause-hands : goal.returns-then-read_data-clause-hands
+unfolding IsBodyIn
+returns-then-read_data-clause-hands c = λ octets body.
+    let lies = rw c.read_data.ensures.conn at body in
+    let lent = c.octets-count.ensures in
+    let counted = ap length (same_body _ octets c.octets-count.result.now lies.0 lent.0 lies.1
+    lent.1 lies.2 lent.2) in (
+      octets,
+      rw c.in-Data.is lies,
+      λ values end count log reported.
+          let said = rw c.in-Data.is at reported in
+          data_handed values c.args.self.now c.read_data.new.self end c.args.piece.now count
+          c.in-Data.id octets c.in-Data.flow c.in-Data.end log said
+          (c.if-read_data.ensures.reads values (end_with_log end log) octets counted
+          (data_on values c.args.self.now end c.args.piece.now count c.in-Data.id octets
+          c.in-Data.flow c.in-Data.end log said)),
+    )
+
+pub returns-else-read_data-clause-lies : goal.returns-else-read_data-clause-lies
+returns-else-read_data-clause-lies c =
+    reset_lies _ c.args.piece.now c.in-Data.id 1 c.refuse-in-Data.result
+    c.refuse-in-Data.ensures.resets
+
+pub returns-else-read_data-clause-hands : goal.returns-else-read_data-clause-hands
+returns-else-read_data-clause-hands c = λ octets none.
+    let lent = c.octets-count.result.now in (
+      lent,
+      rw c.in-Data.is c.octets-count.ensures,
+      λ values end count log reported.
+          let said = rw c.in-Data.is at reported in
+          data_not_handed values c.args.self.now c.read_data.new.self c.refuse-in-Data.new.self end
+          c.args.piece.now count c.in-Data.id lent c.in-Data.flow c.in-Data.end log _ octets
+          c.refuse-in-Data.result said
+          (c.if-read_data.ensures.reads values (end_with_log end log) lent refl
+          (data_on values c.args.self.now end c.args.piece.now count c.in-Data.id lent
+          c.in-Data.flow c.in-Data.end log said))
+          (c.refuse-in-Data.ensures.answers values (end_with_log end log))
+          c.refuse-in-Data.ensures.resets,
+    )
+
+pub returns-in-Ok-clause-lies : goal.returns-in-Ok-clause-lies
+unfolding BodyLiesIn
+returns-in-Ok-clause-lies c = tt
+
+pub returns-in-Ok-clause-hands : goal.returns-in-Ok-clause-hands
+returns-in-Ok-clause-hands c = λ octets none. (
+  [],
+  rw c.in-Fields.is tt,
+  λ values end count log reported.
+      let said = rw c.in-Fields.is at reported in
+      fields_handed values c.args.self.now c.read_fields.new.self end c.args.piece.now count
+      c.in-Fields.id _ c.in-Fields.end c.in-Ok.place log said
+      (c.in-Ok.ensures.reads values (end_with_log end log)
+      (fields_on values c.args.self.now end c.args.piece.now count c.in-Fields.id _
+      c.in-Fields.end log said)) _
+      (ap (λ (conn : Conn). conn.inner.end.list) c.read_fields.ensures.conn),
+)
+
+pub returns-in-Err-clause-lies : goal.returns-in-Err-clause-lies
+returns-in-Err-clause-lies c =
+    reset_lies _ c.args.piece.now c.in-Fields.id (code_unread c.in-Err.unread) c.refuse.result
+    c.refuse.ensures.resets
+
+pub returns-in-Err-clause-hands : goal.returns-in-Err-clause-hands
+returns-in-Err-clause-hands c = λ octets none. (
+  [],
+  rw c.in-Fields.is tt,
+  λ values end count log reported.
+      let said = rw c.in-Fields.is at reported in
+      fields_not_handed values c.args.self.now c.read_fields.new.self c.refuse.new.self end
+      c.args.piece.now count c.in-Fields.id _ c.in-Fields.end c.in-Err.unread log _ octets
+      c.refuse.result said
+      (c.in-Err.ensures.reads values (end_with_log end log)
+      (fields_on values c.args.self.now end c.args.piece.now count c.in-Fields.id _
+      c.in-Fields.end log said))
+      (c.refuse.ensures.answers values (end_with_log end log)) c.refuse.ensures.resets,
+)
+
+pub returns-in-Reset-clause-lies : goal.returns-in-Reset-clause-lies
+unfolding BodyLiesIn
+returns-in-Reset-clause-lies c = tt
+
+pub returns-in-Reset-clause-hands : goal.returns-in-Reset-clause-hands
+unfolding part_of_event
+returns-in-Reset-clause-hands c = λ octets none. (
+  [],
+  rw c.in-Reset.is tt,
+  λ values end count log reported.
+      let said = rw c.in-Reset.is at reported in
+      event_passed values c.args.self.now c.forget_if_over.new.self end c.args.piece.now count
+      (ResetEvent c.in-Reset.id c.in-Reset.code c.in-Reset.ours) log said refl
+      (c.forget_if_over.ensures values (end_with_log end log) said.represents),
+)
+
+pub returns-in-Unprocessed-clause-lies : goal.returns-in-Unprocessed-clause-lies
+unfolding BodyLiesIn
+returns-in-Unprocessed-clause-lies c = tt
+
+pub returns-in-Unprocessed-clause-hands : goal.returns-in-Unprocessed-clause-hands
+unfolding part_of_event
+returns-in-Unprocessed-clause-hands c = λ octets none. (
+  [],
+  rw c.in-Unprocessed.is tt,
+  λ values end count log reported.
+      let said = rw c.in-Unprocessed.is at reported in
+      event_passed values c.args.self.now c.forget_if_over-in-Unprocessed.new.self end
+      c.args.piece.now count (UnprocessedEvent c.in-Unprocessed.id) log said refl
+      (c.forget_if_over-in-Unprocessed.ensures values (end_with_log end log) said.represents),
+)
+
+pub returns-in-GoAway-clause-lies : goal.returns-in-GoAway-clause-lies
+unfolding BodyLiesIn
+returns-in-GoAway-clause-lies c = tt
+
+pub returns-in-GoAway-clause-hands : goal.returns-in-GoAway-clause-hands
+unfolding part_of_event
+returns-in-GoAway-clause-hands c = λ octets none. (
+  [],
+  rw c.in-GoAway.is tt,
+  λ values end count log reported.
+      let said = rw c.in-GoAway.is at reported in
+      event_passed values c.args.self.now c.args.self.now end c.args.piece.now count
+      (GoAwayEvent c.in-GoAway.last c.in-GoAway.code) log said refl said.represents,
+)
+
+pub returns-in-Acked-clause-lies : goal.returns-in-Acked-clause-lies
+unfolding BodyLiesIn
+returns-in-Acked-clause-lies c = tt
+
+pub returns-in-Acked-clause-hands : goal.returns-in-Acked-clause-hands
+unfolding part_of_event
+returns-in-Acked-clause-hands c = λ octets none. (
+  [],
+  rw c.in-Acked.is tt,
+  λ values end count log reported.
+      let said = rw c.in-Acked.is at reported in
+      event_passed values c.args.self.now c.args.self.now end c.args.piece.now count AckedEvent log
+      said refl said.represents,
+)
+
+pub returns-in-Pong-clause-lies : goal.returns-in-Pong-clause-lies
+unfolding BodyLiesIn
+returns-in-Pong-clause-lies c = tt
+
+pub returns-in-Pong-clause-hands : goal.returns-in-Pong-clause-hands
+unfolding part_of_event
+returns-in-Pong-clause-hands c = λ octets none. (
+  [],
+  rw c.in-Pong.is tt,
+  λ values end count log reported.
+      let said = rw c.in-Pong.is at reported in
+      event_passed values c.args.self.now c.args.self.now end c.args.piece.now count
+      (PongEvent c.in-Pong.octets) log said refl said.represents,
+)

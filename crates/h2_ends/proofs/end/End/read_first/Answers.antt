@@ -1,0 +1,28 @@
+use Rattle.std.proofs.Common.{Some, refl}
+use Rattle.h2_ends.proofs.TableSteps.{keeps_but}
+use Rattle.h2_ends.proofs.TakeReads.{first_stream, first_taken, first_refused, first_lacks}
+use Rattle.h2_ends.proofs.end.End.read_first.Goals as goal
+
+pub returns-in_default-clause-reads : goal.returns-in_default-clause-reads
+returns-in_default-clause-reads c = λ values happened is.
+    first_refused values c.args.self.now happened c.args.id _ c.args.end c.new-reading.result
+    c.fields.new.self is c.requires.first (rw c.first_reads.ensures at c.new-reading.ensures)
+    (λ reads parts follows.
+    rw (c.list.ensures, c.in_default.is) at c.fields.ensures reads parts follows)
+
+pub returns-clause-reads : goal.returns-clause-reads
+returns-clause-reads c = λ values happened is.
+    first_lacks values c.args.self.now _ happened c.args.id _ c.args.end c.in-Some.place
+    c.new-reading.result c.fields.new.self is c.requires.first
+    (rw c.first_reads.ensures at c.new-reading.ensures)
+    (λ reads parts follows. rw c.list.ensures at c.in-Some.ensures reads parts follows) refl refl
+    c.in-Err.ensures.err
+
+pub returns-in-Ok-clause-reads : goal.returns-in-Ok-clause-reads
+returns-in-Ok-clause-reads c = λ values happened is.
+    first_taken values c.args.self.now _ happened c.args.id _ c.args.end c.in-Some.place
+    c.new-reading.result c.fields.new.self is c.requires.first
+    (rw c.first_reads.ensures at c.new-reading.ensures)
+    (λ reads parts follows. rw c.list.ensures at c.in-Some.ensures reads parts follows)
+    (keeps_but c.args.self.now _ c.args.id (Some (first_stream c.fields.new.self))
+    c.in-Ok.ensures.updates.0) refl refl

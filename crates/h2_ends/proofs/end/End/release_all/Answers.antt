@@ -1,0 +1,44 @@
+-- Step by step, by the lemmas on a release.
+use Rattle.std.proofs.Common.{refl, arith}
+use Rattle.h2_ends.proofs.SendingRelease.{closed_from_start, begins_release, comes_to}
+use Rattle.h2_ends.proofs.SendingRelease.{passes_stream, releases_stream, refuses_stream}
+use Rattle.h2_ends.proofs.SendingRelease.{ends_release}
+use Rattle.h2_ends.proofs.end.End.release_all.Goals as goal
+
+pub returns-then-is_some : goal.returns-then-is_some
+returns-then-is_some c =
+    closed_from_start c.args.self.now c.failed.result c.failed.ensures c.if-is_some.ensures
+
+pub loop-id-init : goal.loop-id-init
+loop-id-init c =
+    begins_release c.args.self.now c.failed.result c.failed.ensures c.if-is_some.ensures
+
+pub loop-id-smaller-then-owed-eq0 : goal.loop-id-smaller-then-owed-eq0
+loop-id-smaller-then-owed-eq0 c = omega (arith, c.in-Some.ensures.above)
+
+pub loop-id-preserved-then-owed-eq0 : goal.loop-id-preserved-then-owed-eq0
+loop-id-preserved-then-owed-eq0 c =
+    passes_stream c.args.self.now c.loop-id.self c.in-Some.id c.owed-owed.result
+    (comes_to c.args.self.now c.loop-id.self c.loop-id.last c.in-Some.id c.loop-id.invariant
+    c.in-Some.ensures.number) c.owed-owed.ensures c.if-owed-eq0.true
+
+pub loop-id-smaller : goal.loop-id-smaller
+loop-id-smaller c = omega (arith, c.in-Some.ensures.above)
+
+pub loop-id-preserved : goal.loop-id-preserved
+loop-id-preserved c =
+    releases_stream c.args.self.now c.loop-id.self _ c.in-Some.id c.owed-owed.result
+    (comes_to c.args.self.now c.loop-id.self c.loop-id.last c.in-Some.id c.loop-id.invariant
+    c.in-Some.ensures.number) c.owed-owed.ensures c.if-owed-eq0.false c.in-Ok.ensures refl refl
+
+pub returns-in-Err : goal.returns-in-Err
+returns-in-Err c =
+    refuses_stream c.args.self.now c.loop-id.self _ c.in-Some.id c.owed-owed.result
+    c.in-Err.refusal (comes_to c.args.self.now c.loop-id.self c.loop-id.last c.in-Some.id
+    c.loop-id.invariant c.in-Some.ensures.number) c.owed-owed.ensures c.if-owed-eq0.false
+    c.in-Err.ensures refl refl
+
+pub returns : goal.returns
+returns c =
+    ends_release c.args.self.now c.loop-id.self c.loop-id.last c.loop-id.invariant
+    c.in_default.ensures.number

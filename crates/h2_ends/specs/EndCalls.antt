@@ -1,0 +1,165 @@
+-- What the calls of a client or a server may answer, and what has happened after them (RFC 9113,
+-- sections 8.1 and 6.9).
+use Rattle.std.specs.Prelude.{◌≡◌, ◌≢◌, ◌⊎◌, ◌≤◌, ◌<◌, ℕ, ◌+◌, Bool, true, false, ◌&&◌, List}
+use Rattle.std.specs.Prelude.{[], ◌∷◌, ◌++◌, length, ◌==◌, Option, Some, None, is_some, is_none}
+use Rattle.std.specs.Prelude.{Result, Ok, Err}
+use Rattle.hpack.specs.declared.types.field.Field.{Field}
+use Rattle.h2_log.specs.declared.refusal.Refusal.{Refusal}
+use Rattle.h2_log.specs.declared.refusal.Refusal.TheVariants.{Closed, OutputFull, ListTooLarge}
+use Rattle.h2_log.specs.declared.refusal.Refusal.TheVariants.{Memory}
+use Rattle.h2_log.specs.declared.role.Role.TheVariants.{Client, Server}
+use Rattle.h2_log.specs.Acts.{Act, Answer, Open, SendFields, SendData, Release, Number, Count, Done}
+use Rattle.h2_log.specs.Acts.{Refused}
+use Rattle.h2_log.specs.Limits.{full_output}
+use Rattle.h2_log.specs.Log.{Log, active, owed, waiting}
+use Rattle.h2_log.specs.LogView.{log_view}
+use Rattle.h2_log.specs.CallRules.{conditions, first_of, is_too_large}
+use Rattle.h2_log.specs.LogCalls.{MayAnswer, with_call}
+use Rattle.h2_message.specs.declared.malformed.Malformed.{Malformed}
+use Rattle.h2_message.specs.Messages.{SentMessage, trailer_fields, broken_by_request}
+use Rattle.h2_message.specs.Messages.{broken_by_response}
+use Rattle.h2_message.specs.Phases.{asks_head_first}
+use Rattle.h2_pair.specs.Quiet.{NoneCouldGo}
+use Rattle.h2_ends.specs.declared.refusal.EndRefusal.{EndRefusal}
+use Rattle.h2_ends.specs.declared.refusal.EndRefusal.TheVariants as refusals
+use Rattle.h2_ends.specs.Ends.{EndLog, message_for, parts_on, tokens_waiting}
+use Rattle.h2_ends.specs.EndTakes.{end_with_log}
+
+-- Whether a message is its head alone: then that has END_STREAM.
+abbrev pub is_head_alone : SentMessage → Bool
+is_head_alone message = length message.body == 0 && is_none message.trailers
+
+-- why the connection refuses a message whose head this call sends: as the call, and C10 of the
+-- trailers too
+abbrev pub refusal_of_message : Log → Act → SentMessage → Option Refusal
+refusal_of_message log act message =
+    first_of (conditions (log_view log) act
+    ++ (is_too_large (trailer_fields message.trailers), ListTooLarge) ∷ [])
+
+-- The connection refuses a message so: for the first condition, or since memory was refused.
+abbrev pub RefusesMessage : Log → Act → SentMessage → Refusal → Type 0
+RefusesMessage log act message refusal =
+    (refusal_of_message log act message ≡ Some refusal)
+    ⊎ ((refusal_of_message log act message ≡ None) × (refusal ≡ Memory))
+
+-- Nothing has happened, but that the connection may have refused a call.
+unfoldable pub IsUnchanged : (before after : EndLog) → Type 0
+IsUnchanged before after =
+    (after ≡ before) ⊎ ((act : Act) × (refusal : Refusal) × MayAnswer before.log act (Refused refusal)
+    × (after ≡ end_with_log before (with_call before.log act (Refused refusal))))
+
+-- the end after a message was accepted and its head sent by this call
+abbrev pub end_with_message : EndLog → Act → Answer → ℕ → SentMessage → EndLog
+end_with_message end act answer id message = record end {
+  log = with_call end.log act answer;
+  accepted = (id, message) ∷ end.accepted;
+}
+
+-- What `request` may answer.
+unfoldable pub MayRequest : EndLog → SentMessage → Result ℕ EndRefusal → EndLog → Type 0
+MayRequest end message (Ok id) after =
+    (broken_by_request message ≡ None)
+    × (is_too_large (trailer_fields message.trailers) ≡ false)
+    × MayAnswer end.log (Open message.head (is_head_alone message)) (Number id)
+    × (after ≡ end_with_message end (Open message.head (is_head_alone message)) (Number id) id
+    message)
+MayRequest end message (Err (refusals.BadMessage rule)) after =
+    (broken_by_request message ≡ Some rule) × (after ≡ end)
+MayRequest end message (Err (refusals.Conn refusal)) after =
+    (broken_by_request message ≡ None)
+    × RefusesMessage end.log (Open message.head (is_head_alone message)) message refusal
+    × IsUnchanged end after
+MayRequest end message (Err other) after = ⊥
+
+-- E3: the stream isn't active, or the head of its request was not handed out. A client hands out
+-- none.
+unfoldable pub IsNotAsked : EndLog → ℕ → Type 0
+IsNotAsked end id =
+    (active end.log id ≡ false) ⊎ ((parts_on id end.handed ≡ []) ⊎ (end.log.role ≡ Client))
+
+pub record IsAsked (end : EndLog) (id : ℕ) : Type 0 where
+  pub active : active end.log id ≡ true
+  pub handed : parts_on id end.handed ≢ []
+  pub server : end.log.role ≡ Server
+
+-- the rule that an answer to what was read on a stream breaks
+abbrev pub broken_by_answer : EndLog → ℕ → SentMessage → Option Malformed
+broken_by_answer end id message =
+    broken_by_response (asks_head_first (parts_on id end.handed)) message
+
+-- What `respond` may answer: E3, E4, E1 and E2 in this order.
+unfoldable pub MayRespond : EndLog → ℕ → SentMessage → Result (Unit {0}) EndRefusal → EndLog → Type 0
+MayRespond end id message (Ok done) after =
+    IsAsked end id × (message_for id end.accepted ≡ None)
+    × (broken_by_answer end id message ≡ None)
+    × (is_too_large (trailer_fields message.trailers) ≡ false)
+    × MayAnswer end.log (SendFields id message.head (is_head_alone message)) Done
+    × (after ≡ end_with_message end (SendFields id message.head (is_head_alone message)) Done id
+    message)
+MayRespond end id message (Err refusals.NotAsked) after = IsNotAsked end id × (after ≡ end)
+MayRespond end id message (Err refusals.Answered) after =
+    IsAsked end id × (message_for id end.accepted ≢ None) × (after ≡ end)
+MayRespond end id message (Err (refusals.BadMessage rule)) after =
+    IsAsked end id × (message_for id end.accepted ≡ None)
+    × (broken_by_answer end id message ≡ Some rule) × (after ≡ end)
+MayRespond end id message (Err (refusals.Conn refusal)) after =
+    IsAsked end id × (message_for id end.accepted ≡ None)
+    × (broken_by_answer end id message ≡ None)
+    × RefusesMessage end.log (SendFields id message.head (is_head_alone message)) message refusal
+    × IsUnchanged end after
+
+-- Of what waits on a stream nothing could go now.
+abbrev pub IsStuckOn : EndLog → ℕ → Type 0
+IsStuckOn end i = active end.log i ≡ true → NoneCouldGo end.log i (tokens_waiting end i)
+
+-- The calls of a `pump`: each is on an active stream, while nothing could go on any lower one; so
+-- many octets of bodies were sent. It ends where the connection refuses a call, or after any.
+pub data Pumps : (end : EndLog) → (count : ℕ) → (after : EndLog) → Type 0 where
+  pumps_no_more : (end : EndLog) → Pumps end 0 end
+  pumps_data : (end : EndLog) (id sent more : ℕ) (octets : List ℕ) (ends : Bool) (after : EndLog)
+      → active end.log id ≡ true → ((j : ℕ) → j < id → IsStuckOn end j)
+      → MayAnswer end.log (SendData id octets ends) (Count sent)
+      → Pumps (end_with_log end (with_call end.log (SendData id octets ends) (Count sent))) more
+      after → Pumps end (sent + more) after
+  pumps_trailers : (end : EndLog) (id more : ℕ) (list : List Field) (after : EndLog)
+      → active end.log id ≡ true → ((j : ℕ) → j < id → IsStuckOn end j)
+      → MayAnswer end.log (SendFields id list true) Done
+      → Pumps (end_with_log end (with_call end.log (SendFields id list true) Done)) more after
+      → Pumps end more after
+  pumps_refused : (end : EndLog) (act : Act) (refusal : Refusal) → MayAnswer end.log act (Refused refusal)
+      → Pumps end 0 (end_with_log end (with_call end.log act (Refused refusal)))
+
+-- What `pump` may answer: how many octets of bodies were sent. Then the output is full, or nothing
+-- of what waits could go.
+unfoldable pub MayPump : EndLog → Result ℕ EndRefusal → EndLog → Type 0
+MayPump end (Ok count) after =
+    (end.log.failed ≡ None) × Pumps end count after
+    × ((full_output ≤ waiting after.log) ⊎ ((i : ℕ) → IsStuckOn after i))
+MayPump end (Err (refusals.Conn Closed)) after = (end.log.failed ≢ None) × (after ≡ end)
+MayPump end (Err (refusals.Conn Memory)) after = (count : ℕ) × Pumps end count after
+MayPump end (Err other) after = ⊥
+
+-- The calls of a `release_all`: each releases all that is owed on a stream, where nothing is owed
+-- on any lower one.
+pub data Releases : (end : EndLog) → (after : EndLog) → Type 0 where
+  releases_no_more : (end : EndLog) → Releases end end
+  releases_one : (end : EndLog) (id : ℕ) (after : EndLog) → owed end.log id ≢ 0
+      → ((j : ℕ) → j < id → owed end.log j ≡ 0)
+      → MayAnswer end.log (Release id (owed end.log id)) Done
+      → Releases (end_with_log end (with_call end.log (Release id (owed end.log id)) Done)) after
+      → Releases end after
+  releases_refused : (end : EndLog) (id : ℕ) (refusal : Refusal) → owed end.log id ≢ 0
+      → MayAnswer end.log (Release id (owed end.log id)) (Refused refusal)
+      → Releases end (end_with_log end
+      (with_call end.log (Release id (owed end.log id)) (Refused refusal)))
+
+-- What `release_all` may answer.
+unfoldable pub MayReleaseAll : EndLog → Result (Unit {0}) EndRefusal → EndLog → Type 0
+MayReleaseAll end (Ok done) after =
+    (end.log.failed ≡ None) × Releases end after × ((i : ℕ) → owed after.log i ≡ 0)
+MayReleaseAll end (Err (refusals.Conn Closed)) after = (end.log.failed ≢ None) × (after ≡ end)
+MayReleaseAll end (Err (refusals.Conn OutputFull)) after =
+    Releases end after × (full_output ≤ waiting after.log)
+    × ((i : ℕ) × (owed after.log i ≢ 0))
+MayReleaseAll end (Err (refusals.Conn Memory)) after = Releases end after
+MayReleaseAll end (Err other) after = ⊥

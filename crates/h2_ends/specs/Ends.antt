@@ -1,0 +1,122 @@
+-- What has happened at a client or a server: its connection's log, the messages that it was given,
+-- and what it has handed out (RFC 9113, section 8.1).
+use Rattle.std.specs.Prelude.{ℕ, ◌==◌, ◌&&◌, Bool, true, false, if◌then◌else◌, List, [], ◌∷◌, ◌++◌}
+use Rattle.std.specs.Prelude.{length, drop, map as each, Option, Some, None}
+use Rattle.hpack.specs.declared.types.field.Field.{Field}
+use Rattle.h2_frame.specs.declared.code.Code.{Code}
+use Rattle.h2_log.specs.Events.{Event, FieldsEvent, DataEvent}
+use Rattle.h2_log.specs.Settings.{is_server}
+use Rattle.h2_log.specs.Log.{Log}
+use Rattle.h2_message.specs.declared.reading.Reads.{Reads}
+use Rattle.h2_message.specs.declared.reading.Reads.TheVariants.{Requests, Responses}
+use Rattle.h2_message.specs.declared.reading.Place.{Place}
+use Rattle.h2_message.specs.declared.reading.Place.TheVariants as places
+use Rattle.h2_message.specs.Messages.{SentMessage, asks_head}
+use Rattle.h2_message.specs.Reading.{Part, FieldsPart, OctetsPart}
+use Rattle.h2_message.specs.Phases.{place_after}
+use Rattle.h2_pair.specs.Tokens.{Token, FieldsToken, OctetToken, end_tokens, tokens_sent}
+use Rattle.h2_pair.specs.Tokens.{message_tokens}
+
+-- what an end hands out
+pub data Handed : Type 0 where
+  -- the head of an interim response
+  InterimHanded : (id : ℕ) (list : List Field) → Handed
+  -- the head of a message, and whether nothing follows it
+  HeadHanded : (id : ℕ) (list : List Field) (end : Bool) → Handed
+  -- octets of a body, and whether nothing follows them
+  BodyHanded : (id : ℕ) (octets : List ℕ) (end : Bool) → Handed
+  -- trailers, which end a message
+  TrailersHanded : (id : ℕ) (list : List Field) → Handed
+  -- what is no part of a message, as the connection reports it
+  Passed : (event : Event) → Handed
+
+pub record EndLog : Type 0 where
+  -- the connection's
+  pub log : Log
+  -- the messages that were accepted, with their streams, newest first
+  pub accepted : List (ℕ × SentMessage)
+  -- what was handed out, newest first
+  pub handed : List Handed
+
+-- the message that was accepted for a stream
+unfoldable pub message_for : ℕ → List (ℕ × SentMessage) → Option SentMessage
+message_for i [] = None
+message_for i ((id, message) ∷ accepted) =
+    if id == i then Some message else message_for i accepted
+
+-- the part of the stream's message that was handed out, and whether it has END_STREAM
+unfoldable pub part_on : ℕ → Handed → List (Part × Bool)
+part_on i (InterimHanded id list) = if id == i then (FieldsPart list, false) ∷ [] else []
+part_on i (HeadHanded id list end) = if id == i then (FieldsPart list, end) ∷ [] else []
+part_on i (BodyHanded id octets end) = if id == i then (OctetsPart octets, end) ∷ [] else []
+part_on i (TrailersHanded id list) = if id == i then (FieldsPart list, true) ∷ [] else []
+part_on i (Passed event) = []
+
+-- the parts that were handed out on the stream, the first one first
+unfoldable pub parts_on : ℕ → List Handed → List (Part × Bool)
+parts_on i [] = []
+parts_on i (one ∷ handed) = parts_on i handed ++ part_on i one
+
+-- the tokens of a message that was accepted, or none
+unfoldable pub tokens_given : Option SentMessage → List Token
+tokens_given None = []
+tokens_given (Some message) = message_tokens message
+
+-- what an end was given to say on a stream
+abbrev pub tokens_said : EndLog → ℕ → List Token
+tokens_said end i = tokens_given (message_for i end.accepted)
+
+-- what it has sent of it so far, and what waits
+abbrev pub tokens_out : EndLog → ℕ → List Token
+tokens_out end i = tokens_sent i end.log.calls
+
+abbrev pub tokens_waiting : EndLog → ℕ → List Token
+tokens_waiting end i = drop (length (tokens_out end i)) (tokens_said end i)
+
+-- what it has handed out on a stream, token by token
+unfoldable pub tokens_of_part : (Part × Bool) → List Token
+tokens_of_part (FieldsPart list, end) = FieldsToken list ∷ end_tokens end
+tokens_of_part (OctetsPart octets, end) = each OctetToken octets ++ end_tokens end
+
+unfoldable pub tokens_of_parts : List (Part × Bool) → List Token
+tokens_of_parts [] = []
+tokens_of_parts (part ∷ parts) = tokens_of_part part ++ tokens_of_parts parts
+
+abbrev pub tokens_handed : EndLog → ℕ → List Token
+tokens_handed end i = tokens_of_parts (parts_on i end.handed)
+
+-- Whether an end has asked with HEAD on a stream.
+unfoldable pub asked_head : Option SentMessage → Bool
+asked_head None = false
+asked_head (Some message) = asks_head message.head
+
+-- what an end reads on a stream
+unfoldable pub reads_on : EndLog → ℕ → Reads
+reads_on end i =
+    if is_server end.log.role then Requests
+    else Responses (asked_head (message_for i end.accepted))
+
+-- the part of a message that the connection reports, with its stream
+unfoldable pub part_of_event : Event → Option (ℕ × (Part × Bool))
+part_of_event (FieldsEvent id list end) = Some (id, (FieldsPart list, end))
+part_of_event (DataEvent id octets flow end) = Some (id, (OctetsPart octets, end))
+part_of_event event = None
+
+-- a field block as it is handed out
+unfoldable pub handed_at : Place → ℕ → List Field → (end : Bool) → Handed
+handed_at places.Interim id list end = InterimHanded id list
+handed_at places.Head id list end = HeadHanded id list end
+handed_at places.Trailers id list end = TrailersHanded id list
+
+-- a part of a message as it is handed out, after what was handed out of it before
+unfoldable pub handed_as : Reads → List (Part × Bool) → ℕ → (Part × Bool) → Handed
+handed_as reads parts id (FieldsPart list, end) =
+    handed_at (place_after reads parts list) id list end
+handed_as reads parts id (OctetsPart octets, end) = BodyHanded id octets end
+
+-- what a call of `take` answers
+pub data EndAnswer : Type 0 where
+  -- so many octets were used, and this was handed out
+  EndTook : (count : ℕ) (handed : Option Handed) → EndAnswer
+  -- the connection has failed
+  EndFailed : (code : Code) → EndAnswer

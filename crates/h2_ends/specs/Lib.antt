@@ -1,0 +1,9 @@
+pub mod EndCalls
+pub mod EndTakes
+pub mod Ends
+pub mod Loans
+pub mod Represents
+pub mod Pumping
+pub mod Taking
+pub mod Heads
+pub mod Sends

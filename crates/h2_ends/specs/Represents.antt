@@ -1,0 +1,166 @@
+-- When a client or a server represents what has happened at it, and what its calls make of that.
+use Rattle.std.specs.Prelude.{◌≡◌, ◌≢◌, ◌⊎◌, ◌<◌, ℕ, true, false, List, [], ◌∷◌, ◌++◌, length}
+use Rattle.std.specs.Prelude.{drop, map as each, option_map, Option, Some, None, is_some, Result, Ok, Err}
+use Rattle.std.specs.Map.{lookup}
+use Rattle.std.specs.Ordering.{nat_cmp}
+use Rattle.std.specs.BTreeMap.{is_at}
+use Rattle.hpack.specs.declared.types.field.Field.{Field}
+use Rattle.h2_log.specs.declared.role.Role.{Role}
+use Rattle.h2_log.specs.declared.role.Role.TheVariants.{Client, Server}
+use Rattle.h2_log.specs.declared.refusal.Refusal.{Refusal}
+use Rattle.h2_log.specs.Acts.{Values, Act, Answer, shown}
+use Rattle.h2_log.specs.CallRules.{is_too_large}
+use Rattle.h2_log.specs.Log.{Log}
+use Rattle.h2_log.specs.LogCalls.{MayAnswer, with_call, opened}
+use Rattle.h2_end_laws.specs.Over.{IsOver, used}
+use Rattle.h2_conn.specs.Conn.{ConnRepresents}
+use Rattle.h2_message.specs.declared.message.Message.{Message}
+use Rattle.h2_message.specs.declared.reading.Reads.{Reads}
+use Rattle.h2_message.specs.declared.reading.Reads.TheVariants.{Requests, Responses}
+use Rattle.h2_message.specs.Messages.{SentMessage, trailer_fields}
+use Rattle.h2_message.specs.Phases.{Follows}
+use Rattle.h2_message.specs.Values.{message_value}
+use Rattle.h2_pair.specs.Tokens.{Token, OctetToken, EndToken, trailers_tokens, message_tokens}
+use Rattle.h2_ends.specs.declared.refusal.EndRefusal.{EndRefusal}
+use Rattle.h2_ends.specs.declared.end.End.{End}
+use Rattle.h2_ends.specs.declared.outgoing.Waiting.{Waiting}
+use Rattle.h2_ends.specs.declared.outgoing.Outgoing.{Outgoing}
+use Rattle.h2_ends.specs.declared.outgoing.Outgoing.TheVariants as outgoings
+use Rattle.h2_ends.specs.declared.outgoing.Stream.{Stream}
+use Rattle.h2_ends.specs.declared.taking.EndProgress.{EndProgress}
+use Rattle.h2_conn.specs.declared.event.ConnFault.{ConnFault}
+use Rattle.h2_ends.specs.Ends.{EndLog, EndAnswer, message_for, parts_on, tokens_out, reads_on}
+use Rattle.h2_ends.specs.EndTakes.{EndMayTake, end_with_log}
+use Rattle.h2_ends.specs.EndCalls.{MayRequest, MayRespond, MayPump, MayReleaseAll}
+use Rattle.h2_ends.specs.declared.event.EndTaken.{EndTaken}
+use Rattle.h2_ends.specs.Loans.{answer_handed, answer_of_taken}
+
+-- a new client or server
+abbrev pub new_end : Role → Values → EndLog
+new_end role values = record { log = opened role values; accepted = []; handed = [] }
+
+-- what is read on a stream of which nothing has happened
+abbrev pub reads_of_new : Role → Reads
+reads_of_new Client = Responses false
+reads_of_new Server = Requests
+
+-- what is kept of a number
+abbrev pub kept_at : ℕ → List (ℕ × Stream) → Option Stream
+kept_at i entries = lookup (is_at (nat_cmp i)) entries
+
+-- the tokens that wait
+abbrev pub tokens_kept : Waiting → List Token
+tokens_kept waiting =
+    each OctetToken (drop waiting.sent waiting.body.items)
+    ++ (trailers_tokens (option_map (λ fields. fields.items) waiting.trailers) ++ EndToken ∷ [])
+
+-- What is kept of a message that waits is what was not sent of it, and not the end alone.
+pub record IsWaiting (end : EndLog) (i : ℕ) (waiting : Waiting) : Type 0 where
+  pub message : SentMessage
+  pub accepted : message_for i end.accepted ≡ Some message
+  pub rest : message_tokens message ≡ tokens_out end i ++ tokens_kept waiting
+  pub begun : tokens_out end i ≢ []
+  pub some : (waiting.sent < length waiting.body.items) ⊎ (waiting.trailers ≢ None)
+  pub fits : is_too_large (trailer_fields (option_map (λ fields. fields.items) waiting.trailers))
+      ≡ false
+
+-- What is kept of the message that is sent on a stream.
+unfoldable pub IsOutgoing : EndLog → ℕ → Outgoing → Type 0
+IsOutgoing end i outgoings.NotGiven =
+    (message_for i end.accepted ≡ None) × (tokens_out end i ≡ [])
+IsOutgoing end i (outgoings.Waiting waiting) = IsWaiting end i waiting
+IsOutgoing end i outgoings.Sent =
+    (message : SentMessage) × (message_for i end.accepted ≡ Some message)
+    × (message_tokens message ≡ tokens_out end i)
+
+-- What is kept of a stream. At a server its head was handed out.
+pub record IsStream (end : EndLog) (i : ℕ) (stream : Stream) : Type 0 where
+  pub was_used : used end.log i ≡ true
+  pub reading : Follows (reads_on end i) (parts_on i end.handed) stream.reading
+  pub outgoing : IsOutgoing end i stream.outgoing
+  pub asked : end.log.role ≡ Server → parts_on i end.handed ≢ []
+
+-- Nothing was given or handed out on a stream.
+pub record IsUntouched (end : EndLog) (i : ℕ) : Type 0 where
+  pub unread : parts_on i end.handed ≡ []
+  pub unsaid : message_for i end.accepted ≡ None
+  pub unsent : tokens_out end i ≡ []
+
+-- What is kept of a number.
+unfoldable pub IsKept : EndLog → ℕ → Option Stream → Type 0
+IsKept end i None = IsUntouched end i
+IsKept end i (Some stream) = IsStream end i stream
+
+-- What was sent of a message that was accepted is a prefix of it, with its head.
+pub record IsBegun (end : EndLog) (i : ℕ) (message : SentMessage) : Type 0 where
+  pub begun : tokens_out end i ≢ []
+  pub waiting : List Token
+  pub sent : message_tokens message ≡ tokens_out end i ++ waiting
+
+-- The end represents what has happened: its connection the log, and of each stream that isn't over
+-- it keeps what was given, sent and handed out.
+pub record EndRepresents (values : Values) (end : End) (happened : EndLog) : Type 0 where
+  pub conn : ConnRepresents values end.conn happened.log
+  pub role : end.role ≡ happened.log.role
+  pub streams : (i : ℕ) → IsOver happened.log i
+      ⊎ IsKept happened i (kept_at i end.streams.entries)
+  pub begun : (i : ℕ) (message : SentMessage) → message_for i happened.accepted ≡ Some message
+      → IsBegun happened i message
+
+-- Whatever has happened at the end: the answer is one that `take` may give, and the end represents
+-- what has happened then; before anything is lent, where these octets are handed out.
+abbrev pub EndAdvances : End → List ℕ → (octets : List ℕ) → Result EndProgress ConnFault → End
+    → Type 0
+EndAdvances old piece octets result new =
+    (values : Values) (end : EndLog) → EndRepresents values old end
+    → (after : EndLog)
+    × EndMayTake end piece (answer_handed new.conn.inner.end.list octets result) after
+    × EndRepresents values new after
+
+-- The same once it is lent.
+abbrev pub EndTakes : End → List ℕ → Result EndTaken ConnFault → End → Type 0
+EndTakes old piece result new =
+    (values : Values) (end : EndLog) → EndRepresents values old end
+    → (after : EndLog) × EndMayTake end piece (answer_of_taken result) after
+    × EndRepresents values new after
+
+-- a result without the message that is handed back
+abbrev pub without_message : {A : Type 0} → Result A (Message × EndRefusal) → Result A EndRefusal
+without_message (Ok value) = Ok value
+without_message (Err (message, refusal)) = Err refusal
+
+-- The message is handed back.
+abbrev pub HandsBack : {A : Type 0} → SentMessage → Result A (Message × EndRefusal) → Type 0
+HandsBack message (Ok value) = Unit {0}
+HandsBack message (Err (back, refusal)) = message_value back ≡ message
+
+-- The same of `request`, `respond`, `pump` and `release_all`.
+abbrev pub EndRequests : End → SentMessage → Result ℕ (Message × EndRefusal) → End → Type 0
+EndRequests old message result new =
+    HandsBack message result × ((values : Values) (end : EndLog) → EndRepresents values old end
+    → (after : EndLog) × MayRequest end message (without_message result) after
+    × EndRepresents values new after)
+
+abbrev pub EndResponds : End → ℕ → SentMessage → Result (Unit {0}) (Message × EndRefusal) → End
+    → Type 0
+EndResponds old id message result new =
+    HandsBack message result × ((values : Values) (end : EndLog) → EndRepresents values old end
+    → (after : EndLog) × MayRespond end id message (without_message result) after
+    × EndRepresents values new after)
+
+abbrev pub EndPumps : End → Result ℕ EndRefusal → End → Type 0
+EndPumps old result new =
+    (values : Values) (end : EndLog) → EndRepresents values old end
+    → (after : EndLog) × MayPump end result after × EndRepresents values new after
+
+abbrev pub EndReleases : End → Result (Unit {0}) EndRefusal → End → Type 0
+EndReleases old result new =
+    (values : Values) (end : EndLog) → EndRepresents values old end
+    → (after : EndLog) × MayReleaseAll end result after × EndRepresents values new after
+
+-- The same of a call that is the connection's own, with its answer.
+abbrev pub EndAnswers : End → Act → Answer → End → Type 0
+EndAnswers old act answer new =
+    (values : Values) (end : EndLog) → EndRepresents values old end
+    → MayAnswer end.log act answer
+    × EndRepresents values new (end_with_log end (with_call end.log act answer))

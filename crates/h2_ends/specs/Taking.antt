@@ -1,0 +1,123 @@
+-- How a part of a message is read, and how a stream is refused, at an end whose connection has
+-- taken octets.
+use Rattle.std.specs.Prelude.{◌≡◌, ◌⊎◌, ℕ, Bool, true, false, List, Some, None, IfSome}
+use Rattle.std.specs.Prelude.{IfOk, Result, Ok, Err}
+use Rattle.hpack.specs.declared.types.field.Field.{Field}
+use Rattle.h2_frame.specs.Frames.{Frame, Encodes}
+use Rattle.h2_wire.specs.Cutter.{HasFrame, octets_of}
+use Rattle.h2_log.specs.Acts.{Values}
+use Rattle.h2_log.specs.Events.{Event}
+use Rattle.h2_log.specs.Log.{Log}
+use Rattle.h2_end_laws.specs.Over.{IsOver, used}
+use Rattle.h2_end_laws.specs.Takes.{MayTake, Took}
+use Rattle.h2_conn.specs.declared.event.ConnFault.{ConnFault}
+use Rattle.h2_conn.specs.declared.happened.Happened.{Happened}
+use Rattle.h2_conn.specs.Events.{happened_value}
+use Rattle.h2_conn.specs.Loans.{frame_in, octets_in}
+use Rattle.h2_message.specs.declared.reading.Place.{Place}
+use Rattle.h2_message.specs.Reading.{Part, FieldsPart, OctetsPart}
+use Rattle.h2_message.specs.Phases.{place_after}
+use Rattle.h2_ends.specs.declared.end.End.{End}
+use Rattle.h2_ends.specs.declared.taking.HandedOut.{HandedOut}
+use Rattle.h2_ends.specs.declared.taking.HandedOut.TheVariants as parts
+use Rattle.h2_ends.specs.declared.taking.Unread.{Unread}
+use Rattle.h2_ends.specs.declared.taking.Unread.TheVariants as unreads
+use Rattle.h2_ends.specs.Ends.{EndLog, EndAnswer, EndTook, EndFailed, parts_on, reads_on, handed_as}
+use Rattle.h2_ends.specs.EndTakes.{EndMayTake, GoesOn, end_with_log, end_with_handed}
+use Rattle.h2_ends.specs.Loans.{handed_value}
+use Rattle.h2_ends.specs.Represents.{EndRepresents, IsKept, kept_at}
+
+-- A part of a message has come on the stream: what is kept of it is so still, also where that part
+-- has closed it.
+pub record IsReadOn (values : Values) (end : End) (happened : EndLog) (id : ℕ) : Type 0 where
+  pub represents : EndRepresents values end happened
+  pub kept : IsKept happened id (kept_at id end.streams.entries)
+  pub was_used : used happened.log id ≡ true
+
+-- the end after it has handed out a part of a message
+abbrev pub end_with_part : EndLog → ℕ → (Part × Bool) → EndLog
+end_with_part happened id part =
+    end_with_handed happened happened.log
+    (handed_as (reads_on happened id) (parts_on id happened.handed) id part)
+
+-- A part is read, and the end represents what has happened with it; or it cannot be, and nothing
+-- has changed.
+abbrev pub IsRead : Values → EndLog → ℕ → (Part × Bool) → End → Type 0
+IsRead values happened id part new =
+    GoesOn happened id part × EndRepresents values new (end_with_part happened id part)
+
+abbrev pub IsNotRead : Values → EndLog → ℕ → (Part × Bool) → End → Type 0
+IsNotRead values happened id part new =
+    (GoesOn happened id part → ⊥) × EndRepresents values new happened
+
+-- What is made of a field block.
+unfoldable pub ReadsFields : Values → EndLog → ℕ → List Field → (end : Bool) → Result Place Unread
+    → End → Type 0
+ReadsFields values happened id list end (Ok place) new =
+    IsRead values happened id (FieldsPart list, end) new
+    × (place ≡ place_after (reads_on happened id) (parts_on id happened.handed) list)
+ReadsFields values happened id list end (Err unreads.Malformed) new =
+    IsNotRead values happened id (FieldsPart list, end) new
+ReadsFields values happened id list end (Err unreads.OutOfMemory) new =
+    GoesOn happened id (FieldsPart list, end) × EndRepresents values new happened
+
+-- What is made of octets of a body.
+unfoldable pub ReadsData : Values → EndLog → ℕ → List ℕ → (end : Bool) → Bool → End → Type 0
+ReadsData values happened id octets end true new =
+    IsRead values happened id (OctetsPart octets, end) new
+ReadsData values happened id octets end false new =
+    IsNotRead values happened id (OctetsPart octets, end) new
+
+-- the code with which a stream is refused
+abbrev pub code_unread : Unread → ℕ
+code_unread unreads.Malformed = 1
+code_unread unreads.OutOfMemory = 2
+
+-- Once the connection was asked to refuse a stream, it is answered whether it has failed.
+unfoldable pub AnswersRefusal : Values → EndLog → Result HandedOut ConnFault → End → Type 0
+AnswersRefusal values happened (Ok handed) new =
+    (happened.log.failed ≡ None) × EndRepresents values new happened
+AnswersRefusal values happened (Err fault) new =
+    (happened.log.failed ≡ Some fault.code) × EndRepresents values new happened
+
+-- If it hasn't, that this end has reset the stream.
+abbrev pub IsResetBy : (id code : ℕ) → Result HandedOut ConnFault → Type 0
+IsResetBy id code result = IfOk result (λ handed. handed ≡ parts.Reset id code true)
+
+-- The connection has taken octets and reports this event; of the streams is kept what was.
+pub record HasReported (values : Values) (now : End) (end : EndLog) (piece : List ℕ) (count : ℕ)
+    (event : Event) (log : Log) : Type 0 where
+  pub took : MayTake end.log piece (Took count (Some event)) log
+  pub represents : EndRepresents values now (end_with_log end log)
+  pub streams : (i : ℕ) → IsOver end.log i
+      ⊎ IsKept (end_with_log end log) i (kept_at i now.streams.entries)
+
+-- what is answered of a report
+abbrev pub answer_of_report : List Field → List ℕ → ℕ → Result HandedOut ConnFault → EndAnswer
+answer_of_report list octets count (Ok handed) =
+    EndTook count (Some (handed_value list octets handed))
+answer_of_report list octets count (Err fault) = EndFailed fault.code
+
+-- The frame of a body that is reported lies in the connection or the piece.
+abbrev pub LiesHere : End → List ℕ → Happened → Type 0
+LiesHere end piece happened =
+    IfSome (frame_in (Some happened)) (HasFrame end.conn.inner.cutter piece)
+
+-- The octets of a body that is reported are those of the frame that lies there.
+abbrev pub IsBodyHere : End → List ℕ → List ℕ → Happened → Type 0
+IsBodyHere end piece octets happened =
+    IfSome (frame_in (Some happened))
+    (λ frame. (value : Frame) × Encodes value (octets_of end.conn.inner.cutter piece frame)
+    × (octets ≡ octets_in value))
+
+-- Of what is reported, with the octets of its body, the end makes an answer of `take`.
+abbrev pub EndHands : End → List ℕ → Happened → (octets : List ℕ) → Result HandedOut ConnFault
+    → End → Type 0
+EndHands old piece happened octets result new =
+    (body : List ℕ) × IsBodyHere old piece body happened
+    × ((values : Values) (end : EndLog) (count : ℕ) (log : Log)
+    → HasReported values old end piece count
+    (happened_value old.conn.inner.end.list body happened) log
+    → (after : EndLog)
+    × EndMayTake end piece (answer_of_report new.conn.inner.end.list octets count result) after
+    × EndRepresents values new after)

@@ -1,0 +1,151 @@
+//! A client.
+
+ghost use Rattle.std.specs.Prelude.{◌≡◌, IfOk, IfErr, OnErr};
+ghost use Rattle.h2_config.specs.ConfigValues.{values_of};
+ghost use Rattle.h2_log.specs.declared.role.Role.TheVariants as roles;
+ghost use Rattle.h2_log.specs.Acts.{ResetStream, SendPing, SendGoAway, ChangeSettings, PutOut};
+ghost use Rattle.h2_log.specs.Acts.{Count, Done};
+ghost use Rattle.h2_conn.specs.Conn.{GivesOut, answer_by};
+ghost use Rattle.h2_message.specs.Values.{message_value};
+ghost use Rattle.h2_ends.specs.Represents.{EndRepresents, EndAnswers, EndPumps, EndReleases};
+ghost use Rattle.h2_ends.specs.Represents.{EndRequests, new_end};
+
+use crate::end::End;
+use crate::refusal::EndRefusal;
+use h2_conn::{Config, Conn, Refusal};
+use h2_log::Role;
+use h2_message::Message;
+use std::alloc::Global;
+
+/// A client: it gives requests, and takes their responses. It does no input or output.
+#[derive(Drop)]
+pub struct Client {
+    pub(crate) end: End,
+}
+
+impl Client {
+    /// A new client, whose opening waits (RFC 9113, section 3.4).
+    ///
+    /// # Errors
+    ///
+    /// E2 with C12 where an allocation was refused.
+    pub fn new(alloc: Global, config: Config) -> Result<Client, EndRefusal>
+        ensures ok { IfOk result (λ client. EndRepresents (values_of config) client.end
+            (new_end roles.Client (values_of config))) }
+        ensures err { IfErr result (λ refusal. refusal ≡ EndRefusal.Conn Refusal.Memory) }
+    {
+        match End::new(alloc, Role::Client, config) {
+            Ok(end) => Ok(Client { end }),
+            Err(refusal) => Err(EndRefusal::Conn(refusal)),
+        }
+    }
+
+    /// The connection, for what it answers of itself.
+    pub fn conn(&self) -> &Conn
+        ensures { result.now ≡ self.now.end.conn }
+    {
+        &self.end.conn
+    }
+
+    /// Sends the head of a request on a new stream, and keeps its body and trailers for
+    /// [`Client::pump`]. Answers the stream's number: 1, 3, 5 and so on.
+    ///
+    /// # Errors
+    ///
+    /// The message is handed back with E1 where it breaks a rule, else with E2 and the first of C1,
+    /// C4 to C7, C10 (of the trailers too) and C12. Nothing has changed.
+    pub fn request(&mut self, message: Message) -> Result<u32, (Message, EndRefusal)>
+        ensures { EndRequests self.old.end (message_value message) result self.new.end }
+    {
+        self.end.request(message)
+    }
+
+    /// Sends what waits of bodies and trailers, streams in rising order, each as far as its windows
+    /// go, until nothing more could go or 65,536 octets or more of output wait; answers how many
+    /// octets of bodies were sent. A body is sent from where it lies. A long one on a low stream goes
+    /// before those on higher ones.
+    ///
+    /// # Errors
+    ///
+    /// E2 with C1, and with C12: what was sent stays sent, and the rest waits.
+    pub fn pump(&mut self) -> Result<usize, EndRefusal>
+        ensures { EndPumps self.old.end result self.new.end }
+    {
+        self.end.pump()
+    }
+
+    /// Gives all that is owed back to the server (section 6.9), streams in rising order.
+    ///
+    /// # Errors
+    ///
+    /// E2 with C1, C7 or C12; what was released stays released, and the rest is owed.
+    pub fn release_all(&mut self) -> Result<(), EndRefusal>
+        ensures { EndReleases self.old.end result self.new.end }
+    {
+        self.end.release_all()
+    }
+
+    /// Resets a stream with a code, and forgets what waits on it: see [`Conn::reset`].
+    ///
+    /// # Errors
+    ///
+    /// C1, C2, C7, C9 and C12, in this order. Nothing has changed.
+    pub fn reset(&mut self, id: u32, code: u32) -> Result<(), Refusal>
+        ensures { EndAnswers self.old.end (ResetStream id code) (answer_by (λ done. Done) result)
+            self.new.end }
+    {
+        self.end.reset(id, code)
+    }
+
+    /// Sends PING: see [`Conn::ping`].
+    ///
+    /// # Errors
+    ///
+    /// C1, C7, C8 and C12, in this order. Nothing has changed.
+    pub fn ping(&mut self, octets: [u8; 8]) -> Result<(), Refusal>
+        ensures { EndAnswers self.old.end (SendPing octets) (answer_by (λ done. Done) result)
+            self.new.end }
+    {
+        self.end.ping(octets)
+    }
+
+    /// Sends GOAWAY: see [`Conn::go_away`].
+    ///
+    /// # Errors
+    ///
+    /// C1, C6, C7 and C12, in this order. Nothing has changed.
+    pub fn go_away(&mut self) -> Result<(), Refusal>
+        ensures { EndAnswers self.old.end SendGoAway (answer_by (λ done. Done) result)
+            self.new.end }
+    {
+        self.end.go_away()
+    }
+
+    /// Changes this end's settings: see [`Conn::change_settings`].
+    ///
+    /// # Errors
+    ///
+    /// C1, C7, C13 and C12, in this order. Nothing has changed.
+    pub fn change_settings(&mut self, config: Config) -> Result<(), Refusal>
+        ensures { EndAnswers self.old.end (ChangeSettings (values_of config))
+            (answer_by (λ done. Done) result) self.new.end }
+    {
+        self.end.change_settings(config)
+    }
+
+    /// Appends as many octets of the output as wait, and at most `count`, to `out`, and takes them
+    /// away: see [`Conn::put_out`].
+    ///
+    /// # Errors
+    ///
+    /// C12. Nothing has changed.
+    pub fn put_out(&mut self, count: usize, out: &mut Vec<u8>) -> Result<usize, Refusal>
+        ensures answers { EndAnswers self.old.end (PutOut count)
+            (answer_by (λ given. Count given) result) self.new.end }
+        ensures ok { IfOk result (λ given. GivesOut self.old.end.conn count given out.old.items
+            out.new.items) }
+        ensures err { OnErr result (out.new.items ≡ out.old.items) }
+    {
+        self.end.put_out(count, out)
+    }
+}

@@ -1,0 +1,57 @@
+//! The connection's own calls at an end.
+
+ghost use Rattle.std.specs.Prelude.{◌≡◌, IfOk, OnErr};
+ghost use Rattle.h2_log.specs.Acts.{ResetStream, SendPing, SendGoAway, ChangeSettings, PutOut};
+ghost use Rattle.h2_log.specs.Acts.{Count, Done};
+ghost use Rattle.h2_config.specs.ConfigValues.{values_of};
+ghost use Rattle.h2_conn.specs.Conn.{GivesOut, answer_by};
+ghost use Rattle.h2_ends.specs.Represents.{EndAnswers};
+
+use crate::end::End;
+use h2_conn::{Config, Refusal};
+
+impl End {
+    /// Resets a stream, and forgets what waits on it.
+    pub(crate) fn reset(&mut self, id: u32, code: u32) -> Result<(), Refusal>
+        ensures { EndAnswers self.old (ResetStream id code) (answer_by (λ done. Done) result)
+            self.new }
+    {
+        self.conn.reset(id, code)?;
+        self.forget_if_over(id);
+        Ok(())
+    }
+
+    /// Sends PING.
+    pub(crate) fn ping(&mut self, octets: [u8; 8]) -> Result<(), Refusal>
+        ensures { EndAnswers self.old (SendPing octets) (answer_by (λ done. Done) result)
+            self.new }
+    {
+        self.conn.ping(octets)
+    }
+
+    /// Sends GOAWAY.
+    pub(crate) fn go_away(&mut self) -> Result<(), Refusal>
+        ensures { EndAnswers self.old SendGoAway (answer_by (λ done. Done) result) self.new }
+    {
+        self.conn.go_away()
+    }
+
+    /// Changes the settings.
+    pub(crate) fn change_settings(&mut self, config: Config) -> Result<(), Refusal>
+        ensures { EndAnswers self.old (ChangeSettings (values_of config))
+            (answer_by (λ done. Done) result) self.new }
+    {
+        self.conn.change_settings(config)
+    }
+
+    /// Gives out output.
+    pub(crate) fn put_out(&mut self, count: usize, out: &mut Vec<u8>) -> Result<usize, Refusal>
+        ensures answers { EndAnswers self.old (PutOut count)
+            (answer_by (λ given. Count given) result) self.new }
+        ensures ok { IfOk result (λ given. GivesOut self.old.conn count given out.old.items
+            out.new.items) }
+        ensures err { OnErr result (out.new.items ≡ out.old.items) }
+    {
+        self.conn.put_out(count, out)
+    }
+}

@@ -1,0 +1,58 @@
+//! Taking octets at a client and at a server: what is handed out is lent.
+
+ghost use Rattle.std.specs.Prelude.{◌≤◌, length, IfOk};
+ghost use Rattle.std.specs.Borrow.{sem};
+ghost use Rattle.std.specs.Io.BufRead.{Rests};
+ghost use Rattle.h2_ends.specs.Represents.{EndTakes};
+ghost use Rattle.h2_ends.specs.contracts.client.Client.{the_row as client_row};
+ghost use Rattle.h2_ends.specs.contracts.server.Server.{the_row as server_row};
+
+use crate::client::Client;
+use crate::event::EndTaken;
+use crate::server::Server;
+use crate::taking::lend;
+use h2_conn::ConnFault;
+
+impl Client {
+    /// Takes octets of the piece, up to the end of one frame or else all of them, and answers what
+    /// is handed out: at most one event. Call it again until the piece is used and nothing is
+    /// handed out. A part of a response is handed out only where the parts so far begin one that
+    /// breaks no rule (sections 8.1 to 8.3); otherwise this end resets the stream with
+    /// PROTOCOL_ERROR, unless the part has closed it, and answers that; or the connection fails, as
+    /// [`Conn::refuse`](crate::Conn::refuse) says.
+    ///
+    /// # Errors
+    ///
+    /// [`ConnFault`] where the connection fails, with INTERNAL_ERROR where an allocation was
+    /// refused, and at every call from then on.
+    pub fn take<'a>(&'a mut self, piece: &'a [u8]) -> Result<EndTaken<'a>, ConnFault>
+        ensures used { IfOk result (λ taken. taken.used ≤ length piece.now) }
+        ensures* after { sem 𝓛 (Rests client_row self.entry
+            (λ new. EndTakes self.old.end piece.now result new.end)) }
+    {
+        let progress = self.end.advance(piece)?;
+        Ok(lend(&self.end, piece, progress))
+    }
+}
+
+impl Server {
+    /// Takes octets of the piece, up to the end of one frame or else all of them, and answers what
+    /// is handed out: at most one event. Call it again until the piece is used and nothing is
+    /// handed out. A part of a request is handed out only where the parts so far begin one that
+    /// breaks no rule (sections 8.1 to 8.3); otherwise this end resets the stream with
+    /// PROTOCOL_ERROR, unless the part has closed it, and answers that; or the connection fails, as
+    /// [`Conn::refuse`](crate::Conn::refuse) says.
+    ///
+    /// # Errors
+    ///
+    /// [`ConnFault`] where the connection fails, with INTERNAL_ERROR where an allocation was
+    /// refused, and at every call from then on.
+    pub fn take<'a>(&'a mut self, piece: &'a [u8]) -> Result<EndTaken<'a>, ConnFault>
+        ensures used { IfOk result (λ taken. taken.used ≤ length piece.now) }
+        ensures* after { sem 𝓛 (Rests server_row self.entry
+            (λ new. EndTakes self.old.end piece.now result new.end)) }
+    {
+        let progress = self.end.advance(piece)?;
+        Ok(lend(&self.end, piece, progress))
+    }
+}

@@ -1,0 +1,34 @@
+//! A client and a server of HTTP/2 over cleartext, without input and output (RFC 9113, section 8).
+//!
+//! [`Client::request`] and [`Server::respond`] take whole messages, whose bodies are sent as
+//! windows allow. What the peer sends is handed out part by part: a part is handed out only where
+//! the parts so far begin a message that breaks no rule.
+//!
+//! Whoever reads and writes goes round so: `take` with what was read, until the piece is used and
+//! nothing is handed out; `respond` to what was asked; `release_all`, without which the peer stops
+//! at its window; `pump`; and `put_out` until nothing waits, which is then written. Where a call is
+//! refused with C7 (OutputFull), write first and call again.
+#![tactic(auto)]
+
+mod client;
+mod control;
+mod end;
+mod event;
+mod lending;
+mod outgoing;
+mod refusal;
+mod sending;
+mod server;
+mod taking;
+#[cfg(test)]
+mod tests;
+
+pub use client::Client;
+pub use event::{EndEvent, EndTaken};
+pub use h2_conn::{BadConfig, Config, Conn, ConnFault, Refusal};
+pub use h2_frame::Code;
+pub use h2_message::{
+    Field, FieldList, FieldRef, Malformed, Message, Octets, check_request, check_response,
+};
+pub use refusal::EndRefusal;
+pub use server::Server;

@@ -1,0 +1,23 @@
+//! Why a call of a client or a server is refused.
+
+use h2_log::Refusal;
+use h2_message::Malformed;
+use thiserror::Error;
+
+/// Why a call was refused. E3 and E4 come first, then E1, then E2. Nothing has changed, unless the
+/// call says otherwise.
+#[derive(Clone, Copy, Debug, PartialEq, Eq, Hash, Error)]
+pub enum EndRefusal {
+    /// E1: the message breaks a rule, this one first.
+    #[error("E1 BadMessage: {0}")]
+    BadMessage(Malformed),
+    /// E2: the connection refuses it.
+    #[error("E2 Conn: {0}")]
+    Conn(Refusal),
+    /// E3: the stream isn't active, or the head of its request wasn't handed out.
+    #[error("E3 NotAsked: no request was handed out on an active stream with this number")]
+    NotAsked,
+    /// E4: a response was given for the stream already.
+    #[error("E4 Answered: the request has its answer already")]
+    Answered,
+}

@@ -1,0 +1,261 @@
+//! Taking octets: parts of messages, checked before anyone sees them.
+
+ghost use Rattle.std.specs.Prelude.{◌≡◌, ℕ, ◌≤◌, List, Some, None, IfOk, Ok, length};
+ghost use Rattle.h2_log.specs.Acts.{Values, Answer, Refuse};
+ghost use Rattle.h2_log.specs.LogCalls.{MayAnswer, with_call};
+ghost use Rattle.h2_ends.specs.Ends.{EndLog, handed_at};
+ghost use Rattle.h2_ends.specs.EndTakes.{end_with_log};
+ghost use Rattle.h2_ends.specs.Loans.{BodyLiesIn, BodyLiesThere, IsBodyIn, IsBodyHanded};
+ghost use Rattle.h2_ends.specs.Loans.{answer_of_taken, answer_handed, handed_value, event_handed};
+ghost use Rattle.h2_ends.specs.Represents.{EndAdvances, EndRepresents, kept_at};
+ghost use Rattle.h2_ends.specs.Taking.{IsReadOn, ReadsFields, ReadsData, code_unread};
+ghost use Rattle.h2_ends.specs.Taking.{AnswersRefusal, IsResetBy, LiesHere, EndHands};
+
+use crate::end::End;
+use crate::event::{EndEvent, EndTaken};
+use crate::outgoing::{Outgoing, Stream};
+use h2_conn::{ConnFault, Happened};
+use h2_frame::Code;
+use h2_message::{Place, Reading};
+use h2_wire::Complete;
+use hpack::FieldList;
+
+/// What is handed out, without the fields, and with the frame of DATA in place of its octets.
+#[derive(Clone, Copy, Debug)]
+pub(crate) enum HandedOut {
+    /// A field block, which is this part of a message.
+    Fields { id: u32, place: Place, end: bool },
+    /// Octets of a body.
+    Body { id: u32, frame: Complete, end: bool },
+    Reset { id: u32, code: u32, ours: bool },
+    GoAway { last: u32, code: u32 },
+    Unprocessed { id: u32 },
+    Acked,
+    Pong { octets: [u8; 8] },
+}
+
+/// What one call made of its piece.
+#[derive(Clone, Copy, Debug)]
+pub(crate) struct EndProgress {
+    /// How many octets were used.
+    pub(crate) used: usize,
+    /// What is handed out.
+    pub(crate) handed: Option<HandedOut>,
+}
+
+/// Why a part of a message isn't handed out.
+#[derive(Clone, Copy, Debug)]
+pub(crate) enum Unread {
+    /// No message that breaks no rule begins so.
+    Malformed,
+    /// An allocation was refused.
+    OutOfMemory,
+}
+
+impl Unread {
+    /// The code with which the stream is refused.
+    fn code(self) -> u32
+        ensures { result ≡ code_unread self }
+    {
+        match self {
+            Unread::Malformed => Code::ProtocolError.number(),
+            Unread::OutOfMemory => Code::InternalError.number(),
+        }
+    }
+}
+
+impl End {
+    /// Takes octets of the piece, up to the end of one frame or else all of them.
+    pub(crate) fn advance(&mut self, piece: &[u8]) -> Result<EndProgress, ConnFault>
+        ensures used { IfOk result (λ progress. progress.used ≤ length piece.now) }
+        ensures lies { BodyLiesThere self.new piece.now result }
+        ensures takes { (octets : List ℕ) → IsBodyHanded self.new piece.now octets result
+            → EndAdvances self.old piece.now octets result self.new }
+    {
+        let progress = self.conn.advance(piece)?;
+        let handed = match progress.happened {
+            None => None,
+            Some(happened) => Some(self.hand_out(piece, happened)?),
+        };
+        Ok(EndProgress {
+            used: progress.used,
+            handed,
+        })
+    }
+
+    /// Hands out what the connection has reported, unless it is a part of a message that cannot be
+    /// read.
+    fn hand_out(&mut self, piece: &[u8], happened: Happened) -> Result<HandedOut, ConnFault>
+        requires lies { LiesHere self.old piece.now happened }
+        ensures lies { IfOk result (λ handed. BodyLiesIn self.new piece.now (Some handed)) }
+        ensures hands { (octets : List ℕ)
+            → IfOk result (λ handed. IsBodyIn self.new piece.now octets (Some handed))
+            → EndHands self.old piece.now happened octets result self.new }
+    {
+        match happened {
+            Happened::Fields { id, end } => match self.read_fields(id, end) {
+                Ok(place) => Ok(HandedOut::Fields { id, place, end }),
+                Err(unread) => self.refuse(id, unread),
+            },
+            Happened::Data { id, frame, end, .. } => {
+                let count = self.conn.octets(piece, frame).len();
+                if self.read_data(id, count, end) {
+                    return Ok(HandedOut::Body { id, frame, end });
+                }
+                self.refuse(id, Unread::Malformed)
+            }
+            Happened::Reset { id, code, ours } => {
+                self.forget_if_over(id);
+                Ok(HandedOut::Reset { id, code, ours })
+            }
+            Happened::Unprocessed { id } => {
+                self.forget_if_over(id);
+                Ok(HandedOut::Unprocessed { id })
+            }
+            Happened::GoAway { last, code } => Ok(HandedOut::GoAway { last, code }),
+            Happened::Acked => Ok(HandedOut::Acked),
+            Happened::Pong { octets } => Ok(HandedOut::Pong { octets }),
+        }
+    }
+
+    /// Reads the field block that the connection has reported.
+    fn read_fields(&mut self, id: u32, end: bool) -> Result<Place, Unread>
+        ensures conn { self.new.conn ≡ self.old.conn }
+        ensures reads { (values : Values) (happened : EndLog)
+            → IsReadOn values self.old happened id
+            → ReadsFields values happened id self.old.conn.inner.end.list end result self.new }
+    {
+        let Some(stream) = self.streams.get_mut(&id) else {
+            return self.read_first(id, end);
+        };
+        let Some(place) = stream.reading.fields(self.conn.list(), end) else {
+            return Err(Unread::Malformed);
+        };
+        self.forget_if_closed(id, end);
+        Ok(place)
+    }
+
+    /// Reads the first field block of a stream.
+    fn read_first(&mut self, id: u32, end: bool) -> Result<Place, Unread>
+        requires first { kept_at id self.old.streams.entries ≡ None }
+        ensures conn { self.new.conn ≡ self.old.conn }
+        ensures reads { (values : Values) (happened : EndLog)
+            → IsReadOn values self.old happened id
+            → ReadsFields values happened id self.old.conn.inner.end.list end result self.new }
+    {
+        let mut reading = Reading::new(self.first_reads());
+        let Some(place) = reading.fields(self.conn.list(), end) else {
+            return Err(Unread::Malformed);
+        };
+        let stream = Stream {
+            reading,
+            outgoing: Outgoing::NotGiven,
+        };
+        match self.streams.insert(id, stream) {
+            Ok(_) => Ok(place),
+            Err(_) => Err(Unread::OutOfMemory),
+        }
+    }
+
+    /// Reads so many octets of a body, and answers whether they can be read.
+    fn read_data(&mut self, id: u32, count: usize, end: bool) -> bool
+        ensures conn { self.new.conn ≡ self.old.conn }
+        ensures reads { (values : Values) (happened : EndLog) (octets : List ℕ)
+            → length octets ≡ count → IsReadOn values self.old happened id
+            → ReadsData values happened id octets end result self.new }
+    {
+        let Some(stream) = self.streams.get_mut(&id) else {
+            return false;
+        };
+        if !stream.reading.data(count, end) {
+            return false;
+        }
+        self.forget_if_closed(id, end);
+        true
+    }
+
+    /// Forgets a stream if its last part has closed it.
+    fn forget_if_closed(&mut self, id: u32, end: bool)
+        ensures conn { self.new.conn ≡ self.old.conn }
+        ensures represents { (values : Values) (happened : EndLog)
+            → EndRepresents values self.old happened → EndRepresents values self.new happened }
+    {
+        if end && !self.conn.is_active(id) {
+            self.streams.remove(&id);
+        }
+    }
+
+    /// Refuses a stream whose part of a message isn't handed out: this end resets it; or the
+    /// connection fails.
+    fn refuse(&mut self, id: u32, unread: Unread) -> Result<HandedOut, ConnFault>
+        ensures resets { IsResetBy id (code_unread unread) result }
+        ensures answers { (values : Values) (end : EndLog) → EndRepresents values self.old end
+            → (refused : Answer)
+            × MayAnswer end.log (Refuse id (code_unread unread)) refused
+            × AnswersRefusal values
+            (end_with_log end (with_call end.log (Refuse id (code_unread unread)) refused)) result
+            self.new }
+    {
+        let code = unread.code();
+        // C2 where the part itself has closed the stream: then nothing is sent.
+        let _refused = self.conn.refuse(id, code);
+        if let Some(code) = self.conn.failed() {
+            return Err(ConnFault { code });
+        }
+        self.forget_if_over(id);
+        Ok(HandedOut::Reset {
+            id,
+            code,
+            ours: true,
+        })
+    }
+}
+
+/// Lends what was handed out of this piece.
+pub(crate) fn lend<'a>(end: &'a End, piece: &'a [u8], progress: EndProgress) -> EndTaken<'a>
+    requires lies { BodyLiesIn end.now piece.now progress.handed }
+    ensures { (octets : List ℕ) × IsBodyIn end.now piece.now octets progress.handed
+        × (answer_of_taken (Ok result)
+        ≡ answer_handed end.now.conn.inner.end.list octets (Ok progress)) }
+{
+    let event = match progress.handed {
+        None => None,
+        Some(handed) => Some(lend_event(end, piece, handed)),
+    };
+    EndTaken {
+        used: progress.used,
+        event,
+    }
+}
+
+/// Lends the fields, or the octets, of an event.
+fn lend_event<'a>(from: &'a End, piece: &'a [u8], handed: HandedOut) -> EndEvent<'a>
+    requires lies { BodyLiesIn from.now piece.now (Some handed) }
+    ensures { (octets : List ℕ) × IsBodyIn from.now piece.now octets (Some handed)
+        × (event_handed result ≡ handed_value from.now.conn.inner.end.list octets handed) }
+{
+    match handed {
+        HandedOut::Fields { id, place, end } => lend_fields(from.conn.list(), id, place, end),
+        HandedOut::Body { id, frame, end } => EndEvent::Body {
+            id,
+            bytes: from.conn.octets(piece, frame),
+            end,
+        },
+        HandedOut::Reset { id, code, ours } => EndEvent::Reset { id, code, ours },
+        HandedOut::GoAway { last, code } => EndEvent::GoAway { last, code },
+        HandedOut::Unprocessed { id } => EndEvent::Unprocessed { id },
+        HandedOut::Acked => EndEvent::Acked,
+        HandedOut::Pong { octets } => EndEvent::Pong { octets },
+    }
+}
+
+/// Lends the fields of a part of a message.
+fn lend_fields(list: &FieldList, id: u32, place: Place, end: bool) -> EndEvent<'_>
+    ensures { event_handed result ≡ handed_at place id list.now end }
+{
+    match place {
+        Place::Interim => EndEvent::Interim { id, list },
+        Place::Head => EndEvent::Head { id, list, end },
+        Place::Trailers => EndEvent::Trailers { id, list },
+    }
+}
