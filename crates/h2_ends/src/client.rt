@@ -62,8 +62,8 @@ impl Client {
 
     /// Sends what waits of bodies and trailers, streams in rising order, each as far as its windows
     /// go, until nothing more could go or 65,536 octets or more of output wait; answers how many
-    /// octets of bodies were sent. A body is sent from where it lies. A long one on a low stream goes
-    /// before those on higher ones.
+    /// octets of bodies were sent. A body is sent from where it lies. A long one on a low stream
+    /// goes before those on higher ones.
     ///
     /// # Errors
     ///

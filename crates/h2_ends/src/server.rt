@@ -53,8 +53,8 @@ impl Server {
     /// # Errors
     ///
     /// The message is handed back with E3 where the stream isn't active or no request on it was
-    /// handed out, else with E4 where it has its response, else with E1 where the message breaks a rule,
-    /// else with E2 and the first of C1, C7, C10 (of the trailers too) and C12. Nothing has
+    /// handed out, else with E4 where it has its response, else with E1 where the message breaks a
+    /// rule, else with E2 and the first of C1, C7, C10 (of the trailers too) and C12. Nothing has
     /// changed.
     pub fn respond(&mut self, id: u32, message: Message) -> Result<(), (Message, EndRefusal)>
         ensures { EndResponds self.old.end id (message_value message) result self.new.end }
@@ -64,8 +64,8 @@ impl Server {
 
     /// Sends what waits of bodies and trailers, streams in rising order, each as far as its windows
     /// go, until nothing more could go or 65,536 octets or more of output wait; answers how many
-    /// octets of bodies were sent. A body is sent from where it lies. A long one on a low stream goes
-    /// before those on higher ones.
+    /// octets of bodies were sent. A body is sent from where it lies. A long one on a low stream
+    /// goes before those on higher ones.
     ///
     /// # Errors
     ///

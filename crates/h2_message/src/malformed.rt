@@ -38,13 +38,13 @@ pub enum Malformed {
     #[error("M10 ConnectionField: a field that is specific to one connection")]
     ConnectionField,
     /// M11: a `content-length` is no number of 1 to 19 digits, or several differ, or the body has
-    /// another length (section 8.1.1); or a response that has no content, to HEAD, 204 or 304, has a
-    /// body (RFC 9110, section 6.4.1).
+    /// another length (section 8.1.1); or a response that has no content, to HEAD, 204 or 304, has
+    /// a body (RFC 9110, section 6.4.1).
     #[error("M11 BadLength: a bad content-length, or a body of another length")]
     BadLength,
     /// M12: the parts of a message come in another order than its own (section 8.1). A message that
-    /// is to be sent has its order, so no check answers it; [`Reading`](crate::Reading) refuses such
-    /// a part.
+    /// is to be sent has its order, so no check answers it; [`Reading`](crate::Reading) refuses
+    /// such a part.
     #[error("M12 BadOrder: the parts of the message are out of order")]
     BadOrder,
 }
