@@ -29,3 +29,7 @@ enum { MARK = 0xbe1c0e };
 int measure_serve(const uint8_t *octets, size_t n, size_t piece, struct counts *out);
 /* Serves a client's octets with the README's server, whose answers are smaller. No units. */
 int measure_server(const uint8_t *octets, size_t n, struct counts *out);
+
+/* Takes a server's octets with the README's client, which asks for one page. The octets that are
+   counted are those of the response's body. */
+int measure_client(const uint8_t *octets, size_t n, struct counts *out);

@@ -41,6 +41,15 @@ pub mod SendableItems
 pub mod Sendings
 pub mod SettingsApplied
 pub mod TakeAnswers
+pub mod ToldCalls
+pub mod ToldFrames
+pub mod ToldItems
+pub mod ToldLogs
+pub mod ToldOpened
+pub mod ToldOwed
+pub mod ToldStays
+pub mod ToldSteps
+pub mod ToldTakes
 pub mod TurnsAdded
 pub mod Unread
 pub mod WrittenSteps

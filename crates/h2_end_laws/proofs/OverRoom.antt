@@ -65,21 +65,21 @@ no_room_by_call log act answer i none =
     rw (grows.received, grows.sent) (no_room log i grows.items none)
 
 -- What is written is no call.
-sent_calls : (log : Log) (items : List Item) → (with_sent log items).calls ≡ log.calls
+pub sent_calls : (log : Log) (items : List Item) → (with_sent log items).calls ≡ log.calls
 sent_calls log items = ap (λ (v : History). v.calls) (wrote_view log items)
 
 given_calls : (b : Bool) (v : History) → (given_by b v).calls ≡ v.calls
 given_calls true v = refl
 given_calls false v = refl
 
-due_calls : (more : ℕ) (log : Log) → (with_unreturned more log).calls ≡ log.calls
+pub due_calls : (more : ℕ) (log : Log) → (with_unreturned more log).calls ≡ log.calls
 due_calls more log =
     ap (λ (v : History). v.calls) (with_unreturned_view more log)
     ∙ given_calls (nat_lt 0 more && nat_lt (waiting log) full_output)
     (moved (history_of log) [] [] [] log.calls (log.unreturned + more))
 
 -- A call is one more.
-items_calls : (log : Log) (act : Act) (answer : Answer)
+pub items_calls : (log : Log) (act : Act) (answer : Answer)
     → (with_items log act answer).calls ≡ (act, answer) ∷ log.calls
 unfolding with_items
 items_calls log act answer =
@@ -94,7 +94,7 @@ release_calls log id count OutOfMemory = sent_calls (called log (Release id coun
 release_calls log id count answer = items_calls log (Release id count) answer
 
 -- What was released stays released.
-released_more : (i : ℕ) (act : Act) (answer : Answer) (calls : List (Act × Answer))
+pub released_more : (i : ℕ) (act : Act) (answer : Answer) (calls : List (Act × Answer))
     → released i calls ≤ released i ((act, answer) ∷ calls)
 unfolding released
 released_more i (Release id count) Done calls = omega arith
@@ -115,11 +115,11 @@ release_inactive log id count i answer =
     (release_no_block log id count i answer)
 
 -- What is owed on a stream that isn't active, and on one that is.
-owed_inactive : (log : Log) (i : ℕ) → active log i ≡ false → owed log i ≡ 0
+pub owed_inactive : (log : Log) (i : ℕ) → active log i ≡ false → owed log i ≡ 0
 unfolding owed
 owed_inactive log i is = rw is refl
 
-owed_active : (log : Log) (i : ℕ) → active log i ≡ true → owed log i ≡ unreleased log i
+pub owed_active : (log : Log) (i : ℕ) → active log i ≡ true → owed log i ≡ unreleased log i
 unfolding owed
 owed_active log i is = rw is refl
 
@@ -127,7 +127,7 @@ owed_if : (b : Bool) (n : ℕ) → n ≡ 0 → (if b then n else 0) ≡ 0
 owed_if true n none = none
 owed_if false n none = refl
 
-owed_none : (log : Log) (i : ℕ) → unreleased log i ≡ 0 → owed log i ≡ 0
+pub owed_none : (log : Log) (i : ℕ) → unreleased log i ≡ 0 → owed log i ≡ 0
 unfolding owed
 owed_none log i none = owed_if (active log i) (unreleased log i) none
 
@@ -141,7 +141,7 @@ left_after log id count i answer =
     rw ((grows_call log (Release id count) answer).reported, release_calls log id count answer)
     refl
 
-left_is : (log : Log) (i : ℕ)
+pub left_is : (log : Log) (i : ℕ)
     → unreleased log i ≡ reported_total (flow_on i) log.reported - released i log.calls
 unfolding unreleased
 left_is log i = refl

@@ -10,6 +10,7 @@ mod streams;
 mod takes;
 #[cfg(test)]
 mod tests;
+mod told;
 mod writes;
 
 pub use pieces::{pieces_do_not_matter, prefix_of_the_output};
@@ -20,6 +21,10 @@ pub use streams::{
     released_is_not_owed, sending_gives_no_room,
 };
 pub use takes::take_answers;
+pub use told::{
+    closed_streams_are_told, opened_streams_are_told, owed_octets_are_told,
+    refused_streams_are_closed,
+};
 pub use writes::{
     blocks_are_of_the_lists, each_is_replied_to, each_step_writes_what_it_owes,
     nothing_follows_a_failure, receive_window_is_kept, stream_window_is_conserved,

@@ -1,10 +1,11 @@
 //! The laws are called.
 
 use crate::{
-    blocks_are_of_the_lists, each_is_replied_to, each_step_writes_what_it_owes,
-    events_are_of_streams_in_use, events_are_of_the_items, items_are_frames_grouped,
-    nothing_follows_a_failure, opened_numbers_are_new, over_streams_stay_over,
-    pieces_do_not_matter, prefix_of_the_output, receive_window_is_kept, released_is_not_owed,
+    blocks_are_of_the_lists, closed_streams_are_told, each_is_replied_to,
+    each_step_writes_what_it_owes, events_are_of_streams_in_use, events_are_of_the_items,
+    items_are_frames_grouped, nothing_follows_a_failure, opened_numbers_are_new,
+    opened_streams_are_told, over_streams_stay_over, owed_octets_are_told, pieces_do_not_matter,
+    prefix_of_the_output, receive_window_is_kept, refused_streams_are_closed, released_is_not_owed,
     replays_are_logs, sending_gives_no_room, stream_window_is_conserved, take_answers,
     windows_hold_data, written_items_can_be_sent,
 };
@@ -12,6 +13,7 @@ use crate::{
 #[test]
 fn laws_are_called() {
     blocks_are_of_the_lists();
+    closed_streams_are_told();
     each_is_replied_to();
     each_step_writes_what_it_owes();
     events_are_of_streams_in_use();
@@ -19,9 +21,12 @@ fn laws_are_called() {
     items_are_frames_grouped();
     nothing_follows_a_failure();
     opened_numbers_are_new();
+    opened_streams_are_told();
+    owed_octets_are_told();
     over_streams_stay_over();
     pieces_do_not_matter();
     prefix_of_the_output();
+    refused_streams_are_closed();
     receive_window_is_kept();
     released_is_not_owed();
     replays_are_logs();

@@ -1,15 +1,22 @@
 -- A new end represents that nothing has happened.
-use Rattle.std.proofs.Common.{◌≡◌, ℕ, [], Some, None, refl, sym, ap, ◌∙◌, inr}
+use Rattle.std.proofs.Common.{◌≡◌, ℕ, false, List, [], ◌++◌, None, refl, sym, ap, ◌∙◌, inl, inr}
+use Rattle.std.proofs.lemmas.Bool.{both_ways, false_from_ne_true}
 use Rattle.h2_log.specs.declared.role.Role.{Role}
+use Rattle.h2_log.specs.declared.role.Role.TheVariants.{Client, Server}
 use Rattle.h2_log.specs.Acts.{Values}
+use Rattle.h2_log.specs.Items.{is_block_on}
+use Rattle.h2_log.specs.Log.{active}
 use Rattle.h2_log.specs.LogCalls.{opened}
 use Rattle.h2_log.specs.LogSteps.{with_sent}
 use Rattle.h2_conn.specs.Conn.{ConnRepresents}
-use Rattle.h2_message.specs.Messages.{SentMessage}
-use Rattle.h2_pair.specs.Tokens.{tokens_sent}
+use Rattle.h2_log_laws.proofs.ReaderStates.{active_parts}
+use Rattle.h2_pair.specs.Tokens.{Token, tokens_sent, tokens_heard}
 use Rattle.h2_ends.specs.declared.end.End.{End}
-use Rattle.h2_ends.specs.Ends.{message_for, parts_on}
-use Rattle.h2_ends.specs.Represents.{EndRepresents, IsKept, new_end}
+use Rattle.h2_ends.specs.declared.span.Span.{Span}
+use Rattle.h2_ends.specs.declared.span.Spans.{Spans}
+use Rattle.h2_ends.specs.Ends.{message_for, parts_on, tokens_given, tokens_of_parts}
+use Rattle.h2_ends.specs.Represents.{EndRepresents, IsKept, IsInStep, SendsInOrder, new_end}
+use Rattle.h2_ends.proofs.ReleaseSteps.{owed_inactive}
 
 -- The log of a new end has its role, and no call.
 opened_role : (role : Role) (values : Values) → (opened role values).role ≡ role
@@ -35,18 +42,54 @@ nothing_kept role values i =
       unsent = ap (tokens_sent i) (opened_calls role values) ∙ none_sent i;
     }
 
-none_given : {Goal : Type 0} (i : ℕ) (message : SentMessage)
-    → message_for i [] ≡ Some message → Goal
+none_given : (i : ℕ) → message_for i [] ≡ None
 unfolding message_for
-none_given i message given = cc
+none_given i = refl
+
+-- No stream is active.
+none_active : (role : Role) (values : Values) (i : ℕ) → active (opened role values) i ≡ false
+unfolding opened with_sent is_block_on
+none_active Client values i = false_from_ne_true _ (λ alive.
+    let has = (active_parts Client i _ _ _ alive).opened in cc)
+none_active Server values i = false_from_ne_true _ (λ alive.
+    let has = (active_parts Server i _ _ _ alive).opened in cc)
+
+-- So all that it was given to say is said,
+new_sends : (role : Role) (values : Values) (i : ℕ) → SendsInOrder (new_end role values) i
+unfolding tokens_given
+new_sends role values i =
+    let none = ap (tokens_sent i) (opened_calls role values) ∙ none_sent i in
+    record {
+      waiting = [];
+      prefix = ap tokens_given (none_given i)
+          ∙ ap (λ (tokens : List Token). tokens ++ []) (sym none);
+      begun = λ given. absurd (given (none_given i));
+    }
+
+-- nothing was heard, and no stream is active.
+new_in_step : (spans : Spans) (role : Role) (values : Values) (i : ℕ)
+    → IsInStep spans None (new_end role values) i
+unfolding opened with_sent tokens_heard tokens_of_parts parts_on
+new_in_step spans role values i =
+    record {
+      all = λ up alive. absurd (both_ways _ (none_active role values i) alive);
+      handed = inl refl;
+      within = λ waiting waits. cc;
+      owes = λ some. absurd (some (owed_inactive (new_end role values).log i
+          (none_active role values i)));
+    }
 
 pub starts : (role : Role) (values : Values) (end : End)
     → ConnRepresents values end.conn (opened role values) → end.role ≡ role
     → end.streams.entries ≡ [] → EndRepresents values end (new_end role values)
 starts role values end conn is none =
     record {
-      conn = conn;
-      role = is ∙ sym (opened_role role values);
-      streams = λ i. inr (rw none (nothing_kept role values i));
-      begun = λ i message given. none_given i message given;
+      streams = record {
+        conn = conn;
+        role = is ∙ sym (opened_role role values);
+        streams = λ i. inr (rw none (nothing_kept role values i));
+        sent = new_sends role values;
+      };
+      in_step = λ i. rw none (new_in_step end.spans role values i);
+      active = λ i. rw none (λ some. absurd (some refl));
     }

@@ -1,20 +1,31 @@
 -- The connection's own calls, that send no part of a message.
-use Rattle.std.proofs.Common.{◌≡◌, ℕ, List, [], refl}
+use Rattle.std.proofs.Common.{◌≡◌, ◌≢◌, ℕ, false, List, [], Result, Ok, Err, refl, sym}
+use Rattle.std.proofs.lemmas.Bool.{ne_eqb}
+use Rattle.h2_log.specs.declared.refusal.Refusal.{Refusal}
 use Rattle.h2_log.specs.Acts.{Values, Act, Answer, ResetStream, Refuse, SendPing, SendGoAway}
-use Rattle.h2_log.specs.Acts.{ChangeSettings, PutOut}
-use Rattle.h2_conn.specs.Conn.{ConnAnswers}
+use Rattle.h2_log.specs.Acts.{ChangeSettings, PutOut, Number, Count, Done, Refused}
+use Rattle.h2_log.specs.LogCalls.{MayAnswer, with_call}
+use Rattle.h2_conn.specs.Conn.{ConnAnswers, answer_by}
 use Rattle.h2_pair.specs.Tokens.{tokens_of_call}
 use Rattle.h2_ends.specs.declared.end.End.{End}
-use Rattle.h2_ends.specs.Represents.{EndAnswers}
-use Rattle.h2_ends.proofs.EndSteps.{quiet_call}
+use Rattle.h2_ends.specs.Ends.{EndLog}
+use Rattle.h2_ends.specs.EndTakes.{end_with_log}
+use Rattle.h2_ends.specs.Represents.{EndAnswers, EndRepresents, RepresentsBut}
+use Rattle.h2_end_laws.specs.Told.{call_may_close}
+use Rattle.h2_ends.proofs.InSteps.{called_as, called_but}
 
--- A call that sends no token, and leaves what is kept of the streams.
+-- A call that opens and closes no stream, and sends no token.
 quiet_answers : (old new : End) (act : Act) (answer : Answer)
     → ConnAnswers old.conn act answer new.conn → new.role ≡ old.role → new.streams ≡ old.streams
-    → ((i : ℕ) → tokens_of_call i act answer ≡ []) → EndAnswers old act answer new
-quiet_answers old new act answer answers role streams none = λ values end is.
-    let made = answers values end.log is.conn in
-    (made.0, quiet_call values old new end act answer is made.0 made.1 role streams none)
+    → new.spans ≡ old.spans → ((i : ℕ) → tokens_of_call i act answer ≡ [])
+    → ((i : ℕ) → answer ≢ Number i) → ((i : ℕ) → call_may_close i act answer ≡ false)
+    → EndAnswers old act answer new
+quiet_answers old new act answer answers role streams spans none opens closes = λ values end is.
+    let made = answers values end.log is.streams.conn in (
+      made.0,
+      called_as values old new end act answer is made.0 made.1 role streams spans none opens
+          closes,
+    )
 
 -- None of these calls sends one.
 reset_tokens : (id code i : ℕ) (answer : Answer)
@@ -45,38 +56,97 @@ put_out_tokens : (count i : ℕ) (answer : Answer) → tokens_of_call i (PutOut 
 unfolding tokens_of_call
 put_out_tokens count i answer = refl
 
+-- Nor opens one a stream: what they answer is no number.
+done_opens : (result : Result (Unit {0}) Refusal) (i : ℕ)
+    → answer_by (λ done. Done) result ≢ Number i
+done_opens (Ok done) i = λ is. cc
+done_opens (Err refusal) i = λ is. cc
+
+count_opens : (result : Result ℕ Refusal) (i : ℕ)
+    → answer_by (λ given. Count given) result ≢ Number i
+count_opens (Ok given) i = λ is. cc
+count_opens (Err refusal) i = λ is. cc
+
+-- Nor closes one, but for a reset that is done.
+reset_closes : (id code i : ℕ) (refusal : Refusal)
+    → call_may_close i (ResetStream id code) (Refused refusal) ≡ false
+unfolding call_may_close
+reset_closes id code i refusal = refl
+
+reset_closes_one : (id code i : ℕ) → i ≢ id → call_may_close i (ResetStream id code) Done ≡ false
+unfolding call_may_close
+reset_closes_one id code i other = ne_eqb id i (λ same. other (sym same))
+
+ping_closes : (octets : List ℕ) (i : ℕ) (answer : Answer)
+    → call_may_close i (SendPing octets) answer ≡ false
+unfolding call_may_close
+ping_closes octets i answer = refl
+
+go_away_closes : (i : ℕ) (answer : Answer) → call_may_close i SendGoAway answer ≡ false
+unfolding call_may_close
+go_away_closes i answer = refl
+
+settings_closes : (own : Values) (i : ℕ) (answer : Answer)
+    → call_may_close i (ChangeSettings own) answer ≡ false
+unfolding call_may_close
+settings_closes own i answer = refl
+
+put_out_closes : (count i : ℕ) (answer : Answer) → call_may_close i (PutOut count) answer ≡ false
+unfolding call_may_close
+put_out_closes count i answer = refl
+
 -- So each of them is answered by the end as by its connection.
-pub resets : (old new : End) (id code : ℕ) (answer : Answer)
-    → ConnAnswers old.conn (ResetStream id code) answer new.conn → new.role ≡ old.role
-    → new.streams ≡ old.streams → EndAnswers old (ResetStream id code) answer new
-resets old new id code answer answers role streams =
-    quiet_answers old new (ResetStream id code) answer answers role streams
-    (λ i. reset_tokens id code i answer)
+pub pings : (old new : End) (octets : List ℕ) (result : Result (Unit {0}) Refusal)
+    → ConnAnswers old.conn (SendPing octets) (answer_by (λ done. Done) result) new.conn
+    → new.role ≡ old.role → new.streams ≡ old.streams → new.spans ≡ old.spans
+    → EndAnswers old (SendPing octets) (answer_by (λ done. Done) result) new
+pings old new octets result answers role streams spans =
+    quiet_answers old new (SendPing octets) _ answers role streams spans
+    (λ i. ping_tokens octets i _) (done_opens result) (λ i. ping_closes octets i _)
 
-pub pings : (old new : End) (octets : List ℕ) (answer : Answer)
-    → ConnAnswers old.conn (SendPing octets) answer new.conn → new.role ≡ old.role
-    → new.streams ≡ old.streams → EndAnswers old (SendPing octets) answer new
-pings old new octets answer answers role streams =
-    quiet_answers old new (SendPing octets) answer answers role streams
-    (λ i. ping_tokens octets i answer)
+pub goes_away : (old new : End) (result : Result (Unit {0}) Refusal)
+    → ConnAnswers old.conn SendGoAway (answer_by (λ done. Done) result) new.conn
+    → new.role ≡ old.role → new.streams ≡ old.streams → new.spans ≡ old.spans
+    → EndAnswers old SendGoAway (answer_by (λ done. Done) result) new
+goes_away old new result answers role streams spans =
+    quiet_answers old new SendGoAway _ answers role streams spans
+    (λ i. go_away_tokens i _) (done_opens result) (λ i. go_away_closes i _)
 
-pub goes_away : (old new : End) (answer : Answer)
-    → ConnAnswers old.conn SendGoAway answer new.conn → new.role ≡ old.role
-    → new.streams ≡ old.streams → EndAnswers old SendGoAway answer new
-goes_away old new answer answers role streams =
-    quiet_answers old new SendGoAway answer answers role streams
-    (λ i. go_away_tokens i answer)
+pub changes_settings : (old new : End) (own : Values) (result : Result (Unit {0}) Refusal)
+    → ConnAnswers old.conn (ChangeSettings own) (answer_by (λ done. Done) result) new.conn
+    → new.role ≡ old.role → new.streams ≡ old.streams → new.spans ≡ old.spans
+    → EndAnswers old (ChangeSettings own) (answer_by (λ done. Done) result) new
+changes_settings old new own result answers role streams spans =
+    quiet_answers old new (ChangeSettings own) _ answers role streams spans
+    (λ i. settings_tokens own i _) (done_opens result) (λ i. settings_closes own i _)
 
-pub changes_settings : (old new : End) (own : Values) (answer : Answer)
-    → ConnAnswers old.conn (ChangeSettings own) answer new.conn → new.role ≡ old.role
-    → new.streams ≡ old.streams → EndAnswers old (ChangeSettings own) answer new
-changes_settings old new own answer answers role streams =
-    quiet_answers old new (ChangeSettings own) answer answers role streams
-    (λ i. settings_tokens own i answer)
+pub puts_out : (old new : End) (count : ℕ) (result : Result ℕ Refusal)
+    → ConnAnswers old.conn (PutOut count) (answer_by (λ given. Count given) result) new.conn
+    → new.role ≡ old.role → new.streams ≡ old.streams → new.spans ≡ old.spans
+    → EndAnswers old (PutOut count) (answer_by (λ given. Count given) result) new
+puts_out old new count result answers role streams spans =
+    quiet_answers old new (PutOut count) _ answers role streams spans
+    (λ i. put_out_tokens count i _) (count_opens result) (λ i. put_out_closes count i _)
 
-pub puts_out : (old new : End) (count : ℕ) (answer : Answer)
-    → ConnAnswers old.conn (PutOut count) answer new.conn → new.role ≡ old.role
-    → new.streams ≡ old.streams → EndAnswers old (PutOut count) answer new
-puts_out old new count answer answers role streams =
-    quiet_answers old new (PutOut count) answer answers role streams
-    (λ i. put_out_tokens count i answer)
+-- So is a reset that is refused; one that is done may close the stream.
+pub reset_is_refused : (old new : End) (id code : ℕ) (refusal : Refusal)
+    → ConnAnswers old.conn (ResetStream id code) (Refused refusal) new.conn
+    → new.role ≡ old.role → new.streams ≡ old.streams → new.spans ≡ old.spans
+    → EndAnswers old (ResetStream id code) (Refused refusal) new
+reset_is_refused old new id code refusal answers role streams spans =
+    quiet_answers old new (ResetStream id code) _ answers role streams spans
+    (λ i. reset_tokens id code i _) (done_opens (Err refusal))
+    (λ i. reset_closes id code i refusal)
+
+pub reset_is_done : (values : Values) (old new : End) (end : EndLog) (id code : ℕ)
+    → EndRepresents values old end → ConnAnswers old.conn (ResetStream id code) Done new.conn
+    → new.role ≡ old.role → new.streams ≡ old.streams → new.spans ≡ old.spans
+    → MayAnswer end.log (ResetStream id code) Done
+    × RepresentsBut values new (end_with_log end (with_call end.log (ResetStream id code) Done)) id
+reset_is_done values old new end id code is answers role streams spans =
+    let made = answers values end.log is.streams.conn in (
+      made.0,
+      called_but values old new end (ResetStream id code) Done id is made.0 made.1 role
+          streams spans (λ i. reset_tokens id code i Done) (done_opens (Ok tt))
+          (reset_closes_one id code),
+    )

@@ -22,7 +22,9 @@ use Rattle.h2_ends.specs.declared.outgoing.Stream.{Stream}
 use Rattle.h2_ends.specs.Ends.{EndLog, Passed, message_for, parts_on, part_on, reads_on, handed_as}
 use Rattle.h2_ends.specs.Ends.{Handed, tokens_out}
 use Rattle.h2_ends.specs.EndTakes.{end_with_log, end_with_handed}
-use Rattle.h2_ends.specs.Represents.{EndRepresents, IsKept, IsBegun, kept_at, IsOutgoing}
+use Rattle.h2_ends.specs.Represents.{RepresentsStreams, IsKept, SendsInOrder, kept_at}
+use Rattle.h2_ends.specs.Represents.{IsOutgoing, outgoing_in}
+use Rattle.h2_ends.specs.Heads.{KeepsOne}
 use Rattle.h2_end_laws.proofs.OverCalls.{over_by_call, used_by_call}
 use Rattle.h2_end_laws.proofs.OverReads.{over_by_take, used_by_take}
 use Rattle.h2_log_laws.proofs.LogGrowth.{grows_call}
@@ -33,25 +35,20 @@ use Rattle.h2_ends.proofs.EndParts.{handed_elsewhere, handed_here}
 abbrev pub kept : End → ℕ → Option Stream
 kept end i = kept_at i end.streams.entries
 
--- The new end keeps this of one stream, and of each other one what the old end keeps.
-pub record KeepsBut (old new : End) (id : ℕ) (stream : Option Stream) : Type 0 where
-  pub one : kept new id ≡ stream
-  pub others : (i : ℕ) → i ≢ id → kept new i ≡ kept old i
-
 -- Of a stream the same was given, sent and handed out, and it is still used.
-record IsSame (old new : EndLog) (i : ℕ) : Type 0 where
-  handed : parts_on i new.handed ≡ parts_on i old.handed
-  accepted : message_for i new.accepted ≡ message_for i old.accepted
-  sent : tokens_out new i ≡ tokens_out old i
-  role : new.log.role ≡ old.log.role
-  used_still : used old.log i ≡ true → used new.log i ≡ true
+pub record IsSame (old new : EndLog) (i : ℕ) : Type 0 where
+  pub handed : parts_on i new.handed ≡ parts_on i old.handed
+  pub accepted : message_for i new.accepted ≡ message_for i old.accepted
+  pub sent : tokens_out new i ≡ tokens_out old i
+  pub role : new.log.role ≡ old.log.role
+  pub used_still : used old.log i ≡ true → used new.log i ≡ true
 
 -- Then the same is read on it, sent of it and kept of it.
-same_reads : (old new : EndLog) (i : ℕ) → IsSame old new i → reads_on new i ≡ reads_on old i
+pub same_reads : (old new : EndLog) (i : ℕ) → IsSame old new i → reads_on new i ≡ reads_on old i
 unfolding reads_on
 same_reads old new i same = rw (same.role, same.accepted) refl
 
-same_outgoing : (old new : EndLog) (i : ℕ) (outgoing : Outgoing) → IsSame old new i
+pub same_outgoing : (old new : EndLog) (i : ℕ) (outgoing : Outgoing) → IsSame old new i
     → IsOutgoing old i outgoing → IsOutgoing new i outgoing
 unfolding IsOutgoing
 same_outgoing old new i outgoings.NotGiven same is =
@@ -68,7 +65,7 @@ same_outgoing old new i (outgoings.Waiting waiting) same is =
 same_outgoing old new i outgoings.Sent same is =
     (is.0, same.accepted ∙ is.1, is.2 ∙ sym same.sent)
 
-same_kept : (old new : EndLog) (i : ℕ) (stream : Option Stream) → IsSame old new i
+pub same_kept : (old new : EndLog) (i : ℕ) (stream : Option Stream) → IsSame old new i
     → IsKept old i stream → IsKept new i stream
 unfolding IsKept
 same_kept old new i None same is =
@@ -85,21 +82,21 @@ same_kept old new i (Some stream) same is =
       asked = rw (same.role, same.handed) is.asked;
     }
 
-same_begun : (old new : EndLog) (i : ℕ) (message : SentMessage) → IsSame old new i
-    → IsBegun old i message → IsBegun new i message
-same_begun old new i message same is =
+pub same_sent : (old new : EndLog) (i : ℕ) → IsSame old new i → SendsInOrder old i
+    → SendsInOrder new i
+same_sent old new i same is =
     record {
-      begun = rw same.sent is.begun;
       waiting = is.waiting;
-      sent = rw same.sent is.sent;
+      prefix = rw (same.sent, same.accepted) is.prefix;
+      begun = rw (same.sent, same.accepted) is.begun;
     }
 
 -- What is the same of all streams is kept.
-all_same : (values : Values) (end new : End) (old happened : EndLog)
-    → EndRepresents values end old → ConnRepresents values new.conn happened.log
+pub all_same : (values : Values) (end new : End) (old happened : EndLog)
+    → RepresentsStreams values end old → ConnRepresents values new.conn happened.log
     → new.role ≡ end.role → new.streams ≡ end.streams
     → ((i : ℕ) → IsOver old.log i → IsOver happened.log i) → ((i : ℕ) → IsSame old happened i)
-    → EndRepresents values new happened
+    → RepresentsStreams values new happened
 all_same values end new old happened is conn role streams over same =
     record {
       conn = conn;
@@ -108,22 +105,19 @@ all_same values end new old happened is conn role streams over same =
         | inl past ↦ inl (over i past)
         | inr kept ↦ inr (same_kept old happened i _ (same i) kept)
       ]);
-      begun = λ i message given. same_begun old happened i message (same i)
-          (is.begun i message (sym (same i).accepted ∙ given));
+      sent = λ i. same_sent old happened i (same i) (is.sent i);
     }
 
 -- So is what is the same of all but one, where that is over or this is kept of it.
-most_same : (values : Values) (end new : End) (old happened : EndLog) (id : ℕ)
-    (stream : Option Stream) → EndRepresents values end old
+pub most_same : (values : Values) (end new : End) (old happened : EndLog) (id : ℕ)
+    (stream : Option Stream) → RepresentsStreams values end old
     → ConnRepresents values new.conn happened.log → new.role ≡ end.role
-    → happened.log.role ≡ old.log.role → KeepsBut end new id stream
+    → happened.log.role ≡ old.log.role → KeepsOne end new id stream
     → ((i : ℕ) → IsOver old.log i → IsOver happened.log i)
     → ((i : ℕ) → i ≢ id → IsSame old happened i)
     → IsOver happened.log id ⊎ IsKept happened id stream
-    → ((message : SentMessage) → message_for id happened.accepted ≡ Some message
-    → IsBegun happened id message)
-    → EndRepresents values new happened
-most_same values end new old happened id stream is conn role same_role keeps over same one begun =
+    → SendsInOrder happened id → RepresentsStreams values new happened
+most_same values end new old happened id stream is conn role same_role keeps over same one sent =
     record {
       conn = conn;
       role = role ∙ is.role ∙ sym same_role;
@@ -134,10 +128,9 @@ most_same values end new old happened id stream is conn role same_role keeps ove
           | inr kept ↦ inr (same_kept old happened i _ (same i other) kept)
         ])
       ];
-      begun = λ i message given. elim (cases_eq i id) [
-        | inl here ↦ rw here (begun message (rw here at given))
-        | inr other ↦ same_begun old happened i message (same i other)
-            (is.begun i message (sym (same i other).accepted ∙ given))
+      sent = λ i. elim (cases_eq i id) [
+        | inl here ↦ rw here sent
+        | inr other ↦ same_sent old happened i (same i other) (is.sent i)
       ];
     }
 
@@ -152,18 +145,17 @@ called_end happened act answer accepted = record {
 -- A call that sends tokens on one stream at most leaves all that is kept of the others.
 pub stepped : (values : Values) (end new : End) (happened : EndLog) (act : Act) (answer : Answer)
     (id : ℕ) (stream : Option Stream) (accepted : List (ℕ × SentMessage))
-    → EndRepresents values end happened → MayAnswer happened.log act answer
+    → RepresentsStreams values end happened → MayAnswer happened.log act answer
     → ConnRepresents values new.conn (with_call happened.log act answer)
-    → new.role ≡ end.role → KeepsBut end new id stream
+    → new.role ≡ end.role → KeepsOne end new id stream
     → ((i : ℕ) → i ≢ id → tokens_of_call i act answer ≡ [])
     → ((i : ℕ) → i ≢ id → message_for i accepted ≡ message_for i happened.accepted)
     → IsOver (with_call happened.log act answer) id
     ⊎ IsKept (called_end happened act answer accepted) id stream
-    → ((message : SentMessage) → message_for id accepted ≡ Some message
-    → IsBegun (called_end happened act answer accepted) id message)
-    → EndRepresents values new (called_end happened act answer accepted)
+    → SendsInOrder (called_end happened act answer accepted) id
+    → RepresentsStreams values new (called_end happened act answer accepted)
 stepped values end new happened act answer id stream accepted is may conn role keeps none given one
-    begun =
+    sent =
     most_same values end new happened (called_end happened act answer accepted) id stream is conn
     role (grows_call happened.log act answer).role keeps
     (λ i past. over_by_call happened.log act answer i may past)
@@ -173,15 +165,15 @@ stepped values end new happened act answer id stream accepted is may conn role k
       sent = call_adds_none i happened.log act answer (none i other);
       role = (grows_call happened.log act answer).role;
       used_still = used_by_call happened.log act answer i;
-    }) one begun
+    }) one sent
 
 -- A call that sends no token leaves all that is kept.
 pub quiet_call : (values : Values) (end new : End) (happened : EndLog) (act : Act)
-    (answer : Answer) → EndRepresents values end happened → MayAnswer happened.log act answer
+    (answer : Answer) → RepresentsStreams values end happened → MayAnswer happened.log act answer
     → ConnRepresents values new.conn (with_call happened.log act answer)
     → new.role ≡ end.role → new.streams ≡ end.streams
     → ((i : ℕ) → tokens_of_call i act answer ≡ [])
-    → EndRepresents values new (end_with_log happened (with_call happened.log act answer))
+    → RepresentsStreams values new (end_with_log happened (with_call happened.log act answer))
 quiet_call values end new happened act answer is may conn role streams none =
     all_same values end new happened (end_with_log happened (with_call happened.log act answer)) is
     conn role streams (λ i past. over_by_call happened.log act answer i may past)
@@ -194,7 +186,7 @@ quiet_call values end new happened act answer is may conn role streams none =
     })
 
 -- Nothing has happened.
-same_itself : (happened : EndLog) (i : ℕ) → IsSame happened happened i
+pub same_itself : (happened : EndLog) (i : ℕ) → IsSame happened happened i
 same_itself happened i =
     record {
       handed = refl;
@@ -205,7 +197,7 @@ same_itself happened i =
     }
 
 -- A stream that isn't active is over, or nothing was kept of it.
-over_or_none : (happened : EndLog) (id : ℕ) (stream : Option Stream)
+pub over_or_none : (happened : EndLog) (id : ℕ) (stream : Option Stream)
     → active happened.log id ≡ false → IsOver happened.log id ⊎ IsKept happened id stream
     → IsOver happened.log id ⊎ IsKept happened id None
 unfolding IsKept
@@ -216,15 +208,15 @@ over_or_none happened id (Some stream) still (inr kept) =
 
 -- A stream that isn't active may be forgotten.
 pub forgotten : (values : Values) (end new : End) (happened : EndLog) (id : ℕ)
-    → EndRepresents values end happened → active happened.log id ≡ false → new.conn ≡ end.conn
-    → new.role ≡ end.role → KeepsBut end new id None → EndRepresents values new happened
+    → RepresentsStreams values end happened → active happened.log id ≡ false → new.conn ≡ end.conn
+    → new.role ≡ end.role → KeepsOne end new id None → RepresentsStreams values new happened
 forgotten values end new happened id is still conn role keeps =
     most_same values end new happened happened id None is (rw conn is.conn) role refl keeps
     (λ i past. past) (λ i other. same_itself happened i)
-    (over_or_none happened id (kept end id) still (is.streams id)) (is.begun id)
+    (over_or_none happened id (kept end id) still (is.streams id)) (is.sent id)
 
 -- Taking octets leaves what is the same of each stream.
-same_taken : (happened : EndLog) (piece : List ℕ) (answer : TakeAnswer) (log : Log) (i : ℕ)
+pub same_taken : (happened : EndLog) (piece : List ℕ) (answer : TakeAnswer) (log : Log) (i : ℕ)
     → MayTake happened.log piece answer log → IsSame happened (end_with_log happened log) i
 same_taken happened piece answer log i may =
     record {
@@ -247,17 +239,17 @@ taken_kept happened piece answer log i stream may (inr kept) =
 
 -- Taking octets leaves all that is kept.
 pub taken : (values : Values) (end new : End) (happened : EndLog) (piece : List ℕ)
-    (answer : TakeAnswer) (log : Log) → EndRepresents values end happened
+    (answer : TakeAnswer) (log : Log) → RepresentsStreams values end happened
     → MayTake happened.log piece answer log → ConnRepresents values new.conn log
     → new.role ≡ end.role → new.streams ≡ end.streams
-    → EndRepresents values new (end_with_log happened log)
+    → RepresentsStreams values new (end_with_log happened log)
 taken values end new happened piece answer log is may conn role streams =
     all_same values end new happened (end_with_log happened log) is conn role streams
     (λ i past. over_by_take happened.log log piece answer i may past)
     (λ i. same_taken happened piece answer log i may)
 
 -- Something is handed out that is no part of the message of a stream.
-same_handed : (happened : EndLog) (handed : Handed) (i : ℕ) → part_on i handed ≡ []
+pub same_handed : (happened : EndLog) (handed : Handed) (i : ℕ) → part_on i handed ≡ []
     → IsSame happened (end_with_handed happened happened.log handed) i
 unfolding parts_on
 same_handed happened handed i none =
@@ -271,14 +263,14 @@ same_handed happened handed i none =
     }
 
 -- What is passed on is no part of a message.
-passed_none : (i : ℕ) (event : Event) → part_on i (Passed event) ≡ []
+pub passed_none : (i : ℕ) (event : Event) → part_on i (Passed event) ≡ []
 unfolding part_on
 passed_none i event = refl
 
 -- What is no part of a message may be handed out.
 pub passed_on : (values : Values) (end : End) (happened : EndLog) (event : Event)
-    → EndRepresents values end happened
-    → EndRepresents values end (end_with_handed happened happened.log (Passed event))
+    → RepresentsStreams values end happened
+    → RepresentsStreams values end (end_with_handed happened happened.log (Passed event))
 passed_on values end happened event is =
     all_same values end end happened
     (end_with_handed happened happened.log (Passed event)) is is.conn refl refl (λ i past. past)
@@ -291,20 +283,15 @@ pub handed_part : (reads : Reads) (parts : List (Part × Bool)) (id : ℕ) (part
 handed_part reads parts id part reading follows =
     handed_here reads parts id part reading follows
 
--- what is given on a stream of which this is kept
-abbrev pub outgoing_of : Option Stream → Outgoing
-outgoing_of None = outgoings.NotGiven
-outgoing_of (Some stream) = stream.outgoing
-
 -- What is kept of the message that is sent on a stream.
-outgoing_kept : (happened : EndLog) (id : ℕ) (stream : Option Stream)
-    → IsKept happened id stream → IsOutgoing happened id (outgoing_of stream)
+pub outgoing_kept : (happened : EndLog) (id : ℕ) (stream : Option Stream)
+    → IsKept happened id stream → IsOutgoing happened id (outgoing_in stream)
 unfolding IsKept IsOutgoing
 outgoing_kept happened id None kept = (kept.unsaid, kept.unsent)
 outgoing_kept happened id (Some stream) kept = kept.outgoing
 
 -- What is sent is the same, whatever is handed out.
-outgoing_handed : (happened : EndLog) (handed : Handed) (id : ℕ) (outgoing : Outgoing)
+pub outgoing_handed : (happened : EndLog) (handed : Handed) (id : ℕ) (outgoing : Outgoing)
     → IsOutgoing happened id outgoing
     → IsOutgoing (end_with_handed happened happened.log handed) id outgoing
 unfolding IsOutgoing
@@ -320,20 +307,19 @@ outgoing_handed happened handed id (outgoings.Waiting waiting) is =
     }
 outgoing_handed happened handed id outgoings.Sent is = is
 
--- So is what was begun, and what is read.
-begun_handed : (happened : EndLog) (handed : Handed) (id : ℕ) (message : SentMessage)
-    → IsBegun happened id message
-    → IsBegun (end_with_handed happened happened.log handed) id message
-begun_handed happened handed id message is =
-    record { begun = is.begun; waiting = is.waiting; sent = is.sent }
+-- So is how it is sent, and what is read.
+pub sent_handed : (happened : EndLog) (handed : Handed) (id : ℕ) → SendsInOrder happened id
+    → SendsInOrder (end_with_handed happened happened.log handed) id
+sent_handed happened handed id is =
+    record { waiting = is.waiting; prefix = is.prefix; begun = is.begun }
 
-reads_handed : (happened : EndLog) (handed : Handed) (id : ℕ)
+pub reads_handed : (happened : EndLog) (handed : Handed) (id : ℕ)
     → reads_on (end_with_handed happened happened.log handed) id ≡ reads_on happened id
 unfolding reads_on
 reads_handed happened handed id = refl
 
 -- The part follows those that were handed out before.
-parts_handed : (happened : EndLog) (handed : Handed) (id : ℕ) (part : Part × Bool)
+pub parts_handed : (happened : EndLog) (handed : Handed) (id : ℕ) (part : Part × Bool)
     → part_on id handed ≡ part ∷ []
     → parts_on id (handed ∷ happened.handed) ≡ parts_on id happened.handed ++ part ∷ []
 unfolding parts_on
@@ -341,12 +327,12 @@ parts_handed happened handed id part is =
     ap (λ (more : List (Part × Bool)). parts_on id happened.handed ++ more) is
 
 -- Parts with one more are some.
-not_empty : (parts : List (Part × Bool)) (part : Part × Bool) → parts ++ part ∷ [] ≢ []
+pub not_empty : (parts : List (Part × Bool)) (part : Part × Bool) → parts ++ part ∷ [] ≢ []
 not_empty [] part is = cc
 not_empty (first ∷ parts) part is = cc
 
 -- This is kept of a stream once a part of its message is handed out.
-kept_handed : (happened : EndLog) (handed : Handed) (id : ℕ) (part : Part × Bool)
+pub kept_handed : (happened : EndLog) (handed : Handed) (id : ℕ) (part : Part × Bool)
     (stream : Stream) → part_on id handed ≡ part ∷ [] → used happened.log id ≡ true
     → Follows (reads_on happened id) (parts_on id happened.handed ++ part ∷ []) stream.reading
     → IsOutgoing happened id stream.outgoing
@@ -364,12 +350,12 @@ kept_handed happened handed id part stream here was follows outgoing =
 -- A part of a message that a reading has taken may be handed out, also where that has ended the
 -- stream.
 pub handed_on : (values : Values) (end new : End) (happened : EndLog) (id : ℕ)
-    (part : Part × Bool) (stream : Stream) → EndRepresents values end happened
+    (part : Part × Bool) (stream : Stream) → RepresentsStreams values end happened
     → IsKept happened id (kept end id) → used happened.log id ≡ true
     → Follows (reads_on happened id) (parts_on id happened.handed ++ part ∷ []) stream.reading
-    → stream.outgoing ≡ outgoing_of (kept end id) → KeepsBut end new id (Some stream)
+    → stream.outgoing ≡ outgoing_in (kept end id) → KeepsOne end new id (Some stream)
     → new.conn ≡ end.conn → new.role ≡ end.role
-    → EndRepresents values new (end_with_handed happened happened.log
+    → RepresentsStreams values new (end_with_handed happened happened.log
     (handed_as (reads_on happened id) (parts_on id happened.handed) id part))
 handed_on values end new happened id part stream is keeps_one was follows outgoing keeps conn role =
     let reads = reads_on happened id in
@@ -382,4 +368,4 @@ handed_on values end new happened id part stream is keeps_one was follows outgoi
     (λ i other. same_handed happened handed i (handed_elsewhere reads parts i id part other))
     (inr (kept_handed happened handed id part stream
     (handed_part reads parts id part stream.reading follows) was follows sends))
-    (λ message given. begun_handed happened handed id message (is.begun id message given))
+    (sent_handed happened handed id (is.sent id))

@@ -1,14 +1,19 @@
 mod EndTokens
 mod EndParts
 mod EndSteps
+mod InSteps
 mod TableSteps
 mod ControlSteps
 mod ControlStart
+mod ControlForgets
+mod TakeActive
+mod TakeInStep
 mod TakeRefusing
 mod TakeReads
 mod TakeHands
 mod TakeSteps
 mod RequestTable
+mod RequestSteps
 mod RequestGiven
 mod RequestSent
 mod RequestHeads
@@ -25,6 +30,7 @@ mod PumpTokens
 mod PumpEnds
 mod ReleaseSteps
 mod PumpCalls
+mod PumpSends
 mod SendingRelease
 mod SendingBody
 mod SendingStreams

@@ -1,15 +1,13 @@
 -- Why calls of a pump and of a release may be refused: the output is full, or memory was refused.
-use Rattle.std.proofs.Common.{◌≡◌, ◌≢◌, ◌⊎◌, inl, inr, ℕ, ◌≤◌, ◌==◌, nat_lt, ◌||◌, not, Bool, true}
-use Rattle.std.proofs.Common.{false, if◌then◌else◌, List, [], ◌∷◌, Option, Some, None, is_some}
-use Rattle.std.proofs.Common.{refl}
-use Rattle.std.proofs.Common.{sym, ap, ◌∙◌, arith, leb-true}
+use Rattle.std.proofs.Common.{◌≡◌, ◌≢◌, inl, inr, ℕ, ◌==◌, nat_lt, ◌||◌, Bool, true, false}
+use Rattle.std.proofs.Common.{if◌then◌else◌, List, [], ◌∷◌, Some, None, is_some, refl, sym, ap, ◌∙◌}
+use Rattle.std.proofs.Common.{arith, leb-true}
 use Rattle.std.specs.List.{list_any}
-use Rattle.std.proofs.lemmas.Bool.{both_ways, cases_Bool}
 use Rattle.std.proofs.lemmas.Bool.Decides.{nat_tests}
 use Rattle.hpack.specs.declared.types.field.Field.{Field}
 use Rattle.h2_log.specs.declared.refusal.Refusal.{Refusal}
-use Rattle.h2_log.specs.declared.refusal.Refusal.TheVariants.{OutputFull, Memory, Closed}
-use Rattle.h2_log.specs.declared.refusal.Refusal.TheVariants.{NoSuchStream, NotOwed}
+use Rattle.h2_log.specs.declared.refusal.Refusal.TheVariants.{OutputFull, Closed, NoSuchStream}
+use Rattle.h2_log.specs.declared.refusal.Refusal.TheVariants.{NotOwed}
 use Rattle.h2_log.specs.Acts.{SendFields, SendData, Release, Refused}
 use Rattle.h2_log.specs.Items.{ends}
 use Rattle.h2_log.specs.Limits.{full_output}

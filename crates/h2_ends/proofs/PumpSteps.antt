@@ -1,54 +1,58 @@
 -- The calls of a pump, one more at their end; and which streams come next.
-use Rattle.std.proofs.Common.{◌≡◌, ◌≢◌, inl, inr, ℕ, ◌+◌, ◌<◌, ◌≤◌, ◌==◌, ◌&&◌, ◌||◌, nat_lt, Bool}
-use Rattle.std.proofs.Common.{true, false, if◌then◌else◌, List, Option, Some, None, is_some, refl}
-use Rattle.std.proofs.Common.{sym, ap, ◌∙◌, subst, arith, ltb-true}
+use Rattle.std.proofs.Common.{◌≡◌, ◌≢◌, ◌⊎◌, inl, inr, ℕ, ◌+◌, ◌<◌, ◌≤◌, ◌==◌, ◌||◌, nat_lt, Bool}
+use Rattle.std.proofs.Common.{true, false, if◌then◌else◌, Option, Some, None, is_some, refl, ap}
+use Rattle.std.proofs.Common.{subst, arith, ltb-true, ltb-false}
 use Rattle.std.proofs.lemmas.Bool.{both_ways, and_parts, or_parts, eqb-true, cases_Bool}
-use Rattle.std.proofs.lemmas.Bool.{false_from_ne_true, ne_eqb}
-use Rattle.hpack.specs.declared.types.field.Field.{Field}
+use Rattle.std.proofs.lemmas.Bool.{false_from_ne_true}
 use Rattle.h2_log.specs.declared.refusal.Refusal.{Refusal}
-use Rattle.h2_log.specs.Acts.{Act, SendFields, SendData, Count, Done, Refused}
 use Rattle.h2_log.specs.Log.{Log, active, next_active, reader_next_live}
-use Rattle.h2_log.specs.LogCalls.{MayAnswer}
 use Rattle.h2_log_laws.proofs.NextStreams.{next_passes, next_found}
 use Rattle.h2_log_laws.proofs.ReaderStates.{active_parts}
 use Rattle.h2_ends.specs.Ends.{EndLog}
-use Rattle.h2_ends.specs.EndCalls.{IsStuckOn, Pumps, pumps_no_more, pumps_data, pumps_trailers}
-use Rattle.h2_ends.specs.EndCalls.{pumps_refused}
-use Rattle.h2_ends.specs.Pumping.{after_call, Sending, sends_nothing, sends_data, sends_trailers}
-use Rattle.h2_ends.specs.Pumping.{IsStuckBelow}
+use Rattle.h2_ends.specs.EndCalls.{Pumps, pumps_no_more, pumps_data, pumps_trailers}
+use Rattle.h2_ends.specs.Pumping.{Sending, sends_nothing, sends_data, sends_trailers}
 
 -- Calls after them are calls of the pump.
-pub pumps_after : (start now after : EndLog) (count more : ℕ) → Sending start count now
-    → Pumps now more after → Pumps start (count + more) after
-pumps_after start _ after _ more sends_nothing pumps =
+pub pumps_after : (start now after : EndLog) (count more : ℕ) (refused : Option Refusal)
+    → Sending start count now → Pumps now more refused after
+    → Pumps start (count + more) refused after
+pumps_after start _ after _ more refused sends_nothing pumps =
     let same : more ≡ 0 + more = omega arith in
-    subst (λ (n : ℕ). Pumps start n after) same pumps
-pumps_after start _ after _ more (sends_data {count = count} {now = now} sending id sent octets
-    ends alive below may) pumps =
+    subst (λ (n : ℕ). Pumps start n refused after) same pumps
+pumps_after start _ after _ more refused (sends_data {count = count} {now = now} sending id sent
+    octets ends next typed may) pumps =
     let same : count + (sent + more) ≡ (count + sent) + more = omega arith in
-    subst (λ (n : ℕ). Pumps start n after) same
-    (pumps_after start now after count (sent + more) sending
-    (pumps_data now id sent more octets ends after alive below may pumps))
-pumps_after start _ after count more (sends_trailers {now = now} sending id list alive below may)
-    pumps =
-    pumps_after start now after count more sending
-    (pumps_trailers now id more list after alive below may pumps)
+    subst (λ (n : ℕ). Pumps start n refused after) same
+    (pumps_after start now after count (sent + more) refused sending
+    (pumps_data now id sent more octets ends refused after next typed may pumps))
+pumps_after start _ after count more refused (sends_trailers {now = now} sending id list next typed
+    may) pumps =
+    pumps_after start now after count more refused sending
+    (pumps_trailers now id more list refused after next typed may pumps)
 
 -- So are they themselves,
-pub pumps_all : (start now : EndLog) (count : ℕ) → Sending start count now → Pumps start count now
+pub pumps_all : (start now : EndLog) (count : ℕ) → Sending start count now
+    → Pumps start count None now
 pumps_all start now count sending =
     let same : count + 0 ≡ count = omega arith in
-    subst (λ (n : ℕ). Pumps start n now) same
-    (pumps_after start now now count 0 sending (pumps_no_more now))
+    subst (λ (n : ℕ). Pumps start n None now) same
+    (pumps_after start now now count 0 None sending (pumps_no_more now))
 
 -- and with one that was refused.
-pub pumps_until_refused : (start now : EndLog) (count : ℕ) (act : Act) (refusal : Refusal)
-    → Sending start count now → MayAnswer now.log act (Refused refusal)
-    → Pumps start count (after_call now act (Refused refusal))
-pumps_until_refused start now count act refusal sending may =
+pub pumps_until : (start now after : EndLog) (count : ℕ) (refusal : Refusal)
+    → Sending start count now → Pumps now 0 (Some refusal) after
+    → Pumps start count (Some refusal) after
+pumps_until start now after count refusal sending last =
     let same : count + 0 ≡ count = omega arith in
-    subst (λ (n : ℕ). Pumps start n (after_call now act (Refused refusal))) same
-    (pumps_after start now _ count 0 sending (pumps_refused now act refusal may))
+    subst (λ (n : ℕ). Pumps start n (Some refusal) after) same
+    (pumps_after start now after count 0 (Some refusal) sending last)
+
+-- A number is at most another one, or above it.
+pub up_to_or : (j last : ℕ) → (j ≤ last) ⊎ (last < j)
+up_to_or j last = elim (cases_Bool (nat_lt last j)) [
+  | inl above ↦ inr (ltb-true last j above)
+  | inr low ↦ inl (ltb-false last j low)
+]
 
 -- No stream has the number 0.
 pub zero_inactive : (log : Log) → active log 0 ≡ false

@@ -1,13 +1,10 @@
 -- Streams on which nothing of what waits can go: a call on another one leaves them so.
-use Rattle.std.proofs.Common.{map as each, ◌≡◌, ◌≢◌, ◌⊎◌, inl, inr, ℕ, ◌==◌, Bool, true, false}
-use Rattle.std.proofs.Common.{List, [], ◌∷◌, ◌++◌, length, take, drop, Option, Some, None, refl}
-use Rattle.std.proofs.Common.{sym, ap, ◌∙◌, append-nil, subst}
+use Rattle.std.proofs.Common.{◌≡◌, ◌≢◌, inl, inr, ℕ, Bool, false, List, [], ◌∷◌, ◌++◌, length, drop}
+use Rattle.std.proofs.Common.{refl, sym, ap, ◌∙◌, append-nil, subst}
 use Rattle.std.specs.List.{list_any}
 use Rattle.std.proofs.lemmas.Bool.{both_ways, and_parts, and_from, cases_Bool, ne_eqb}
 use Rattle.hpack.specs.declared.types.field.Field.{Field}
-use Rattle.h2_log.specs.declared.refusal.Refusal.{Refusal}
-use Rattle.h2_log.specs.Acts.{Act, Answer, Open, SendFields, SendData, Release, Number, Count, Done}
-use Rattle.h2_log.specs.Acts.{Refused}
+use Rattle.h2_log.specs.Acts.{Act, Answer, SendFields, SendData, Count, Done}
 use Rattle.h2_log.specs.Items.{is_block_on}
 use Rattle.h2_log.specs.Log.{Log, active}
 use Rattle.h2_log.specs.LogView.{log_view}
@@ -18,23 +15,23 @@ use Rattle.h2_end_laws.proofs.OverCalls.{items_no_block}
 use Rattle.h2_end_laws.proofs.OverLists.{IsInactive, inactive_sent}
 use Rattle.h2_end_laws.proofs.OverRoom.{no_room_by_call}
 use Rattle.h2_end_laws.proofs.OverSteps.{call_keeps}
-use Rattle.h2_pair.specs.Quiet.{CouldGo, NoneCouldGo}
-use Rattle.h2_pair.specs.Tokens.{Token, FieldsToken, OctetToken, EndToken, end_tokens}
-use Rattle.h2_pair.specs.Tokens.{tokens_of_call, tokens_sent}
+use Rattle.h2_pair.specs.Quiet.{NoneCouldGo}
+use Rattle.h2_pair.specs.Tokens.{Token, FieldsToken, OctetToken, EndToken, tokens_of_call}
+use Rattle.h2_pair.specs.Tokens.{tokens_sent}
 use Rattle.h2_pair.proofs.HeardCalls.{call_calls}
 use Rattle.h2_ends.specs.Ends.{EndLog, tokens_out, tokens_said, tokens_waiting}
 use Rattle.h2_ends.specs.EndCalls.{IsStuckOn}
-use Rattle.h2_ends.specs.Pumping.{after_call}
+use Rattle.h2_ends.specs.Pumping.{end_after_call}
 
 -- What is sent with a call is more of it.
 pub out_after : (end : EndLog) (act : Act) (answer : Answer) (i : ℕ)
-    → tokens_out (after_call end act answer) i ≡ tokens_out end i ++ tokens_of_call i act answer
+    → tokens_out (end_after_call end act answer) i ≡ tokens_out end i ++ tokens_of_call i act answer
 unfolding tokens_sent
 out_after end act answer i = ap (tokens_sent i) (call_calls end.log act answer)
 
 pub out_same : (end : EndLog) (act : Act) (answer : Answer) (i : ℕ)
     → tokens_of_call i act answer ≡ []
-    → tokens_out (after_call end act answer) i ≡ tokens_out end i
+    → tokens_out (end_after_call end act answer) i ≡ tokens_out end i
 out_same end act answer i none =
     out_after end act answer i ∙ ap (λ (line : List Token). tokens_out end i ++ line) none
     ∙ append-nil (tokens_out end i)
@@ -42,7 +39,7 @@ out_same end act answer i none =
 -- As much waits then.
 pub waiting_same : (end : EndLog) (act : Act) (answer : Answer) (i : ℕ)
     → tokens_of_call i act answer ≡ []
-    → tokens_waiting (after_call end act answer) i ≡ tokens_waiting end i
+    → tokens_waiting (end_after_call end act answer) i ≡ tokens_waiting end i
 waiting_same end act answer i none =
     ap (λ (line : List Token). drop (length line) (tokens_said end i))
     (out_same end act answer i none)
@@ -93,7 +90,8 @@ none_goes log after i (EndToken ∷ tokens) keeps never = never
 -- A call that writes no block on a stream, and sends nothing of it, leaves it stuck.
 pub stuck_by : (end : EndLog) (act : Act) (answer : Answer) (i : ℕ)
     → list_any (is_block_on i) (items_of (log_view end.log) act answer) ≡ false
-    → tokens_of_call i act answer ≡ [] → IsStuckOn end i → IsStuckOn (after_call end act answer) i
+    → tokens_of_call i act answer ≡ [] → IsStuckOn end i
+    → IsStuckOn (end_after_call end act answer) i
 stuck_by end act answer i closed none stuck = λ after_active.
     elim (cases_Bool (active end.log i)) [
       | inl alive ↦ subst (λ (tokens : List Token). NoneCouldGo (with_call end.log act answer) i
@@ -107,14 +105,14 @@ stuck_by end act answer i closed none stuck = λ after_active.
 -- So it is with sending on another stream, accepted or refused.
 pub stuck_by_data : (end : EndLog) (id : ℕ) (octets : List ℕ) (ends : Bool) (answer : Answer)
     (i : ℕ) → i ≢ id → IsStuckOn end i
-    → IsStuckOn (after_call end (SendData id octets ends) answer) i
+    → IsStuckOn (end_after_call end (SendData id octets ends) answer) i
 stuck_by_data end id octets ends answer i other =
     stuck_by end (SendData id octets ends) answer i
     (data_no_block end.log i id octets ends answer) (data_none i id octets ends answer other)
 
 pub stuck_by_fields : (end : EndLog) (id : ℕ) (fields : List Field) (ends : Bool)
     (answer : Answer) (i : ℕ) → i ≢ id → IsStuckOn end i
-    → IsStuckOn (after_call end (SendFields id fields ends) answer) i
+    → IsStuckOn (end_after_call end (SendFields id fields ends) answer) i
 stuck_by_fields end id fields ends answer i other =
     stuck_by end (SendFields id fields ends) answer i
     (fields_no_block end.log i id fields ends answer other)

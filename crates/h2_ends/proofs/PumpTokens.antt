@@ -1,19 +1,16 @@
 -- What waits of a message, as sending goes on.
 use Rattle.std.proofs.Common.{map as each, ◌≡◌, ◌≢◌, ◌⊎◌, inl, inr, ℕ, zero, suc, ◌+◌, ◌-◌, ◌<◌}
-use Rattle.std.proofs.Common.{◌≤◌}
-use Rattle.std.proofs.Common.{◌==◌, ◌&&◌, Bool, true, false, List, [], ◌∷◌, ◌++◌, length, take}
-use Rattle.std.proofs.Common.{drop}
-use Rattle.std.proofs.Common.{Option, Some, None, is_none, option_map, refl, sym, ap, ◌∙◌, subst}
-use Rattle.std.proofs.Common.{append_assoc, append-nil, length-drop, arith}
+use Rattle.std.proofs.Common.{◌≤◌, ◌==◌, ◌&&◌, Bool, true, false, List, [], ◌∷◌, ◌++◌, length, take}
+use Rattle.std.proofs.Common.{drop, Option, Some, None, is_none, option_map, refl, sym, ap, ◌∙◌}
+use Rattle.std.proofs.Common.{subst, append_assoc, append-nil, length-drop, arith}
 use Rattle.std.specs.List.{list_any}
-use Rattle.std.proofs.lemmas.Bool.{both_ways, and_from, false_from_ne_true, eqb-true, eq-eqb}
+use Rattle.std.proofs.lemmas.Bool.{both_ways, and_from, false_from_ne_true, eq-eqb}
 use Rattle.std.proofs.lemmas.List.{map-append, take-append-drop, drop-drop}
 use Rattle.std.proofs.Math.Seq.{drop-append_seam, take-length}
 use Rattle.std.proofs.lemmas.Bool.Decides.{nat_tests}
 use Rattle.h2_log.specs.declared.role.Role.{Role}
 use Rattle.h2_log.specs.Acts.{Values, SendFields, SendData, Count, Done}
 use Rattle.h2_log.specs.Items.{ends}
-use Rattle.h2_log.specs.Log.{Log}
 use Rattle.h2_log.specs.Histories.{IsLog}
 use Rattle.h2_end_laws.specs.Sendings.{lists_accepted, settings_received}
 use Rattle.h2_end_laws.specs.Over.{has_room}
@@ -22,7 +19,7 @@ use Rattle.hpack.specs.declared.types.field.Field.{Field}
 use Rattle.h2_log.specs.CallRules.{is_too_large}
 use Rattle.h2_message.specs.Messages.{SentMessage, trailer_fields}
 use Rattle.h2_pair.specs.Tokens.{Token, FieldsToken, OctetToken, EndToken, end_tokens}
-use Rattle.h2_pair.specs.Tokens.{tokens_of_call, tokens_sent, trailers_tokens, message_tokens}
+use Rattle.h2_pair.specs.Tokens.{tokens_of_call, trailers_tokens, message_tokens}
 use Rattle.h2_pair.proofs.HeardLists.{blocks_of_lists}
 use Rattle.h2_pair.proofs.HeardMessages.{ended_tokens, unended}
 use Rattle.h2_pair.proofs.HeardSent.{tokens_carried}
@@ -31,7 +28,7 @@ use Rattle.h2_ends.specs.declared.outgoing.Outgoing.TheVariants as outgoings
 use Rattle.h2_ends.specs.Ends.{EndLog, message_for, tokens_given, tokens_out, tokens_said}
 use Rattle.h2_ends.specs.Ends.{tokens_waiting}
 use Rattle.h2_ends.specs.EndCalls.{IsStuckOn}
-use Rattle.h2_ends.specs.Pumping.{after_call}
+use Rattle.h2_ends.specs.Pumping.{end_after_call}
 use Rattle.h2_ends.specs.Represents.{IsWaiting, IsOutgoing, tokens_kept}
 use Rattle.h2_ends.proofs.PumpStuck.{out_after, stuck_empty, stuck_octet}
 
@@ -177,12 +174,12 @@ some_by (Some x) n sent size within start goes = inr (λ none. cc)
 pub waits_after : (end : EndLog) (id : ℕ) (waiting : Waiting) (n : ℕ) → IsWaiting end id waiting
     → waiting.sent ≤ length waiting.body.items → n ≤ length (octets_left waiting)
     → (is_none waiting.trailers && n == length (octets_left waiting)) ≡ false
-    → IsWaiting (after_call end (SendData id (octets_left waiting) (is_none waiting.trailers))
+    → IsWaiting (end_after_call end (SendData id (octets_left waiting) (is_none waiting.trailers))
     (Count n)) id (sent_more waiting n)
 waits_after end id waiting n waits start within goes =
     let act = SendData id (octets_left waiting) (is_none waiting.trailers) in
     let size = length-drop waiting.sent waiting.body.items in
-    let out : tokens_out (after_call end act (Count n)) id ≡ tokens_out end id
+    let out : tokens_out (end_after_call end act (Count n)) id ≡ tokens_out end id
     ++ (each OctetToken (take n (octets_left waiting))
     ++ end_tokens (is_none waiting.trailers && n == length (octets_left waiting))) =
     out_after end act (Count n) id ∙ ap (λ (line : List Token). tokens_out end id ++ line)
@@ -226,7 +223,7 @@ kept_all waiting n false all none ended = cc
 
 pub sent_after_data : (end : EndLog) (id : ℕ) (waiting : Waiting) (n : ℕ) → IsWaiting end id waiting
     → is_none waiting.trailers ≡ true → n ≡ length (octets_left waiting)
-    → IsOutgoing (after_call end (SendData id (octets_left waiting) (is_none waiting.trailers))
+    → IsOutgoing (end_after_call end (SendData id (octets_left waiting) (is_none waiting.trailers))
     (Count n)) id outgoings.Sent
 unfolding IsOutgoing
 sent_after_data end id waiting n waits none all =
@@ -262,7 +259,7 @@ trailers_kept waiting fields none are =
 pub sent_after_fields : (end : EndLog) (id : ℕ) (waiting : Waiting) (fields : List Field)
     → IsWaiting end id waiting → length (octets_left waiting) ≡ 0
     → option_map (λ list. list.items) waiting.trailers ≡ Some fields
-    → IsOutgoing (after_call end (SendFields id fields true) Done) id outgoings.Sent
+    → IsOutgoing (end_after_call end (SendFields id fields true) Done) id outgoings.Sent
 unfolding IsOutgoing
 sent_after_fields end id waiting fields waits none are = (
   waits.message,

@@ -1,41 +1,32 @@
 -- What sending on a stream makes of windows, and of the output that waits.
-use Rattle.std.proofs.Common.{◌≡◌, ◌≢◌, ◌⊎◌, inl, inr, ℕ, zero, suc, ◌+◌, ◌-◌, ◌≤◌, ◌<◌, ◌==◌, min}
-use Rattle.std.proofs.Common.{nat_lt, nat_le, ◌&&◌, not, Bool, true, false, if◌then◌else◌, List, []}
-use Rattle.std.proofs.Common.{◌∷◌, ◌++◌, length, take, drop, Option, Some, None, is_some, refl, sym}
-use Rattle.std.proofs.Common.{ap, ◌∙◌, arith, subst, length-append, length-take, length-drop, pos}
-use Rattle.std.proofs.Common.{◌-ℤ◌, leb-true, leb-false, ltb-true}
+use Rattle.std.proofs.Common.{◌≡◌, ◌≢◌, ℕ, zero, suc, ◌+◌, ◌-◌, ◌≤◌, ◌<◌, ◌==◌, min, nat_lt, nat_le}
+use Rattle.std.proofs.Common.{◌&&◌, not, Bool, true, false, if◌then◌else◌, List, [], ◌∷◌, ◌++◌}
+use Rattle.std.proofs.Common.{length, take, drop, None, refl, sym, ap, ◌∙◌, arith, length-append}
+use Rattle.std.proofs.Common.{length-take, length-drop, pos, ◌-ℤ◌, leb-false, ltb-true}
 use Rattle.std.specs.Prelude.{int_lt}
-use Rattle.std.specs.List.{list_any}
 use Rattle.std.proofs.lemmas.Int.{ints}
-use Rattle.std.proofs.lemmas.Bool.{both_ways, and_parts, false_from_ne_true, eqb-true}
+use Rattle.std.proofs.lemmas.Bool.{and_parts, false_from_ne_true, eqb-true}
 use Rattle.std.proofs.lemmas.Bool.Decides.{nat_tests}
 use Rattle.hpack.specs.declared.types.field.Field.{Field}
 use Rattle.h2_frame.specs.Frames.{Data}
 use Rattle.h2_frame.specs.Encoding.{payload_of}
 use Rattle.h2_block.specs.Grouping.{Item, alone}
 use Rattle.h2_log.specs.declared.refusal.Refusal.{Refusal}
-use Rattle.h2_log.specs.declared.refusal.Refusal.TheVariants.{Closed, NoSuchStream, Ended}
-use Rattle.h2_log.specs.declared.refusal.Refusal.TheVariants.{OutputFull, ListTooLarge, NotOwed}
-use Rattle.h2_log.specs.declared.refusal.Refusal.TheVariants.{Memory}
 use Rattle.h2_log.specs.Acts.{Act, Answer, SendFields, SendData, Release, Count, Done, Refused}
-use Rattle.h2_log.specs.Acts.{Refuse}
-use Rattle.h2_log.specs.Items.{ends, total, data_on, data_of, encoding_of_items}
-use Rattle.h2_log.specs.Limits.{full_output, max_data, max_frame_size_sent}
+use Rattle.h2_log.specs.Items.{total, data_on, data_of}
+use Rattle.h2_log.specs.Limits.{max_data}
 use Rattle.h2_log.specs.Windows.{given_on, given_on_connection}
-use Rattle.h2_log.specs.Log.{Log, active, owed, unreleased, waiting, output}
-use Rattle.h2_log.specs.Log.{max_payload_sent}
-use Rattle.h2_log.specs.View.{ended_out, owed_on}
-use Rattle.h2_log.specs.LogView.{log_view, stream_of_log}
-use Rattle.h2_log.specs.CallRules.{conditions, refusal_of, first_of, is_full, is_too_large}
-use Rattle.h2_log.specs.CallRules.{is_no_stream, is_not_owed, has_failed, data_count, data_frames}
-use Rattle.h2_log.specs.CallRules.{data_items, items_of, returns_credit}
+use Rattle.h2_log.specs.Log.{Log, active, waiting, output, max_payload_sent}
+use Rattle.h2_log.specs.LogView.{log_view}
+use Rattle.h2_log.specs.CallRules.{conditions, refusal_of, data_count, data_frames, data_items}
+use Rattle.h2_log.specs.CallRules.{items_of, returns_credit}
 use Rattle.h2_log.specs.LogSteps.{with_sent, with_unreturned, with_credit_returned}
 use Rattle.h2_log.specs.LogCalls.{MayAnswer, accepts, refuses, lacks, fails, with_call, with_items}
 use Rattle.h2_log.specs.LogCalls.{called}
 use Rattle.h2_log.proofs.SentPayloads.{most_is_limit}
 use Rattle.h2_log_laws.proofs.CallConditions.{none_holds}
 use Rattle.h2_log_laws.proofs.ItemSizes.{size_of, size-frame, size-append}
-use Rattle.h2_log_laws.proofs.LogViewLemmas.{stream_is_active, stream_there, count_by_sums}
+use Rattle.h2_log_laws.proofs.LogViewLemmas.{stream_is_active, count_by_sums}
 use Rattle.h2_end_laws.specs.Over.{has_room}
 use Rattle.h2_end_laws.specs.Written.{Writes}
 use Rattle.h2_end_laws.proofs.WrittenSteps.{call_writes}

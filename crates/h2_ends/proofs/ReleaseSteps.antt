@@ -1,13 +1,10 @@
 -- The calls of a release of all that is owed, one more at their end.
-use Rattle.std.proofs.Common.{◌≡◌, ◌≢◌, ◌⊎◌, inl, inr, ℕ, ◌+◌, ◌<◌, ◌≤◌, ◌==◌, Bool, true, false}
-use Rattle.std.proofs.Common.{List, [], Option, Some, None, Ok, Err, refl, sym, ap, ◌∙◌, subst}
-use Rattle.std.proofs.Common.{arith, nat_lt, ltb-true, ltb-false}
-use Rattle.std.proofs.lemmas.Bool.{both_ways, cases_Bool}
+use Rattle.std.proofs.Common.{◌≡◌, ◌≢◌, ◌⊎◌, inl, inr, ℕ, ◌+◌, ◌<◌, ◌-◌, false, [], Option, Some, None}
+use Rattle.std.proofs.Common.{Ok, Err, refl, sym, ◌∙◌, subst, arith, nat_lt, ltb-true, ltb-false}
+use Rattle.std.proofs.lemmas.Bool.{cases_Bool, cases_eq}
 use Rattle.h2_log.specs.declared.refusal.Refusal.{Refusal}
-use Rattle.h2_log.specs.declared.refusal.Refusal.TheVariants.{OutputFull, Memory, Closed}
-use Rattle.h2_log.specs.Acts.{Values, Release, Done, Refused}
-use Rattle.h2_log.specs.Limits.{full_output}
-use Rattle.h2_log.specs.Log.{Log, active, owed, unreleased, released, waiting, reader_next_live}
+use Rattle.h2_log.specs.Acts.{Values, Answer, IsTypedAct, Release, Done, Refused}
+use Rattle.h2_log.specs.Log.{Log, active, owed, unreleased, released}
 use Rattle.h2_log.specs.LogCalls.{MayAnswer, with_call}
 use Rattle.h2_end_laws.proofs.OverRoom.{none_owed, none_owed_more}
 use Rattle.h2_conn.specs.Conn.{ConnRepresents}
@@ -16,12 +13,14 @@ use Rattle.h2_ends.specs.declared.end.End.{End}
 use Rattle.h2_ends.specs.declared.refusal.EndRefusal.TheVariants as refusals
 use Rattle.h2_ends.specs.Ends.{EndLog}
 use Rattle.h2_ends.specs.EndCalls.{Releases, releases_no_more, releases_one, releases_refused}
-use Rattle.h2_ends.specs.EndCalls.{MayReleaseAll}
-use Rattle.h2_ends.specs.Represents.{EndRepresents}
-use Rattle.h2_ends.proofs.EndSteps.{quiet_call}
-use Rattle.h2_ends.specs.Pumping.{after_call, LacksSpace}
-use Rattle.h2_ends.proofs.PumpRefusals.{owed_active, release_refused}
-use Rattle.h2_ends.proofs.PumpSteps.{IsNext, none_read, zero_inactive}
+use Rattle.h2_ends.specs.EndCalls.{IsNextOwed, MayReleaseAll}
+use Rattle.h2_ends.specs.declared.span.Span.{Span}
+use Rattle.h2_ends.specs.Represents.{EndRepresents, InSpan}
+use Rattle.h2_ends.specs.Pumping.{end_after_call, LacksSpace}
+use Rattle.h2_end_laws.specs.Told.{call_may_close}
+use Rattle.h2_ends.proofs.InSteps.{called_as}
+use Rattle.h2_ends.proofs.PumpRefusals.{release_refused}
+use Rattle.h2_ends.proofs.PumpSteps.{IsNext, zero_inactive}
 use Rattle.h2_ends.proofs.PumpWindows.{release_failed, refused_waits}
 
 -- Nothing is owed on any lower stream.
@@ -30,35 +29,40 @@ OwesNoneBelow end id = (j : ℕ) → j < id → owed end.log j ≡ 0
 
 -- the end after all that is owed on a stream was released
 abbrev pub after_release : EndLog → ℕ → EndLog
-after_release end id = after_call end (Release id (owed end.log id)) Done
+after_release end id = end_after_call end (Release id (owed end.log id)) Done
 
 -- the end after that was refused
 abbrev pub after_refusal : EndLog → ℕ → Refusal → EndLog
-after_refusal end id refusal = after_call end (Release id (owed end.log id)) (Refused refusal)
+after_refusal end id refusal = end_after_call end (Release id (owed end.log id)) (Refused refusal)
 
 -- The calls so far, none of which was refused: as Releases, with the newest last.
 pub data Releasing (start : EndLog) : (now : EndLog) → Type 0 where
   releases_nothing : Releasing start start
-  releases_more : {now : EndLog} → Releasing start now → (id : ℕ) → owed now.log id ≢ 0
-      → OwesNoneBelow now id → MayAnswer now.log (Release id (owed now.log id)) Done
+  releases_more : {now : EndLog} → Releasing start now → (id : ℕ) → IsNextOwed now id
+      → IsTypedAct (Release id (owed now.log id))
+      → MayAnswer now.log (Release id (owed now.log id)) Done
       → Releasing start (after_release now id)
 
 -- Calls after them are calls of the release.
-pub releases_after : (start now after : EndLog) → Releasing start now → Releases now after
-    → Releases start after
-releases_after start _ after releases_nothing releases = releases
-releases_after start _ after (releases_more {now = now} releasing id some below may) releases =
-    releases_after start now after releasing (releases_one now id after some below may releases)
+pub releases_after : (start now after : EndLog) (refused : Option Refusal) → Releasing start now
+    → Releases now refused after → Releases start refused after
+releases_after start _ after refused releases_nothing releases = releases
+releases_after start _ after refused (releases_more {now = now} releasing id owes typed may)
+    releases =
+    releases_after start now after refused releasing
+    (releases_one now id refused after owes typed may releases)
 
-pub releases_all : (start now : EndLog) → Releasing start now → Releases start now
-releases_all start now releasing = releases_after start now now releasing (releases_no_more now)
+pub releases_all : (start now : EndLog) → Releasing start now → Releases start None now
+releases_all start now releasing =
+    releases_after start now now None releasing (releases_no_more now)
 
 pub releases_until_refused : (start now : EndLog) (id : ℕ) (refusal : Refusal)
-    → Releasing start now → owed now.log id ≢ 0
+    → Releasing start now → IsNextOwed now id → IsTypedAct (Release id (owed now.log id))
     → MayAnswer now.log (Release id (owed now.log id)) (Refused refusal)
-    → Releases start (after_refusal now id refusal)
-releases_until_refused start now id refusal releasing some may =
-    releases_after start now _ releasing (releases_refused now id refusal some may)
+    → Releases start (Some refusal) (after_refusal now id refusal)
+releases_until_refused start now id refusal releasing owes typed may =
+    releases_after start now _ (Some refusal) releasing
+    (releases_refused now id refusal owes typed may)
 
 -- The end represents what has happened so far, and nothing is owed on a stream below this one.
 pub record IsReleasing (values : Values) (start : EndLog) (end : End) (happened : EndLog)
@@ -73,18 +77,30 @@ pub owed_inactive : (log : Log) (id : ℕ) → active log id ≡ false → owed 
 unfolding owed
 owed_inactive log id over = rw over refl
 
+-- Nothing is owed below the span, which begins above that number, unless both are 0.
+none_below : (values : Values) (end : End) (start : EndLog) (j : ℕ)
+    → EndRepresents values end start → j < (end.spans.owing.first - 1) + 1
+    → owed start.log j ≡ 0
+none_below values end start j is low = elim (cases_eq (owed start.log j) 0) [
+  | inl none ↦ none
+  | inr some ↦ elim (cases_eq j 0) [
+    | inl zero ↦ subst (λ (i : ℕ). owed start.log i ≡ 0) (sym zero)
+        (owed_inactive start.log 0 (zero_inactive start.log))
+    | inr above ↦ let here = ((is.in_step j).owes some).first in
+        omega (arith, here, low, above)
+  ]
+]
+
 -- It begins,
 pub release_begins : (values : Values) (start : EndLog) (end : End)
     → EndRepresents values end start → start.log.failed ≡ None
-    → IsReleasing values start end start (0 + 1)
+    → IsReleasing values start end start ((end.spans.owing.first - 1) + 1)
 release_begins values start end is up =
     record {
       represents = is;
       calls = releases_nothing;
       up = up;
-      below = λ j low. let zero : 0 ≡ j = omega (arith, low) in
-          subst (λ (i : ℕ). owed start.log i ≡ 0) zero
-          (owed_inactive start.log 0 (zero_inactive start.log));
+      below = λ j low. none_below values end start j is low;
     }
 
 -- comes to the next active stream,
@@ -127,57 +143,90 @@ release_passes values start end happened id is none =
     absurd_or j low up = let same : id ≡ j = omega (arith, low, up) in
         subst (λ (i : ℕ). owed happened.log i ≡ 0) same none
 
--- or once that was released.
-none_sent : (i id count : ℕ) → tokens_of_call i (Release id count) Done ≡ []
+-- or once that was released: a release sends no token, opens no stream and closes none.
+none_sent : (i id count : ℕ) (answer : Answer) → tokens_of_call i (Release id count) answer ≡ []
 unfolding tokens_of_call
-none_sent i id count = refl
+none_sent i id count answer = refl
+
+none_closed : (i id count : ℕ) (answer : Answer)
+    → call_may_close i (Release id count) answer ≡ false
+unfolding call_may_close
+none_closed i id count answer = refl
 
 pub release_goes_on : (values : Values) (start : EndLog) (end new : End) (happened : EndLog)
     (id : ℕ) → IsReleasing values start end happened id → owed happened.log id ≢ 0
+    → IsTypedAct (Release id (owed happened.log id))
     → MayAnswer happened.log (Release id (owed happened.log id)) Done
     → ConnRepresents values new.conn (after_release happened id).log
-    → new.role ≡ end.role → new.streams ≡ end.streams
+    → new.role ≡ end.role → new.streams ≡ end.streams → new.spans ≡ end.spans
     → IsReleasing values start new (after_release happened id) (id + 1)
-release_goes_on values start end new happened id is some may conn role streams =
+release_goes_on values start end new happened id is some typed may conn role streams spans =
     release_passes values start new (after_release happened id) id (record {
-      represents = quiet_call values end new happened (Release id (owed happened.log id)) Done
-          is.represents may conn role streams (λ i. none_sent i id (owed happened.log id));
-      calls = releases_more is.calls id some is.below may;
+      represents = called_as values end new happened (Release id (owed happened.log id)) Done
+          is.represents may conn role streams spans
+          (λ i. none_sent i id (owed happened.log id) Done) (λ i number. cc)
+          (λ i. none_closed i id (owed happened.log id) Done);
+      calls = releases_more is.calls id (record { some = some; below = is.below }) typed may;
       up = release_failed happened.log id (owed happened.log id) ∙ is.up;
       below = λ j low.
           none_owed_more happened.log id (owed happened.log id) j Done (is.below j low);
     }) (none_owed happened.log id)
 
--- It ends where no active stream is left,
+-- It ends where no active stream of the span is left,
+pub none_is_owed : (values : Values) (start : EndLog) (end : End) (happened : EndLog)
+    (last : ℕ) → IsReleasing values start end happened (last + 1)
+    → ((j : ℕ) → last < j → InSpan end.spans.owing j → active happened.log j ≡ false)
+    → (i : ℕ) → owed happened.log i ≡ 0
+none_is_owed values start end happened last is none i = elim (below_or i last) [
+  | inl here ↦ is.below i here
+  | inr above ↦ elim (cases_eq (owed happened.log i) 0) [
+    | inl zero ↦ zero
+    | inr some ↦ owed_inactive happened.log i
+        (none i above ((is.represents.in_step i).owes some))
+  ]
+]
+
 pub release_ends : (values : Values) (start : EndLog) (end : End) (happened : EndLog) (last : ℕ)
     → start.log.failed ≡ None → IsReleasing values start end happened (last + 1)
-    → reader_next_live happened.log last ≡ None → MayReleaseAll start (Ok (record {})) happened
+    → ((j : ℕ) → last < j → InSpan end.spans.owing j → active happened.log j ≡ false)
+    → MayReleaseAll start (Ok (record {})) happened
 unfolding MayReleaseAll
-release_ends values start end happened last up is none = (
-  up,
-  releases_all start happened is.calls,
-  λ i. elim (below_or i last) [
-    | inl here ↦ is.below i here
-    | inr above ↦ owed_inactive happened.log i (none_read happened.log last is.up none i above)
-  ],
-)
+release_ends values start end happened last up is none =
+    (up, releases_all start happened is.calls, none_is_owed values start end happened last is none)
+
+-- where the span may be any,
+pub none_owing : (values : Values) (end : End) (happened : EndLog) (span : Span)
+    → EndRepresents values end happened → ((i : ℕ) → owed happened.log i ≡ 0)
+    → EndRepresents values (record end { spans = record end.spans { owing = span } }) happened
+none_owing values end happened span is none =
+    record {
+      streams = record {
+        conn = is.streams.conn;
+        role = is.streams.role;
+        streams = is.streams.streams;
+        sent = is.streams.sent;
+      };
+      in_step = λ i. record {
+        all = (is.in_step i).all;
+        handed = (is.in_step i).handed;
+        within = (is.in_step i).within;
+        owes = λ some. absurd (some (none i));
+      };
+      active = is.active;
+    }
 
 -- or with a call that is refused.
-refused_sends : (i id count : ℕ) (refusal : Refusal)
-    → tokens_of_call i (Release id count) (Refused refusal) ≡ []
-unfolding tokens_of_call
-refused_sends i id count refusal = refl
-
 pub refusal_represents : (values : Values) (start : EndLog) (end new : End) (happened : EndLog)
     (id : ℕ) (refusal : Refusal) → IsReleasing values start end happened id
     → MayAnswer happened.log (Release id (owed happened.log id)) (Refused refusal)
     → ConnRepresents values new.conn (after_refusal happened id refusal).log
-    → new.role ≡ end.role → new.streams ≡ end.streams
+    → new.role ≡ end.role → new.streams ≡ end.streams → new.spans ≡ end.spans
     → EndRepresents values new (after_refusal happened id refusal)
-refusal_represents values start end new happened id refusal is may conn role streams =
-    quiet_call values end new happened (Release id (owed happened.log id)) (Refused refusal)
-    is.represents may conn role streams
-    (λ i. refused_sends i id (owed happened.log id) refusal)
+refusal_represents values start end new happened id refusal is may conn role streams spans =
+    called_as values end new happened (Release id (owed happened.log id)) (Refused refusal)
+    is.represents may conn role streams spans
+    (λ i. none_sent i id (owed happened.log id) (Refused refusal)) (λ i number. cc)
+    (λ i. none_closed i id (owed happened.log id) (Refused refusal))
 
 -- As much is owed then.
 refused_owes : (log : Log) (id count : ℕ) (refusal : Refusal)
@@ -185,28 +234,33 @@ refused_owes : (log : Log) (id count : ℕ) (refusal : Refusal)
 unfolding owed unreleased released with_call
 refused_owes log id count refusal = refl
 
-refused_by : (start now : EndLog) (id : ℕ) (refusal : Refusal) → owed now.log id ≢ 0
-    → Releases start (after_refusal now id refusal) → LacksSpace now.log refusal
+refused_by : (start now : EndLog) (id : ℕ) (refusal : Refusal) → start.log.failed ≡ None
+    → owed now.log id ≢ 0 → Releases start (Some refusal) (after_refusal now id refusal)
+    → LacksSpace now.log refusal
     → MayReleaseAll start (Err (refusals.Conn refusal)) (after_refusal now id refusal)
 unfolding MayReleaseAll
-refused_by start now id refusal some calls (inl (is, full)) =
+refused_by start now id refusal up some calls (inl (is, full)) =
     let after = after_refusal now id refusal in
     let same = refused_waits now.log (Release id (owed now.log id)) refusal in
     subst (λ (r : Refusal). MayReleaseAll start (Err (refusals.Conn r)) after) (sym is) (
-      calls,
+      up,
+      subst (λ (r : Refusal). Releases start (Some r) after) is calls,
       omega (arith, full, same),
       (id, λ none. some (sym (refused_owes now.log id (owed now.log id) refusal) ∙ none)),
     )
-refused_by start now id refusal some calls (inr is) =
-    subst (λ (r : Refusal). MayReleaseAll start (Err (refusals.Conn r))
-    (after_refusal now id refusal)) (sym is) calls
+refused_by start now id refusal up some calls (inr is) =
+    let after = after_refusal now id refusal in
+    subst (λ (r : Refusal). MayReleaseAll start (Err (refusals.Conn r)) after) (sym is)
+    (up, subst (λ (r : Refusal). Releases start (Some r) after) is calls)
 
 pub release_is_refused : (values : Values) (start : EndLog) (end : End) (happened : EndLog)
-    (id : ℕ) (refusal : Refusal) → IsReleasing values start end happened id
-    → owed happened.log id ≢ 0
+    (id : ℕ) (refusal : Refusal) → start.log.failed ≡ None
+    → IsReleasing values start end happened id → owed happened.log id ≢ 0
+    → IsTypedAct (Release id (owed happened.log id))
     → MayAnswer happened.log (Release id (owed happened.log id)) (Refused refusal)
     → MayReleaseAll start (Err (refusals.Conn refusal)) (after_refusal happened id refusal)
-release_is_refused values start end happened id refusal is some may =
-    refused_by start happened id refusal some
-    (releases_until_refused start happened id refusal is.calls some may)
+release_is_refused values start end happened id refusal up is some typed may =
+    refused_by start happened id refusal up some
+    (releases_until_refused start happened id refusal is.calls
+    (record { some = some; below = is.below }) typed may)
     (release_refused happened.log id refusal is.up some may)

@@ -1,36 +1,89 @@
 -- What an end keeps of a stream that was given a message.
-use Rattle.std.proofs.Common.{◌≡◌, ℕ, Some, None, refl}
+use Rattle.std.proofs.Common.{◌≡◌, ℕ, Bool, true, false, Some, None, refl, sym, ◌∙◌}
+use Rattle.std.proofs.lemmas.Bool.{both_ways}
 use Rattle.h2_message.specs.declared.message.Message.{Message}
+use Rattle.h2_message.specs.Values.{message_value}
 use Rattle.h2_ends.specs.declared.end.End.{End}
 use Rattle.h2_ends.specs.declared.outgoing.Stream.{Stream}
-use Rattle.h2_ends.specs.Represents.{kept_at}
+use Rattle.h2_ends.specs.declared.span.Span.{Span}
+use Rattle.h2_ends.specs.declared.span.Spans.{Spans}
+use Rattle.h2_ends.specs.EndCalls.{is_head_alone}
+use Rattle.h2_ends.specs.Represents.{InSpan, kept_at}
 use Rattle.h2_ends.specs.Heads.{IsGiven, given_stream}
-use Rattle.h2_ends.proofs.TableSteps.{ChangesAt}
-use Rattle.h2_ends.proofs.RequestTable.{keeps_one}
+use Rattle.h2_ends.proofs.TableSteps.{ChangesAt, keeps_but}
 
--- The message is given to the stream of which something is kept.
-pub given_here : (old new : End) (id : ℕ) (message : Message) (stream set : Stream)
-    → Some stream ≡ kept_at id old.streams.entries → set ≡ given_stream message stream
-    → new.conn ≡ old.conn → new.role ≡ old.role
-    → ChangesAt id (Some set) old.streams.entries new.streams.entries
-    → IsGiven old new id message
-given_here old new id message stream set was is conn role changes =
+-- The span of those that wait has the number too, unless the message is its head alone, and all
+-- else is as before.
+pub record IsWidened (old : End) (id : ℕ) (message : Message) (new : End) : Type 0 where
+  pub conn : new.conn ≡ old.conn
+  pub role : new.role ≡ old.role
+  pub streams : new.streams ≡ old.streams
+  pub more : (i : ℕ) → InSpan old.spans.waiting i → InSpan new.spans.waiting i
+  pub here : is_head_alone (message_value message) ≡ false → InSpan new.spans.waiting id
+  pub owing : new.spans.owing ≡ old.spans.owing
+
+-- So it is by the test whether the message is its head alone.
+pub with_span : (old : End) (id : ℕ) (message : Message) (span : Span) → InSpan span id
+    → ((i : ℕ) → InSpan old.spans.waiting i → InSpan span i)
+    → IsWidened old id message (record old { spans = record old.spans { waiting = span } })
+with_span old id message span here more =
     record {
-      conn = conn;
-      role = role;
-      keeps = rw (← was, ← is) (keeps_one old new id (Some set) changes);
+      conn = refl;
+      role = refl;
+      streams = refl;
+      more = more;
+      here = λ waits. here;
+      owing = refl;
     }
 
--- Where nothing is kept of the stream, all is as before.
-pub given_nowhere : (old new : End) (id : ℕ) (message : Message)
-    → None ≡ kept_at id old.streams.entries → new.conn ≡ old.conn → new.role ≡ old.role
-    → new.streams ≡ old.streams → IsGiven old new id message
-given_nowhere old new id message none conn role same =
+pub with_none : (old : End) (id : ℕ) (message : Message) (alone : Bool)
+    → alone ≡ is_head_alone (message_value message) → alone ≡ true
+    → IsWidened old id message old
+with_none old id message alone is test =
     record {
-      conn = conn;
-      role = role;
+      conn = refl;
+      role = refl;
+      streams = refl;
+      more = λ i within. within;
+      here = λ waits. absurd (both_ways _ waits (sym is ∙ test));
+      owing = refl;
+    }
+
+-- The message is given to the stream of which something is kept.
+pub given_here : (old mid new : End) (id : ℕ) (message : Message) (stream set : Stream)
+    → IsWidened old id message mid → Some stream ≡ kept_at id mid.streams.entries
+    → set ≡ given_stream message stream → new.conn ≡ mid.conn → new.role ≡ mid.role
+    → new.spans ≡ mid.spans
+    → ChangesAt id (Some set) mid.streams.entries new.streams.entries
+    → IsGiven old id message new
+given_here old mid new id message stream set widened was is conn role waiting changes =
+    let keeps = keeps_but mid new id (Some set) changes in
+    record {
+      conn = conn ∙ widened.conn;
+      role = role ∙ widened.role;
       keeps = record {
-        one = rw (same, ← none) refl;
-        others = λ i other. rw same refl;
+        one = rw (← widened.streams, ← was, ← is) keeps.one;
+        others = λ i other. rw (← widened.streams) (keeps.others i other);
       };
+      more = rw waiting widened.more;
+      here = rw waiting widened.here;
+      owing = rw waiting widened.owing;
+    }
+
+-- Where nothing is kept of the stream, all else is as before.
+pub given_nowhere : (old mid new : End) (id : ℕ) (message : Message)
+    → IsWidened old id message mid → None ≡ kept_at id mid.streams.entries
+    → new.conn ≡ mid.conn → new.role ≡ mid.role → new.streams ≡ mid.streams
+    → new.spans ≡ mid.spans → IsGiven old id message new
+given_nowhere old mid new id message widened none conn role same waiting =
+    record {
+      conn = conn ∙ widened.conn;
+      role = role ∙ widened.role;
+      keeps = record {
+        one = rw (← widened.streams, same, ← none) refl;
+        others = λ i other. rw (← widened.streams, same) refl;
+      };
+      more = rw waiting widened.more;
+      here = rw waiting widened.here;
+      owing = rw waiting widened.owing;
     }

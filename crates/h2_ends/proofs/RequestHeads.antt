@@ -28,11 +28,16 @@ use Rattle.h2_ends.specs.declared.outgoing.Outgoing.TheVariants as outgoings
 use Rattle.h2_ends.specs.declared.outgoing.Stream.{Stream}
 use Rattle.h2_ends.specs.Ends.{EndLog, message_for, reads_on, tokens_out, asked_head}
 use Rattle.h2_ends.specs.EndCalls.{is_head_alone, end_with_message, IsAsked, MayRespond}
-use Rattle.h2_ends.specs.Represents.{EndRepresents, IsKept, IsStream, IsOutgoing, IsUntouched}
-use Rattle.h2_ends.specs.Represents.{kept_at}
-use Rattle.h2_ends.specs.Heads.{IsGiven, IsOpened, IsAnswered, given_stream}
-use Rattle.h2_ends.proofs.EndSteps.{called_end, stepped, KeepsBut}
-use Rattle.h2_ends.proofs.RequestSent.{head_tokens, begun_by_head, outgoing_after_head}
+use Rattle.h2_ends.specs.Represents.{EndRepresents, RepresentsBut, RepresentsStreams, IsKept}
+use Rattle.h2_ends.specs.Represents.{IsStream, IsOutgoing, IsUntouched, kept_at}
+use Rattle.h2_ends.specs.Heads.{IsGiven, IsOpened, IsAnswered, KeepsOne, given_stream}
+use Rattle.h2_ends.proofs.EndSteps.{called_end, stepped}
+use Rattle.h2_end_laws.proofs.ToldOpened.{active_by_open}
+use Rattle.h2_end_laws.proofs.ToldCalls.{active_by_call}
+use Rattle.h2_ends.proofs.InSteps.{owes_called, in_step_called}
+use Rattle.h2_ends.proofs.RequestSteps.{stepped_but, and_that, opens_one, open_keeps, fields_keep}
+use Rattle.h2_ends.proofs.RequestSteps.{head_keeps, handed_open, within_given}
+use Rattle.h2_ends.proofs.RequestSent.{head_tokens, sent_in_order, outgoing_after_head}
 use Rattle.h2_ends.proofs.RequestSent.{sent_first, accepted_here, accepted_elsewhere}
 
 -- Nothing was given or handed out on a number that wasn't used.
@@ -47,7 +52,7 @@ pub untouched : (values : Values) (old : End) (end : EndLog) (id : ℕ)
     → EndRepresents values old end → used end.log id ≡ false
     → IsUntouched end id × (kept_at id old.streams.entries ≡ None)
 untouched values old end id is new =
-    untouched_by end id (kept_at id old.streams.entries) new (is.streams id)
+    untouched_by end id (kept_at id old.streams.entries) new (is.streams.streams id)
 
 -- A client reads the response to its request, and a server requests.
 client_reads : (end : EndLog) (i : ℕ) (message : SentMessage) → end.log.role ≡ Client
@@ -83,10 +88,6 @@ fields_here : (id : ℕ) (message : SentMessage)
 unfolding tokens_of_call
 fields_here id message = rw (eq-eqb id id refl) refl
 
--- Two values that are one.
-some_same : {A : Type 0} (a b : A) → Some a ≡ Some b → a ≡ b
-some_same a b same = cc
-
 -- An end that has sent the head of a message, and keeps what is read and the rest of the message.
 sent_head : (values : Values) (old given : End) (end : EndLog) (act : Act) (answer : Answer)
     (id : ℕ) (message : SentMessage) (stream : Stream)
@@ -94,27 +95,24 @@ sent_head : (values : Values) (old given : End) (end : EndLog) (act : Act) (answ
     → tokens_out end id ≡ [] → ((i : ℕ) → i ≢ id → tokens_of_call i act answer ≡ [])
     → tokens_of_call id act answer ≡ head_tokens message
     → ConnRepresents values given.conn (with_call end.log act answer)
-    → given.role ≡ old.role → KeepsBut old given id (Some stream)
+    → given.role ≡ old.role → KeepsOne old given id (Some stream)
     → IsStream (end_with_message end act answer id message) id stream
-    → EndRepresents values given (end_with_message end act answer id message)
+    → RepresentsStreams values given (end_with_message end act answer id message)
 unfolding IsKept
 sent_head values old given end act answer id message stream is may none others tokens conn role
     keeps one =
     let after = called_end end act answer ((id, message) ∷ end.accepted) in
+    let accepted = accepted_here id message end.accepted in
     let sent : tokens_out after id ≡ head_tokens message =
     sent_first end act answer ((id, message) ∷ end.accepted) id (head_tokens message) none tokens in
-    stepped values old given end act answer id (Some stream) ((id, message) ∷ end.accepted) is may
-    conn role keeps others
+    stepped values old given end act answer id (Some stream) ((id, message) ∷ end.accepted)
+    is.streams may conn role keeps others
     (λ i other. accepted_elsewhere i id message end.accepted other)
-    (inr one)
-    (λ any accepted.
-    let same : message ≡ any = some_same message any
-    (sym (accepted_here id message end.accepted) ∙ accepted) in
-    rw (← same) (begun_by_head after id message sent))
+    (inr one) (sent_in_order after id message accepted sent)
 
 -- What is kept of a stream to which the message is given.
 kept_given : (opened given : End) (id : ℕ) (message : Message) (stream : Stream)
-    → IsGiven opened given id message → kept_at id opened.streams.entries ≡ Some stream
+    → IsGiven opened id message given → kept_at id opened.streams.entries ≡ Some stream
     → kept_at id given.streams.entries ≡ Some (given_stream message stream)
 kept_given opened given id message stream gives is =
     gives.keeps.one ∙ rw is refl
@@ -123,7 +121,7 @@ kept_given opened given id message stream gives is =
 pub request_given : (values : Values) (old opened given : End) (end : EndLog) (id : ℕ)
     (message : Message) → EndRepresents values old end
     → IsOpened values end (message_value message) old id opened
-    → IsGiven opened given id message
+    → IsGiven opened id message given
     → EndRepresents values given (end_with_message end (Open message.head.items
     (is_head_alone (message_value message))) (Number id) id (message_value message))
 request_given values old opened given end id message is opens gives =
@@ -131,7 +129,7 @@ request_given values old opened given end id message is opens gives =
     let act = Open value.head (is_head_alone value) in
     let after = end_with_message end act (Number id) id value in
     let new = opened_is_new _ values end.log value.head (is_head_alone value) id
-    is.conn.machine.came opens.answers in
+    is.streams.conn.machine.came opens.answers in
     let client : after.log.role ≡ Client =
     (grows_call end.log act (Number id)).role ∙ new.0 in
     let before = (untouched values old end id is new.2).0 in
@@ -139,20 +137,37 @@ request_given values old opened given end id message is opens gives =
     let sent : tokens_out after id ≡ head_tokens value =
     sent_first end act (Number id) after.accepted id (head_tokens value) before.unsent
     (open_here id value) in
-    sent_head values old given end act (Number id) id value
-    (given_stream message (record { reading = opens.reading; outgoing = outgoings.NotGiven })) is
-    opens.answers before.unsent (λ i other. open_elsewhere i id value other) (open_here id value)
-    (rw gives.conn opens.conn) (gives.role ∙ opens.role)
-    (record {
-      one = kept_given opened given id message _ gives opens.keeps.one;
+    let empty : Stream = record { reading = opens.reading; outgoing = outgoings.NotGiven } in
+    let stream = given_stream message empty in
+    let keeps : KeepsOne old given id (Some stream) = record {
+      one = kept_given opened given id message empty gives opens.keeps.one;
       others = λ i other. gives.keeps.others i other ∙ opens.keeps.others i other;
-    })
+    } in
+    let streams = sent_head values old given end act (Number id) id value stream is
+    opens.answers before.unsent (λ i other. open_elsewhere i id value other) (open_here id value)
+    (rw gives.conn opens.conn) (gives.role ∙ opens.role) keeps
     (record {
       was_used = new.3;
       reading = rw (client_reads after id value client accepted, before.unread) opens.follows;
       outgoing = outgoing_after_head after id message accepted sent opens.fits;
       asked = λ server. let wrong = sym client ∙ server in cc;
-    })
+    }) in
+    and_that values given after id
+    (stepped_but values old given end act (Number id) id (Some stream) after.accepted is
+    opens.answers streams keeps (λ i within. gives.more i (rw opens.spans within))
+    (rw opens.spans at gives.owing)
+    (λ i other. opens_one i id other)
+    (λ i other. open_keeps i id value.head (is_head_alone value))
+    (record {
+      all = λ up alive none. cc;
+      handed = handed_open end value.head (is_head_alone value) id after.accepted opens.answers
+          new.2 (is.in_step id).handed;
+      within = within_given given.spans.waiting id message empty gives.here;
+      owes = λ some. rw (gives.owing, opens.spans) (owes_called _ values old.spans.owing end.log
+          act (Number id) id is.streams.conn.machine.came opens.answers (is.in_step id).owes some);
+    }))
+    (λ some. active_by_open _ values end.log value.head (is_head_alone value) id
+    is.streams.conn.machine.came opens.answers)
 
 -- What is kept of a stream that is active and on which something was handed out.
 kept_asked : (end : EndLog) (id : ℕ) (kept : Option Stream) → IsAsked end id
@@ -180,13 +195,14 @@ answered_parts : (end : EndLog) (id : ℕ) (message : SentMessage) (after : EndL
 unfolding MayRespond
 answered_parts end id message after may = (may.0, may.1, may.3, may.4)
 
--- An end that has answered a request with the head of a response, and keeps the rest of it.
+-- An end that has answered a request with the head of a response, and keeps the rest of it: the
+-- stream may be closed where the head is alone.
 pub respond_given : (values : Values) (old answered given : End) (end : EndLog) (id : ℕ)
     (message : Message) → EndRepresents values old end
     → IsAnswered values end id (message_value message) old answered
-    → IsGiven answered given id message
-    → EndRepresents values given (end_with_message end (SendFields id message.head.items
-    (is_head_alone (message_value message))) Done id (message_value message))
+    → IsGiven answered id message given
+    → RepresentsBut values given (end_with_message end (SendFields id message.head.items
+    (is_head_alone (message_value message))) Done id (message_value message)) id
 respond_given values old answered given end id message is answers gives =
     let value = message_value message in
     let act = SendFields id value.head (is_head_alone value) in
@@ -195,26 +211,57 @@ respond_given values old answered given end id message is answers gives =
     let asked = parts.0 in
     let server : after.log.role ≡ Server =
     (grows_call end.log act Done).role ∙ asked.server in
-    let kept = kept_asked end id (kept_at id old.streams.entries) asked (is.streams id) in
-    let stream = kept.0 in
-    let none = unsent_by end id stream.outgoing parts.1 kept.2.outgoing in
+    let had = kept_asked end id (kept_at id old.streams.entries) asked (is.streams.streams id) in
+    let stream = had.0 in
+    let none = unsent_by end id stream.outgoing parts.1 had.2.outgoing in
     let accepted = accepted_here id value end.accepted in
     let sent : tokens_out after id ≡ head_tokens value =
     sent_first end act Done after.accepted id (head_tokens value) none (fields_here id value) in
-    sent_head values old given end act Done id value (given_stream message stream) is parts.3
-    none (λ i other. fields_elsewhere i id value other) (fields_here id value)
-    (rw gives.conn answers.conn) (gives.role ∙ answers.role)
-    (record {
-      one = kept_given answered given id message stream gives (rw answers.streams kept.1);
+    let keeps : KeepsOne old given id (Some (given_stream message stream)) = record {
+      one = kept_given answered given id message stream gives (rw answers.streams had.1);
       others = λ i other. gives.keeps.others i other ∙ rw answers.streams refl;
-    })
+    } in
+    let streams = sent_head values old given end act Done id value (given_stream message stream)
+    is parts.3 none (λ i other. fields_elsewhere i id value other) (fields_here id value)
+    (rw gives.conn answers.conn) (gives.role ∙ answers.role) keeps
     (record {
-      was_used = used_by_call end.log act Done id kept.2.was_used;
+      was_used = used_by_call end.log act Done id had.2.was_used;
       reading = rw (server_reads after id server, ← server_reads end id asked.server)
-          kept.2.reading;
+          had.2.reading;
       outgoing = outgoing_after_head after id message accepted sent parts.2;
       asked = λ same. asked.handed;
+    }) in
+    let before = in_step_called _ values old.spans (kept_at id old.streams.entries) end act Done
+    after.accepted id is.streams.conn.machine.came parts.3 (λ same. cc) (is.in_step id) in
+    stepped_but values old given end act Done id (Some (given_stream message stream))
+    after.accepted is parts.3 streams keeps
+    (λ i within. gives.more i (rw answers.spans within)) (rw answers.spans at gives.owing)
+    (λ i other same. cc)
+    (λ i other. fields_keep i id value.head (is_head_alone value) other)
+    (record {
+      all = λ up alive none. cc;
+      handed = before.handed;
+      within = within_given given.spans.waiting id message stream gives.here;
+      owes = λ some. rw (gives.owing, answers.spans) (before.owes some);
     })
+
+-- Where more than the head waits, it is active still.
+pub respond_waits : (values : Values) (old answered given : End) (end : EndLog) (id : ℕ)
+    (message : Message) → is_head_alone (message_value message) ≡ false
+    → EndRepresents values old end
+    → IsAnswered values end id (message_value message) old answered
+    → IsGiven answered id message given
+    → EndRepresents values given (end_with_message end (SendFields id message.head.items
+    (is_head_alone (message_value message))) Done id (message_value message))
+respond_waits values old answered given end id message waits is answers gives =
+    let value = message_value message in
+    let act = SendFields id value.head (is_head_alone value) in
+    let after = end_with_message end act Done id value in
+    let parts = answered_parts end id value after answers.may in
+    and_that values given after id
+    (respond_given values old answered given end id message is answers gives)
+    (λ some. active_by_call _ values end.log act Done id is.streams.conn.machine.came
+    parts.3 parts.0.active (head_keeps id id value.head (is_head_alone value) waits))
 
 -- What `request` may answer then.
 pub may_request : (values : Values) (end : EndLog) (message : SentMessage) (old opened : End)

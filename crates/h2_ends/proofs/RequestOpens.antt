@@ -2,13 +2,13 @@
 use Rattle.std.proofs.Common.{◌≡◌, ◌⊎◌, ℕ, ◌||◌, Bool, true, false, if◌then◌else◌, List, []}
 use Rattle.std.proofs.Common.{Option, Some, None, refl, sym, ap, ◌∙◌, inl, inr, arith}
 use Rattle.std.specs.Prelude.{Result, Ok, Err, is_some, is_err, OnOk, OnErr, unwrap_or}
-use Rattle.std.proofs.lemmas.Bool.{both_ways, false_from_ne_true}
+use Rattle.std.proofs.lemmas.Bool.{both_ways, cases_eq, false_from_ne_true}
 use Rattle.hpack.specs.declared.types.field.Field.{Field}
 use Rattle.h2_log.specs.declared.refusal.Refusal.{Refusal}
 use Rattle.h2_log.specs.declared.refusal.Refusal.TheVariants.{Memory}
 use Rattle.h2_log.specs.declared.role.Role.{Role}
 use Rattle.h2_log.specs.declared.role.Role.TheVariants.{Client, Server}
-use Rattle.h2_log.specs.Acts.{Values, Act, Open, Number, Refused}
+use Rattle.h2_log.specs.Acts.{Values, IsTypedAct, Open, Number, Refused}
 use Rattle.h2_log.specs.Settings.{is_server}
 use Rattle.h2_log.specs.CallRules.{is_too_large, refusal_of}
 use Rattle.h2_log.specs.Log.{Log, next_number}
@@ -22,17 +22,17 @@ use Rattle.h2_message.specs.declared.reading.Reading.{Reading}
 use Rattle.h2_message.specs.declared.reading.Reads.TheVariants.{Responses}
 use Rattle.h2_message.specs.Messages.{SentMessage, trailer_fields, asks_head}
 use Rattle.h2_message.specs.Phases.{Follows}
-use Rattle.h2_pair.specs.Tokens.{tokens_of_call}
 use Rattle.h2_ends.specs.declared.end.End.{End}
 use Rattle.h2_ends.specs.declared.outgoing.Outgoing.TheVariants as outgoings
 use Rattle.h2_ends.specs.declared.outgoing.Stream.{Stream}
 use Rattle.h2_ends.specs.Ends.{EndLog}
 use Rattle.h2_ends.specs.EndTakes.{end_with_log}
 use Rattle.h2_ends.specs.EndCalls.{is_head_alone, RefusesMessage}
-use Rattle.h2_ends.specs.Represents.{EndRepresents, IsKept, IsUntouched}
+use Rattle.h2_ends.specs.Represents.{EndRepresents, kept_at}
 use Rattle.h2_ends.specs.Heads.{Opens, KeepsOne}
-use Rattle.h2_ends.proofs.EndSteps.{called_end, stepped, quiet_call, KeepsBut}
-use Rattle.h2_ends.proofs.EndTokens.{call_adds_none}
+use Rattle.h2_ends.proofs.InSteps.{called_as}
+use Rattle.h2_ends.proofs.RequestTable.{kept_alike}
+use Rattle.h2_ends.proofs.RequestSteps.{refused_open_keeps}
 use Rattle.h2_ends.proofs.RequestHeads.{untouched}
 use Rattle.h2_ends.proofs.RequestRefusals.{is_refused, refused_so, refuses_fitting, refuses_head}
 use Rattle.h2_ends.proofs.RequestRefusals.{open_too_large, trailers_refuse_open, whatever_end}
@@ -64,58 +64,61 @@ opens_surely : (values : Values) (old new : End) (end : EndLog) (message : SentM
     → (refusal : Refusal) × (refusal_of (log_view end.log) (Open list ends) ≡ Some refusal)
     → ((refusal : Refusal) → refusal_of (log_view end.log) (Open list ends) ≡ Some refusal
     → RefusesMessage end.log (Open message.head (is_head_alone message)) message refusal)
-    → EndRepresents values old end
+    → IsTypedAct (Open list ends) → EndRepresents values old end
     → MayAnswer end.log (Open list ends) (answer_by (λ id. Number id) result)
     → ConnRepresents values new.conn
     (with_call end.log (Open list ends) (answer_by (λ id. Number id) result))
-    → new.role ≡ old.role → new.streams ≡ old.streams
+    → new.role ≡ old.role → new.streams ≡ old.streams → new.spans ≡ old.spans
     → Opens values end message old result new
-opens_surely values old new end message list ends (Ok id) first refuses is may conn role streams =
+opens_surely values old new end message list ends (Ok id) first refuses typed is may conn role
+    streams waiting =
     let wrong = is_refused end.log (Open list ends) (Number id) first.0 first.1 may in cc
-opens_surely values old new end message list ends (Err refusal) first refuses is may conn role
-    streams =
+opens_surely values old new end message list ends (Err refusal) first refuses typed is may conn
+    role streams waiting =
     let act = Open list ends in
     let same : Refused refusal ≡ Refused first.0 =
     is_refused end.log act (Refused refusal) first.0 first.1 may in
     let one : first.0 ≡ refusal = cc in (
       end_with_log end (with_call end.log act (Refused refusal)),
       refuses refusal (first.1 ∙ ap Some one),
-      unchanged_by end act refusal may,
-      quiet_call values old new end act (Refused refusal) is may conn role streams
-          (λ i. refused_sends_none i list ends refusal),
+      unchanged_by end act refusal typed may,
+      called_as values old new end act (Refused refusal) is may conn role streams waiting
+          (λ i. refused_sends_none i list ends refusal) (λ i wrong. cc)
+          (λ i. refused_open_keeps i list ends refusal),
     )
 
 -- Trailers that are too large are refused in place of the message.
 pub opens_trailers : (values : Values) (old new : End) (end : EndLog) (message : SentMessage)
     (result : Result ℕ Refusal) → is_too_large (trailer_fields message.trailers) ≡ true
+    → IsTypedAct (Open (trailer_fields message.trailers) true)
     → EndRepresents values old end
     → MayAnswer end.log (Open (trailer_fields message.trailers) true)
     (answer_by (λ id. Number id) result)
     → ConnRepresents values new.conn (with_call end.log
     (Open (trailer_fields message.trailers) true) (answer_by (λ id. Number id) result))
-    → new.role ≡ old.role → new.streams ≡ old.streams
+    → new.role ≡ old.role → new.streams ≡ old.streams → new.spans ≡ old.spans
     → Opens values end message old result new
-opens_trailers values old new end message result large is may conn role streams =
+opens_trailers values old new end message result large typed is may conn role streams waiting =
     opens_surely values old new end message (trailer_fields message.trailers) true result
     (open_too_large (log_view end.log) (trailer_fields message.trailers) true large)
     (λ refusal holds. trailers_refuse_open end.log message (is_head_alone message) refusal large
-    holds) is may conn role streams
+    holds) typed is may conn role streams waiting
 
 -- Where no number comes next, the head is refused.
 pub opens_nowhere : (values : Values) (old new : End) (end : EndLog) (message : SentMessage)
     (result : Result ℕ Refusal) → reader_next_number end.log ≡ None
-    → EndRepresents values old end
+    → IsTypedAct (Open message.head true) → EndRepresents values old end
     → MayAnswer end.log (Open message.head true) (answer_by (λ id. Number id) result)
     → ConnRepresents values new.conn
     (with_call end.log (Open message.head true) (answer_by (λ id. Number id) result))
-    → new.role ≡ old.role → new.streams ≡ old.streams
+    → new.role ≡ old.role → new.streams ≡ old.streams → new.spans ≡ old.spans
     → Opens values end message old result new
-opens_nowhere values old new end message result none is may conn role streams =
+opens_nowhere values old new end message result none typed is may conn role streams waiting =
     opens_surely values old new end message message.head true result
     (no_number_refuses end.log message.head true none)
     (λ refusal holds. refuses_head end.log (Open message.head (is_head_alone message)) message
     refusal (whatever_end (log_view end.log) message.head (is_head_alone message) true ∙ holds))
-    is may conn role streams
+    typed is may conn role streams waiting
 
 -- The number that comes next is new.
 client_by : (role : Role) → is_server role ≡ false → role ≡ Client
@@ -141,7 +144,7 @@ next_is_new log id next =
 -- The stream that was inserted and removed again is none.
 pub keeps_none : (old mid new : End) (id : ℕ) (stream : Stream)
     → ChangesAt id (Some stream) old.streams.entries mid.streams.entries
-    → ChangesAt id None mid.streams.entries new.streams.entries → KeepsBut old new id None
+    → ChangesAt id None mid.streams.entries new.streams.entries → KeepsOne old new id None
 keeps_none old mid new id stream put away =
     let first = keeps_but old mid id (Some stream) put in
     let last = keeps_but mid new id None away in
@@ -150,44 +153,45 @@ keeps_none old mid new id stream put away =
       others = λ i other. last.others i other ∙ first.others i other;
     }
 
--- Nothing is kept of a number that isn't opened.
-none_kept : (end : EndLog) (id : ℕ) (act : Act) (refusal : Refusal) → IsUntouched end id
-    → tokens_of_call id act (Refused refusal) ≡ []
-    → IsKept (called_end end act (Refused refusal) end.accepted) id None
-unfolding IsKept
-none_kept end id act refusal before none =
-    record {
-      unread = before.unread;
-      unsaid = before.unsaid;
-      unsent = call_adds_none id end.log act (Refused refusal) none ∙ before.unsent;
-    }
+-- Where nothing was kept of a number, and nothing is, all is kept as before.
+kept_as_before : (old new : End) (id : ℕ) → kept_at id old.streams.entries ≡ None
+    → KeepsOne old new id None → (i : ℕ)
+    → kept_at i new.streams.entries ≡ kept_at i old.streams.entries
+kept_as_before old new id none keeps i =
+    elim (cases_eq i id) [
+      | inl here ↦ rw here (keeps.one ∙ sym none)
+      | inr other ↦ keeps.others i other
+    ]
 
 -- The connection refuses the head.
 pub opens_not : (values : Values) (old new : End) (end : EndLog) (message : SentMessage) (id : ℕ)
     (result : Result ℕ Refusal) → is_err result ≡ true
     → is_too_large (trailer_fields message.trailers) ≡ false
-    → reader_next_number end.log ≡ Some id → EndRepresents values old end
+    → reader_next_number end.log ≡ Some id
+    → IsTypedAct (Open message.head (is_head_alone message)) → EndRepresents values old end
     → MayAnswer end.log (Open message.head (is_head_alone message))
     (answer_by (λ id. Number id) result)
     → ConnRepresents values new.conn (with_call end.log
     (Open message.head (is_head_alone message)) (answer_by (λ id. Number id) result))
-    → new.role ≡ old.role → KeepsBut old new id None
+    → new.role ≡ old.role → new.spans ≡ old.spans → KeepsOne old new id None
     → Opens values end message old result new
-opens_not values old new end message id (Ok number) err fits next is may conn role keeps =
-    absurd (both_ways false refl err)
-opens_not values old new end message id (Err refusal) err fits next is may conn role keeps =
+opens_not values old new end message id (Ok number) err fits next typed is may conn role waiting
+    keeps = absurd (both_ways false refl err)
+opens_not values old new end message id (Err refusal) err fits next typed is may conn role waiting
+    keeps =
     let act = Open message.head (is_head_alone message) in
-    let before = (untouched values old end id is (next_is_new end.log id next).1).0 in (
+    let none = (untouched values old end id is (next_is_new end.log id next).1).1 in
+    let mid = record old { conn = new.conn } in (
       end_with_log end (with_call end.log act (Refused refusal)),
       refuses_fitting end.log act message refusal fits
           (refused_so end.log act refusal (λ same. cc) may),
-      unchanged_by end act refusal may,
-      stepped values old new end act (Refused refusal) id None end.accepted is may conn role keeps
-          (λ i other. refused_sends_none i message.head (is_head_alone message) refusal)
-          (λ i other. refl)
-          (inr (none_kept end id act refusal before
-          (refused_sends_none id message.head (is_head_alone message) refusal)))
-          (λ any given. let none = before.unsaid in cc),
+      unchanged_by end act refusal typed may,
+      kept_alike values mid new (end_with_log end (with_call end.log act (Refused refusal)))
+          (called_as values old mid end act (Refused refusal) is may conn refl refl refl
+          (λ i. refused_sends_none i message.head (is_head_alone message) refusal)
+          (λ i wrong. cc)
+          (λ i. refused_open_keeps i message.head (is_head_alone message) refusal)) refl role
+          waiting (kept_as_before old new id none keeps),
     )
 
 -- The connection has opened the stream.
@@ -199,11 +203,12 @@ pub opens_new : (values : Values) (old new : End) (end : EndLog) (message : Sent
     (answer_by (λ id. Number id) result)
     → ConnRepresents values new.conn (with_call end.log
     (Open message.head (is_head_alone message)) (answer_by (λ id. Number id) result))
-    → new.role ≡ old.role → Follows (Responses (asks_head message.head)) [] reading
+    → new.role ≡ old.role → new.spans ≡ old.spans
+    → Follows (Responses (asks_head message.head)) [] reading
     → KeepsOne old new id (Some (record { reading = reading; outgoing = outgoings.NotGiven }))
     → Opens values end message old result new
-opens_new values old new end message id (Ok number) reading ok fits next may conn role follows
-    keeps =
+opens_new values old new end message id (Ok number) reading ok fits next may conn role waiting
+    follows keeps =
     let same : id ≡ number = (next_is_new end.log id next).0
     ∙ sym (open_answer end.log message.head (is_head_alone message) number may).1 in
     record {
@@ -211,9 +216,10 @@ opens_new values old new end message id (Ok number) reading ok fits next may con
       answers = may;
       conn = conn;
       role = role;
+      spans = waiting;
       reading = reading;
       follows = follows;
       keeps = rw same at keeps;
     }
-opens_new values old new end message id (Err refusal) reading ok fits next may conn role follows
-    keeps = absurd (both_ways true ok refl)
+opens_new values old new end message id (Err refusal) reading ok fits next may conn role waiting
+    follows keeps = absurd (both_ways true ok refl)

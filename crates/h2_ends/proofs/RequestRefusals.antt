@@ -2,7 +2,7 @@
 use Rattle.std.proofs.Common.{◌≡◌, ◌⊎◌, ℕ, ◌<◌, ◌≤◌, ◌^◌, ◌-◌, min, ◌||◌, Bool, true, false}
 use Rattle.std.proofs.Common.{List, [], ◌∷◌, ◌++◌, if◌then◌else◌, Option, Some, None, refl, sym}
 use Rattle.std.proofs.Common.{ap, ◌∙◌, inl, inr, arith}
-use Rattle.std.specs.Prelude.{Result, Ok, Err, is_some}
+use Rattle.std.specs.Prelude.{is_some}
 use Rattle.std.proofs.lemmas.Bool.{both_ways, lt-ltb, le-ltb, or_from}
 use Rattle.hpack.specs.declared.types.field.Field.{Field}
 use Rattle.hpack.specs.Lists.{list_size}
@@ -20,7 +20,7 @@ use Rattle.h2_log.specs.CallRules.{conditions, first_of, refusal_of, is_too_larg
 use Rattle.h2_log.specs.CallRules.{has_all_streams, has_no_number, is_full, is_no_stream, answer_of}
 use Rattle.h2_log.specs.LogCalls.{MayAnswer, accepts, refuses, lacks, fails}
 use Rattle.h2_log_laws.proofs.CallConditions.{none_holds, neither_one}
-use Rattle.h2_conn.specs.Conn.{answer_by, reader_next_number}
+use Rattle.h2_conn.specs.Conn.{reader_next_number}
 use Rattle.h2_message.specs.Messages.{SentMessage, trailer_fields}
 use Rattle.h2_pair.specs.Tokens.{tokens_of_call}
 use Rattle.h2_ends.specs.EndCalls.{RefusesMessage}
@@ -167,13 +167,6 @@ refused_so log act refusal apart (refuses other holds is) =
     let same : refusal ≡ other = cc in inl (holds ∙ ap Some (sym same))
 refused_so log act refusal apart (lacks none may is) = inr (none, cc)
 refused_so log act refusal apart (fails none may is) = cc
-
--- The result of a call that was refused.
-pub refused_result : {A : Type 0} (accepted : A → Answer) (result : Result A Refusal)
-    (refusal : Refusal) → ((value : A) → accepted value ≡ Refused refusal → ⊥)
-    → answer_by accepted result ≡ Refused refusal → result ≡ Err refusal
-refused_result accepted (Ok value) refusal apart is = absurd (apart value is)
-refused_result accepted (Err other) refusal apart is = cc
 
 -- The size of a list by what is computed of it.
 pub is_large : (fields : List Field) (size : ℕ) → size ≡ min (list_size fields) (2 ^ 64 - 1)

@@ -1,15 +1,16 @@
 -- What the connection answers to the head of a message, or to trailers that are too large.
-use Rattle.std.proofs.Common.{◌≡◌, ℕ, true, false, Option}
+use Rattle.std.proofs.Common.{◌≡◌, ℕ, ◌<◌, ◌^◌, Bool, true, false, List, Option}
 use Rattle.std.proofs.Common.{Some, None, refl, ap, ◌∙◌, inl, inr, Vec, Global}
 use Rattle.std.specs.Prelude.{Result, Ok, Err, option_map}
 use Rattle.hpack.specs.declared.types.field.Field.{Field}
+use Rattle.hpack.specs.Written.{AreOctets}
 use Rattle.std.proofs.lemmas.Bool.{both_ways}
 use denote.Enum.Bare.{sameb}
 use Rattle.h2_log.specs.contracts.role.Role.{the_type}
 use Rattle.h2_log.specs.declared.role.Role.{Role}
 use Rattle.h2_log.specs.declared.role.Role.TheVariants.{Client, Server}
 use Rattle.h2_log.specs.declared.refusal.Refusal.{Refusal}
-use Rattle.h2_log.specs.Acts.{Values, Act, SendFields, Done, Refused}
+use Rattle.h2_log.specs.Acts.{Values, Act, IsTypedAct, Open, SendFields, Done, Refused}
 use Rattle.h2_log.specs.CallRules.{is_too_large}
 use Rattle.h2_log.specs.Log.{Log}
 use Rattle.h2_log.specs.LogView.{log_view}
@@ -51,20 +52,32 @@ no_trailers_fit message none = none_fit message.trailers none
 pub same_refusal : (one other : Refusal) → Refused other ≡ Refused one → one ≡ other
 same_refusal one other same = cc
 
+-- Fields whose names and values are octets are those that types hold.
+pub fields_typed : (id : ℕ) (fields : List Field) (ends : Bool) → id < 2 ^ 32 → AreOctets fields
+    → IsTypedAct (SendFields id fields ends)
+unfolding IsTypedAct
+fields_typed id fields ends below octets = (below, octets)
+
+pub open_typed : (fields : List Field) (ends : Bool) → AreOctets fields
+    → IsTypedAct (Open fields ends)
+unfolding IsTypedAct
+open_typed fields ends octets = octets
+
 -- Trailers that are too large are refused in place of the message.
 pub sends_trailers : (values : Values) (log : Log) (id : ℕ) (message : SentMessage)
     (result : Result (Unit {0}) Refusal) (conn : Conn)
     → is_too_large (trailer_fields message.trailers) ≡ true
+    → IsTypedAct (SendFields id (trailer_fields message.trailers) true)
     → MayAnswer log (SendFields id (trailer_fields message.trailers) true)
     (answer_by (λ done. Done) result)
     → ConnRepresents values conn (with_call log
     (SendFields id (trailer_fields message.trailers) true) (answer_by (λ done. Done) result))
     → SendsHead values log id message result conn
-sends_trailers values log id message (Ok done) conn large may new =
+sends_trailers values log id message (Ok done) conn large typed may new =
     let act = SendFields id (trailer_fields message.trailers) true in
     let first = fields_too_large (log_view log) id (trailer_fields message.trailers) true large in
     let wrong = is_refused log act Done first.0 first.1 may in cc
-sends_trailers values log id message (Err refusal) conn large may new =
+sends_trailers values log id message (Err refusal) conn large typed may new =
     let act = SendFields id (trailer_fields message.trailers) true in
     let first = fields_too_large (log_view log) id (trailer_fields message.trailers) true large in
     let is = is_refused log act (Refused refusal) first.0 first.1 may in
@@ -73,6 +86,7 @@ sends_trailers values log id message (Err refusal) conn large may new =
       true,
       trailers_refuse_fields log id message (is_head_alone message) refusal large
           (first.1 ∙ ap Some same),
+      typed,
       may,
       new,
     )
@@ -81,28 +95,30 @@ sends_trailers values log id message (Err refusal) conn large may new =
 pub sends_head : (values : Values) (log : Log) (id : ℕ) (message : SentMessage)
     (result : Result (Unit {0}) Refusal) (conn : Conn)
     → is_too_large (trailer_fields message.trailers) ≡ false
+    → IsTypedAct (SendFields id message.head (is_head_alone message))
     → MayAnswer log (SendFields id message.head (is_head_alone message))
     (answer_by (λ done. Done) result)
     → ConnRepresents values conn (with_call log
     (SendFields id message.head (is_head_alone message)) (answer_by (λ done. Done) result))
     → SendsHead values log id message result conn
-sends_head values log id message (Ok done) conn fits may new = (fits, may, new)
-sends_head values log id message (Err refusal) conn fits may new =
+sends_head values log id message (Ok done) conn fits typed may new = (fits, may, new)
+sends_head values log id message (Err refusal) conn fits typed may new =
     let act = SendFields id message.head (is_head_alone message) in (
       message.head,
       is_head_alone message,
       refuses_fitting log act message refusal fits
           (refused_so log act refusal (λ same. cc) may),
+      typed,
       may,
       new,
     )
 
 -- What an end represents after a call that the connection refused.
-pub unchanged_by : (end : EndLog) (act : Act) (refusal : Refusal)
+pub unchanged_by : (end : EndLog) (act : Act) (refusal : Refusal) → IsTypedAct act
     → MayAnswer end.log act (Refused refusal)
     → IsUnchanged end (end_with_log end (with_call end.log act (Refused refusal)))
 unfolding IsUnchanged
-unchanged_by end act refusal may = inr (act, refusal, may, refl)
+unchanged_by end act refusal typed may = inr (act, refusal, typed, may, refl)
 
 pub unchanged_itself : (end : EndLog) → IsUnchanged end end
 unfolding IsUnchanged

@@ -13,9 +13,9 @@ use Rattle.h2_message.specs.Values.{message_value}
 use Rattle.h2_pair.specs.Tokens.{Token, FieldsToken, OctetToken, EndToken, end_tokens}
 use Rattle.h2_pair.specs.Tokens.{trailers_tokens, message_tokens, tokens_of_call}
 use Rattle.h2_ends.specs.declared.outgoing.Outgoing.TheVariants as outgoings
-use Rattle.h2_ends.specs.Ends.{EndLog, message_for, tokens_out}
+use Rattle.h2_ends.specs.Ends.{EndLog, message_for, tokens_given, tokens_out}
 use Rattle.h2_ends.specs.EndCalls.{is_head_alone}
-use Rattle.h2_ends.specs.Represents.{IsOutgoing, IsBegun}
+use Rattle.h2_ends.specs.Represents.{IsOutgoing, SendsInOrder}
 use Rattle.h2_ends.specs.Heads.{outgoing_for}
 use Rattle.h2_ends.proofs.EndSteps.{called_end}
 use Rattle.h2_ends.proofs.EndTokens.{call_tokens}
@@ -54,15 +54,17 @@ rest_by message true is = (
 rest_by message false is =
     (each OctetToken message.body ++ (trailers_tokens message.trailers ++ EndToken ∷ []), refl)
 
--- A message whose head was sent is begun.
-pub begun_by_head : (end : EndLog) (id : ℕ) (message : SentMessage)
-    → tokens_out end id ≡ head_tokens message → IsBegun end id message
-begun_by_head end id message sent =
+-- Where the head of a message was sent, that is the beginning of what is said on the stream.
+pub sent_in_order : (end : EndLog) (id : ℕ) (message : SentMessage)
+    → message_for id end.accepted ≡ Some message → tokens_out end id ≡ head_tokens message
+    → SendsInOrder end id
+unfolding tokens_given
+sent_in_order end id message accepted sent =
     let rest = rest_by message (is_head_alone message) refl in
     record {
-      begun = λ none. let wrong = sym sent ∙ none in cc;
       waiting = rest.0;
-      sent = rw sent rest.1;
+      prefix = rw (accepted, sent) rest.1;
+      begun = λ given none. let wrong = sym sent ∙ none in cc;
     }
 
 -- What waits of it is kept.

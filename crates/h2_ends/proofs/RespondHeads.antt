@@ -5,13 +5,14 @@ use Rattle.std.specs.Prelude.{Ok, Err}
 use Rattle.std.proofs.lemmas.Bool.{both_ways}
 use Rattle.h2_log.specs.declared.refusal.Refusal.{Refusal}
 use Rattle.h2_log.specs.declared.role.Role.TheVariants.{Client, Server}
-use Rattle.h2_log.specs.Acts.{SendFields, Done}
+use Rattle.h2_log.specs.Acts.{Values, SendFields, Done}
 use Rattle.h2_log.specs.CallRules.{is_too_large}
 use Rattle.h2_log.specs.Log.{active}
 use Rattle.h2_log.specs.LogCalls.{MayAnswer}
 use Rattle.h2_end_laws.specs.Over.{IsOver}
 use Rattle.h2_message.specs.declared.malformed.Malformed.{Malformed}
 use Rattle.h2_message.specs.Messages.{SentMessage, trailer_fields, broken_by_response}
+use Rattle.h2_ends.specs.declared.end.End.{End}
 use Rattle.h2_ends.specs.declared.outgoing.Outgoing.{Outgoing}
 use Rattle.h2_ends.specs.declared.outgoing.Outgoing.TheVariants as outgoings
 use Rattle.h2_ends.specs.declared.outgoing.Stream.{Stream}
@@ -19,10 +20,10 @@ use Rattle.h2_ends.specs.declared.refusal.EndRefusal.TheVariants as refusals
 use Rattle.h2_ends.specs.Ends.{EndLog, message_for}
 use Rattle.h2_ends.specs.EndCalls.{is_head_alone, end_with_message, IsAsked, IsNotAsked, MayRespond}
 use Rattle.h2_ends.specs.EndCalls.{RefusesMessage, IsUnchanged, broken_by_answer}
-use Rattle.h2_ends.specs.Represents.{IsKept, IsStream, IsOutgoing}
+use Rattle.h2_ends.specs.Represents.{EndRepresents, IsKept, IsStream, IsOutgoing, kept_at}
 use Rattle.h2_ends.proofs.RequestHeads.{server_reads}
 
--- E3, where nothing is kept of the stream, at a client, and where the stream isn't active.
+-- E3, where nothing is kept of the stream, and at a client.
 pub nothing_asked : (end : EndLog) (id : ℕ) (message : SentMessage)
     → IsOver end.log id ⊎ IsKept end id None
     → MayRespond end id message (Err refusals.NotAsked) end
@@ -35,10 +36,12 @@ pub client_asked : (end : EndLog) (id : ℕ) (message : SentMessage) → end.log
 unfolding IsNotAsked MayRespond
 client_asked end id message client = (inr (inr client), refl)
 
-pub inactive_asked : (end : EndLog) (id : ℕ) (message : SentMessage)
-    → active end.log id ≡ false → MayRespond end id message (Err refusals.NotAsked) end
-unfolding IsNotAsked MayRespond
-inactive_asked end id message still = (inl still, refl)
+-- What is kept is kept of an active stream.
+pub active_stream : (values : Values) (old : End) (end : EndLog) (id : ℕ) (stream : Stream)
+    → Some stream ≡ kept_at id old.streams.entries → EndRepresents values old end
+    → active end.log id ≡ true
+active_stream values old end id stream was is =
+    is.active id (λ none. let wrong = was ∙ none in cc)
 
 -- What is kept of a stream that is active at a server.
 kept_stream : (end : EndLog) (id : ℕ) (stream : Stream) → active end.log id ≡ true

@@ -1,39 +1,47 @@
 -- The loop that sends a message on a stream, whatever had happened in the pump when it began.
-use Rattle.std.proofs.Common.{◌≡◌, inl, inr, ℕ, ◌+◌, ◌<◌, ◌≤◌, Bool, true, false, not}
-use Rattle.std.proofs.Common.{List, length, take, drop, length-drop, ◌-◌}
-use Rattle.std.proofs.Common.{Vec, Global, Option, Some, None, is_some, is_none, option_map, min}
-use Rattle.std.proofs.Common.{Result, Ok, refl, sym, ap, ◌∙◌, subst, arith}
+use Rattle.std.proofs.Common.{◌≡◌, inl, inr, ℕ, ◌+◌, ◌<◌, ◌≤◌, ◌^◌, Bool, true, false, not, List}
+use Rattle.std.proofs.Common.{length, take, drop, length-drop, ◌-◌, Vec, Global, Option, Some, None}
+use Rattle.std.proofs.Common.{is_some, is_none, option_map, min, Result, Ok, refl, sym, ap, ◌∙◌}
+use Rattle.std.proofs.Common.{subst, arith}
 use Rattle.std.proofs.Math.Seq.{take-length}
+use Rattle.std.specs.List.{AllByRecursion}
 use Rattle.hpack.specs.declared.types.field.Field.{Field}
+use Rattle.hpack.specs.Written.{AreOctets}
+use Rattle.hpack_text.specs.Bits.{IsOctet}
 use Rattle.h2_log.specs.declared.role.Role.{Role}
 use Rattle.h2_log.specs.declared.refusal.Refusal.{Refusal}
-use Rattle.h2_log.specs.Acts.{Values, Answer, SendFields, SendData, Count, Done, Refused}
+use Rattle.h2_log.specs.Acts.{Values, Act, Answer, IsTypedAct, SendFields, SendData, Count, Done}
+use Rattle.h2_log.specs.Acts.{Refused}
 use Rattle.h2_conn.specs.declared.conn.Conn.{Conn}
 use Rattle.h2_conn.specs.Conn.{ConnAnswers}
 use Rattle.h2_ends.specs.declared.outgoing.Stream.{Stream}
 use Rattle.h2_ends.specs.declared.outgoing.Waiting.{Waiting}
-use Rattle.h2_ends.specs.declared.sending.Progress.TheVariants.{Sent, Stuck}
-use Rattle.h2_ends.specs.declared.sending.Progress.{Progress}
+use Rattle.h2_ends.specs.declared.span.Span.{Span}
+use Rattle.h2_ends.specs.declared.span.Spans.{Spans}
+use Rattle.h2_ends.specs.declared.sending.SendState.TheVariants.{Sent, Stuck}
+use Rattle.h2_ends.specs.declared.sending.SendState.{SendState}
 use Rattle.h2_ends.specs.Ends.{EndLog}
-use Rattle.h2_ends.specs.Pumping.{after_call, IsSending, HasSent, IsRefused}
+use Rattle.h2_ends.specs.Pumping.{end_after_call, IsSendingOn, HasSent, IsStopped}
 use Rattle.h2_ends.specs.Sends.{HasGone, Sends, StopsBy}
-use Rattle.h2_ends.proofs.PumpCalls.{IsUnderWay, data_act, data_goes, data_is_stuck}
-use Rattle.h2_ends.proofs.PumpCalls.{data_is_refused, fields_go, fields_are_refused}
-use Rattle.h2_ends.proofs.PumpCalls.{ends_or_trailers, pump_is_short}
+use Rattle.h2_ends.proofs.PumpCalls.{pump_is_short}
+use Rattle.h2_ends.proofs.PumpSends.{IsUnderWay, data_act, data_goes, data_is_stuck}
+use Rattle.h2_ends.proofs.PumpSends.{data_is_refused, fields_go, fields_are_refused}
+use Rattle.h2_ends.proofs.PumpSends.{ends_or_trailers}
 use Rattle.h2_ends.proofs.PumpTokens.{octets_left, sent_more}
 
 -- Whatever had happened when it began, the message is under way or was sent.
 abbrev pub IsGoing : (conn : Conn) (id : ℕ) (waits : Waiting) (count : ℕ) (now : Conn)
     (left : Waiting) (sum : ℕ) → Type 0
 IsGoing conn id waits count now left sum =
-    (values : Values) (start : EndLog) (role : Role) (keeps : ℕ → Option Stream)
+    (values : Values) (start : EndLog) (role : Role) (spans : Spans) (keeps : ℕ → Option Stream)
     (stream : Stream) (happened : EndLog)
-    → IsSending values start role keeps id stream count conn happened waits
-    → (after : EndLog) × IsUnderWay values start role keeps id stream sum now after left
+    → IsSendingOn values start role spans keeps id stream count conn happened waits
+    → (after : EndLog) × IsUnderWay values start role spans keeps id stream sum now after left
 
 pub going_begins : (conn : Conn) (id : ℕ) (waits : Waiting) (count : ℕ)
     → IsGoing conn id waits count conn waits count
-going_begins conn id waits count = λ values start role keeps stream happened is. (happened, inl is)
+going_begins conn id waits count =
+    λ values start role spans keeps stream happened is. (happened, inl is)
 
 -- Whether there are no trailers, by the test.
 pub none_by : {A : Type 0} → (trailers : Option A) (b : Bool) → is_some trailers ≡ not b
@@ -63,20 +71,32 @@ exact : (sum n total : ℕ) → total ≡ min (sum + n) 18446744073709551615 →
     → sum + n ≡ total
 exact sum n total is few = omega (arith, is, few)
 
-module _ (values : Values) (start : EndLog) (role : Role) (keeps : ℕ → Option Stream) (id : ℕ)
-    (stream : Stream) (sum : ℕ) (now : Conn) (after : EndLog) (left : Waiting) where
+-- Numbers of streams and octets are those of their types.
+pub typed_data : (id : ℕ) (octets : List ℕ) (end : Bool) → id < 2 ^ 32
+    → AllByRecursion IsOctet octets → IsTypedAct (SendData id octets end)
+unfolding IsTypedAct
+typed_data id octets end low are = (low, are)
+
+pub typed_fields : (id : ℕ) (checked fields : List Field) (end : Bool) → id < 2 ^ 32
+    → checked ≡ fields → AreOctets checked → IsTypedAct (SendFields id fields end)
+unfolding IsTypedAct
+typed_fields id checked fields end low same are = (low, subst AreOctets same are)
+
+module _ (values : Values) (start : EndLog) (role : Role) (spans : Spans)
+    (keeps : ℕ → Option Stream) (id : ℕ) (stream : Stream) (sum : ℕ) (now : Conn) (after : EndLog)
+    (left : Waiting) where
   -- Octets are left, so it is under way.
-  has_octets : IsUnderWay values start role keeps id stream sum now after left
+  has_octets : IsUnderWay values start role spans keeps id stream sum now after left
       → left.sent < length left.body.items
-      → IsSending values start role keeps id stream sum now after left
+      → IsSendingOn values start role spans keeps id stream sum now after left
   has_octets (inl is) some = is
   has_octets (inr is) some = let none = is.2 in absurd (omega (arith, none, some))
 
   -- Trailers are left.
   has_trailers : (fields : List Field)
-      → IsUnderWay values start role keeps id stream sum now after left
+      → IsUnderWay values start role spans keeps id stream sum now after left
       → option_map (λ list. list.items) left.trailers ≡ Some fields
-      → IsSending values start role keeps id stream sum now after left
+      → IsSendingOn values start role spans keeps id stream sum now after left
   has_trailers fields (inl is) are = is
   has_trailers fields (inr is) are =
       absurd (none_some (sym (ap (option_map (λ list. list.items)) is.1) ∙ are))
@@ -85,59 +105,65 @@ module _ (values : Values) (start : EndLog) (role : Role) (keeps : ℕ → Optio
       none_some wrong = cc
 
   -- Nothing is left.
-  all_sent : IsUnderWay values start role keeps id stream sum now after left
+  all_sent : IsUnderWay values start role spans keeps id stream sum now after left
       → length left.body.items ≤ left.sent → left.trailers ≡ None
-      → HasSent values start role keeps id stream sum now after
+      → HasSent values start role spans keeps id stream sum now after
   all_sent (inl is) none no_trailers =
-      absurd (ends_or_trailers values start role keeps id stream sum now after left is none
+      absurd (ends_or_trailers values start role spans keeps id stream sum now after left is none
       no_trailers)
   all_sent (inr is) none no_trailers = is.0
 
   -- A call was refused.
-  gone_by : (refusal : Refusal) (result : Result Progress Refusal) → StopsBy refusal result
-      → IsRefused values start role keeps id stream sum now after left refusal
-      → HasGone values start role keeps id stream result sum now after left
+  gone_by : (refusal : Refusal) (result : Result SendState Refusal) → StopsBy refusal result
+      → IsStopped values start role spans keeps id stream sum now after left refusal
+      → HasGone values start role spans keeps id stream result sum now after left
   unfolding HasGone
   gone_by refusal result (inl (full, stops)) is =
-      subst (λ (r : Result Progress Refusal).
-      HasGone values start role keeps id stream r sum now after left) (sym stops)
-      (subst (λ (r : Refusal). IsRefused values start role keeps id stream sum now after left r)
-      full is)
+      subst (λ (r : Result SendState Refusal).
+      HasGone values start role spans keeps id stream r sum now after left) (sym stops)
+      (subst (λ (r : Refusal). IsStopped values start role spans keeps id stream sum now after left
+      r) full is)
   gone_by refusal result (inr (other, stops)) is =
-      subst (λ (r : Result Progress Refusal).
-      HasGone values start role keeps id stream r sum now after left) (sym stops) (is, other)
+      subst (λ (r : Result SendState Refusal).
+      HasGone values start role spans keeps id stream r sum now after left) (sym stops) (is, other)
 
-  few_sent : IsUnderWay values start role keeps id stream sum now after left → sum ≤ 262161
-  few_sent (inl is) = pump_is_short values start sum now role _ after id is.pumping
-  few_sent (inr is) = pump_is_short values start sum now role _ after id is.0
+  few_sent : IsUnderWay values start role spans keeps id stream sum now after left → sum ≤ 262161
+  few_sent (inl is) = pump_is_short values start sum now role spans _ after id is.pumping
+  few_sent (inr is) = pump_is_short values start sum now role spans _ after id is.0.pumping
 
 module _ (conn : Conn) (id : ℕ) (waits : Waiting) (count : ℕ) (now new : Conn) (left : Waiting)
     (sum : ℕ) (goes : IsGoing conn id waits count now left sum) where
   module _ (octets : List ℕ) (end : Bool) (some : left.sent < length left.body.items)
-      (rest : octets ≡ octets_left left) (last : end ≡ is_none left.trailers) where
+      (rest : octets ≡ octets_left left) (last : end ≡ is_none left.trailers)
+      (typed : IsTypedAct (SendData id octets end)) where
     -- The call is the one that sends what is left.
+    the_rest : SendData id octets end ≡ data_act id left
+    the_rest = rw (rest, last) refl
+
+    typed_rest : IsTypedAct (data_act id left)
+    typed_rest = subst IsTypedAct the_rest typed
+
     of_the_rest : (answer : Answer) → ConnAnswers now (SendData id octets end) answer new
-        → ConnAnswers now (SendData id (octets_left left) (is_none left.trailers)) answer new
+        → ConnAnswers now (data_act id left) answer new
     of_the_rest answer answers =
-        subst (λ (b : Bool). ConnAnswers now (SendData id (octets_left left) b) answer new) last
-        (subst (λ (line : List ℕ). ConnAnswers now (SendData id line end) answer new) rest answers)
+        subst (λ (act : Act). ConnAnswers now act answer new) the_rest answers
 
     -- It sends octets,
     pub going_on : (n total : ℕ) → total ≡ min (sum + n) 18446744073709551615
         → ConnAnswers now (SendData id octets end) (Count n) new
         → IsGoing conn id waits count new (sent_more left n) total
-    going_on n total is answers = λ values start role keeps stream happened begun.
-        let (after, way) = goes values start role keeps stream happened begun in
-        let sends = has_octets values start role keeps id stream sum now after left way some in
+    going_on n total is answers = λ values start role spans keeps stream happened begun.
+        let (after, way) = goes values start role spans keeps stream happened begun in
+        let sends = has_octets values start role spans keeps id stream sum now after left way some in
         let both = of_the_rest (Count n) answers values after.log
         sends.pumping.represents.represents in
-        let then = after_call after (data_act values start role keeps id stream left) (Count n) in
-        let next = data_goes values start role keeps id stream sum n now new after left sends some
-        both.0 both.1 in
-        let few = few_sent values start role keeps id stream (sum + n) new then
+        let then = end_after_call after (data_act id left) (Count n) in
+        let next = data_goes values start role spans keeps id stream sum now after left sends new n
+        typed_rest both.0 both.1 some in
+        let few = few_sent values start role spans keeps id stream (sum + n) new then
         (sent_more left n) next in (
           then,
-          subst (λ (c : ℕ). IsUnderWay values start role keeps id stream c new then
+          subst (λ (c : ℕ). IsUnderWay values start role spans keeps id stream c new then
               (sent_more left n)) (exact sum n total is few) next,
         )
 
@@ -145,73 +171,74 @@ module _ (conn : Conn) (id : ℕ) (waits : Waiting) (count : ℕ) (now new : Con
     pub going_stuck : (n : ℕ) → n ≡ 0 → ConnAnswers now (SendData id octets end) (Count n) new
         → Sends conn id waits count (Ok Stuck) new left sum
     unfolding HasGone
-    going_stuck n zero answers = λ values start role keeps stream happened begun.
-        let (after, way) = goes values start role keeps stream happened begun in
-        let sends = has_octets values start role keeps id stream sum now after left way some in
+    going_stuck n zero answers = λ values start role spans keeps stream happened begun.
+        let (after, way) = goes values start role spans keeps stream happened begun in
+        let sends = has_octets values start role spans keeps id stream sum now after left way some in
         let both = of_the_rest (Count 0)
         (subst (λ (m : ℕ). ConnAnswers now (SendData id octets end) (Count m) new) zero answers)
-        values after.log
-        sends.pumping.represents.represents in (
-          after_call after (data_act values start role keeps id stream left) (Count 0),
-          data_is_stuck values start role keeps id stream sum now new after left sends some both.0
-              both.1,
+        values after.log sends.pumping.represents.represents in (
+          end_after_call after (data_act id left) (Count 0),
+          data_is_stuck values start role spans keeps id stream sum now after left sends new
+              typed_rest both.0 both.1 some,
         )
 
     -- or is refused: the output is full, or memory was refused.
-    pub going_refused : (refusal : Refusal) (result : Result Progress Refusal)
+    pub going_refused : (refusal : Refusal) (result : Result SendState Refusal)
         → StopsBy refusal result → ConnAnswers now (SendData id octets end) (Refused refusal) new
         → Sends conn id waits count result new left sum
-    going_refused refusal result stops answers = λ values start role keeps stream happened begun.
-        let (after, way) = goes values start role keeps stream happened begun in
-        let sends = has_octets values start role keeps id stream sum now after left way some in
+    going_refused refusal result stops answers =
+        λ values start role spans keeps stream happened begun.
+        let (after, way) = goes values start role spans keeps stream happened begun in
+        let sends = has_octets values start role spans keeps id stream sum now after left way some in
         let both = of_the_rest (Refused refusal) answers values after.log
         sends.pumping.represents.represents in
-        let then =
-        after_call after (data_act values start role keeps id stream left) (Refused refusal)
-        in (
+        let then = end_after_call after (data_act id left) (Refused refusal) in (
           then,
-          gone_by values start role keeps id stream sum new then left refusal result stops
-              (data_is_refused values start role keeps id stream sum now new after left refusal
-              sends both.0 both.1),
+          gone_by values start role spans keeps id stream sum new then left refusal result stops
+              (data_is_refused values start role spans keeps id stream sum now after left sends new
+              refusal typed_rest both.0 both.1),
         )
 
   -- Once no octets are left, there are no trailers,
   pub going_ends : length left.body.items ≤ left.sent → left.trailers ≡ None
       → Sends conn id waits count (Ok Sent) now left sum
   unfolding HasGone
-  going_ends none no_trailers = λ values start role keeps stream happened begun.
-      let (after, way) = goes values start role keeps stream happened begun in
-      (after, all_sent values start role keeps id stream sum now after left way none no_trailers)
+  going_ends none no_trailers = λ values start role spans keeps stream happened begun.
+      let (after, way) = goes values start role spans keeps stream happened begun in (
+        after,
+        all_sent values start role spans keeps id stream sum now after left way none no_trailers,
+      )
 
   module _ (fields : List Field) (none : length left.body.items ≤ left.sent)
-      (are : option_map (λ list. list.items) left.trailers ≡ Some fields) where
+      (are : option_map (λ list. list.items) left.trailers ≡ Some fields)
+      (typed : IsTypedAct (SendFields id fields true)) where
     -- or these are sent,
     pub trailers_go : ConnAnswers now (SendFields id fields true) Done new
         → Sends conn id waits count (Ok Sent) new left sum
     unfolding HasGone
-    trailers_go answers = λ values start role keeps stream happened begun.
-        let (after, way) = goes values start role keeps stream happened begun in
-        let sends = has_trailers values start role keeps id stream sum now after left fields way
-        are in
+    trailers_go answers = λ values start role spans keeps stream happened begun.
+        let (after, way) = goes values start role spans keeps stream happened begun in
+        let sends = has_trailers values start role spans keeps id stream sum now after left fields
+        way are in
         let both = answers values after.log sends.pumping.represents.represents in (
-          after_call after (SendFields id fields true) Done,
-          fields_go values start role keeps id stream sum now new after left fields sends none are
-              both.0 both.1,
+          end_after_call after (SendFields id fields true) Done,
+          fields_go values start role spans keeps id stream sum now after left sends new fields typed
+              are none both.0 both.1,
         )
 
     -- or refused.
-    pub trailers_refused : (refusal : Refusal) (result : Result Progress Refusal)
+    pub trailers_refused : (refusal : Refusal) (result : Result SendState Refusal)
         → StopsBy refusal result → ConnAnswers now (SendFields id fields true) (Refused refusal) new
         → Sends conn id waits count result new left sum
-    trailers_refused refusal result stops answers = λ values start role keeps stream happened
-        begun.
-        let (after, way) = goes values start role keeps stream happened begun in
-        let sends = has_trailers values start role keeps id stream sum now after left fields way
-        are in
+    trailers_refused refusal result stops answers =
+        λ values start role spans keeps stream happened begun.
+        let (after, way) = goes values start role spans keeps stream happened begun in
+        let sends = has_trailers values start role spans keeps id stream sum now after left fields
+        way are in
         let both = answers values after.log sends.pumping.represents.represents in
-        let then = after_call after (SendFields id fields true) (Refused refusal) in (
+        let then = end_after_call after (SendFields id fields true) (Refused refusal) in (
           then,
-          gone_by values start role keeps id stream sum new then left refusal result stops
-              (fields_are_refused values start role keeps id stream sum now new after left fields
-              refusal sends are both.0 both.1),
+          gone_by values start role spans keeps id stream sum new then left refusal result stops
+              (fields_are_refused values start role spans keeps id stream sum now after left sends
+              new fields typed are refusal both.0 both.1),
         )

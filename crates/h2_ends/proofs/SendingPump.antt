@@ -1,32 +1,83 @@
 -- The loop of a pump, whatever had happened when it began.
-use Rattle.std.proofs.Common.{◌≡◌, ℕ, ◌+◌, true, false, Option, Some, None, is_some, Ok}
-use Rattle.std.proofs.Common.{Err, refl, sym, ◌∙◌, subst}
+use Rattle.std.proofs.Common.{◌≡◌, ◌≢◌, ◌⊎◌, inl, inr, ℕ, ◌+◌, ◌-◌, ◌<◌, true, false, Option, Some}
+use Rattle.std.proofs.Common.{None, is_some, Ok, Err, refl, sym, ap, ◌∙◌, subst, arith}
 use Rattle.h2_frame.specs.declared.code.Code.{Code}
 use Rattle.h2_log.specs.declared.refusal.Refusal.{Refusal}
 use Rattle.h2_log.specs.declared.refusal.Refusal.TheVariants.{Closed}
 use Rattle.h2_log.specs.Acts.{Values}
-use Rattle.h2_log.specs.Log.{active}
+use Rattle.h2_log.specs.Log.{Log, active, reader_next_live}
+use Rattle.h2_conn.specs.declared.conn.Conn.{Conn}
+use Rattle.h2_conn.specs.Conn.{ConnRepresents}
 use Rattle.h2_ends.specs.declared.end.End.{End}
 use Rattle.h2_ends.specs.declared.refusal.EndRefusal.TheVariants as refusals
-use Rattle.h2_ends.specs.declared.sending.Progress.{Progress}
-use Rattle.h2_ends.specs.declared.sending.Progress.TheVariants.{Sent, Stuck, Full}
+use Rattle.h2_ends.specs.declared.outgoing.Outgoing.TheVariants as outgoings
+use Rattle.h2_ends.specs.declared.outgoing.Waiting.{Waiting}
+use Rattle.h2_ends.specs.declared.sending.SendState.{SendState}
+use Rattle.h2_ends.specs.declared.sending.SendState.TheVariants.{Idle, Sent, Stuck, Full}
+use Rattle.h2_ends.specs.declared.span.Span.{Span}
 use Rattle.h2_ends.specs.Ends.{EndLog}
-use Rattle.h2_ends.specs.EndCalls.{MayPump}
-use Rattle.h2_ends.specs.Pumping.{IsPumping}
-use Rattle.h2_ends.specs.Represents.{EndRepresents, EndPumps}
-use Rattle.h2_ends.specs.Sends.{HasPumped, PumpsOn, keeps_of}
-use Rattle.h2_ends.proofs.PumpCalls.{pump_begins, pump_comes, pump_ends, pump_is_full}
-use Rattle.h2_ends.proofs.PumpCalls.{pump_lacks, pump_is_closed}
+use Rattle.h2_ends.specs.EndCalls.{Pumps, MayPump}
+use Rattle.h2_ends.specs.Pumping.{KeepsActiveOnly}
+use Rattle.h2_ends.specs.Represents.{EndRepresents, EndPumps, RepresentsBut, InSpan, outgoing_in}
+use Rattle.h2_ends.specs.Sends.{HasPumped, PumpsOn, PumpGoes, NoneWaits, WaitsAsBefore}
+use Rattle.h2_ends.specs.Sends.{IsNextIn, keeps_of}
+use Rattle.h2_ends.proofs.PumpCalls.{WaitsIn, pump_begins, waits_at_first, pump_comes}
+use Rattle.h2_ends.proofs.PumpCalls.{waits_between, waits_past, pump_ends, ends_represent}
+use Rattle.h2_ends.proofs.PumpCalls.{pump_is_full, pump_lacks, pump_is_closed}
 use Rattle.h2_ends.proofs.PumpEnds.{by_end, to_end}
-use Rattle.h2_ends.proofs.PumpSteps.{next_read}
-use Rattle.h2_ends.proofs.SendingRelease.{ReadsFailed, ReadsNext, up_by, down_by}
+use Rattle.h2_ends.proofs.PumpSteps.{next_read, none_read}
 
--- The pump has sent so many octets, and nothing could go on streams below a number.
-abbrev pub PumpsTo : (old now : End) (count id : ℕ) → Type 0
-PumpsTo old now count id =
+-- What `next_live` answers of any log that the connection represents: where that is none, or is
+-- beyond the span, no active stream of the span is left.
+abbrev pub ReadsNext : Conn → ℕ → Option ℕ → Type 0
+ReadsNext conn last next =
+    (values : Values) (log : Log) → ConnRepresents values conn log
+    → next ≡ reader_next_live log last
+
+pub next_beyond : (conn : Conn) (span : Span) (above id : ℕ) → ReadsNext conn above (Some id)
+    → span.last < id → IsNextIn conn span above None
+next_beyond conn span above id reads beyond = λ values log is. (
+  tt,
+  λ up i high within.
+      let last = within.last in
+      (next_read log above id (sym (reads values log is))).between i high
+      (omega (arith, last, beyond)),
+)
+
+pub next_none : (conn : Conn) (span : Span) (above : ℕ) → ReadsNext conn above None
+    → IsNextIn conn span above None
+next_none conn span above reads = λ values log is. (
+  tt,
+  λ up i high within. none_read log above up (sym (reads values log is)) i high,
+)
+
+-- The pump has sent so many octets, and nothing could go on streams up to a number; of these a
+-- message waits only on those of a span.
+pub record IsPast (values : Values) (start : EndLog) (count : ℕ) (now : End) (left : Span)
+    (happened : EndLog) (last : ℕ) : Type 0 where
+  pub goes : PumpGoes values start count now happened (last + 1)
+  pub active : KeepsActiveOnly happened.log (keeps_of now)
+  pub waits : WaitsIn left (keeps_of now) (last + 1)
+
+abbrev pub PumpsTo : (old now : End) (left : Span) (count last : ℕ) → Type 0
+PumpsTo old now left count last =
     (values : Values) (start : EndLog) → EndRepresents values old start
-    → (start.log.failed ≡ None) × ((happened : EndLog)
-    × IsPumping values start count now.conn now.role (keeps_of now) happened id)
+    → (start.log.failed ≡ None)
+    × ((happened : EndLog) × IsPast values start count now left happened last)
+
+-- What `failed` answers of any log that the connection represents.
+abbrev pub ReadsFailed : Conn → Option Code → Type 0
+ReadsFailed conn failed =
+    (values : Values) (log : Log) → ConnRepresents values conn log → failed ≡ log.failed
+
+-- The connection has not failed, by its answer, or it has.
+up_by : (failed : Option Code) → false ≡ is_some failed → failed ≡ None
+up_by None up = refl
+up_by (Some code) up = cc
+
+down_by : (failed : Option Code) → true ≡ is_some failed → failed ≢ None
+down_by None down = λ none. cc
+down_by (Some code) down = λ none. cc
 
 -- The connection had failed from the start,
 pub pump_closed : (old : End) (failed : Option Code) → ReadsFailed old.conn failed
@@ -34,116 +85,177 @@ pub pump_closed : (old : End) (failed : Option Code) → ReadsFailed old.conn fa
 pump_closed old failed reads down = λ values start is. (
   start,
   pump_is_closed values start
-      (λ none. down_by failed down (reads values start.log is.conn ∙ none)),
+      (λ none. down_by failed down (reads values start.log is.streams.conn ∙ none)),
   is,
 )
 
 -- or the pump begins,
 pub begins_pump : (old : End) (failed : Option Code) → ReadsFailed old.conn failed
-    → false ≡ is_some failed → PumpsTo old old 0 (0 + 1)
-begins_pump old failed reads up = λ values start is.
-    let none = sym (reads values start.log is.conn) ∙ up_by failed up in
-    (none, (start, pump_begins values old start is none))
-
--- What an end represents in the middle of it.
-represents_now : (values : Values) (start : EndLog) (now : End) (count : ℕ) (happened : EndLog)
-    (id : ℕ) → IsPumping values start count now.conn now.role (keeps_of now) happened id
-    → EndRepresents values now happened
-represents_now values start now count happened id is =
-    to_end values now now.conn now.role (keeps_of now) happened is.represents refl refl
-    (λ i. refl)
-
-module _ (old now : End) (count last : ℕ) (goes : PumpsTo old now count (last + 1)) where
-  -- comes to a stream,
-  comes_there : (values : Values) (start happened : EndLog)
-      → IsPumping values start count now.conn now.role (keeps_of now) happened (last + 1)
-      → (id : ℕ) → ReadsNext now.conn last (Some id)
-      → IsPumping values start count now.conn now.role (keeps_of now) happened id
-      × (active happened.log id ≡ true)
-  comes_there values start happened so id next =
-      let read = sym (next values happened.log so.represents.represents) in
-      let comes = next_read happened.log last id read in (
-        pump_comes values start count now.conn now.role (keeps_of now) happened last id so comes,
-        comes.alive,
-      )
-
-  -- and sends on it,
-  pub pumps_past : (id : ℕ) → ReadsNext now.conn last (Some id) → (new : End) (sum : ℕ)
-      (progress : Progress) → progress ≡ Stuck → PumpsOn now id count (Ok progress) new sum
-      → PumpsTo old new sum (id + 1)
-  unfolding HasPumped
-  pumps_past id next new sum progress same sends = λ values start is.
-      let (up, (happened, so)) = goes values start is in
-      let there = comes_there values start happened so id next in
-      let stuck = subst (λ (p : Progress). PumpsOn now id count (Ok p) new sum) same sends in
-      (up, stuck values start happened there.0 there.1)
-
-  pub pumps_all_of : (id : ℕ) → ReadsNext now.conn last (Some id) → (new : End) (sum : ℕ)
-      (progress : Progress) → progress ≡ Sent → PumpsOn now id count (Ok progress) new sum
-      → PumpsTo old new sum (id + 1)
-  unfolding HasPumped
-  pumps_all_of id next new sum progress same sends = λ values start is.
-      let (up, (happened, so)) = goes values start is in
-      let there = comes_there values start happened so id next in
-      let sent = subst (λ (p : Progress). PumpsOn now id count (Ok p) new sum) same sends in
-      (up, sent values start happened there.0 there.1)
-
-  -- until the output is full,
-  pub pump_full : (id : ℕ) → ReadsNext now.conn last (Some id) → (new : End) (sum : ℕ)
-      (progress : Progress) → progress ≡ Full → PumpsOn now id count (Ok progress) new sum
-      → EndPumps old (Ok sum) new
-  unfolding HasPumped
-  pump_full id next new sum progress same sends = λ values start is.
-      let (up, (happened, so)) = goes values start is in
-      let there = comes_there values start happened so id next in
-      let full = subst (λ (p : Progress). PumpsOn now id count (Ok p) new sum) same sends in
-      let (after, ended) = full values start happened there.0 there.1 in (
-        after,
-        pump_is_full values start sum after up ended.0.calls ended.1,
-        ended.0.represents,
-      )
-
-  -- memory is refused,
-  pub pump_refused : (id : ℕ) → ReadsNext now.conn last (Some id) → (new : End) (sum : ℕ)
-      (refusal : Refusal) → PumpsOn now id count (Err refusal) new sum
-      → EndPumps old (Err (refusals.Conn refusal)) new
-  unfolding HasPumped
-  pump_refused id next new sum refusal sends = λ values start is.
-      let (up, (happened, so)) = goes values start is in
-      let there = comes_there values start happened so id next in
-      let (after, ended) = sends values start happened there.0 there.1 in (
-        after,
-        subst (λ (r : Refusal). MayPump start (Err (refusals.Conn r)) after) (sym ended.1)
-            (pump_lacks values start sum after ended.0.calls),
-        ended.0.represents,
-      )
-
-  -- or no stream is left.
-  pub pump_over : ReadsNext now.conn last None → EndPumps old (Ok count) now
-  pump_over next = λ values start is.
-      let (up, (happened, so)) = goes values start is in (
-        happened,
-        pump_ends values start count now.conn now.role (keeps_of now) happened last up so
-            (sym (next values happened.log so.represents.represents)),
-        represents_now values start now count happened (last + 1) so,
-      )
-
--- What is forgotten changes nothing.
-pub pump_forgets : (old now new : End) (count id : ℕ) → PumpsTo old now count id
-    → ((values : Values) (end : EndLog) → EndRepresents values now end
-    → EndRepresents values new end) → PumpsTo old new count id
-pump_forgets old now new count id goes forgets = λ values start is.
-    let (up, (happened, so)) = goes values start is in (
-      up,
+    → false ≡ is_some failed → (left : Span) (last : ℕ) → last ≡ old.spans.waiting.first - 1
+    → PumpsTo old old left 0 last
+begins_pump old failed reads up left last first = λ values start is.
+    let none = sym (reads values start.log is.streams.conn) ∙ up_by failed up in (
+      none,
       (
-        happened,
-        record {
-          represents = by_end values new happened
-              (forgets values happened (represents_now values start now count happened id so));
-          calls = so.calls;
-          up = so.up;
-          sum = so.sum;
-          below = so.below;
-        },
+        start,
+        subst (λ (n : ℕ). IsPast values start 0 old left start n) (sym first) (record {
+          goes = pump_begins values start old is none;
+          active = is.active;
+          waits = waits_at_first values start old left is;
+        }),
       ),
     )
+
+-- No message waits where none did, or nothing is kept.
+forgets_none : (new forgotten : End) (id : ℕ)
+    → (keeps_of forgotten id ≡ keeps_of new id) ⊎ (keeps_of forgotten id ≡ None)
+    → NoneWaits new id → NoneWaits forgotten id
+forgets_none new forgotten id (inl same) none waits is =
+    none waits (ap outgoing_in (sym same) ∙ is)
+forgets_none new forgotten id (inr gone) none waits is = wrong (ap outgoing_in (sym gone) ∙ is)
+  where
+    wrong : outgoings.NotGiven ≡ outgoings.Waiting waits → ⊥
+    wrong same = cc
+
+module _ (old now : End) (left : Span) (count last : ℕ) (goes : PumpsTo old now left count last)
+  where
+    module _ (id : ℕ) (next : IsNextIn now.conn now.spans.waiting last (Some id)) (new : End) (sum : ℕ) where
+      -- comes to a stream, on which it sends,
+      comes_there : (progress : SendState) → PumpsOn now id count (Ok progress) new sum
+          → (values : Values) (start : EndLog) → EndRepresents values old start
+          → (start.log.failed ≡ None) × WaitsIn left (keeps_of now) id
+          × ((after : EndLog) × HasPumped values start id (Ok progress) sum new after)
+      comes_there progress sends = λ values start is.
+          let (up, (happened, so)) = goes values start is in
+          let live = next_read happened.log last id
+          (next values happened.log so.goes.represents.represents).0 in (
+            up,
+            waits_between values start now left happened last id so.active live so.waits,
+            sends values start happened
+                (pump_comes values start count now happened last id so.goes live) so.active
+                live.alive,
+          )
+
+      at_that : (progress other : SendState) → progress ≡ other
+          → PumpsOn now id count (Ok progress) new sum → PumpsOn now id count (Ok other) new sum
+      at_that progress other same sends =
+          subst (λ (p : SendState). PumpsOn now id count (Ok p) new sum) same sends
+
+      -- where nothing waits,
+      pub past_idle : (progress : SendState) → progress ≡ Idle
+          → PumpsOn now id count (Ok progress) new sum → WaitsAsBefore now new id
+          → PumpsTo old new left sum id
+      unfolding HasPumped
+      past_idle progress same sends as_before = λ values start is.
+          let (up, before, (after, gone)) = comes_there Idle (at_that progress Idle same sends)
+          values start is in (
+            up,
+            (
+              after,
+              record {
+                goes = gone.0;
+                active = gone.1;
+                waits = waits_past now new left left id as_before before (λ i here. here)
+                    (λ waits waiting_is. absurd (gone.2 waits waiting_is));
+              },
+            ),
+          )
+
+      -- no more can go,
+      pub past_stuck : (progress : SendState) → progress ≡ Stuck
+          → PumpsOn now id count (Ok progress) new sum → WaitsAsBefore now new id
+          → (more : Span) → InSpan more id → ((i : ℕ) → InSpan left i → InSpan more i)
+          → PumpsTo old new more sum id
+      unfolding HasPumped
+      past_stuck progress same sends as_before more here wider = λ values start is.
+          let (up, before, (after, gone)) = comes_there Stuck (at_that progress Stuck same sends)
+          values start is in (
+            up,
+            (
+              after,
+              record {
+                goes = gone.0;
+                active = gone.1;
+                waits = waits_past now new left more id as_before before wider
+                    (λ waits waiting_is. here);
+              },
+            ),
+          )
+
+      -- or all is sent, and the stream may be forgotten,
+      pub past_sent : (progress : SendState) → progress ≡ Sent
+          → PumpsOn now id count (Ok progress) new sum → WaitsAsBefore now new id
+          → (forgotten : End) → WaitsAsBefore new forgotten id
+          → (keeps_of forgotten id ≡ keeps_of new id) ⊎ (keeps_of forgotten id ≡ None)
+          → ((values : Values) (end : EndLog) → RepresentsBut values new end id
+          → EndRepresents values forgotten end) → PumpsTo old forgotten left sum id
+      unfolding HasPumped
+      past_sent progress same sends as_before forgotten forgets one represents = λ values start is.
+          let (up, before, (after, gone)) = comes_there Sent (at_that progress Sent same sends)
+          values start is in
+          let there = represents values after (record {
+            streams = to_end values new (keeps_of new) after gone.0.represents (λ i. refl);
+            in_step = gone.0.in_step;
+            active = gone.1;
+          }) in (
+            up,
+            (
+              after,
+              record {
+                goes = record {
+                  represents = by_end values forgotten after there.streams;
+                  in_step = there.in_step;
+                  calls = gone.0.calls;
+                  up = gone.0.up;
+                  sum = gone.0.sum;
+                  below = gone.0.below;
+                };
+                active = there.active;
+                waits = waits_past now forgotten left left id (record {
+                  spans = forgets.spans ∙ as_before.spans;
+                  others = λ i other. forgets.others i other ∙ as_before.others i other;
+                }) before (λ i here. here) (λ waits waiting_is. absurd
+                    (forgets_none new forgotten id one gone.2 waits waiting_is));
+              },
+            ),
+          )
+
+      -- until the output is full,
+      pub pump_full : (progress : SendState) → progress ≡ Full
+          → PumpsOn now id count (Ok progress) new sum → EndPumps old (Ok sum) new
+      unfolding HasPumped
+      pump_full progress same sends = λ values start is.
+          let (up, before, (after, ended)) = comes_there Full (at_that progress Full same sends)
+          values start is in (
+            after,
+            pump_is_full values start sum after up ended.0.calls ended.1,
+            ended.0.represents,
+          )
+
+      -- memory is refused,
+      pub pump_refused : (refusal : Refusal) → PumpsOn now id count (Err refusal) new sum
+          → EndPumps old (Err (refusals.Conn refusal)) new
+      unfolding HasPumped
+      pump_refused refusal sends = λ values start is.
+          let (up, (happened, so)) = goes values start is in
+          let live = next_read happened.log last id
+          (next values happened.log so.goes.represents.represents).0 in
+          let (after, ended) = sends values start happened
+          (pump_comes values start count now happened last id so.goes live) so.active live.alive in (
+            after,
+            subst (λ (r : Refusal). MayPump start (Err (refusals.Conn r)) after) (sym ended.1)
+                (pump_lacks values start sum after up (subst (λ (r : Refusal).
+                Pumps start sum (Some r) after) ended.1 ended.0.calls)),
+            ended.0.represents,
+          )
+
+    -- or no stream of the span is left.
+    pub pump_over : IsNextIn now.conn now.spans.waiting last None
+        → EndPumps old (Ok count) (record now { spans = record now.spans { waiting = left } })
+    pump_over next = λ values start is.
+        let (up, (happened, so)) = goes values start is in
+        let none = (next values happened.log so.goes.represents.represents).1 so.goes.up in (
+          happened,
+          pump_ends values start count now happened last up so.goes so.active none,
+          ends_represent values start count now left happened last so.goes so.active none so.waits,
+        )

@@ -1,6 +1,7 @@
 -- One stream of a pump: what the end keeps of it is written back once sending on it stops.
-use Rattle.std.proofs.Common.{◌≡◌, ◌≢◌, inl, inr, ℕ, ◌==◌, Bool, true, Some, None, Result}
-use Rattle.std.proofs.Common.{◌+◌, ◌≤◌, if◌then◌else◌, Ok, Err, refl, sym, ap, ◌∙◌, subst}
+use Rattle.std.proofs.Common.{◌≡◌, ◌≢◌, inl, inr, ℕ, ◌==◌, Bool, true, Option, Some, Result, ◌+◌}
+use Rattle.std.proofs.Common.{◌≤◌, if◌then◌else◌, Ok, Err, refl, sym, ap, ◌∙◌, subst}
+use Rattle.std.proofs.lemmas.Bool.{cases_eq}
 use Rattle.std.specs.BTreeMap.{BTreeMap, WritesThrough, get_by}
 use Rattle.std.specs.Ordering.{nat_cmp, is_eq}
 use Rattle.std.specs.Cmp.{nat_cmp_total, unsigned_tied, eq_by_cmp_equiv}
@@ -11,19 +12,21 @@ use Rattle.h2_log.specs.Limits.{full_output}
 use Rattle.h2_log.specs.Log.{active, waiting}
 use Rattle.h2_conn.specs.declared.conn.Conn.{Conn}
 use Rattle.h2_ends.specs.declared.end.End.{End}
-use Rattle.h2_ends.specs.declared.outgoing.Outgoing.{Outgoing}
 use Rattle.h2_ends.specs.declared.outgoing.Outgoing.TheVariants as outgoings
 use Rattle.h2_ends.specs.declared.outgoing.Stream.{Stream}
 use Rattle.h2_ends.specs.declared.outgoing.Waiting.{Waiting}
-use Rattle.h2_ends.specs.declared.sending.Progress.{Progress}
-use Rattle.h2_ends.specs.declared.sending.Progress.TheVariants.{Sent, Stuck, Full}
+use Rattle.h2_ends.specs.declared.sending.SendState.{SendState}
+use Rattle.h2_ends.specs.declared.sending.SendState.TheVariants.{Idle, Sent, Stuck, Full}
 use Rattle.h2_ends.specs.Ends.{EndLog}
 use Rattle.h2_ends.specs.EndCalls.{IsStuckOn}
-use Rattle.h2_ends.specs.Pumping.{with_outgoing, keeps_with, IsPumping, IsRefused}
-use Rattle.h2_ends.specs.Pumping.{LacksSpace}
-use Rattle.h2_ends.specs.Sends.{HasGone, Sends, IsPumped, HasPumped, PumpsOn, keeps_of}
-use Rattle.h2_ends.proofs.PumpCalls.{pump_keeps, pump_passes, send_begins, sent_is_stuck}
+use Rattle.h2_ends.specs.Represents.{IsInStep, KeepsActive, outgoing_in}
+use Rattle.h2_ends.specs.Pumping.{with_outgoing, keeps_with, IsPumping, IsStopped, LacksSpace}
+use Rattle.h2_ends.specs.Pumping.{KeepsActiveOnly, KeepsActiveBut}
+use Rattle.h2_ends.specs.Sends.{HasGone, Sends, IsPumped, HasPumped, PumpsOn, PumpGoes, NoneWaits}
+use Rattle.h2_ends.specs.Sends.{WaitsAsBefore, keeps_of}
+use Rattle.h2_ends.proofs.PumpCalls.{pump_keeps, pump_passes}
 use Rattle.h2_ends.proofs.PumpEnds.{same_by, stuck_unless_waiting, to_end}
+use Rattle.h2_ends.proofs.PumpSends.{send_begins, sent_is_stuck, none_waits_sent}
 
 -- A number is found by its own test.
 test_of : (id i : ℕ) → is_eq (nat_cmp id i) ≡ (i == id)
@@ -47,111 +50,153 @@ unwritten old new id one i here writes =
 
 -- an end with another connection and other streams
 abbrev pub with_streams : End → Conn → BTreeMap ℕ Stream → End
-with_streams end conn streams = record { role = end.role; conn = conn; streams = streams }
+with_streams end conn streams = record end { conn = conn; streams = streams }
+
+-- Where the same is kept, messages wait as before.
+pub all_as : (old : End) (conn : Conn) (streams : BTreeMap ℕ Stream) (id : ℕ)
+    → ((i : ℕ) → get_by (nat_cmp i) streams ≡ keeps_of old i)
+    → WaitsAsBefore old (with_streams old conn streams) id
+all_as old conn streams id same = record { spans = refl; others = λ i other. same i }
 
 module _ (old : End) (id count : ℕ) where
-  -- On a stream of which nothing is kept, or on which nothing waits, nothing could go.
-  pub none_goes : (new : End) → new.conn ≡ old.conn → new.role ≡ old.role
-      → ((i : ℕ) → keeps_of new i ≡ keeps_of old i)
-      → ((stream : Stream) (waits : Waiting) → keeps_of old id ≡ Some stream
-      → stream.outgoing ≡ outgoings.Waiting waits → ⊥) → PumpsOn old id count (Ok Stuck) new count
+  -- On a stream on which nothing waits, nothing could go.
+  pub none_goes : (streams : BTreeMap ℕ Stream)
+      → ((i : ℕ) → get_by (nat_cmp i) streams ≡ keeps_of old i) → NoneWaits old id
+      → PumpsOn old id count (Ok Idle) (with_streams old old.conn streams) count
   unfolding HasPumped
-  none_goes new conn role same other = λ values start happened is alive.
-      let stuck = stuck_unless_waiting values old.conn old.role (keeps_of old) happened id
-      is.represents other in
-      let passes = pump_passes values start count old.conn old.role (keeps_of old) happened id is
-      stuck in
-      let kept = pump_keeps values start count old.conn old.role (keeps_of old) (keeps_of new)
-      happened (id + 1) passes same in (
+  none_goes streams same other = λ values start happened is active alive.
+      let keeps = keeps_of old in
+      let keeps_now = keeps_of (with_streams old old.conn streams) in
+      let stuck = stuck_unless_waiting values old.conn old.role keeps happened id is.represents
+      other in
+      let passes = pump_passes values start count old.conn old.role old.spans keeps happened id is
+      stuck in (
         happened,
-        subst (λ (c : Conn). IsPumping values start count c new.role (keeps_of new) happened
-            (id + 1))
-            (sym conn) (subst (λ r. IsPumping values start count old.conn r (keeps_of new)
-            happened (id + 1)) (sym role) kept),
+        (
+          pump_keeps values start count old.conn old.role old.spans keeps keeps_now happened
+              (id + 1) passes same,
+          λ i. subst (λ (x : Option Stream). KeepsActive happened.log x i) (sym (same i))
+              (active i),
+          λ waits waiting_is. other waits (ap outgoing_in (sym (same id)) ∙ waiting_is),
+        ),
       )
 
   module _ (stream : Stream) (waits : Waiting) (here : keeps_of old id ≡ Some stream)
       (waiting_is : stream.outgoing ≡ outgoings.Waiting waits) (conn : Conn) (left : Waiting)
-      (sum : ℕ) (new : End) (role_is : new.role ≡ old.role) (conn_is : new.conn ≡ conn) where
+      (sum : ℕ) (streams : BTreeMap ℕ Stream) where
+    -- what the end is then
+    abbrev new_end : End
+    new_end = with_streams old conn streams
+
     -- What waits is sent,
-    goes_on : (result : Result Progress Refusal)
+    goes_on : (result : Result SendState Refusal)
         → Sends old.conn id waits count result conn left sum
         → (values : Values) (start happened : EndLog)
-        → IsPumping values start count old.conn old.role (keeps_of old) happened id
-        → active happened.log id ≡ true → (after : EndLog)
-        × HasGone values start old.role (keeps_of old) id stream result sum conn after left
-    goes_on result sends values start happened is alive =
-        sends values start old.role (keeps_of old) stream happened
-        (send_begins values start old.role (keeps_of old) id stream count old.conn happened waits is
-        here waiting_is alive)
+        → PumpGoes values start count old happened id
+        → KeepsActiveOnly happened.log (keeps_of old) → active happened.log id ≡ true
+        → (after : EndLog)
+        × HasGone values start old.role old.spans (keeps_of old) id stream result sum conn after
+        left
+    goes_on result sends values start happened is keeps_active alive =
+        sends values start old.role old.spans (keeps_of old) stream happened
+        (send_begins values start old.role old.spans (keeps_of old) id stream count old.conn
+        happened waits is keeps_active here waiting_is alive)
 
     -- What sending answered is that.
-    at_that : (progress other : Progress) → progress ≡ other
+    at_that : (progress other : SendState) → progress ≡ other
         → Sends old.conn id waits count (Ok progress) conn left sum
         → Sends old.conn id waits count (Ok other) conn left sum
     at_that progress other same sends =
-        subst (λ (p : Progress). Sends old.conn id waits count (Ok p) conn left sum) same sends
+        subst (λ (p : SendState). Sends old.conn id waits count (Ok p) conn left sum) same sends
 
     -- The pump passes the stream, on which nothing could go.
-    passes_on : (outgoing : Outgoing) (values : Values) (start after : EndLog)
-        → ((i : ℕ) → keeps_of new i
-        ≡ keeps_with (keeps_of old) id (with_outgoing stream outgoing) i)
-        → IsPumping values start sum conn old.role
-        (keeps_with (keeps_of old) id (with_outgoing stream outgoing)) after id
-        → IsStuckOn after id
-        → IsPumping values start sum new.conn new.role (keeps_of new) after (id + 1)
-    passes_on outgoing values start after same is stuck =
-        let passes = pump_passes values start sum conn old.role _ after id is stuck in
-        let kept = pump_keeps values start sum conn old.role _ (keeps_of new) after (id + 1) passes
-        same in
-        subst (λ (c : Conn). IsPumping values start sum c new.role (keeps_of new) after (id + 1))
-        (sym conn_is) (subst (λ r. IsPumping values start sum conn r (keeps_of new) after (id + 1))
-        (sym role_is) kept)
+    passes_on : (keeps : ℕ → Option Stream) (values : Values) (start after : EndLog)
+        → ((i : ℕ) → keeps_of new_end i ≡ keeps i)
+        → IsPumping values start sum conn old.role old.spans keeps after id
+        → IsStuckOn after id → PumpGoes values start sum new_end after (id + 1)
+    passes_on keeps values start after same is stuck =
+        pump_keeps values start sum conn old.role old.spans keeps (keeps_of new_end) after
+        (id + 1) (pump_passes values start sum conn old.role old.spans keeps after id is stuck)
+        same
+
+    -- What is kept is of active streams but this one, or of these alone.
+    others_keep : (keeps : ℕ → Option Stream) (after : EndLog)
+        → ((i : ℕ) → keeps_of new_end i ≡ keeps i) → KeepsActiveBut after.log keeps id
+        → KeepsActiveBut after.log (keeps_of new_end) id
+    others_keep keeps after same is = λ i other.
+        subst (λ (x : Option Stream). KeepsActive after.log x i) (sym (same i)) (is i other)
+
+    all_keep : (after : EndLog) → KeepsActiveBut after.log (keeps_of new_end) id
+        → active after.log id ≡ true → KeepsActiveOnly after.log (keeps_of new_end)
+    all_keep after is alive = λ i. elim (cases_eq i id) [
+      | inl same ↦ λ some. subst (λ (j : ℕ). active after.log j ≡ true) (sym same) alive
+      | inr other ↦ is i other
+    ]
 
     -- all of it,
-    pub all_goes : (progress : Progress) → progress ≡ Sent
+    pub all_goes : (progress : SendState) → progress ≡ Sent
         → Sends old.conn id waits count (Ok progress) conn left sum
-        → ((i : ℕ) → keeps_of new i
+        → ((i : ℕ) → keeps_of new_end i
         ≡ keeps_with (keeps_of old) id (with_outgoing stream outgoings.Sent) i)
-        → PumpsOn old id count (Ok Sent) new sum
+        → PumpsOn old id count (Ok Sent) new_end sum
     unfolding HasGone HasPumped
-    all_goes progress is_that sends same = λ values start happened is alive.
+    all_goes progress is_that sends same = λ values start happened is keeps_active alive.
+        let keeps = keeps_with (keeps_of old) id (with_outgoing stream outgoings.Sent) in
         let (after, gone) = goes_on (Ok Sent) (at_that progress Sent is_that sends)
-        values start happened is alive in (
+        values start happened is keeps_active alive in (
           after,
-          passes_on outgoings.Sent values start after same gone
-              (sent_is_stuck values start old.role (keeps_of old) id stream sum conn after gone),
+          (
+            passes_on keeps values start after same gone.pumping
+                (sent_is_stuck values start old.role old.spans (keeps_of old) id stream sum conn
+                after gone),
+            others_keep keeps after same gone.others,
+            λ other waiting_is. none_waits_sent values start old.role old.spans (keeps_of old) id
+                stream other (ap outgoing_in (sym (same id)) ∙ waiting_is),
+          ),
         )
 
-    module _ (same : (i : ℕ) → keeps_of new i
+    module _ (same : (i : ℕ) → keeps_of new_end i
         ≡ keeps_with (keeps_of old) id (with_outgoing stream (outgoings.Waiting left)) i) where
       -- or some, and no more can go,
-      pub some_goes : (progress : Progress) → progress ≡ Stuck
+      pub some_goes : (progress : SendState) → progress ≡ Stuck
           → Sends old.conn id waits count (Ok progress) conn left sum
-          → PumpsOn old id count (Ok Stuck) new sum
+          → PumpsOn old id count (Ok Stuck) new_end sum
       unfolding HasGone HasPumped
-      some_goes progress is_that sends = λ values start happened is alive.
+      some_goes progress is_that sends = λ values start happened is keeps_active alive.
+          let keeps = keeps_with (keeps_of old) id (with_outgoing stream (outgoings.Waiting left))
+          in
           let (after, gone) = goes_on (Ok Stuck) (at_that progress Stuck is_that sends)
-          values start happened is alive in
-          (after, passes_on (outgoings.Waiting left) values start after same gone.0 gone.1)
+          values start happened is keeps_active alive in (
+            after,
+            (
+              passes_on keeps values start after same gone.0.pumping gone.1,
+              all_keep after (others_keep keeps after same gone.0.others) gone.0.alive,
+            ),
+          )
 
       pumped : (values : Values) (start after : EndLog) (refusal : Refusal)
-          → IsRefused values start old.role (keeps_of old) id stream sum conn after left refusal
-          → IsPumped values start sum new after
+          → IsStopped values start old.role old.spans (keeps_of old) id stream sum conn after
+          left refusal → IsPumped values start sum refusal new_end after
       pumped values start after refusal is =
           record {
-            represents = to_end values new conn old.role _ after is.represents conn_is role_is same;
+            represents = record {
+              streams = to_end values new_end _ after is.represents same;
+              in_step = λ i. subst (λ (x : Option Stream). IsInStep old.spans x after i)
+                  (sym (same i)) (is.in_step i);
+              active = λ i. subst (λ (x : Option Stream). KeepsActive after.log x i)
+                  (sym (same i)) (is.active i);
+            };
             calls = is.calls;
           }
 
       -- or the output is full,
-      pub full_there : (progress : Progress) → progress ≡ Full
+      pub full_there : (progress : SendState) → progress ≡ Full
           → Sends old.conn id waits count (Ok progress) conn left sum
-          → PumpsOn old id count (Ok Full) new sum
+          → PumpsOn old id count (Ok Full) new_end sum
       unfolding HasGone HasPumped
-      full_there progress is_that sends = λ values start happened is alive.
+      full_there progress is_that sends = λ values start happened is keeps_active alive.
           let (after, gone) = goes_on (Ok Full) (at_that progress Full is_that sends)
-          values start happened is alive in
+          values start happened is keeps_active alive in
           (after, (pumped values start after OutputFull gone, is_full after gone.lacks))
         where
           is_full : (after : EndLog) → LacksSpace after.log OutputFull
@@ -162,10 +207,11 @@ module _ (old : End) (id count : ℕ) where
       -- or memory was refused.
       pub memory_lacks : (refusal : Refusal)
           → Sends old.conn id waits count (Err refusal) conn left sum
-          → PumpsOn old id count (Err refusal) new sum
+          → PumpsOn old id count (Err refusal) new_end sum
       unfolding HasGone HasPumped
-      memory_lacks refusal sends = λ values start happened is alive.
-          let (after, gone) = goes_on (Err refusal) sends values start happened is alive in
+      memory_lacks refusal sends = λ values start happened is keeps_active alive.
+          let (after, gone) = goes_on (Err refusal) sends values start happened is keeps_active
+          alive in
           (after, (pumped values start after refusal gone.0, is_memory after gone.0.lacks gone.1))
         where
           is_memory : (after : EndLog) → LacksSpace after.log refusal → refusal ≢ OutputFull
@@ -173,26 +219,17 @@ module _ (old : End) (id count : ℕ) where
           is_memory after (inl (is, full)) other = absurd (other is)
           is_memory after (inr is) other = is
 
--- The same map keeps the same.
-pub same_kept : (old new : End) → new.streams ≡ old.streams → (i : ℕ)
-    → keeps_of new i ≡ keeps_of old i
-same_kept old new same i = ap (λ (m : BTreeMap ℕ Stream). get_by (nat_cmp i) m) same
+    -- Sending on a stream does not answer that nothing waited.
+    pub not_idle : (progress : SendState) → progress ≡ Idle
+        → Sends old.conn id waits count (Ok progress) conn left sum
+        → PumpsOn old id count (Ok Idle) new_end sum
+    unfolding HasGone
+    not_idle progress is_that sends = λ values start happened is keeps_active alive.
+        let (after, gone) = goes_on (Ok Idle) (at_that progress Idle is_that sends)
+        values start happened is keeps_active alive in absurd gone
 
--- Nothing waits where nothing is kept, or something else is.
-pub nothing_here : (old : End) (id : ℕ) → keeps_of old id ≡ None → (stream : Stream)
-    (waits : Waiting) → keeps_of old id ≡ Some stream
-    → stream.outgoing ≡ outgoings.Waiting waits → ⊥
-nothing_here old id none stream waits here waiting_is = none_some (sym none ∙ here)
-  where
-    none_some : None ≡ Some stream → ⊥
-    none_some wrong = cc
-
+-- Nothing waits where something else is kept.
 pub other_here : (old : End) (id : ℕ) (one : Stream) → keeps_of old id ≡ Some one
-    → ((waits : Waiting) → one.outgoing ≡ outgoings.Waiting waits → ⊥) → (stream : Stream)
-    (waits : Waiting) → keeps_of old id ≡ Some stream
-    → stream.outgoing ≡ outgoings.Waiting waits → ⊥
-other_here old id one kept other stream waits here waiting_is =
-    other waits (ap (λ (s : Stream). s.outgoing) (same (sym kept ∙ here)) ∙ waiting_is)
-  where
-    same : Some one ≡ Some stream → one ≡ stream
-    same both = cc
+    → ((waits : Waiting) → one.outgoing ≢ outgoings.Waiting waits) → NoneWaits old id
+other_here old id one kept other waits waiting_is =
+    other waits (sym (ap outgoing_in kept) ∙ waiting_is)

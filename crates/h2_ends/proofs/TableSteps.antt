@@ -7,7 +7,8 @@ use Rattle.std.specs.Cmp.{unsigned_tied}
 use Rattle.h2_ends.specs.declared.end.End.{End}
 use Rattle.h2_ends.specs.declared.outgoing.Stream.{Stream}
 use Rattle.h2_ends.specs.Represents.{kept_at}
-use Rattle.h2_ends.proofs.EndSteps.{KeepsBut, kept}
+use Rattle.h2_ends.specs.Heads.{KeepsOne}
+use Rattle.h2_ends.proofs.EndSteps.{kept}
 
 -- other entries, with another one at a number
 abbrev pub ChangesAt : ℕ → Option Stream → (old new : List (ℕ × Stream)) → Type 0
@@ -23,7 +24,7 @@ test_other id q other = unsigned_tied id q ∙ ne_eqb id q (λ same. other (sym 
 
 -- Such entries keep all but that one.
 pub keeps_but : (old new : End) (id : ℕ) (stream : Option Stream)
-    → ChangesAt id stream old.streams.entries new.streams.entries → KeepsBut old new id stream
+    → ChangesAt id stream old.streams.entries new.streams.entries → KeepsOne old new id stream
 keeps_but old new id stream changes =
     record {
       one = changes id

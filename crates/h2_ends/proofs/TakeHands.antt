@@ -1,72 +1,94 @@
 -- What an end hands out of what its connection has reported.
-use Rattle.std.proofs.Common.{◌≡◌, ℕ, Bool, true, false, List, Some, None, Ok, Err}
-use Rattle.std.proofs.Common.{Result, IfOk, inl, inr, refl, sym, ap, ◌∙◌, ◌⊎◌}
+use Rattle.std.proofs.Common.{◌≡◌, ℕ, Bool, true, false, List, [], Some, None, Ok, Err}
+use Rattle.std.proofs.Common.{Result, IfOk, refl, sym, ap, ◌∙◌}
+use Rattle.std.proofs.lemmas.Bool.{both_ways, eq-eqb}
 use Rattle.hpack.specs.declared.types.field.Field.{Field}
 use Rattle.h2_frame.specs.Frames.{Frame, Encodes}
 use Rattle.h2_frame.proofs.FrameLemmas.{one_frame_lem}
 use Rattle.h2_conn.specs.Loans.{octets_in}
 use Rattle.h2_frame.specs.declared.code.Code.TheVariants.{InternalError}
+use Rattle.h2_log.specs.declared.role.Role.TheVariants.{Server}
 use Rattle.h2_log.specs.Acts.{Values, Answer, Refuse}
 use Rattle.h2_log.specs.Events.{Event, FieldsEvent, DataEvent, ResetEvent}
 use Rattle.h2_log.specs.Log.{Log}
 use Rattle.h2_log.specs.LogCalls.{MayAnswer, with_call}
-use Rattle.h2_end_laws.specs.Over.{IsOver}
 use Rattle.h2_end_laws.specs.Takes.{MayTake, Took}
 use Rattle.h2_end_laws.proofs.OverEvents.{fields_in_use, data_in_use}
 use Rattle.h2_end_laws.proofs.TakeAnswers.{log_after_take}
 use Rattle.h2_conn.specs.declared.event.ConnFault.{ConnFault}
 use Rattle.h2_message.specs.declared.reading.Place.{Place}
 use Rattle.h2_message.specs.Reading.{Part, FieldsPart, OctetsPart}
+use Rattle.h2_pair.specs.Tokens.{tokens_of_event}
 use Rattle.h2_ends.specs.declared.end.End.{End}
 use Rattle.h2_ends.specs.declared.taking.HandedOut.{HandedOut}
 use Rattle.h2_ends.specs.declared.taking.Unread.{Unread}
 use Rattle.h2_ends.specs.declared.taking.Unread.TheVariants as unreads
 use Rattle.h2_ends.specs.Ends.{EndLog, Handed, BodyHanded, Passed, EndAnswer, EndTook, EndFailed}
 use Rattle.h2_ends.specs.Ends.{reads_on, parts_on, handed_as, handed_at, part_of_event}
-use Rattle.h2_ends.specs.EndTakes.{EndMayTake, GoesOn, AnswersRefused, end_with_log}
+use Rattle.h2_ends.specs.Ends.{tokens_of_part}
+use Rattle.h2_ends.specs.EndTakes.{EndMayTake, IsReadableWith, AnswersRefused, end_with_log}
 use Rattle.h2_ends.specs.EndTakes.{end_with_handed, passes, hands_out, refuses}
 use Rattle.h2_ends.specs.EndTakes.{runs_out_of_memory}
 use Rattle.h2_ends.specs.Loans.{BodyLiesIn}
-use Rattle.h2_ends.specs.Represents.{EndRepresents}
-use Rattle.h2_ends.specs.Taking.{IsReadOn, IsRead, ReadsFields, ReadsData, HasReported}
+use Rattle.h2_ends.specs.declared.span.Span.{Span}
+use Rattle.h2_ends.specs.Represents.{EndRepresents, InSpan}
+use Rattle.h2_ends.specs.Taking.{IsReadOn, IsRead, MustRefuse, ReadsFields, ReadsData, HasReported}
 use Rattle.h2_ends.specs.Taking.{AnswersRefusal, IsResetBy, answer_of_report, code_unread}
 use Rattle.h2_ends.proofs.EndTokens.{take_role}
-use Rattle.h2_ends.proofs.EndSteps.{passed_on}
+use Rattle.h2_ends.proofs.TakeActive.{data_is_active}
+use Rattle.h2_ends.proofs.InSteps.{owes_taken}
+use Rattle.h2_ends.proofs.TakeInStep.{differs, passed_over, read_on, reported_wider}
 use Rattle.h2_ends.proofs.TakeRefusing.{memory_fails}
+use Rattle.h2_end_laws.specs.Told.{take_has_fields, take_has_data, take_may_close}
+use Rattle.h2_end_laws.specs.Told.{event_may_close}
+use Rattle.h2_end_laws.proofs.ToldOpened.{active_by_fields}
 
 -- The end may answer so, and represents what has happened then.
 abbrev pub Hands : Values → EndLog → List ℕ → EndAnswer → End → Type 0
 Hands values end piece answer new =
     (after : EndLog) × EndMayTake end piece answer after × EndRepresents values new after
 
--- What is kept of the stream of a part is so still, and its number is used.
-kept_still : (P Q : Type 0) → (P → ⊥) → P ⊎ Q → Q
-kept_still P Q up (inl past) = absurd (up past)
-kept_still P Q up (inr kept) = kept
-
+-- A field block has come on its stream.
 pub fields_on : (values : Values) (now : End) (end : EndLog) (piece : List ℕ) (count id : ℕ)
     (list : List Field) (last : Bool) (log : Log)
     → HasReported values now end piece count (FieldsEvent id list last) log
-    → IsReadOn values now (end_with_log end log) id
+    → IsReadOn values now (end_with_log end log) id (FieldsPart list, last)
+unfolding tokens_of_event tokens_of_part take_has_fields take_has_data take_may_close
+    event_may_close
 fields_on values now end piece count id list last log reported =
-    let of = fields_in_use end.log log piece count id list last reported.took in
-    record {
-      represents = reported.represents;
-      kept = kept_still (IsOver end.log id) _ of.0 (reported.streams id);
-      was_used = of.1;
-    }
+    let event = FieldsEvent id list last in
+    let same = eq-eqb id id refl in
+    read_on values now end piece count event log id (FieldsPart list, last) reported
+    (fields_in_use end.log log piece count id list last reported.took) (rw same refl)
+    (λ i other. rw (differs i id other) refl) (λ i other. differs i id other) (λ i other. refl)
+    (owes_taken reported.logged.0 values now.spans.owing end.log log piece
+    (Took count (Some event)) id reported.logged.1 reported.took refl (reported.in_step id).owes)
+    (λ i other. rw (differs i id other) refl) (λ goes_on. rw (same, goes_on) refl)
+    (λ idle. let opened = active_by_fields reported.logged.0 values end.log log piece count id
+    list last reported.logged.1 reported.took idle in
+    (take_role end.log log piece (Took count (Some event)) reported.took ∙ opened.0, opened.1))
 
+-- Octets of a body have come on theirs, which was active.
 pub data_on : (values : Values) (now : End) (end : EndLog) (piece : List ℕ) (count id : ℕ)
-    (octets : List ℕ) (flow : ℕ) (last : Bool) (log : Log)
+    (octets : List ℕ) (flow : ℕ) (last : Bool) (log : Log) (owing : Span) → InSpan owing id
+    → ((i : ℕ) → InSpan now.spans.owing i → InSpan owing i)
     → HasReported values now end piece count (DataEvent id octets flow last) log
-    → IsReadOn values now (end_with_log end log) id
-data_on values now end piece count id octets flow last log reported =
-    let of = data_in_use end.log log piece count id octets flow last reported.took in
-    record {
-      represents = reported.represents;
-      kept = kept_still (IsOver end.log id) _ of.0 (reported.streams id);
-      was_used = of.1;
-    }
+    → IsReadOn values (record now { spans = record now.spans { owing = owing } })
+    (end_with_log end log) id (OctetsPart octets, last)
+unfolding tokens_of_event tokens_of_part take_has_fields take_has_data take_may_close
+    event_may_close
+data_on values now end piece count id octets flow last log owing here more reported =
+    let event = DataEvent id octets flow last in
+    let same = eq-eqb id id refl in
+    read_on values (record now { spans = record now.spans { owing = owing } }) end piece count event
+    log id (OctetsPart octets, last)
+    (reported_wider values now end piece count event log owing more reported)
+    (data_in_use end.log log piece count id octets flow last reported.took) (rw same refl)
+    (λ i other. rw (differs i id other) refl) (λ i other. refl)
+    (λ i other. differs i id other) (λ some. here)
+    (λ i other. rw (differs i id other) refl) (λ goes_on. rw (same, goes_on) refl)
+    (λ idle. absurd (both_ways _ idle
+    (data_is_active end.log log piece count id octets flow last reported.took)))
 
 -- The same is read on a stream after octets were taken.
 reads_still : (end : EndLog) (log : Log) (id : ℕ) → log.role ≡ end.log.role
@@ -83,12 +105,12 @@ reads_after values now end piece count event log id reported =
 -- So the same goes on, and is handed out.
 goes_before : (end : EndLog) (log : Log) (id : ℕ) (part : Part × Bool)
     → reads_on (end_with_log end log) id ≡ reads_on end id
-    → GoesOn (end_with_log end log) id part → GoesOn end id part
+    → IsReadableWith (end_with_log end log) id part → IsReadableWith end id part
 goes_before end log id part same goes = rw same at goes
 
 goes_after : (end : EndLog) (log : Log) (id : ℕ) (part : Part × Bool)
     → reads_on (end_with_log end log) id ≡ reads_on end id
-    → GoesOn end id part → GoesOn (end_with_log end log) id part
+    → IsReadableWith end id part → IsReadableWith (end_with_log end log) id part
 goes_after end log id part same goes = rw same goes
 
 -- A part that was read is handed out.
@@ -120,7 +142,7 @@ pub part_refused : (values : Values) (now new : End) (end : EndLog) (piece : Lis
     (event : Event) (log : Log) (id : ℕ) (part : Part × Bool) (list : List Field)
     (octets : List ℕ) (one : Answer) (result : Result HandedOut ConnFault)
     → HasReported values now end piece count event log → part_of_event event ≡ Some (id, part)
-    → (GoesOn (end_with_log end log) id part → ⊥) → MayAnswer log (Refuse id 1) one
+    → (IsReadableWith (end_with_log end log) id part → ⊥) → MayAnswer log (Refuse id 1) one
     → AnswersRefusal values
     (end_with_log (end_with_log end log) (with_call log (Refuse id 1) one)) result new
     → IsResetBy id 1 result
@@ -134,7 +156,7 @@ part_refused values now new end piece count event log id part list octets one (O
       refuses count event log reported.took id part of
           (λ goes. stops (goes_after end log id part same goes)) one may
           (rw (answers.0, is) (refl, refl)),
-      passed_on values new (end_with_log end after) (ResetEvent id 1 true) answers.1,
+      passed_over values new (end_with_log end after) (ResetEvent id 1 true) answers.1,
     )
 part_refused values now new end piece count event log id part list octets one (Err fault) reported
     of stops may answers is =
@@ -147,29 +169,33 @@ part_refused values now new end piece count event log id part list octets one (E
       answers.1,
     )
 
--- Where memory was refused to it, the connection has failed.
-pub part_lacks : (values : Values) (now new : End) (end : EndLog) (piece : List ℕ) (count : ℕ)
-    (event : Event) (log : Log) (id : ℕ) (part : Part × Bool) (list : List Field)
+-- Where memory was refused to the first field block at a server, the connection has failed.
+pub part_lacks : (values : Values) (now new : End) (end : EndLog) (piece : List ℕ)
+    (count id : ℕ) (list : List Field) (last : Bool) (log : Log) (fields : List Field)
     (octets : List ℕ) (one : Answer) (result : Result HandedOut ConnFault)
-    → HasReported values now end piece count event log → part_of_event event ≡ Some (id, part)
-    → GoesOn (end_with_log end log) id part → MayAnswer log (Refuse id 2) one
+    → HasReported values now end piece count (FieldsEvent id list last) log
+    → IsReadableWith (end_with_log end log) id (FieldsPart list, last) → log.role ≡ Server
+    → parts_on id end.handed ≡ [] → MayAnswer log (Refuse id 2) one
     → AnswersRefusal values
     (end_with_log (end_with_log end log) (with_call log (Refuse id 2) one)) result new
-    → Hands values end piece (answer_of_report list octets count result) new
+    → Hands values end piece (answer_of_report fields octets count result) new
 unfolding AnswersRefusal
-part_lacks values now new end piece count event log id part list octets one (Ok handed) reported
-    of goes may answers =
+part_lacks values now new end piece count id list last log fields octets one (Ok handed) reported
+    goes server none may answers =
     let down = memory_fails log id one
-    (up_after end.log log piece count event reported.took) may in absurd (cc)
-part_lacks values now new end piece count event log id part list octets one (Err fault) reported
-    of goes may answers =
+    (up_after end.log log piece count (FieldsEvent id list last) reported.took) may in absurd (cc)
+part_lacks values now new end piece count id list last log fields octets one (Err fault) reported
+    goes server none may answers =
+    let event = FieldsEvent id list last in
     let same = reads_after values now end piece count event log id reported in
     let down = memory_fails log id one
     (up_after end.log log piece count event reported.took) may in
     let code : fault.code ≡ InternalError = cc in (
       end_with_log end (with_call log (Refuse id 2) one),
-      runs_out_of_memory count event log reported.took id part of
-          (goes_before end log id part same goes) one may (ap EndFailed code) refl,
+      runs_out_of_memory count id list last log reported.took
+          (sym (take_role end.log log piece (Took count (Some event)) reported.took) ∙ server) none
+          (goes_before end log id (FieldsPart list, last) same goes) one may
+          (ap EndFailed code) refl,
       answers.1,
     )
 
@@ -181,7 +207,7 @@ pub event_passed : (values : Values) (now new : End) (end : EndLog) (piece : Lis
 event_passed values now new end piece count event log reported none is = (
   end_with_handed end log (Passed event),
   passes count event log reported.took none refl refl,
-  passed_on values new (end_with_log end log) event is,
+  passed_over values new (end_with_log end log) event is,
 )
 
 -- A field block that was read.
@@ -203,7 +229,7 @@ pub fields_not_handed : (values : Values) (now mid new : End) (end : EndLog) (pi
     (fields : List Field) (octets : List ℕ) (result : Result HandedOut ConnFault)
     → HasReported values now end piece count (FieldsEvent id list last) log
     → ReadsFields values (end_with_log end log) id list last (Err unread) mid
-    → (EndRepresents values mid (end_with_log end log)
+    → (MustRefuse values mid (end_with_log end log) id
     → (one : Answer) × MayAnswer log (Refuse id (code_unread unread)) one
     × AnswersRefusal values
     (end_with_log (end_with_log end log) (with_call log (Refuse id (code_unread unread)) one))
@@ -219,8 +245,8 @@ fields_not_handed values now mid new end piece count id list last unreads.Malfor
 fields_not_handed values now mid new end piece count id list last unreads.OutOfMemory log fields
     octets result reported read refuses_it is =
     let made = refuses_it read.1 in
-    part_lacks values now new end piece count (FieldsEvent id list last) log id
-    (FieldsPart list, last) fields octets made.0 result reported refl read.0 made.1 made.2
+    part_lacks values now new end piece count id list last log fields octets made.0 result reported
+    read.0 read.2 read.3 made.1 made.2
 
 -- Octets of a body that were read.
 pub data_handed : (values : Values) (now new : End) (end : EndLog) (piece : List ℕ)
@@ -239,7 +265,7 @@ pub data_not_handed : (values : Values) (now mid new : End) (end : EndLog) (piec
     (fields : List Field) (octets : List ℕ) (result : Result HandedOut ConnFault)
     → HasReported values now end piece count (DataEvent id body flow last) log
     → ReadsData values (end_with_log end log) id body last false mid
-    → (EndRepresents values mid (end_with_log end log)
+    → (MustRefuse values mid (end_with_log end log) id
     → (one : Answer) × MayAnswer log (Refuse id 1) one
     × AnswersRefusal values
     (end_with_log (end_with_log end log) (with_call log (Refuse id 1) one)) result new)

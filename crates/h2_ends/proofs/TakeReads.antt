@@ -15,51 +15,76 @@ use Rattle.h2_message.specs.declared.reading.Reading.{Reading}
 use Rattle.h2_message.specs.Messages.{SentMessage}
 use Rattle.h2_message.specs.Reading.{Part, FieldsPart, OctetsPart, IsReadable, ended}
 use Rattle.h2_message.specs.Reading.{message_parts, final_parts, trailers_parts}
-use Rattle.h2_message.specs.Phases.{Follows, FollowsFields, FollowsData}
+use Rattle.h2_message.specs.Phases.{Follows, FollowsFields, FollowsData, place_after}
 use Rattle.h2_ends.specs.declared.end.End.{End}
 use Rattle.h2_ends.specs.declared.outgoing.Outgoing.TheVariants as outgoings
 use Rattle.h2_ends.specs.declared.outgoing.Stream.{Stream}
 use Rattle.h2_ends.specs.declared.taking.Unread.TheVariants as unreads
 use Rattle.h2_ends.specs.Ends.{EndLog, message_for, parts_on, reads_on, asked_head}
-use Rattle.h2_ends.specs.Represents.{EndRepresents, IsKept, IsStream, IsUntouched, reads_of_new}
-use Rattle.h2_ends.specs.Represents.{kept_at}
-use Rattle.h2_ends.specs.Taking.{IsReadOn, ReadsFields, ReadsData, IsRead}
-use Rattle.h2_ends.proofs.EndSteps.{KeepsBut, kept, handed_on, outgoing_of}
+use Rattle.h2_ends.specs.Ends.{tokens_of_part}
+use Rattle.h2_ends.specs.EndTakes.{IsReadableWith}
+use Rattle.h2_ends.specs.Represents.{RepresentsStreams, RepresentsBut, IsKept, IsStream}
+use Rattle.h2_ends.specs.Represents.{IsUntouched, KeepsActive, reads_of_new, kept_at, outgoing_in}
+use Rattle.h2_ends.specs.Taking.{IsReadOn, MustRefuse, ReadsFields, ReadsData, end_with_part}
+use Rattle.h2_ends.specs.Heads.{KeepsOne}
+use Rattle.h2_ends.proofs.EndSteps.{kept}
+use Rattle.h2_ends.proofs.TakeInStep.{part_but, represents_all}
 
 -- A stream of which this is kept.
-stream_of : (values : Values) (end : End) (happened : EndLog) (id : ℕ) (stream : Stream)
-    → IsReadOn values end happened id → kept end id ≡ Some stream → IsStream happened id stream
+stream_of : (values : Values) (end : End) (happened : EndLog) (id : ℕ) (part : Part × Bool)
+    (stream : Stream) → IsReadOn values end happened id part → kept end id ≡ Some stream
+    → IsStream happened id stream
 unfolding IsKept
-stream_of values end happened id stream is found = subst (IsKept happened id) found is.kept
+stream_of values end happened id part stream is found = subst (IsKept happened id) found is.kept
 
-untouched : (values : Values) (end : End) (happened : EndLog) (id : ℕ)
-    → IsReadOn values end happened id → kept end id ≡ None → IsUntouched happened id
+untouched : (values : Values) (end : End) (happened : EndLog) (id : ℕ) (part : Part × Bool)
+    → IsReadOn values end happened id part → kept end id ≡ None → IsUntouched happened id
 unfolding IsKept
-untouched values end happened id is found = subst (IsKept happened id) found is.kept
+untouched values end happened id part is found = subst (IsKept happened id) found is.kept
 
 -- An end that keeps the same represents the same.
-represents_alike : (values : Values) (end new : End) (happened : EndLog)
-    → EndRepresents values end happened → new.conn ≡ end.conn → new.role ≡ end.role
-    → ((i : ℕ) → kept new i ≡ kept end i) → EndRepresents values new happened
-represents_alike values end new happened is conn role alike =
+streams_alike : (values : Values) (end new : End) (happened : EndLog)
+    → RepresentsStreams values end happened → new.conn ≡ end.conn → new.role ≡ end.role
+    → ((i : ℕ) → kept new i ≡ kept end i) → RepresentsStreams values new happened
+streams_alike values end new happened is conn role alike =
     record {
       conn = rw conn is.conn;
       role = role ∙ is.role;
       streams = λ i. rw (alike i) (is.streams i);
-      begun = is.begun;
+      sent = is.sent;
     }
 
--- A part that was taken is read.
-part_read : (values : Values) (end new : End) (happened : EndLog) (id : ℕ) (part : Part × Bool)
-    (stream : Stream) → IsReadOn values end happened id
-    → Follows (reads_on happened id) (parts_on id happened.handed ++ part ∷ []) stream.reading
-    → stream.outgoing ≡ outgoing_of (kept end id) → KeepsBut end new id (Some stream)
-    → new.conn ≡ end.conn → new.role ≡ end.role → IsRead values happened id part new
-part_read values end new happened id part stream is follows outgoing keeps conn role = (
-  follows.readable,
-  handed_on values end new happened id part stream is.represents is.kept is.was_used follows
-      outgoing keeps conn role,
-)
+-- Where it doesn't hand out the part that has come, the stream is to be refused.
+must_refuse : (values : Values) (end new : End) (happened : EndLog) (id : ℕ) (part : Part × Bool)
+    → IsReadOn values end happened id part → new.conn ≡ end.conn → new.role ≡ end.role
+    → new.spans ≡ end.spans → ((i : ℕ) → kept new i ≡ kept end i)
+    → MustRefuse values new happened id
+must_refuse values end new happened id part is conn role waiting alike =
+    record {
+      streams = streams_alike values end new happened is.streams conn role alike;
+      others = record {
+        others = λ i other. rw (alike i, waiting) (is.others.others i other);
+        active = λ i other. rw (alike i) (is.others.active i other);
+        within = rw (alike id, waiting) is.others.within;
+        owes = rw waiting is.others.owes;
+      };
+      was_used = is.was_used;
+      prefix = (tokens_of_part part, is.heard);
+    }
+
+-- A part is read and handed out, and of its stream something may be kept that the part has closed.
+abbrev pub IsReadBut : Values → EndLog → ℕ → (Part × Bool) → End → Type 0
+IsReadBut values happened id part new =
+    IsReadableWith happened id part
+    × RepresentsBut values new (end_with_part happened id part) id
+    × (part.1 ≡ false → KeepsActive happened.log (kept new id) id)
+
+-- What is kept of the stream of a part that hasn't ended it is active still.
+active_still : (values : Values) (end new : End) (happened : EndLog) (id : ℕ)
+    (part : Part × Bool) (stream : Stream) → IsReadOn values end happened id part
+    → kept end id ≡ Some stream → part.1 ≡ false → KeepsActive happened.log (kept new id) id
+active_still values end new happened id part stream is found last some =
+    is.goes_on last (λ none. let wrong : Some stream ≡ None = sym found ∙ none in cc)
 
 -- What is kept of the stream with another reading.
 abbrev pub with_reading : Stream → Reading → Stream
@@ -68,7 +93,7 @@ with_reading stream reading = record stream { reading = reading }
 -- The same reading again.
 same_again : (end new : End) (id : ℕ) (stream : Stream) (reading : Reading)
     → kept end id ≡ Some stream → reading ≡ stream.reading
-    → KeepsBut end new id (Some (with_reading stream reading)) → (i : ℕ)
+    → KeepsOne end new id (Some (with_reading stream reading)) → (i : ℕ)
     → kept new i ≡ kept end i
 same_again end new id stream reading found same keeps i = elim (cases_eq i id) [
   | inl here ↦ rw here
@@ -79,36 +104,44 @@ same_again end new id stream reading found same keeps i = elim (cases_eq i id) [
 -- A field block is read, or not, by the reading that is kept.
 pub fields_taken : (values : Values) (end new : End) (happened : EndLog) (id : ℕ)
     (list : List Field) (last : Bool) (place : Place) (stream : Stream) (reading : Reading)
-    → IsReadOn values end happened id → kept end id ≡ Some stream
+    → IsReadOn values end happened id (FieldsPart list, last) → kept end id ≡ Some stream
     → ((reads : Reads) (parts : List (Part × Bool)) → Follows reads parts stream.reading
     → FollowsFields reads parts list last (Some place) stream.reading reading)
-    → KeepsBut end new id (Some (with_reading stream reading)) → new.conn ≡ end.conn
-    → new.role ≡ end.role → ReadsFields values happened id list last (Ok place) new
-unfolding ReadsFields FollowsFields
+    → KeepsOne end new id (Some (with_reading stream reading)) → new.conn ≡ end.conn
+    → new.role ≡ end.role → new.spans ≡ end.spans
+    → IsReadBut values happened id (FieldsPart list, last) new
+    × (place ≡ place_after (reads_on happened id) (parts_on id happened.handed) list)
+unfolding FollowsFields
 fields_taken values end new happened id list last place stream reading is found follows keeps conn
-    role =
-    let now = stream_of values end happened id stream is found in
+    role waiting =
+    let part : Part × Bool = (FieldsPart list, last) in
+    let now = stream_of values end happened id part stream is found in
     let more = follows (reads_on happened id) (parts_on id happened.handed) now.reading in (
-      part_read values end new happened id (FieldsPart list, last) (with_reading stream reading) is
-          more.0 (sym (ap outgoing_of found)) keeps conn role,
+      (
+        more.0.readable,
+        part_but values end new happened id part (with_reading stream reading) is more.0
+            (sym (ap outgoing_in found)) keeps conn role waiting,
+        active_still values end new happened id part stream is found,
+      ),
       more.1,
     )
 
 pub fields_refused : (values : Values) (end new : End) (happened : EndLog) (id : ℕ)
     (list : List Field) (last : Bool) (stream : Stream) (reading : Reading)
-    → IsReadOn values end happened id → kept end id ≡ Some stream
+    → IsReadOn values end happened id (FieldsPart list, last) → kept end id ≡ Some stream
     → ((reads : Reads) (parts : List (Part × Bool)) → Follows reads parts stream.reading
     → FollowsFields reads parts list last None stream.reading reading)
-    → KeepsBut end new id (Some (with_reading stream reading)) → new.conn ≡ end.conn
-    → new.role ≡ end.role
+    → KeepsOne end new id (Some (with_reading stream reading)) → new.conn ≡ end.conn
+    → new.role ≡ end.role → new.spans ≡ end.spans
     → ReadsFields values happened id list last (Err unreads.Malformed) new
 unfolding ReadsFields FollowsFields
 fields_refused values end new happened id list last stream reading is found follows keeps conn
-    role =
-    let now = stream_of values end happened id stream is found in
+    role waiting =
+    let part : Part × Bool = (FieldsPart list, last) in
+    let now = stream_of values end happened id part stream is found in
     let more = follows (reads_on happened id) (parts_on id happened.handed) now.reading in (
       more.0,
-      represents_alike values end new happened is.represents conn role
+      must_refuse values end new happened id part is conn role waiting
           (same_again end new id stream reading found more.1 keeps),
     )
 
@@ -120,20 +153,20 @@ reads_by Client given none = rw none refl
 reads_by Server given none = refl
 
 reads_first : (values : Values) (end : End) (happened : EndLog) (id : ℕ)
-    → EndRepresents values end happened → IsUntouched happened id
+    → RepresentsStreams values end happened → IsUntouched happened id
     → reads_of_new end.role ≡ reads_on happened id
 unfolding reads_on
 reads_first values end happened id is none =
     rw is.role (sym (reads_by happened.log.role (message_for id happened.accepted) none.unsaid))
 
 -- A new reading follows what was read of it.
-follows_first : (values : Values) (end : End) (happened : EndLog) (id : ℕ) (reading : Reading)
-    → IsReadOn values end happened id → kept end id ≡ None
+follows_first : (values : Values) (end : End) (happened : EndLog) (id : ℕ) (part : Part × Bool)
+    (reading : Reading) → IsReadOn values end happened id part → kept end id ≡ None
     → Follows (reads_of_new end.role) [] reading
     → Follows (reads_on happened id) (parts_on id happened.handed) reading
-follows_first values end happened id reading is found follows =
-    let none = untouched values end happened id is found in
-    rw (none.unread, ← reads_first values end happened id is.represents none) follows
+follows_first values end happened id part reading is found follows =
+    let none = untouched values end happened id part is found in
+    rw (none.unread, ← reads_first values end happened id is.streams none) follows
 
 -- The first field block of a stream.
 abbrev pub first_stream : Reading → Stream
@@ -141,83 +174,102 @@ first_stream reading = record { reading = reading; outgoing = outgoings.NotGiven
 
 pub first_taken : (values : Values) (end new : End) (happened : EndLog) (id : ℕ)
     (list : List Field) (last : Bool) (place : Place) (old reading : Reading)
-    → IsReadOn values end happened id → kept end id ≡ None
+    → IsReadOn values end happened id (FieldsPart list, last) → kept end id ≡ None
     → Follows (reads_of_new end.role) [] old
     → ((reads : Reads) (parts : List (Part × Bool)) → Follows reads parts old
     → FollowsFields reads parts list last (Some place) old reading)
-    → KeepsBut end new id (Some (first_stream reading)) → new.conn ≡ end.conn
-    → new.role ≡ end.role → ReadsFields values happened id list last (Ok place) new
+    → KeepsOne end new id (Some (first_stream reading)) → new.conn ≡ end.conn
+    → new.role ≡ end.role → new.spans ≡ end.spans
+    → ReadsFields values happened id list last (Ok place) new
 unfolding ReadsFields FollowsFields
 first_taken values end new happened id list last place old reading is found start follows keeps
-    conn role =
-    let now = follows_first values end happened id old is found start in
+    conn role waiting =
+    let part : Part × Bool = (FieldsPart list, last) in
+    let now = follows_first values end happened id part old is found start in
     let more = follows (reads_on happened id) (parts_on id happened.handed) now in (
-      part_read values end new happened id (FieldsPart list, last) (first_stream reading) is
-          more.0 (sym (ap outgoing_of found)) keeps conn role,
+      (
+        more.0.readable,
+        represents_all values new (end_with_part happened id part) id
+            (part_but values end new happened id part (first_stream reading) is more.0
+            (sym (ap outgoing_in found)) keeps conn role waiting)
+            (λ some. (is.first found).1),
+      ),
       more.1,
     )
 
 pub first_refused : (values : Values) (end : End) (happened : EndLog) (id : ℕ)
     (list : List Field) (last : Bool) (old reading : Reading)
-    → IsReadOn values end happened id → kept end id ≡ None
+    → IsReadOn values end happened id (FieldsPart list, last) → kept end id ≡ None
     → Follows (reads_of_new end.role) [] old
     → ((reads : Reads) (parts : List (Part × Bool)) → Follows reads parts old
     → FollowsFields reads parts list last None old reading)
     → ReadsFields values happened id list last (Err unreads.Malformed) end
 unfolding ReadsFields FollowsFields
 first_refused values end happened id list last old reading is found start follows =
-    let now = follows_first values end happened id old is found start in
+    let part : Part × Bool = (FieldsPart list, last) in
+    let now = follows_first values end happened id part old is found start in
     let more = follows (reads_on happened id) (parts_on id happened.handed) now in
-    (more.0, is.represents)
+    (more.0, must_refuse values end end happened id part is refl refl refl (λ i. refl))
 
 -- Memory was refused to a field block that could be read.
 pub first_lacks : (values : Values) (end new : End) (happened : EndLog) (id : ℕ)
     (list : List Field) (last : Bool) (place : Place) (old reading : Reading)
-    → IsReadOn values end happened id → kept end id ≡ None
+    → IsReadOn values end happened id (FieldsPart list, last) → kept end id ≡ None
     → Follows (reads_of_new end.role) [] old
     → ((reads : Reads) (parts : List (Part × Bool)) → Follows reads parts old
     → FollowsFields reads parts list last (Some place) old reading)
-    → new.conn ≡ end.conn → new.role ≡ end.role → new.streams.entries ≡ end.streams.entries
+    → new.conn ≡ end.conn → new.role ≡ end.role → new.spans ≡ end.spans
+    → new.streams.entries ≡ end.streams.entries
     → ReadsFields values happened id list last (Err unreads.OutOfMemory) new
 unfolding ReadsFields FollowsFields
 first_lacks values end new happened id list last place old reading is found start follows conn role
-    same =
-    let now = follows_first values end happened id old is found start in
+    waiting same =
+    let part : Part × Bool = (FieldsPart list, last) in
+    let now = follows_first values end happened id part old is found start in
     let more = follows (reads_on happened id) (parts_on id happened.handed) now in (
       more.0.readable,
-      represents_alike values end new happened is.represents conn role
-          (λ i. ap (kept_at i) same),
+      must_refuse values end new happened id part is conn role waiting (λ i. ap (kept_at i) same),
+      (is.first found).0,
+      (untouched values end happened id part is found).unread,
     )
 
 -- Octets of a body.
 pub data_taken : (values : Values) (end new : End) (happened : EndLog) (id : ℕ)
     (octets : List ℕ) (last : Bool) (stream : Stream) (reading : Reading)
-    → IsReadOn values end happened id → kept end id ≡ Some stream
+    → IsReadOn values end happened id (OctetsPart octets, last) → kept end id ≡ Some stream
     → ((reads : Reads) (parts : List (Part × Bool)) → Follows reads parts stream.reading
     → FollowsData reads parts octets last true stream.reading reading)
-    → KeepsBut end new id (Some (with_reading stream reading)) → new.conn ≡ end.conn
-    → new.role ≡ end.role → ReadsData values happened id octets last true new
-unfolding ReadsData FollowsData
-data_taken values end new happened id octets last stream reading is found follows keeps conn role =
-    let now = stream_of values end happened id stream is found in
-    let more = follows (reads_on happened id) (parts_on id happened.handed) now.reading in
-    part_read values end new happened id (OctetsPart octets, last) (with_reading stream reading) is
-    more (sym (ap outgoing_of found)) keeps conn role
+    → KeepsOne end new id (Some (with_reading stream reading)) → new.conn ≡ end.conn
+    → new.role ≡ end.role → new.spans ≡ end.spans
+    → IsReadBut values happened id (OctetsPart octets, last) new
+unfolding FollowsData
+data_taken values end new happened id octets last stream reading is found follows keeps conn role
+    waiting =
+    let part : Part × Bool = (OctetsPart octets, last) in
+    let now = stream_of values end happened id part stream is found in
+    let more = follows (reads_on happened id) (parts_on id happened.handed) now.reading in (
+      more.readable,
+      part_but values end new happened id part (with_reading stream reading) is more
+          (sym (ap outgoing_in found)) keeps conn role waiting,
+      active_still values end new happened id part stream is found,
+    )
 
 pub data_refused : (values : Values) (end new : End) (happened : EndLog) (id : ℕ)
     (octets : List ℕ) (last : Bool) (stream : Stream) (reading : Reading)
-    → IsReadOn values end happened id → kept end id ≡ Some stream
+    → IsReadOn values end happened id (OctetsPart octets, last) → kept end id ≡ Some stream
     → ((reads : Reads) (parts : List (Part × Bool)) → Follows reads parts stream.reading
     → FollowsData reads parts octets last false stream.reading reading)
-    → KeepsBut end new id (Some (with_reading stream reading)) → new.conn ≡ end.conn
-    → new.role ≡ end.role → ReadsData values happened id octets last false new
+    → KeepsOne end new id (Some (with_reading stream reading)) → new.conn ≡ end.conn
+    → new.role ≡ end.role → new.spans ≡ end.spans
+    → ReadsData values happened id octets last false new
 unfolding ReadsData FollowsData
 data_refused values end new happened id octets last stream reading is found follows keeps conn
-    role =
-    let now = stream_of values end happened id stream is found in
+    role waiting =
+    let part : Part × Bool = (OctetsPart octets, last) in
+    let now = stream_of values end happened id part stream is found in
     let more = follows (reads_on happened id) (parts_on id happened.handed) now.reading in (
       more.0,
-      represents_alike values end new happened is.represents conn role
+      must_refuse values end new happened id part is conn role waiting
           (same_again end new id stream reading found more.1 keeps),
     )
 
@@ -254,11 +306,13 @@ no_data_first reads octets last is =
     is.more is.begins
 
 pub first_data : (values : Values) (end : End) (happened : EndLog) (id : ℕ)
-    (octets : List ℕ) (last : Bool) → IsReadOn values end happened id → kept end id ≡ None
+    (octets : List ℕ) (last : Bool)
+    → IsReadOn values end happened id (OctetsPart octets, last) → kept end id ≡ None
     → ReadsData values happened id octets last false end
 unfolding ReadsData
 first_data values end happened id octets last is found =
-    let none = untouched values end happened id is found in (
+    let part : Part × Bool = (OctetsPart octets, last) in
+    let none = untouched values end happened id part is found in (
       λ goes. no_data_first (reads_on happened id) octets last (rw none.unread at goes),
-      is.represents,
+      must_refuse values end end happened id part is refl refl refl (λ i. refl),
     )

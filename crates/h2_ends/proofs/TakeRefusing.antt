@@ -1,33 +1,129 @@
 -- A stream that is refused at an end, and what the connection is then.
-use Rattle.std.proofs.Common.{◌≡◌, ℕ, false, Some, None, refl}
-use Rattle.std.proofs.lemmas.Bool.{both_ways}
+use Rattle.std.proofs.Common.{◌≡◌, ◌≢◌, ◌⊎◌, ℕ, true, false, Option, Some, None, ◌∷◌, List}
+use Rattle.std.proofs.Common.{arith, inl, inr, refl}
+use Rattle.std.specs.List.{Contains}
+use Rattle.std.proofs.lemmas.Bool.{both_ways, cases_eq}
+use Rattle.h2_frame.specs.declared.code.Code.{Code}
 use Rattle.h2_frame.specs.declared.code.Code.TheVariants.{InternalError}
-use Rattle.h2_log.specs.Acts.{Values, Answer, Refuse}
+use Rattle.h2_log.specs.Acts.{Values, Act, Answer, Refuse, Number, Count, Done, OutOfMemory}
+use Rattle.h2_log.specs.Acts.{Refused}
 use Rattle.h2_log.specs.CallRules.{first_of, conditions, refuse_fault, may_lack_memory}
 use Rattle.h2_log.specs.Log.{Log}
 use Rattle.h2_log.specs.LogView.{log_view}
 use Rattle.h2_log.specs.LogCalls.{MayAnswer, with_call, accepts, refuses, lacks, fails}
 use Rattle.h2_log.specs.LogCalls.{refused_with}
+use Rattle.h2_log_laws.proofs.LogGrowth.{grows_call}
+use Rattle.h2_end_laws.specs.Over.{IsOver, used}
+use Rattle.h2_end_laws.proofs.OverCalls.{used_by_call}
 use Rattle.h2_conn.specs.Conn.{ConnShows}
+use Rattle.h2_pair.specs.Tokens.{tokens_heard, IsPrefixOfTokens}
+use Rattle.h2_pair.proofs.HeardCalls.{call_calls}
 use Rattle.h2_ends.specs.declared.end.End.{End}
-use Rattle.h2_ends.specs.Ends.{EndLog}
+use Rattle.h2_ends.specs.Ends.{EndLog, tokens_handed}
 use Rattle.h2_ends.specs.EndTakes.{end_with_log}
-use Rattle.h2_ends.specs.Represents.{EndRepresents}
-use Rattle.h2_ends.proofs.EndSteps.{quiet_call}
+use Rattle.h2_ends.specs.Represents.{RepresentsBut, IsInStep, IsCutShort, WasRefused}
+use Rattle.h2_ends.specs.Taking.{MustRefuse}
 use Rattle.h2_ends.proofs.ControlSteps.{refuse_tokens}
+use Rattle.h2_ends.proofs.EndSteps.{kept, quiet_call}
+use Rattle.h2_ends.proofs.InSteps.{in_step_called, active_called, owes_called}
+use Rattle.h2_ends.proofs.TakeInStep.{differs}
+use Rattle.h2_end_laws.specs.Told.{call_may_close}
+use Rattle.h2_end_laws.proofs.ToldCalls.{inactive_by_refusal}
 
--- The end represents what has happened with the refusal.
+-- A refusal opens no stream.
+refuse_opens_none : (log : Log) (id code i : ℕ) (answer : Answer)
+    → MayAnswer log (Refuse id code) answer → answer ≢ Number i
+refuse_opens_none log id code i answer (accepts none is) opens = cc
+refuse_opens_none log id code i answer (refuses refusal some is) opens = cc
+refuse_opens_none log id code i answer (lacks none may is) opens = cc
+refuse_opens_none log id code i answer (fails none may is) opens = cc
+
+-- It closes no other one.
+refuse_closes_one : (id code i : ℕ) (answer : Answer) → i ≢ id
+    → call_may_close i (Refuse id code) answer ≡ false
+unfolding call_may_close
+refuse_closes_one id code i (Number n) other = refl
+refuse_closes_one id code i (Count n) other = refl
+refuse_closes_one id code i Done other = differs i id other
+refuse_closes_one id code i OutOfMemory other = refl
+refuse_closes_one id code i (Refused refusal) other = refl
+
+-- The newest call is among the calls.
+newest_is : (calls : List (Act × Answer)) (call : Act × Answer) → Contains (call ∷ calls) call
+newest_is calls call = (0, omega arith, refl)
+
+was_refused : (log : Log) (id code : ℕ) (one : Answer)
+    → WasRefused (with_call log (Refuse id code) one) id
+was_refused log id code one = (
+  code,
+  one,
+  rw (call_calls log (Refuse id code) one)
+      (newest_is log.calls (Refuse id code, one)),
+)
+
+-- Once it is refused, the stream is over, or the connection has failed.
+refused_last : (log : Log) (id code : ℕ) (one : Answer) (failed : Option Code)
+    → MayAnswer log (Refuse id code) one → used log id ≡ true
+    → (with_call log (Refuse id code) one).failed ≡ failed
+    → IsOver (with_call log (Refuse id code) one) id
+    ⊎ ((with_call log (Refuse id code) one).failed ≢ None)
+refused_last log id code one None may was is =
+    inl (record {
+      was_used = used_by_call log (Refuse id code) one id was;
+      not_active = inactive_by_refusal log id code one may is;
+    })
+refused_last log id code one (Some failed) may was is = inr (λ none. cc)
+
+-- So what was handed out of it is all that will be.
+cut_short : (end : EndLog) (id code : ℕ) (one : Answer) → MayAnswer end.log (Refuse id code) one
+    → used end.log id ≡ true
+    → IsPrefixOfTokens (tokens_handed end id) (tokens_heard id end.log.reported)
+    → IsCutShort (end_with_log end (with_call end.log (Refuse id code) one)) id
+cut_short end id code one may was prefix =
+    record {
+      refused = was_refused end.log id code one;
+      last = refused_last end.log id code one _ may was refl;
+      prefix = rw (grows_call end.log (Refuse id code) one).reported prefix;
+    }
+
+refused_in_step : (values : Values) (old : End) (id code : ℕ) (one : Answer) (end : EndLog)
+    → MustRefuse values old end id → MayAnswer end.log (Refuse id code) one
+    → IsInStep old.spans (kept old id)
+    (end_with_log end (with_call end.log (Refuse id code) one)) id
+refused_in_step values old id code one end is may =
+    record {
+      all = λ up active none.
+          both_ways _ (inactive_by_refusal end.log id code one may up) active;
+      handed = inr (cut_short end id code one may is.was_used is.prefix);
+      within = is.others.within;
+      owes = owes_called _ values old.spans.owing end.log (Refuse id code) one id
+          is.streams.conn.machine.came may is.others.owes;
+    }
+
+-- The end represents what has happened with the refusal, but for what is kept of that stream.
 pub refused : (values : Values) (old new : End) (id code : ℕ) (answer : Answer) (end : EndLog)
     → ConnShows old.conn (Refuse id code) answer new.conn → new.role ≡ old.role
-    → new.streams ≡ old.streams → EndRepresents values old end
+    → new.streams ≡ old.streams → new.spans ≡ old.spans → MustRefuse values old end id
     → (one : Answer) × MayAnswer end.log (Refuse id code) one
-    × EndRepresents values new (end_with_log end (with_call end.log (Refuse id code) one))
-refused values old new id code answer end shows role streams is =
-    let made = shows values end.log is.conn in (
+    × RepresentsBut values new (end_with_log end (with_call end.log (Refuse id code) one)) id
+refused values old new id code answer end shows role streams waiting is =
+    let made = shows values end.log is.streams.conn in (
       made.0,
       made.2,
-      quiet_call values old new end (Refuse id code) made.0 is made.2 made.3 role streams
-          (λ i. refuse_tokens id code i made.0),
+      record {
+        streams = quiet_call values old new end (Refuse id code) made.0 is.streams made.2 made.3
+            role streams (λ i. refuse_tokens id code i made.0);
+        in_step = λ i. elim (cases_eq i id) [
+          | inl here ↦ rw (here, streams, waiting)
+              (refused_in_step values old id code made.0 end is made.2)
+          | inr other ↦ rw (streams, waiting) (in_step_called _ values old.spans (kept old i)
+              end (Refuse id code) made.0 end.accepted i is.streams.conn.machine.came made.2
+              (refuse_opens_none end.log id code i made.0 made.2) (is.others.others i other))
+        ];
+        active = λ i other. rw streams (active_called _ values end.log (Refuse id code) made.0
+            (kept old i) i is.streams.conn.machine.came made.2
+            (refuse_closes_one id code i made.0 other) (is.others.active i other));
+      },
     )
 
 -- With INTERNAL_ERROR the connection fails, if it hasn't.

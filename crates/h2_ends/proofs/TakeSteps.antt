@@ -13,6 +13,8 @@ use Rattle.h2_ends.specs.Represents.{EndRepresents}
 use Rattle.h2_ends.specs.Taking.{HasReported}
 use Rattle.h2_ends.proofs.EndSteps.{taken, taken_kept, kept}
 use Rattle.h2_ends.proofs.TakeHands.{Hands}
+use Rattle.h2_ends.proofs.TakeInStep.{quiet_taken}
+use Rattle.h2_end_laws.specs.Told.{take_has_data, take_has_fields, take_may_close}
 
 -- The connection may answer so, and represents the log then.
 abbrev pub Tells : Values → EndLog → List ℕ → TakeAnswer → End → Type 0
@@ -22,37 +24,44 @@ Tells values end piece answer new =
 -- It fails, or reports nothing.
 pub fails_so : (values : Values) (old new : End) (end : EndLog) (piece : List ℕ) (code : Code)
     → EndRepresents values old end → Tells values end piece (Failed code) new
-    → new.role ≡ old.role → new.streams ≡ old.streams
+    → new.role ≡ old.role → new.streams ≡ old.streams → new.spans ≡ old.spans
     → Hands values end piece (EndFailed code) new
-fails_so values old new end piece code is told role streams = (
+unfolding take_has_fields take_has_data take_may_close
+fails_so values old new end piece code is told role streams waiting = (
   end_with_log end told.0,
   fails code told.0 told.1 refl refl,
-  taken values old new end piece (Failed code) told.0 is told.1 told.2 role streams,
+  quiet_taken values old new end piece (Failed code) told.0 is told.1 told.2 role streams waiting
+      (λ i. refl) (λ i. refl) (λ i. refl) (λ i. refl),
 )
 
 pub nothing_so : (values : Values) (old new : End) (end : EndLog) (piece : List ℕ) (count : ℕ)
     → EndRepresents values old end → Tells values end piece (Took count None) new
-    → new.role ≡ old.role → new.streams ≡ old.streams
+    → new.role ≡ old.role → new.streams ≡ old.streams → new.spans ≡ old.spans
     → Hands values end piece (EndTook count None) new
-nothing_so values old new end piece count is told role streams = (
+unfolding take_has_fields take_has_data take_may_close
+nothing_so values old new end piece count is told role streams waiting = (
   end_with_log end told.0,
   hands_nothing count told.0 told.1 refl refl,
-  taken values old new end piece (Took count None) told.0 is told.1 told.2 role streams,
+  quiet_taken values old new end piece (Took count None) told.0 is told.1 told.2 role streams
+      waiting (λ i. refl) (λ i. refl) (λ i. refl) (λ i. refl),
 )
 
 -- It reports an event.
 pub reports_so : (values : Values) (old new : End) (end : EndLog) (piece : List ℕ) (count : ℕ)
     (event : Event) → EndRepresents values old end
     → (told : Tells values end piece (Took count (Some event)) new)
-    → new.role ≡ old.role → new.streams ≡ old.streams
+    → new.role ≡ old.role → new.streams ≡ old.streams → new.spans ≡ old.spans
     → HasReported values new end piece count event told.0
-reports_so values old new end piece count event is told role streams =
+reports_so values old new end piece count event is told role streams waiting =
     record {
       took = told.1;
-      represents = taken values old new end piece (Took count (Some event)) told.0 is told.1
+      logged = (_, is.streams.conn.machine.came);
+      streams = taken values old new end piece (Took count (Some event)) told.0 is.streams told.1
           told.2 role streams;
-      streams = λ i. rw streams (taken_kept end piece (Took count (Some event)) told.0 i
-          (kept old i) told.1 (is.streams i));
+      kept = λ i. rw streams (taken_kept end piece (Took count (Some event)) told.0 i
+          (kept old i) told.1 (is.streams.streams i));
+      in_step = λ i. rw (streams, waiting) (is.in_step i);
+      active = λ i. rw streams (is.active i);
     }
 
 -- The same answer may be said in another way.

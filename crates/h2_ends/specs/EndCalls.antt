@@ -1,15 +1,15 @@
 -- What the calls of a client or a server may answer, and what has happened after them (RFC 9113,
 -- sections 8.1 and 6.9).
 use Rattle.std.specs.Prelude.{◌≡◌, ◌≢◌, ◌⊎◌, ◌≤◌, ◌<◌, ℕ, ◌+◌, Bool, true, false, ◌&&◌, List}
-use Rattle.std.specs.Prelude.{[], ◌∷◌, ◌++◌, length, ◌==◌, Option, Some, None, is_some, is_none}
+use Rattle.std.specs.Prelude.{[], ◌∷◌, ◌++◌, length, ◌==◌, Option, Some, None, is_none}
 use Rattle.std.specs.Prelude.{Result, Ok, Err}
 use Rattle.hpack.specs.declared.types.field.Field.{Field}
 use Rattle.h2_log.specs.declared.refusal.Refusal.{Refusal}
 use Rattle.h2_log.specs.declared.refusal.Refusal.TheVariants.{Closed, OutputFull, ListTooLarge}
 use Rattle.h2_log.specs.declared.refusal.Refusal.TheVariants.{Memory}
 use Rattle.h2_log.specs.declared.role.Role.TheVariants.{Client, Server}
-use Rattle.h2_log.specs.Acts.{Act, Answer, Open, SendFields, SendData, Release, Number, Count, Done}
-use Rattle.h2_log.specs.Acts.{Refused}
+use Rattle.h2_log.specs.Acts.{Act, Answer, IsTypedAct, Open, SendFields, SendData, Release}
+use Rattle.h2_log.specs.Acts.{Number, Count, Done, Refused}
 use Rattle.h2_log.specs.Limits.{full_output}
 use Rattle.h2_log.specs.Log.{Log, active, owed, waiting}
 use Rattle.h2_log.specs.LogView.{log_view}
@@ -19,7 +19,7 @@ use Rattle.h2_message.specs.declared.malformed.Malformed.{Malformed}
 use Rattle.h2_message.specs.Messages.{SentMessage, trailer_fields, broken_by_request}
 use Rattle.h2_message.specs.Messages.{broken_by_response}
 use Rattle.h2_message.specs.Phases.{asks_head_first}
-use Rattle.h2_pair.specs.Quiet.{NoneCouldGo}
+use Rattle.h2_pair.specs.Quiet.{IsStuck}
 use Rattle.h2_ends.specs.declared.refusal.EndRefusal.{EndRefusal}
 use Rattle.h2_ends.specs.declared.refusal.EndRefusal.TheVariants as refusals
 use Rattle.h2_ends.specs.Ends.{EndLog, message_for, parts_on, tokens_waiting}
@@ -45,7 +45,9 @@ RefusesMessage log act message refusal =
 -- Nothing has happened, but that the connection may have refused a call.
 unfoldable pub IsUnchanged : (before after : EndLog) → Type 0
 IsUnchanged before after =
-    (after ≡ before) ⊎ ((act : Act) × (refusal : Refusal) × MayAnswer before.log act (Refused refusal)
+    (after ≡ before)
+    ⊎ ((act : Act) × (refusal : Refusal) × IsTypedAct act
+    × MayAnswer before.log act (Refused refusal)
     × (after ≡ end_with_log before (with_call before.log act (Refused refusal))))
 
 -- the end after a message was accepted and its head sent by this call
@@ -88,7 +90,8 @@ broken_by_answer end id message =
     broken_by_response (asks_head_first (parts_on id end.handed)) message
 
 -- What `respond` may answer: E3, E4, E1 and E2 in this order.
-unfoldable pub MayRespond : EndLog → ℕ → SentMessage → Result (Unit {0}) EndRefusal → EndLog → Type 0
+unfoldable pub MayRespond : EndLog → ℕ → SentMessage → Result (Unit {0}) EndRefusal → EndLog
+    → Type 0
 MayRespond end id message (Ok done) after =
     IsAsked end id × (message_for id end.accepted ≡ None)
     × (broken_by_answer end id message ≡ None)
@@ -110,56 +113,84 @@ MayRespond end id message (Err (refusals.Conn refusal)) after =
 
 -- Of what waits on a stream nothing could go now.
 abbrev pub IsStuckOn : EndLog → ℕ → Type 0
-IsStuckOn end i = active end.log i ≡ true → NoneCouldGo end.log i (tokens_waiting end i)
+IsStuckOn end i = IsStuck end.log i (tokens_waiting end i)
+
+-- A stream is active, and nothing could go on any lower one.
+pub record IsNext (end : EndLog) (id : ℕ) : Type 0 where
+  pub active : active end.log id ≡ true
+  pub below : (j : ℕ) → j < id → IsStuckOn end j
 
 -- The calls of a `pump`: each is on an active stream, while nothing could go on any lower one; so
--- many octets of bodies were sent. It ends where the connection refuses a call, or after any.
-pub data Pumps : (end : EndLog) → (count : ℕ) → (after : EndLog) → Type 0 where
-  pumps_no_more : (end : EndLog) → Pumps end 0 end
-  pumps_data : (end : EndLog) (id sent more : ℕ) (octets : List ℕ) (ends : Bool) (after : EndLog)
-      → active end.log id ≡ true → ((j : ℕ) → j < id → IsStuckOn end j)
+-- many octets of bodies were sent. The last one may have been refused: for this.
+pub data Pumps : (end : EndLog) → (count : ℕ) → Option Refusal → (after : EndLog) → Type 0 where
+  pumps_no_more : (end : EndLog) → Pumps end 0 None end
+  pumps_data : (end : EndLog) (id sent more : ℕ) (octets : List ℕ) (ends : Bool)
+      (refused : Option Refusal) (after : EndLog) → IsNext end id
+      → IsTypedAct (SendData id octets ends)
       → MayAnswer end.log (SendData id octets ends) (Count sent)
       → Pumps (end_with_log end (with_call end.log (SendData id octets ends) (Count sent))) more
-      after → Pumps end (sent + more) after
-  pumps_trailers : (end : EndLog) (id more : ℕ) (list : List Field) (after : EndLog)
-      → active end.log id ≡ true → ((j : ℕ) → j < id → IsStuckOn end j)
+      refused after → Pumps end (sent + more) refused after
+  pumps_trailers : (end : EndLog) (id more : ℕ) (list : List Field) (refused : Option Refusal)
+      (after : EndLog) → IsNext end id → IsTypedAct (SendFields id list true)
       → MayAnswer end.log (SendFields id list true) Done
-      → Pumps (end_with_log end (with_call end.log (SendFields id list true) Done)) more after
-      → Pumps end more after
-  pumps_refused : (end : EndLog) (act : Act) (refusal : Refusal) → MayAnswer end.log act (Refused refusal)
-      → Pumps end 0 (end_with_log end (with_call end.log act (Refused refusal)))
+      → Pumps (end_with_log end (with_call end.log (SendFields id list true) Done)) more refused
+      after → Pumps end more refused after
+  data_refused : (end : EndLog) (id : ℕ) (octets : List ℕ) (ends : Bool) (refusal : Refusal)
+      → IsNext end id → IsTypedAct (SendData id octets ends)
+      → MayAnswer end.log (SendData id octets ends) (Refused refusal)
+      → Pumps end 0 (Some refusal)
+      (end_with_log end (with_call end.log (SendData id octets ends) (Refused refusal)))
+  trailers_refused : (end : EndLog) (id : ℕ) (list : List Field) (refusal : Refusal)
+      → IsNext end id → IsTypedAct (SendFields id list true)
+      → MayAnswer end.log (SendFields id list true) (Refused refusal)
+      → Pumps end 0 (Some refusal)
+      (end_with_log end (with_call end.log (SendFields id list true) (Refused refusal)))
 
--- What `pump` may answer: how many octets of bodies were sent. Then the output is full, or nothing
--- of what waits could go.
+-- A pump that was not refused ends where the output is full, or where nothing of what waits could
+-- go.
+abbrev pub HasPumpedAll : EndLog → ℕ → EndLog → Type 0
+HasPumpedAll end count after =
+    (Pumps end count (Some OutputFull) after × (full_output ≤ waiting after.log))
+    ⊎ (Pumps end count None after × ((i : ℕ) → IsStuckOn after i))
+
+-- What `pump` may answer: how many octets of bodies were sent; or C1 at once; or C12 once the
+-- connection has refused a call for it.
 unfoldable pub MayPump : EndLog → Result ℕ EndRefusal → EndLog → Type 0
-MayPump end (Ok count) after =
-    (end.log.failed ≡ None) × Pumps end count after
-    × ((full_output ≤ waiting after.log) ⊎ ((i : ℕ) → IsStuckOn after i))
+MayPump end (Ok count) after = (end.log.failed ≡ None) × HasPumpedAll end count after
 MayPump end (Err (refusals.Conn Closed)) after = (end.log.failed ≢ None) × (after ≡ end)
-MayPump end (Err (refusals.Conn Memory)) after = (count : ℕ) × Pumps end count after
+MayPump end (Err (refusals.Conn Memory)) after =
+    (end.log.failed ≡ None) × (count : ℕ) × Pumps end count (Some Memory) after
 MayPump end (Err other) after = ⊥
 
+-- Something is owed on a stream, and nothing on any lower one.
+pub record IsNextOwed (end : EndLog) (id : ℕ) : Type 0 where
+  pub some : owed end.log id ≢ 0
+  pub below : (j : ℕ) → j < id → owed end.log j ≡ 0
+
 -- The calls of a `release_all`: each releases all that is owed on a stream, where nothing is owed
--- on any lower one.
-pub data Releases : (end : EndLog) → (after : EndLog) → Type 0 where
-  releases_no_more : (end : EndLog) → Releases end end
-  releases_one : (end : EndLog) (id : ℕ) (after : EndLog) → owed end.log id ≢ 0
-      → ((j : ℕ) → j < id → owed end.log j ≡ 0)
+-- on any lower one. The last one may have been refused: for this.
+pub data Releases : (end : EndLog) → Option Refusal → (after : EndLog) → Type 0 where
+  releases_no_more : (end : EndLog) → Releases end None end
+  releases_one : (end : EndLog) (id : ℕ) (refused : Option Refusal) (after : EndLog)
+      → IsNextOwed end id → IsTypedAct (Release id (owed end.log id))
       → MayAnswer end.log (Release id (owed end.log id)) Done
-      → Releases (end_with_log end (with_call end.log (Release id (owed end.log id)) Done)) after
-      → Releases end after
-  releases_refused : (end : EndLog) (id : ℕ) (refusal : Refusal) → owed end.log id ≢ 0
+      → Releases (end_with_log end (with_call end.log (Release id (owed end.log id)) Done)) refused
+      after → Releases end refused after
+  releases_refused : (end : EndLog) (id : ℕ) (refusal : Refusal) → IsNextOwed end id
+      → IsTypedAct (Release id (owed end.log id))
       → MayAnswer end.log (Release id (owed end.log id)) (Refused refusal)
-      → Releases end (end_with_log end
+      → Releases end (Some refusal) (end_with_log end
       (with_call end.log (Release id (owed end.log id)) (Refused refusal)))
 
--- What `release_all` may answer.
+-- What `release_all` may answer: that nothing is owed on any stream; or C1 at once; or C7 or C12
+-- once the connection has refused a call for it, and then something is owed still.
 unfoldable pub MayReleaseAll : EndLog → Result (Unit {0}) EndRefusal → EndLog → Type 0
 MayReleaseAll end (Ok done) after =
-    (end.log.failed ≡ None) × Releases end after × ((i : ℕ) → owed after.log i ≡ 0)
+    (end.log.failed ≡ None) × Releases end None after × ((i : ℕ) → owed after.log i ≡ 0)
 MayReleaseAll end (Err (refusals.Conn Closed)) after = (end.log.failed ≢ None) × (after ≡ end)
 MayReleaseAll end (Err (refusals.Conn OutputFull)) after =
-    Releases end after × (full_output ≤ waiting after.log)
-    × ((i : ℕ) × (owed after.log i ≢ 0))
-MayReleaseAll end (Err (refusals.Conn Memory)) after = Releases end after
+    (end.log.failed ≡ None) × Releases end (Some OutputFull) after
+    × (full_output ≤ waiting after.log) × ((i : ℕ) × (owed after.log i ≢ 0))
+MayReleaseAll end (Err (refusals.Conn Memory)) after =
+    (end.log.failed ≡ None) × Releases end (Some Memory) after
 MayReleaseAll end (Err other) after = ⊥

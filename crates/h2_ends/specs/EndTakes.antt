@@ -1,14 +1,16 @@
 -- What a call of `take` may answer at a client or a server, and what has happened after it (RFC
 -- 9113, sections 8.1 and 8.1.1).
 use Rattle.std.specs.Prelude.{◌≡◌, ℕ, Bool, true, List, [], ◌∷◌, ◌++◌, Option, Some, None}
+use Rattle.hpack.specs.declared.types.field.Field.{Field}
 use Rattle.h2_frame.specs.declared.code.Code.{Code}
 use Rattle.h2_frame.specs.declared.code.Code.TheVariants.{InternalError}
+use Rattle.h2_log.specs.declared.role.Role.TheVariants.{Server}
 use Rattle.h2_log.specs.Acts.{Answer, Refuse}
-use Rattle.h2_log.specs.Events.{Event, ResetEvent}
+use Rattle.h2_log.specs.Events.{Event, FieldsEvent, ResetEvent}
 use Rattle.h2_log.specs.Log.{Log}
 use Rattle.h2_log.specs.LogCalls.{MayAnswer, with_call}
 use Rattle.h2_end_laws.specs.Takes.{MayTake, Took, Failed}
-use Rattle.h2_message.specs.Reading.{Part, IsReadable}
+use Rattle.h2_message.specs.Reading.{Part, FieldsPart, IsReadable}
 use Rattle.h2_ends.specs.Ends.{EndLog, Handed, Passed, EndAnswer, EndTook, EndFailed, parts_on}
 use Rattle.h2_ends.specs.Ends.{reads_on, part_of_event, handed_as}
 
@@ -21,8 +23,8 @@ abbrev pub end_with_handed : EndLog → Log → Handed → EndLog
 end_with_handed end log handed = record end { log = log; handed = handed ∷ end.handed }
 
 -- What was read of a stream, with one part more, begins a message that breaks no rule.
-abbrev pub GoesOn : EndLog → ℕ → (Part × Bool) → Type 0
-GoesOn end id part = IsReadable (reads_on end id) (parts_on id end.handed ++ part ∷ [])
+abbrev pub IsReadableWith : EndLog → ℕ → (Part × Bool) → Type 0
+IsReadableWith end id part = IsReadable (reads_on end id) (parts_on id end.handed ++ part ∷ [])
 
 -- What is answered once a stream was refused with PROTOCOL_ERROR: that this end has reset it (which
 -- the last octet of the part may have closed already: then no RST_STREAM is sent); or the
@@ -36,7 +38,8 @@ AnswersRefused end log count id answer after (Some code) =
     (answer ≡ EndFailed code) × (after ≡ end_with_log end log)
 
 -- The connection takes octets. What it reports is handed out; but a part of a message only where
--- what was read of the stream with it begins a message that breaks no rule, and memory is there.
+-- what was read of the stream with it begins a message that breaks no rule. At a server the first
+-- field block of a stream takes memory, and where that is refused the connection fails.
 pub data EndMayTake (end : EndLog) (piece : List ℕ) (answer : EndAnswer) (after : EndLog) : Type 0
   where
     fails : (code : Code) (log : Log) → MayTake end.log piece (Failed code) log
@@ -53,7 +56,7 @@ pub data EndMayTake (end : EndLog) (piece : List ℕ) (answer : EndAnswer) (afte
     hands_out : (count : ℕ) (event : Event) (log : Log)
         → MayTake end.log piece (Took count (Some event)) log
         → (id : ℕ) (part : Part × Bool) → part_of_event event ≡ Some (id, part)
-        → GoesOn end id part
+        → IsReadableWith end id part
         → answer ≡ EndTook count
         (Some (handed_as (reads_on end id) (parts_on id end.handed) id part))
         → after ≡ end_with_handed end log
@@ -62,14 +65,16 @@ pub data EndMayTake (end : EndLog) (piece : List ℕ) (answer : EndAnswer) (afte
     refuses : (count : ℕ) (event : Event) (log : Log)
         → MayTake end.log piece (Took count (Some event)) log
         → (id : ℕ) (part : Part × Bool) → part_of_event event ≡ Some (id, part)
-        → (GoesOn end id part → ⊥) → (refused : Answer) → MayAnswer log (Refuse id 1) refused
+        → (IsReadableWith end id part → ⊥) → (refused : Answer)
+        → MayAnswer log (Refuse id 1) refused
         → AnswersRefused end (with_call log (Refuse id 1) refused) count id answer after
         (with_call log (Refuse id 1) refused).failed
         → EndMayTake end piece answer after
-    runs_out_of_memory : (count : ℕ) (event : Event) (log : Log)
-        → MayTake end.log piece (Took count (Some event)) log
-        → (id : ℕ) (part : Part × Bool) → part_of_event event ≡ Some (id, part)
-        → GoesOn end id part → (refused : Answer) → MayAnswer log (Refuse id 2) refused
+    runs_out_of_memory : (count id : ℕ) (list : List Field) (ends : Bool) (log : Log)
+        → MayTake end.log piece (Took count (Some (FieldsEvent id list ends))) log
+        → end.log.role ≡ Server → parts_on id end.handed ≡ []
+        → IsReadableWith end id (FieldsPart list, ends)
+        → (refused : Answer) → MayAnswer log (Refuse id 2) refused
         → answer ≡ EndFailed InternalError
         → after ≡ end_with_log end (with_call log (Refuse id 2) refused)
         → EndMayTake end piece answer after

@@ -4,7 +4,7 @@ use Rattle.std.specs.Prelude.{◌≡◌, ◌≢◌, ℕ, Bool, false, if◌then�
 use Rattle.std.specs.Prelude.{option_map, List, Result, Ok, Err}
 use Rattle.hpack.specs.declared.types.field.Field.{Field}
 use Rattle.h2_log.specs.declared.refusal.Refusal.{Refusal}
-use Rattle.h2_log.specs.Acts.{Values, Open, SendFields, Number, Done, Refused}
+use Rattle.h2_log.specs.Acts.{Values, IsTypedAct, Open, SendFields, Number, Done, Refused}
 use Rattle.h2_log.specs.CallRules.{is_too_large}
 use Rattle.h2_log.specs.Log.{Log}
 use Rattle.h2_log.specs.LogCalls.{MayAnswer, with_call}
@@ -24,7 +24,7 @@ use Rattle.h2_ends.specs.declared.outgoing.Stream.{Stream}
 use Rattle.h2_ends.specs.Ends.{EndLog}
 use Rattle.h2_ends.specs.EndCalls.{is_head_alone, RefusesMessage, IsUnchanged, MayRespond}
 use Rattle.h2_ends.specs.EndCalls.{end_with_message}
-use Rattle.h2_ends.specs.Represents.{EndRepresents, kept_at}
+use Rattle.h2_ends.specs.Represents.{EndRepresents, InSpan, kept_at}
 
 -- what waits of a message whose head was sent
 abbrev pub outgoing_for : Message → Outgoing
@@ -46,18 +46,14 @@ pub record KeepsOne (old new : End) (id : ℕ) (stream : Option Stream) : Type 0
   pub others : (i : ℕ) → i ≢ id → kept_at i new.streams.entries ≡ kept_at i old.streams.entries
 
 -- The new end sends what waits of a message on one stream, and is otherwise as the old one.
-pub record IsGiven (old new : End) (id : ℕ) (message : Message) : Type 0 where
+pub record IsGiven (old : End) (id : ℕ) (message : Message) (new : End) : Type 0 where
   pub conn : new.conn ≡ old.conn
   pub role : new.role ≡ old.role
   pub keeps : KeepsOne old new id
       (option_map (given_stream message) (kept_at id old.streams.entries))
-
--- What an end represents that was given a message is represented.
-abbrev pub Gives : End → ℕ → Message → End → Type 0
-Gives old id message new =
-    (values : Values) (end : EndLog)
-    → ((given : End) → IsGiven old given id message → EndRepresents values given end)
-    → EndRepresents values new end
+  pub more : (i : ℕ) → InSpan old.spans.waiting i → InSpan new.spans.waiting i
+  pub here : is_head_alone (message_value message) ≡ false → InSpan new.spans.waiting id
+  pub owing : new.spans.owing ≡ old.spans.owing
 
 -- The head of a request was sent on a new stream, of which nothing else is kept.
 pub record IsOpened (values : Values) (end : EndLog) (message : SentMessage) (old : End) (id : ℕ)
@@ -67,6 +63,7 @@ pub record IsOpened (values : Values) (end : EndLog) (message : SentMessage) (ol
   pub conn : ConnRepresents values new.conn
       (with_call end.log (Open message.head (is_head_alone message)) (Number id))
   pub role : new.role ≡ old.role
+  pub spans : new.spans ≡ old.spans
   pub reading : Reading
   pub follows : Follows (Responses (asks_head message.head)) [] reading
   pub keeps : KeepsOne old new id (Some (record {
@@ -93,6 +90,7 @@ SendsHead values log id message (Ok done) conn =
 SendsHead values log id message (Err refusal) conn =
     (list : List Field) × (ends : Bool)
     × RefusesMessage log (SendFields id message.head (is_head_alone message)) message refusal
+    × IsTypedAct (SendFields id list ends)
     × MayAnswer log (SendFields id list ends) (Refused refusal)
     × ConnRepresents values conn (with_call log (SendFields id list ends) (Refused refusal))
 
@@ -105,6 +103,7 @@ pub record IsAnswered (values : Values) (end : EndLog) (id : ℕ) (message : Sen
       (with_call end.log (SendFields id message.head (is_head_alone message)) Done)
   pub role : new.role ≡ old.role
   pub streams : new.streams ≡ old.streams
+  pub spans : new.spans ≡ old.spans
 
 -- What sending the head of a response answers, and makes of an end.
 abbrev pub AnswersHead : Values → EndLog → ℕ → SentMessage → End

@@ -1,12 +1,11 @@
 -- What is handed out, before it is lent, and where the octets of a body lie.
-use Rattle.std.specs.Prelude.{◌≡◌, ℕ, true, List, Option, Some, None, Result, Ok, Err, option_map}
+use Rattle.std.specs.Prelude.{◌≡◌, ℕ, List, Option, Some, Result, Ok, Err, option_map}
 use Rattle.hpack.specs.declared.types.field.Field.{Field}
 use Rattle.h2_frame.specs.Frames.{Frame, Encodes}
 use Rattle.h2_wire.specs.Cutter.{HasFrame, octets_of}
 use Rattle.h2_log.specs.Events as log
 use Rattle.h2_conn.specs.declared.event.ConnFault.{ConnFault}
 use Rattle.h2_conn.specs.Loans.{octets_in}
-use Rattle.h2_message.specs.declared.reading.Place.{Place}
 use Rattle.h2_ends.specs.declared.end.End.{End}
 use Rattle.h2_ends.specs.declared.taking.HandedOut.{HandedOut}
 use Rattle.h2_ends.specs.declared.taking.HandedOut.TheVariants as parts

@@ -1,16 +1,16 @@
 -- When a client or a server represents what has happened at it, and what its calls make of that.
-use Rattle.std.specs.Prelude.{◌≡◌, ◌≢◌, ◌⊎◌, ◌<◌, ℕ, true, false, List, [], ◌∷◌, ◌++◌, length}
-use Rattle.std.specs.Prelude.{drop, map as each, option_map, Option, Some, None, is_some, Result, Ok, Err}
+use Rattle.std.specs.Prelude.{◌≡◌, ◌≢◌, ◌⊎◌, ◌<◌, ◌≤◌, ℕ, true, false, List, [], ◌∷◌, ◌++◌}
+use Rattle.std.specs.Prelude.{length, drop, map as each, option_map, Option, Some, None, Result}
+use Rattle.std.specs.Prelude.{Ok, Err}
+use Rattle.std.specs.List.{Contains}
 use Rattle.std.specs.Map.{lookup}
 use Rattle.std.specs.Ordering.{nat_cmp}
 use Rattle.std.specs.BTreeMap.{is_at}
-use Rattle.hpack.specs.declared.types.field.Field.{Field}
 use Rattle.h2_log.specs.declared.role.Role.{Role}
 use Rattle.h2_log.specs.declared.role.Role.TheVariants.{Client, Server}
-use Rattle.h2_log.specs.declared.refusal.Refusal.{Refusal}
-use Rattle.h2_log.specs.Acts.{Values, Act, Answer, shown}
+use Rattle.h2_log.specs.Acts.{Values, Act, Answer, Refuse}
 use Rattle.h2_log.specs.CallRules.{is_too_large}
-use Rattle.h2_log.specs.Log.{Log}
+use Rattle.h2_log.specs.Log.{Log, active, owed}
 use Rattle.h2_log.specs.LogCalls.{MayAnswer, with_call, opened}
 use Rattle.h2_end_laws.specs.Over.{IsOver, used}
 use Rattle.h2_conn.specs.Conn.{ConnRepresents}
@@ -21,15 +21,19 @@ use Rattle.h2_message.specs.Messages.{SentMessage, trailer_fields}
 use Rattle.h2_message.specs.Phases.{Follows}
 use Rattle.h2_message.specs.Values.{message_value}
 use Rattle.h2_pair.specs.Tokens.{Token, OctetToken, EndToken, trailers_tokens, message_tokens}
+use Rattle.h2_pair.specs.Tokens.{tokens_heard, IsPrefixOfTokens}
 use Rattle.h2_ends.specs.declared.refusal.EndRefusal.{EndRefusal}
 use Rattle.h2_ends.specs.declared.end.End.{End}
 use Rattle.h2_ends.specs.declared.outgoing.Waiting.{Waiting}
 use Rattle.h2_ends.specs.declared.outgoing.Outgoing.{Outgoing}
 use Rattle.h2_ends.specs.declared.outgoing.Outgoing.TheVariants as outgoings
 use Rattle.h2_ends.specs.declared.outgoing.Stream.{Stream}
+use Rattle.h2_ends.specs.declared.span.Span.{Span}
+use Rattle.h2_ends.specs.declared.span.Spans.{Spans}
 use Rattle.h2_ends.specs.declared.taking.EndProgress.{EndProgress}
 use Rattle.h2_conn.specs.declared.event.ConnFault.{ConnFault}
-use Rattle.h2_ends.specs.Ends.{EndLog, EndAnswer, message_for, parts_on, tokens_out, reads_on}
+use Rattle.h2_ends.specs.Ends.{EndLog, message_for, parts_on, reads_on, tokens_said, tokens_out}
+use Rattle.h2_ends.specs.Ends.{tokens_handed}
 use Rattle.h2_ends.specs.EndTakes.{EndMayTake, end_with_log}
 use Rattle.h2_ends.specs.EndCalls.{MayRequest, MayRespond, MayPump, MayReleaseAll}
 use Rattle.h2_ends.specs.declared.event.EndTaken.{EndTaken}
@@ -91,21 +95,84 @@ unfoldable pub IsKept : EndLog → ℕ → Option Stream → Type 0
 IsKept end i None = IsUntouched end i
 IsKept end i (Some stream) = IsStream end i stream
 
--- What was sent of a message that was accepted is a prefix of it, with its head.
-pub record IsBegun (end : EndLog) (i : ℕ) (message : SentMessage) : Type 0 where
-  pub begun : tokens_out end i ≢ []
+-- What was sent on a stream is a prefix of what the end was given to say there, with the head where
+-- it was given a message.
+pub record SendsInOrder (end : EndLog) (i : ℕ) : Type 0 where
   pub waiting : List Token
-  pub sent : message_tokens message ≡ tokens_out end i ++ waiting
+  pub prefix : tokens_said end i ≡ tokens_out end i ++ waiting
+  pub begun : message_for i end.accepted ≢ None → tokens_out end i ≢ []
 
--- The end represents what has happened: its connection the log, and of each stream that isn't over
--- it keeps what was given, sent and handed out.
-pub record EndRepresents (values : Values) (end : End) (happened : EndLog) : Type 0 where
+-- This end has asked its connection to refuse the stream.
+abbrev pub WasRefused : Log → ℕ → Type 0
+WasRefused log i = (code : ℕ) × (answer : Answer) × Contains log.calls (Refuse i code, answer)
+
+-- What was handed out of a stream is only the beginning of what its connection has reported: this
+-- end has refused the rest, and no more is reported, since the stream is over or the connection has
+-- failed.
+pub record IsCutShort (end : EndLog) (i : ℕ) : Type 0 where
+  pub refused : WasRefused end.log i
+  pub last : IsOver end.log i ⊎ (end.log.failed ≢ None)
+  pub prefix : IsPrefixOfTokens (tokens_handed end i) (tokens_heard i end.log.reported)
+
+-- What was handed out of a stream is what its connection has reported, in order, unless this end
+-- has refused the rest.
+abbrev pub HandsInOrder : EndLog → ℕ → Type 0
+HandsInOrder end i = (tokens_heard i end.log.reported ≡ tokens_handed end i) ⊎ IsCutShort end i
+
+-- The number is one of the span.
+pub record InSpan (span : Span) (i : ℕ) : Type 0 where
+  pub first : span.first ≤ i
+  pub last : i ≤ span.last
+
+-- what is kept of the message that is sent on a stream
+abbrev pub outgoing_in : Option Stream → Outgoing
+outgoing_in None = outgoings.NotGiven
+outgoing_in (Some stream) = stream.outgoing
+
+-- Where a message waits on a stream, its number is one of the span.
+abbrev pub IsWithin : Span → Option Stream → ℕ → Type 0
+IsWithin span stream i =
+    (waiting : Waiting) → outgoing_in stream ≡ outgoings.Waiting waiting → InSpan span i
+
+-- Where something is owed on a stream, its number is one of the span.
+abbrev pub OwesWithin : Span → Log → ℕ → Type 0
+OwesWithin span log i = owed log i ≢ 0 → InSpan span i
+
+-- What is kept of a stream keeps step with what has happened: something is kept where it is active,
+-- as long as the connection is up; parts are handed out in order; and where a message waits or
+-- something is owed, that is found.
+pub record IsInStep (spans : Spans) (stream : Option Stream) (happened : EndLog) (i : ℕ) : Type 0
+  where
+    pub all : happened.log.failed ≡ None → active happened.log i ≡ true → stream ≢ None
+    pub handed : HandsInOrder happened i
+    pub within : IsWithin spans.waiting stream i
+    pub owes : OwesWithin spans.owing happened.log i
+
+-- Something is kept only where the stream is active.
+abbrev pub KeepsActive : Log → Option Stream → ℕ → Type 0
+KeepsActive log stream i = stream ≢ None → active log i ≡ true
+
+-- The end's connection represents the log, and of each stream that isn't over the end keeps what
+-- was given, sent and handed out.
+pub record RepresentsStreams (values : Values) (end : End) (happened : EndLog) : Type 0 where
   pub conn : ConnRepresents values end.conn happened.log
   pub role : end.role ≡ happened.log.role
   pub streams : (i : ℕ) → IsOver happened.log i
       ⊎ IsKept happened i (kept_at i end.streams.entries)
-  pub begun : (i : ℕ) (message : SentMessage) → message_for i happened.accepted ≡ Some message
-      → IsBegun happened i message
+  pub sent : (i : ℕ) → SendsInOrder happened i
+
+-- The end represents what has happened: that, and what it keeps is of the active streams alone, and
+-- of each of them as long as the connection is up.
+pub record EndRepresents (values : Values) (end : End) (happened : EndLog) : Type 0 where
+  pub streams : RepresentsStreams values end happened
+  pub in_step : (i : ℕ) → IsInStep end.spans (kept_at i end.streams.entries) happened i
+  pub active : (i : ℕ) → KeepsActive happened.log (kept_at i end.streams.entries) i
+
+-- So it is but for one stream, of which something may be kept that isn't active any more.
+pub record RepresentsBut (values : Values) (end : End) (happened : EndLog) (id : ℕ) : Type 0 where
+  pub streams : RepresentsStreams values end happened
+  pub in_step : (i : ℕ) → IsInStep end.spans (kept_at i end.streams.entries) happened i
+  pub active : (i : ℕ) → i ≢ id → KeepsActive happened.log (kept_at i end.streams.entries) i
 
 -- Whatever has happened at the end: the answer is one that `take` may give, and the end represents
 -- what has happened then; before anything is lent, where these octets are handed out.

@@ -1,13 +1,16 @@
 -- How a part of a message is read, and how a stream is refused, at an end whose connection has
 -- taken octets.
-use Rattle.std.specs.Prelude.{◌≡◌, ◌⊎◌, ℕ, Bool, true, false, List, Some, None, IfSome}
-use Rattle.std.specs.Prelude.{IfOk, Result, Ok, Err}
+use Rattle.std.specs.Prelude.{◌≡◌, ◌≢◌, ◌⊎◌, ◌++◌, ℕ, Bool, true, false, List, [], Some, None}
+use Rattle.std.specs.Prelude.{IfSome, IfOk, Result, Ok, Err}
 use Rattle.hpack.specs.declared.types.field.Field.{Field}
 use Rattle.h2_frame.specs.Frames.{Frame, Encodes}
 use Rattle.h2_wire.specs.Cutter.{HasFrame, octets_of}
+use Rattle.h2_log.specs.declared.role.Role.{Role}
+use Rattle.h2_log.specs.declared.role.Role.TheVariants.{Server}
 use Rattle.h2_log.specs.Acts.{Values}
 use Rattle.h2_log.specs.Events.{Event}
-use Rattle.h2_log.specs.Log.{Log}
+use Rattle.h2_log.specs.Histories.{IsLog}
+use Rattle.h2_log.specs.Log.{Log, active}
 use Rattle.h2_end_laws.specs.Over.{IsOver, used}
 use Rattle.h2_end_laws.specs.Takes.{MayTake, Took}
 use Rattle.h2_conn.specs.declared.event.ConnFault.{ConnFault}
@@ -17,22 +20,50 @@ use Rattle.h2_conn.specs.Loans.{frame_in, octets_in}
 use Rattle.h2_message.specs.declared.reading.Place.{Place}
 use Rattle.h2_message.specs.Reading.{Part, FieldsPart, OctetsPart}
 use Rattle.h2_message.specs.Phases.{place_after}
+use Rattle.h2_pair.specs.Tokens.{tokens_heard, IsPrefixOfTokens}
 use Rattle.h2_ends.specs.declared.end.End.{End}
 use Rattle.h2_ends.specs.declared.taking.HandedOut.{HandedOut}
 use Rattle.h2_ends.specs.declared.taking.HandedOut.TheVariants as parts
 use Rattle.h2_ends.specs.declared.taking.Unread.{Unread}
 use Rattle.h2_ends.specs.declared.taking.Unread.TheVariants as unreads
 use Rattle.h2_ends.specs.Ends.{EndLog, EndAnswer, EndTook, EndFailed, parts_on, reads_on, handed_as}
-use Rattle.h2_ends.specs.EndTakes.{EndMayTake, GoesOn, end_with_log, end_with_handed}
+use Rattle.h2_ends.specs.EndTakes.{EndMayTake, IsReadableWith, end_with_log, end_with_handed}
 use Rattle.h2_ends.specs.Loans.{handed_value}
-use Rattle.h2_ends.specs.Represents.{EndRepresents, IsKept, kept_at}
+use Rattle.h2_ends.specs.Ends.{tokens_handed, tokens_of_part}
+use Rattle.h2_ends.specs.Represents.{RepresentsStreams, EndRepresents, IsKept, kept_at, IsInStep}
+use Rattle.h2_ends.specs.Represents.{KeepsActive, IsWithin, OwesWithin}
 
--- A part of a message has come on the stream: what is kept of it is so still, also where that part
--- has closed it.
-pub record IsReadOn (values : Values) (end : End) (happened : EndLog) (id : ℕ) : Type 0 where
-  pub represents : EndRepresents values end happened
+-- What is kept of all streams but one keeps step with what has happened, and is of active streams;
+-- where a message waits on that one, or something is owed, that is found.
+pub record IsInStepBut (end : End) (happened : EndLog) (id : ℕ) : Type 0 where
+  pub others : (i : ℕ) → i ≢ id
+      → IsInStep end.spans (kept_at i end.streams.entries) happened i
+  pub active : (i : ℕ) → i ≢ id → KeepsActive happened.log (kept_at i end.streams.entries) i
+  pub within : IsWithin end.spans.waiting (kept_at id end.streams.entries) id
+  pub owes : OwesWithin end.spans.owing happened.log id
+
+-- A part of a message has come on the stream and isn't handed out yet. What is kept of the stream
+-- is so still, also where that part has closed it. Where nothing is kept it is the first part, at a
+-- server, and the stream is active.
+pub record IsReadOn (values : Values) (end : End) (happened : EndLog) (id : ℕ)
+    (part : Part × Bool) : Type 0 where
+  pub streams : RepresentsStreams values end happened
+  pub others : IsInStepBut end happened id
   pub kept : IsKept happened id (kept_at id end.streams.entries)
   pub was_used : used happened.log id ≡ true
+  pub heard : tokens_heard id happened.log.reported
+      ≡ tokens_handed happened id ++ tokens_of_part part
+  pub first : kept_at id end.streams.entries ≡ None
+      → (happened.log.role ≡ Server) × (active happened.log id ≡ true)
+  pub goes_on : part.1 ≡ false → KeepsActive happened.log (kept_at id end.streams.entries) id
+
+-- Parts have come on a stream of which only the beginning was handed out: it is to be refused.
+pub record MustRefuse (values : Values) (end : End) (happened : EndLog) (id : ℕ) : Type 0 where
+  pub streams : RepresentsStreams values end happened
+  pub others : IsInStepBut end happened id
+  pub was_used : used happened.log id ≡ true
+  pub prefix : IsPrefixOfTokens (tokens_handed happened id)
+      (tokens_heard id happened.log.reported)
 
 -- the end after it has handed out a part of a message
 abbrev pub end_with_part : EndLog → ℕ → (Part × Bool) → EndLog
@@ -40,15 +71,14 @@ end_with_part happened id part =
     end_with_handed happened happened.log
     (handed_as (reads_on happened id) (parts_on id happened.handed) id part)
 
--- A part is read, and the end represents what has happened with it; or it cannot be, and nothing
--- has changed.
+-- A part is read, and the end represents what has happened with it; or it cannot be.
 abbrev pub IsRead : Values → EndLog → ℕ → (Part × Bool) → End → Type 0
 IsRead values happened id part new =
-    GoesOn happened id part × EndRepresents values new (end_with_part happened id part)
+    IsReadableWith happened id part × EndRepresents values new (end_with_part happened id part)
 
 abbrev pub IsNotRead : Values → EndLog → ℕ → (Part × Bool) → End → Type 0
 IsNotRead values happened id part new =
-    (GoesOn happened id part → ⊥) × EndRepresents values new happened
+    (IsReadableWith happened id part → ⊥) × MustRefuse values new happened id
 
 -- What is made of a field block.
 unfoldable pub ReadsFields : Values → EndLog → ℕ → List Field → (end : Bool) → Result Place Unread
@@ -59,7 +89,8 @@ ReadsFields values happened id list end (Ok place) new =
 ReadsFields values happened id list end (Err unreads.Malformed) new =
     IsNotRead values happened id (FieldsPart list, end) new
 ReadsFields values happened id list end (Err unreads.OutOfMemory) new =
-    GoesOn happened id (FieldsPart list, end) × EndRepresents values new happened
+    IsReadableWith happened id (FieldsPart list, end) × MustRefuse values new happened id
+    × (happened.log.role ≡ Server) × (parts_on id happened.handed ≡ [])
 
 -- What is made of octets of a body.
 unfoldable pub ReadsData : Values → EndLog → ℕ → List ℕ → (end : Bool) → Bool → End → Type 0
@@ -84,13 +115,17 @@ AnswersRefusal values happened (Err fault) new =
 abbrev pub IsResetBy : (id code : ℕ) → Result HandedOut ConnFault → Type 0
 IsResetBy id code result = IfOk result (λ handed. handed ≡ parts.Reset id code true)
 
--- The connection has taken octets and reports this event; of the streams is kept what was.
+-- The connection has taken octets and reports this event; of the streams is kept what was, in step
+-- with what had happened before.
 pub record HasReported (values : Values) (now : End) (end : EndLog) (piece : List ℕ) (count : ℕ)
     (event : Event) (log : Log) : Type 0 where
   pub took : MayTake end.log piece (Took count (Some event)) log
-  pub represents : EndRepresents values now (end_with_log end log)
-  pub streams : (i : ℕ) → IsOver end.log i
+  pub logged : (role : Role) × IsLog role values end.log
+  pub streams : RepresentsStreams values now (end_with_log end log)
+  pub kept : (i : ℕ) → IsOver end.log i
       ⊎ IsKept (end_with_log end log) i (kept_at i now.streams.entries)
+  pub in_step : (i : ℕ) → IsInStep now.spans (kept_at i now.streams.entries) end i
+  pub active : (i : ℕ) → KeepsActive end.log (kept_at i now.streams.entries) i
 
 -- what is answered of a report
 abbrev pub answer_of_report : List Field → List ℕ → ℕ → Result HandedOut ConnFault → EndAnswer

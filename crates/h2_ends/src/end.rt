@@ -1,12 +1,15 @@
 //! What a client and a server have in common.
 
-ghost use Rattle.std.specs.Prelude.{◌≡◌, IfOk, IfErr};
+ghost use Rattle.std.specs.Prelude.{◌≡◌, ◌⊎◌, None, IfOk, IfErr};
 ghost use Rattle.h2_config.specs.ConfigValues.{values_of};
 ghost use Rattle.h2_log.specs.Acts.{Values};
 ghost use Rattle.h2_ends.specs.Ends.{EndLog};
-ghost use Rattle.h2_ends.specs.Represents.{EndRepresents, new_end, reads_of_new};
+ghost use Rattle.h2_ends.specs.Represents.{EndRepresents, RepresentsBut, new_end, reads_of_new};
+ghost use Rattle.h2_ends.specs.Represents.{kept_at};
+ghost use Rattle.h2_ends.specs.Sends.{WaitsAsBefore};
 
 use crate::outgoing::Stream;
+use crate::span::{Span, Spans};
 use h2_conn::{Config, Conn, Refusal};
 use h2_log::Role;
 use h2_message::Reads;
@@ -20,8 +23,10 @@ pub(crate) struct End {
     pub(crate) role: Role,
     /// The connection.
     pub(crate) conn: Conn,
-    /// The active streams on which a message was given or read, by number.
+    /// The active streams, by number.
     pub(crate) streams: BTreeMap<u32, Stream>,
+    /// Where a message waits, and where octets are owed.
+    pub(crate) spans: Spans,
 }
 
 impl End {
@@ -39,6 +44,10 @@ impl End {
             role,
             conn,
             streams: BTreeMap::new(alloc),
+            spans: Spans {
+                waiting: Span::none(),
+                owing: Span::none(),
+            },
         })
     }
 
@@ -54,8 +63,12 @@ impl End {
 
     /// Forgets a stream if it is over.
     pub(crate) fn forget_if_over(&mut self, id: u32)
-        ensures { (values : Values) (end : EndLog) → EndRepresents values self.old end
-            → EndRepresents values self.new end }
+        ensures conn { self.new.conn ≡ self.old.conn }
+        ensures waits { WaitsAsBefore self.old self.new id }
+        ensures one { (kept_at id self.new.streams.entries ≡ kept_at id self.old.streams.entries)
+            ⊎ (kept_at id self.new.streams.entries ≡ None) }
+        ensures represents { (values : Values) (end : EndLog)
+            → RepresentsBut values self.old end id → EndRepresents values self.new end }
     {
         if !self.conn.is_active(id) {
             self.streams.remove(&id);

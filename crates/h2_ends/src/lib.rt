@@ -19,9 +19,11 @@ mod outgoing;
 mod refusal;
 mod sending;
 mod server;
+mod span;
 mod taking;
 #[cfg(test)]
 mod tests;
+mod typed;
 
 pub use client::Client;
 pub use event::{EndEvent, EndTaken};

@@ -1,6 +1,6 @@
 //! Sending messages: heads at once, bodies and trailers as windows allow.
 
-ghost use Rattle.std.specs.Prelude.{◌≡◌, IfSome, IfNone, true, false};
+ghost use Rattle.std.specs.Prelude.{◌≡◌, ◌<◌, IfSome, IfNone, true, false};
 ghost use Rattle.h2_log.specs.Acts.{Values};
 ghost use Rattle.h2_log.specs.CallRules.{is_too_large};
 ghost use Rattle.h2_log.specs.Log.{Log};
@@ -9,14 +9,16 @@ ghost use Rattle.h2_message.specs.Messages.{trailer_fields};
 ghost use Rattle.h2_message.specs.Values.{message_value};
 ghost use Rattle.h2_ends.specs.Ends.{EndLog};
 ghost use Rattle.h2_ends.specs.EndCalls.{is_head_alone};
-ghost use Rattle.h2_ends.specs.Heads.{AnswersHead, Gives, Opens, SendsHead, outgoing_for};
+ghost use Rattle.h2_ends.specs.Heads.{AnswersHead, IsGiven, Opens, SendsHead, outgoing_for};
 ghost use Rattle.h2_ends.specs.Represents.{EndRepresents, EndPumps, EndReleases, EndRequests};
 ghost use Rattle.h2_ends.specs.Represents.{EndResponds};
-ghost use Rattle.h2_ends.specs.Sends.{PumpsOn, Sends, StopsBy};
+ghost use Rattle.h2_ends.specs.Sends.{IsNextIn, PumpsOn, Sends, StopsBy, WaitsAsBefore};
 
 use crate::end::End;
 use crate::outgoing::{Outgoing, Stream, Waiting};
 use crate::refusal::EndRefusal;
+use crate::span::Span;
+use crate::typed::{check_fields, check_octets};
 use h2_conn::{Conn, Refusal};
 use h2_log::Role;
 use h2_message::{Message, Reading, Reads, asks_head, check_request, check_response};
@@ -26,7 +28,9 @@ use hpack::{Field, list_size};
 const MAX_LIST: usize = 65_536;
 
 /// How sending what waits on a stream goes on.
-enum Progress {
+enum SendState {
+    /// Nothing waited.
+    Idle,
     /// All of it was sent.
     Sent,
     /// Nothing more can go now.
@@ -59,8 +63,10 @@ impl End {
     {
         if let Some(trailers) = large_trailers(message) {
             // The connection refuses them, and says whether something else comes first.
+            check_fields(trailers);
             return self.conn.open(trailers, true);
         }
+        check_fields(&message.head);
         let Some(id) = self.conn.next_number() else {
             return self.conn.open(&message.head, true);
         };
@@ -88,7 +94,11 @@ impl End {
         if let Err(refusal) = self.answer(id, &message) {
             return Err((message, refusal));
         }
+        let is_whole = is_head_alone(&message);
         self.give(id, message);
+        if is_whole {
+            self.forget_if_over(id);
+        }
         Ok(())
     }
 
@@ -100,7 +110,7 @@ impl End {
         let Some(stream) = self.streams.get(&id) else {
             return Err(EndRefusal::NotAsked);
         };
-        if self.role == Role::Client || !self.conn.is_active(id) {
+        if self.role == Role::Client {
             return Err(EndRefusal::NotAsked);
         }
         if !matches!(stream.outgoing, Outgoing::NotGiven) {
@@ -117,12 +127,14 @@ impl End {
 
     /// Keeps what waits of a message whose head was sent.
     fn give(&mut self, id: u32, message: Message)
-        ensures { Gives self.old id message self.new }
+        ensures { IsGiven self.old id message self.new }
     {
+        if !is_head_alone(&message) {
+            self.spans.waiting = self.spans.waiting.with(id);
+        }
         if let Some(stream) = self.streams.get_mut(&id) {
             stream.outgoing = outgoing_of(message);
         }
-        self.forget_if_over(id);
     }
 
     /// Sends what waits of bodies and trailers, streams in rising order, as far as windows and the
@@ -134,36 +146,41 @@ impl End {
             return Err(EndRefusal::Conn(Refusal::Closed));
         }
         let mut count = 0usize;
-        let mut last = 0u32;
-        while let Some(id) = self.conn.next_live(last) {
+        let mut left = Span::none();
+        let mut last = self.spans.waiting.first.saturating_sub(1);
+        while let Some(id) = next_in(&self.conn, self.spans.waiting, last) {
             last = id;
             match self.pump_stream(id, &mut count) {
-                Ok(Progress::Sent) => self.forget_if_over(id),
-                Ok(Progress::Stuck) => {}
-                Ok(Progress::Full) => break,
+                Ok(SendState::Idle) => {}
+                Ok(SendState::Sent) => self.forget_if_over(id),
+                Ok(SendState::Stuck) => left = left.with(id),
+                Ok(SendState::Full) => return Ok(count),
                 Err(refusal) => return Err(EndRefusal::Conn(refusal)),
             }
         }
+        self.spans.waiting = left;
         Ok(count)
     }
 
     /// Sends what waits on a stream, as far as windows and the output let it; counts the octets.
-    fn pump_stream(&mut self, id: u32, count: &mut usize) -> Result<Progress, Refusal>
-        ensures { PumpsOn self.old id count.old result self.new count.new }
+    fn pump_stream(&mut self, id: u32, count: &mut usize) -> Result<SendState, Refusal>
+        ensures waits { WaitsAsBefore self.old self.new id }
+        ensures pumps { PumpsOn self.old id count.old result self.new count.new }
     {
         let Some(stream) = self.streams.get_mut(&id) else {
-            return Ok(Progress::Stuck);
+            return Ok(SendState::Idle);
         };
         let Outgoing::Waiting(waiting) = &mut stream.outgoing else {
-            return Ok(Progress::Stuck);
+            return Ok(SendState::Idle);
         };
         match send(&mut self.conn, id, waiting, count)? {
-            Progress::Sent => {
+            SendState::Sent => {
                 stream.outgoing = Outgoing::Sent;
-                Ok(Progress::Sent)
+                Ok(SendState::Sent)
             }
-            Progress::Stuck => Ok(Progress::Stuck),
-            Progress::Full => Ok(Progress::Full),
+            SendState::Idle => Ok(SendState::Idle),
+            SendState::Stuck => Ok(SendState::Stuck),
+            SendState::Full => Ok(SendState::Full),
         }
     }
 
@@ -174,8 +191,8 @@ impl End {
         if self.conn.failed().is_some() {
             return Err(EndRefusal::Conn(Refusal::Closed));
         }
-        let mut last = 0u32;
-        while let Some(id) = self.conn.next_live(last) {
+        let mut last = self.spans.owing.first.saturating_sub(1);
+        while let Some(id) = next_in(&self.conn, self.spans.owing, last) {
             last = id;
             let owed = self.conn.owed(id);
             if owed == 0 {
@@ -186,7 +203,22 @@ impl End {
                 Err(refusal) => return Err(EndRefusal::Conn(refusal)),
             }
         }
+        self.spans.owing = Span::none();
         Ok(())
+    }
+}
+
+/// The next active stream of a span above a number.
+fn next_in(conn: &Conn, span: Span, above: u32) -> Option<u32>
+    ensures next { IsNextIn conn.now span above result }
+    ensures above { IfSome result (λ id. above < id) }
+{
+    if above >= span.last {
+        return None;
+    }
+    match conn.next_live(above) {
+        Some(id) if id <= span.last => Some(id),
+        _ => None,
     }
 }
 
@@ -196,8 +228,14 @@ fn send_head(conn: &mut Conn, id: u32, message: &Message) -> Result<(), Refusal>
         → SendsHead values log id (message_value message.now) result conn.new }
 {
     match large_trailers(message) {
-        Some(trailers) => conn.fields(id, trailers, true),
-        None => conn.fields(id, &message.head, is_head_alone(message)),
+        Some(trailers) => {
+            check_fields(trailers);
+            conn.fields(id, trailers, true)
+        }
+        None => {
+            check_fields(&message.head);
+            conn.fields(id, &message.head, is_head_alone(message))
+        }
     }
 }
 
@@ -221,13 +259,14 @@ fn send(
     id: u32,
     waiting: &mut Waiting,
     count: &mut usize,
-) -> Result<Progress, Refusal>
+) -> Result<SendState, Refusal>
     ensures { Sends conn.old id waiting.old count.old result conn.new waiting.new count.new }
 {
     while waiting.sent < waiting.body.len() {
         let rest = &waiting.body[waiting.sent..];
+        check_octets(rest);
         match conn.data(id, rest, waiting.trailers.is_none()) {
-            Ok(0) => return Ok(Progress::Stuck),
+            Ok(0) => return Ok(SendState::Stuck),
             Ok(sent) => {
                 waiting.sent += sent;
                 // Never more than what waits, so it is exact.
@@ -237,20 +276,21 @@ fn send(
         }
     }
     let Some(trailers) = &waiting.trailers else {
-        return Ok(Progress::Sent);
+        return Ok(SendState::Sent);
     };
+    check_fields(trailers);
     match conn.fields(id, trailers, true) {
-        Ok(()) => Ok(Progress::Sent),
+        Ok(()) => Ok(SendState::Sent),
         Err(refusal) => stopped_by(refusal),
     }
 }
 
 /// How sending goes on once a call of the connection is refused.
-fn stopped_by(refusal: Refusal) -> Result<Progress, Refusal>
+fn stopped_by(refusal: Refusal) -> Result<SendState, Refusal>
     ensures { StopsBy refusal result }
 {
     match refusal {
-        Refusal::OutputFull => Ok(Progress::Full),
+        Refusal::OutputFull => Ok(SendState::Full),
         _ => Err(refusal),
     }
 }

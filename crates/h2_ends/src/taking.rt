@@ -1,14 +1,16 @@
 //! Taking octets: parts of messages, checked before anyone sees them.
 
-ghost use Rattle.std.specs.Prelude.{◌≡◌, ℕ, ◌≤◌, List, Some, None, IfOk, Ok, length};
+ghost use Rattle.std.specs.Prelude.{◌≡◌, ℕ, ◌≤◌, false, List, Some, None, IfOk, Ok, length};
 ghost use Rattle.h2_log.specs.Acts.{Values, Answer, Refuse};
 ghost use Rattle.h2_log.specs.LogCalls.{MayAnswer, with_call};
+ghost use Rattle.h2_message.specs.Reading.{FieldsPart, OctetsPart};
 ghost use Rattle.h2_ends.specs.Ends.{EndLog, handed_at};
 ghost use Rattle.h2_ends.specs.EndTakes.{end_with_log};
 ghost use Rattle.h2_ends.specs.Loans.{BodyLiesIn, BodyLiesThere, IsBodyIn, IsBodyHanded};
 ghost use Rattle.h2_ends.specs.Loans.{answer_of_taken, answer_handed, handed_value, event_handed};
-ghost use Rattle.h2_ends.specs.Represents.{EndAdvances, EndRepresents, kept_at};
-ghost use Rattle.h2_ends.specs.Taking.{IsReadOn, ReadsFields, ReadsData, code_unread};
+ghost use Rattle.h2_ends.specs.Represents.{EndAdvances, EndRepresents, RepresentsBut};
+ghost use Rattle.h2_ends.specs.Represents.{KeepsActive, kept_at};
+ghost use Rattle.h2_ends.specs.Taking.{IsReadOn, MustRefuse, ReadsFields, ReadsData, code_unread};
 ghost use Rattle.h2_ends.specs.Taking.{AnswersRefusal, IsResetBy, LiesHere, EndHands};
 
 use crate::end::End;
@@ -98,6 +100,7 @@ impl End {
                 Err(unread) => self.refuse(id, unread),
             },
             Happened::Data { id, frame, end, .. } => {
+                self.spans.owing = self.spans.owing.with(id);
                 let count = self.conn.octets(piece, frame).len();
                 if self.read_data(id, count, end) {
                     return Ok(HandedOut::Body { id, frame, end });
@@ -123,6 +126,7 @@ impl End {
         ensures conn { self.new.conn ≡ self.old.conn }
         ensures reads { (values : Values) (happened : EndLog)
             → IsReadOn values self.old happened id
+            (FieldsPart self.old.conn.inner.end.list, end)
             → ReadsFields values happened id self.old.conn.inner.end.list end result self.new }
     {
         let Some(stream) = self.streams.get_mut(&id) else {
@@ -141,6 +145,7 @@ impl End {
         ensures conn { self.new.conn ≡ self.old.conn }
         ensures reads { (values : Values) (happened : EndLog)
             → IsReadOn values self.old happened id
+            (FieldsPart self.old.conn.inner.end.list, end)
             → ReadsFields values happened id self.old.conn.inner.end.list end result self.new }
     {
         let mut reading = Reading::new(self.first_reads());
@@ -161,7 +166,8 @@ impl End {
     fn read_data(&mut self, id: u32, count: usize, end: bool) -> bool
         ensures conn { self.new.conn ≡ self.old.conn }
         ensures reads { (values : Values) (happened : EndLog) (octets : List ℕ)
-            → length octets ≡ count → IsReadOn values self.old happened id
+            → length octets ≡ count
+            → IsReadOn values self.old happened id (OctetsPart octets, end)
             → ReadsData values happened id octets end result self.new }
     {
         let Some(stream) = self.streams.get_mut(&id) else {
@@ -178,10 +184,12 @@ impl End {
     fn forget_if_closed(&mut self, id: u32, end: bool)
         ensures conn { self.new.conn ≡ self.old.conn }
         ensures represents { (values : Values) (happened : EndLog)
-            → EndRepresents values self.old happened → EndRepresents values self.new happened }
+            → RepresentsBut values self.old happened id
+            → (end ≡ false → KeepsActive happened.log (kept_at id self.old.streams.entries) id)
+            → EndRepresents values self.new happened }
     {
-        if end && !self.conn.is_active(id) {
-            self.streams.remove(&id);
+        if end {
+            self.forget_if_over(id);
         }
     }
 
@@ -189,7 +197,7 @@ impl End {
     /// connection fails.
     fn refuse(&mut self, id: u32, unread: Unread) -> Result<HandedOut, ConnFault>
         ensures resets { IsResetBy id (code_unread unread) result }
-        ensures answers { (values : Values) (end : EndLog) → EndRepresents values self.old end
+        ensures answers { (values : Values) (end : EndLog) → MustRefuse values self.old end id
             → (refused : Answer)
             × MayAnswer end.log (Refuse id (code_unread unread)) refused
             × AnswersRefusal values
@@ -199,15 +207,15 @@ impl End {
         let code = unread.code();
         // C2 where the part itself has closed the stream: then nothing is sent.
         let _refused = self.conn.refuse(id, code);
-        if let Some(code) = self.conn.failed() {
-            return Err(ConnFault { code });
-        }
         self.forget_if_over(id);
-        Ok(HandedOut::Reset {
-            id,
-            code,
-            ours: true,
-        })
+        match self.conn.failed() {
+            Some(code) => Err(ConnFault { code }),
+            None => Ok(HandedOut::Reset {
+                id,
+                code,
+                ours: true,
+            }),
+        }
     }
 }
 

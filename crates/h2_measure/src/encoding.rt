@@ -5,7 +5,7 @@ ghost use Rattle.hpack.specs.Lists.{list_size as size_of_list};
 
 use crate::counts::Counts;
 use crate::input::{number, text};
-use hpack::{Encoder, Fault, Field, Octets, list_size};
+use hpack::{Encoder, Fault, Field, list_size};
 use std::alloc::Global;
 
 /// The maximum and the limit of the table.
@@ -112,11 +112,7 @@ fn read_list(alloc: Global, octets: &[u8]) -> Result<Option<(Vec<Field>, &[u8])>
             break;
         };
         unread = following;
-        fields.push(Field {
-            name: Octets::copy_of(alloc, name)?,
-            value: Octets::copy_of(alloc, value)?,
-            sensitive: false,
-        })?;
+        fields.push(Field::copy_of(alloc, name, value, false)?)?;
     }
     Ok(Some((fields, unread)))
 }

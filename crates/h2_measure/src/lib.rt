@@ -1,6 +1,7 @@
 //! The calls of `bench/measure.h` over the crates, for a driver in C (see `bench/README.md`).
 #![tactic(auto)]
 
+mod client;
 mod counts;
 mod cutting;
 mod decoding;
@@ -83,4 +84,19 @@ pub extern "C" fn measure_server(alloc: Global, octets: &[u8], counts: &mut Coun
     let served = server::serve(alloc, &mut from, &mut to);
     counts.add_octets(to.len());
     if served.is_err() { 1 } else { 0 }
+}
+
+/// Asks a server whose octets these are for `/`, with the README's client. The octets that are
+/// counted are those of the response's body.
+#[unsafe(no_mangle)]
+pub extern "C" fn measure_client(alloc: Global, octets: &[u8], counts: &mut Counts) -> i32 {
+    let mut from = octets;
+    let mut to = Vec::new(alloc);
+    match client::get(alloc, &mut from, &mut to) {
+        Ok(response) if response.end => {
+            counts.add_octets(response.body.len());
+            0
+        }
+        _ => 1,
+    }
 }

@@ -2,7 +2,7 @@
 
 use crate::counts::Counts;
 use h2_conn::{BadConfig, Config, Conn, ConnFault, Event, Refusal};
-use hpack::{Field, Octets};
+use hpack::Field;
 use std::alloc::{AllocError, Global};
 
 /// The octets of each answer's body.
@@ -96,9 +96,9 @@ fn mark(alloc: Global) -> Result<(), AllocError> {
 impl Answers {
     fn new(alloc: Global) -> Result<Answers, AllocError> {
         let mut head = Vec::new(alloc);
-        head.push(field(alloc, b":status", b"200")?)?;
-        head.push(field(alloc, b"content-type", b"text/plain")?)?;
-        head.push(field(alloc, b"content-length", b"1000")?)?;
+        head.push(Field::copy_of(alloc, b":status", b"200", false)?)?;
+        head.push(Field::copy_of(alloc, b"content-type", b"text/plain", false)?)?;
+        head.push(Field::copy_of(alloc, b"content-length", b"1000", false)?)?;
         Ok(Answers {
             head,
             body: vec![in alloc; 0x61u8; BODY]?,
@@ -148,12 +148,4 @@ impl Answers {
         counts.add_octets(given);
         Ok(())
     }
-}
-
-fn field(alloc: Global, name: &[u8], value: &[u8]) -> Result<Field, AllocError> {
-    Ok(Field {
-        name: Octets::copy_of(alloc, name)?,
-        value: Octets::copy_of(alloc, value)?,
-        sensitive: false,
-    })
 }

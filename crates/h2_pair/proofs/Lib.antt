@@ -44,4 +44,8 @@ pub mod HeardGoAways
 pub mod HeardWhole
 pub mod HeardMessages
 pub mod HeardQuiet
+pub mod StepPairs
+pub mod StepCalls
+pub mod StepTakes
+pub mod StepUnprocessed
 pub mod examples

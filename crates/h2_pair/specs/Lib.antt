@@ -4,3 +4,4 @@ pub mod HeaderTables
 pub mod Undisturbed
 pub mod Tokens
 pub mod Quiet
+pub mod Steps

@@ -5,7 +5,7 @@ ghost use Rattle.h2_conn.specs.Events as conn;
 ghost use Rattle.h2_replay.specs.Values.{event_value};
 
 use h2_conn::Event;
-use hpack::{Field, FieldList, Octets};
+use hpack::{Field, FieldList};
 use std::alloc::{AllocError, Global};
 
 /// What an end has reported, with its fields and octets: an [`Event`] that is kept.
@@ -105,11 +105,7 @@ fn copy_list(alloc: Global, list: &FieldList) -> Result<Vec<Field>, AllocError>
         let Some(field) = list.get(place) else {
             unreachable!()
         };
-        copy.push(Field {
-            name: Octets::copy_of(alloc, field.name)?,
-            value: Octets::copy_of(alloc, field.value)?,
-            sensitive: field.sensitive,
-        })?;
+        copy.push(Field::copy_of(alloc, field.name, field.value, field.sensitive)?)?;
     }
     Ok(copy)
 }

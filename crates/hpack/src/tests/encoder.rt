@@ -167,11 +167,7 @@ fn fields_larger_than_the_maximum(rt: HostRuntime) -> Result<(), Fail> {
 fn sensitive_fields(rt: HostRuntime) -> Result<(), Fail> {
     let alloc = rt.alloc();
     let mut encoder = Encoder::new(alloc, 4096)?;
-    let secret = Field {
-        name: Octets::copy_of(alloc, b"authorization")?,
-        value: Octets::copy_of(alloc, b"x")?,
-        sensitive: true,
-    };
+    let secret = Field::copy_of(alloc, b"authorization", b"x", true)?;
     check_block(&rt, alloc, &mut encoder, &[secret], b"\x1f\x08\x81\xf3")?;
     assert_eq!(rt; encoder.table().size(), 0);
     Ok(())

@@ -25,7 +25,7 @@ impl Field {
     ///
     /// [`AllocError`] where an allocation was refused.
     #[inline(always)]
-    pub(crate) fn copy_of(
+    pub fn copy_of(
         alloc: Global,
         name: &[u8],
         value: &[u8],

@@ -16,7 +16,6 @@ loop-place-preserved c =
     let there : slice_get list c.loop-place.place ≡ Some next = c.in-Some.ensures in
     let made = take_next c.loop-place.place list next there in
     let pushed = c.in_ok-push.ensures.items in
-    let named = c.in_ok-copy_of.ensures in
-    let valued = c.in_ok-copy_of-2.ensures in
+    let copied = c.in_ok-copy_of.ensures in
     let before = c.loop-place.invariant in
-    cc (made, pushed, named, valued, before)
+    cc (made, pushed, copied, before)

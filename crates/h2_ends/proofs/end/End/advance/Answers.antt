@@ -16,7 +16,8 @@ returns-in_err-progress-clause-takes c =
     let answer = err_from_is_err_and c.from_residual.result c.from_residual.ensures.1 in
     rw (answer.1, answer.2) (λ octets none values end is.
     fails_so values c.args.self.now (record c.args.self.now { conn = c.advance.new.self }) end
-    c.args.piece.now _ is (c.in_err-progress.ensures.takes [] tt values end.log is.conn) refl refl)
+    c.args.piece.now _ is
+    (c.in_err-progress.ensures.takes [] tt values end.log is.streams.conn) refl refl refl)
 
 pub returns-in-None-clause-lies : goal.returns-in-None-clause-lies
 unfolding BodyLiesThere BodyLiesIn
@@ -27,7 +28,7 @@ returns-in-None-clause-takes c = λ octets none values end is.
     nothing_so values c.args.self.now (record c.args.self.now { conn = c.advance.new.self }) end
     c.args.piece.now c.in_ok-progress.progress.used is
     (rw c.in-None.is at (c.in_ok-progress.ensures.takes [] (rw c.in-None.is tt) values end.log
-    is.conn)) refl refl
+    is.streams.conn)) refl refl refl
 
 pub returns-in_err-hand_out-in-Some-clause-lies : goal.returns-in_err-hand_out-in-Some-clause-lies
 unfolding BodyLiesThere
@@ -43,10 +44,10 @@ returns-in_err-hand_out-in-Some-clause-takes c = λ octets none values end is.
     c.from_residual-in_err-hand_out-in-Some.ensures.1 in
     let hands = c.in_err-hand_out-in-Some.ensures.hands [] tt in
     let told = rw c.in-Some.is at (c.in_ok-progress.ensures.takes hands.0
-    (rw c.in-Some.is hands.1) values end.log is.conn) in
+    (rw c.in-Some.is hands.1) values end.log is.streams.conn) in
     rw (answer.1, answer.2) (hands.2 values end c.in_ok-progress.progress.used told.0
     (reports_so values c.args.self.now (record c.args.self.now { conn = c.advance.new.self }) end
-    c.args.piece.now c.in_ok-progress.progress.used _ is told refl refl))
+    c.args.piece.now c.in_ok-progress.progress.used _ is told refl refl refl))
 
 pub returns-in_ok-hand_out-in-Some-clause-lies : goal.returns-in_ok-hand_out-in-Some-clause-lies
 unfolding BodyLiesThere
@@ -57,7 +58,7 @@ unfolding IsBodyHanded
 returns-in_ok-hand_out-in-Some-clause-takes c = λ octets body values end is.
     let hands = c.in_ok-hand_out-in-Some.ensures.hands octets body in
     let told = rw c.in-Some.is at (c.in_ok-progress.ensures.takes hands.0
-    (rw c.in-Some.is hands.1) values end.log is.conn) in
+    (rw c.in-Some.is hands.1) values end.log is.streams.conn) in
     hands.2 values end c.in_ok-progress.progress.used told.0
     (reports_so values c.args.self.now (record c.args.self.now { conn = c.advance.new.self }) end
-    c.args.piece.now c.in_ok-progress.progress.used _ is told refl refl)
+    c.args.piece.now c.in_ok-progress.progress.used _ is told refl refl refl)

@@ -6,51 +6,41 @@ use Rattle.h2_log.specs.LogCalls.{with_call}
 use Rattle.h2_message.specs.Values.{message_value}
 use Rattle.h2_ends.specs.declared.outgoing.Outgoing.TheVariants as outgoings
 use Rattle.h2_ends.specs.EndTakes.{end_with_log}
-use Rattle.h2_ends.proofs.EndSteps.{quiet_call}
+use Rattle.h2_ends.proofs.InSteps.{called_as}
 use Rattle.h2_ends.proofs.RequestRefusals.{refused_fields_send_none}
 use Rattle.h2_ends.proofs.RequestSends.{unchanged_by, is_client, is_server_by}
-use Rattle.h2_ends.proofs.RespondHeads.{nothing_asked, client_asked, inactive_asked, asked_stream}
+use Rattle.h2_ends.proofs.RequestSteps.{refused_fields_keep}
+use Rattle.h2_ends.proofs.RespondHeads.{nothing_asked, client_asked, active_stream, asked_stream}
 use Rattle.h2_ends.proofs.RespondHeads.{was_answered, breaks_response, refuses_response}
 use Rattle.h2_ends.proofs.RespondHeads.{may_respond}
 use Rattle.h2_ends.proofs.end.End.answer.Goals as goal
-use Rattle.h2_ends.proofs.end.End.answer.Goals.{then-eq-via-then-eq}
-use Rattle.h2_ends.proofs.end.End.answer.Goals.{then-eq-via-else-eq+then-not-is_active}
 use Rattle.h2_ends.proofs.end.End.answer.Goals.{in-NotGiven, in_default-matches}
 
 pub returns-in_default : goal.returns-in_default
 returns-in_default c = λ values end is. (
   end,
   nothing_asked end c.args.id (message_value c.args.message.now)
-      (rw (← c.in_default.ensures.value) at (is.streams c.args.id)),
+      (rw (← c.in_default.ensures.value) at (is.streams.streams c.args.id)),
   is,
 )
 
 pub returns-then-eq : goal.returns-then-eq
-returns-then-eq c = λ values end is.
-    let message = message_value c.args.message.now in
-    elim c.then-eq.branch [
-      | then-eq-via-then-eq w ↦ (
-        end,
-        client_asked end c.args.id message
-            (sym is.role ∙ is_client c.args.self.now.role (sym c.eq.ensures ∙ w.if-eq.true)),
-        rw w.self-is is,
-      )
-      | then-eq-via-else-eq+then-not-is_active w ↦ (
-        end,
-        inactive_asked end c.args.id message
-            (sym (w.is_active.ensures values end.log is.conn) ∙ w.if-not-is_active.true),
-        rw w.self-is is,
-      )
-    ]
+returns-then-eq c = λ values end is. (
+  end,
+  client_asked end c.args.id (message_value c.args.message.now)
+      (sym is.streams.role ∙ is_client c.args.self.now.role (sym c.eq.ensures ∙ c.if-eq.true)),
+  is,
+)
 
 pub returns-then-not-matches : goal.returns-then-not-matches
 returns-then-not-matches c = λ values end is.
     let stream = c.in-Some.stream.now in
-    let alive = sym (c.is_active.ensures values end.log is.conn) ∙ c.if-not-is_active.false in
-    let server = sym is.role ∙ is_server_by c.args.self.now.role
+    let alive = active_stream values c.args.self.now end c.args.id stream
+    c.in-Some.ensures.value is in
+    let server = sym is.streams.role ∙ is_server_by c.args.self.now.role
     (sym c.eq.ensures ∙ c.if-eq.false) in
     let asked = asked_stream end c.args.id stream alive server
-    (rw (← c.in-Some.ensures.value) at (is.streams c.args.id)) in (
+    (rw (← c.in-Some.ensures.value) at (is.streams.streams c.args.id)) in (
       end,
       was_answered end c.args.id (message_value c.args.message.now) stream asked.0 asked.1
           (λ given. elim c.match-matches.branch [
@@ -63,11 +53,12 @@ returns-then-not-matches c = λ values end is.
 pub returns-in-Err : goal.returns-in-Err
 returns-in-Err c = λ values end is.
     let stream = c.in-Some.stream.now in
-    let alive = sym (c.is_active.ensures values end.log is.conn) ∙ c.if-not-is_active.false in
-    let server = sym is.role ∙ is_server_by c.args.self.now.role
+    let alive = active_stream values c.args.self.now end c.args.id stream
+    c.in-Some.ensures.value is in
+    let server = sym is.streams.role ∙ is_server_by c.args.self.now.role
     (sym c.eq.ensures ∙ c.if-eq.false) in
     let asked = asked_stream end c.args.id stream alive server
-    (rw (← c.in-Some.ensures.value) at (is.streams c.args.id)) in
+    (rw (← c.in-Some.ensures.value) at (is.streams.streams c.args.id)) in
     let given : stream.outgoing ≡ outgoings.NotGiven = elim c.match-matches.branch [
       | in-NotGiven w ↦ w.in-NotGiven.is
       | in_default-matches w ↦
@@ -82,17 +73,18 @@ returns-in-Err c = λ values end is.
 pub returns-in-Ok : goal.returns-in-Ok
 returns-in-Ok c = λ values end is.
     let stream = c.in-Some.stream.now in
-    let alive = sym (c.is_active.ensures values end.log is.conn) ∙ c.if-not-is_active.false in
-    let server = sym is.role ∙ is_server_by c.args.self.now.role
+    let alive = active_stream values c.args.self.now end c.args.id stream
+    c.in-Some.ensures.value is in
+    let server = sym is.streams.role ∙ is_server_by c.args.self.now.role
     (sym c.eq.ensures ∙ c.if-eq.false) in
     let asked = asked_stream end c.args.id stream alive server
-    (rw (← c.in-Some.ensures.value) at (is.streams c.args.id)) in
+    (rw (← c.in-Some.ensures.value) at (is.streams.streams c.args.id)) in
     let given : stream.outgoing ≡ outgoings.NotGiven = elim c.match-matches.branch [
       | in-NotGiven w ↦ w.in-NotGiven.is
       | in_default-matches w ↦
           absurd (both_ways _ w.matches-is c.if-not-matches.false)
     ] in
-    let sends = c.in-Ok.ensures values end.log is.conn in
+    let sends = c.in-Ok.ensures values end.log is.streams.conn in
     record {
       may = may_respond end c.args.id (message_value c.args.message.now) stream asked.0 asked.1
           given (rw c.asks_head.ensures at c.in_default-check_response.ensures.ok) sends.0
@@ -100,28 +92,31 @@ returns-in-Ok c = λ values end is.
       conn = sends.2;
       role = refl;
       streams = refl;
+      spans = refl;
     }
 
 pub returns-in-Err-send_head : goal.returns-in-Err-send_head
 returns-in-Err-send_head c = λ values end is.
     let stream = c.in-Some.stream.now in
-    let alive = sym (c.is_active.ensures values end.log is.conn) ∙ c.if-not-is_active.false in
-    let server = sym is.role ∙ is_server_by c.args.self.now.role
+    let alive = active_stream values c.args.self.now end c.args.id stream
+    c.in-Some.ensures.value is in
+    let server = sym is.streams.role ∙ is_server_by c.args.self.now.role
     (sym c.eq.ensures ∙ c.if-eq.false) in
     let asked = asked_stream end c.args.id stream alive server
-    (rw (← c.in-Some.ensures.value) at (is.streams c.args.id)) in
+    (rw (← c.in-Some.ensures.value) at (is.streams.streams c.args.id)) in
     let given : stream.outgoing ≡ outgoings.NotGiven = elim c.match-matches.branch [
       | in-NotGiven w ↦ w.in-NotGiven.is
       | in_default-matches w ↦
           absurd (both_ways _ w.matches-is c.if-not-matches.false)
     ] in
     let refusal = c.in-Err-send_head.refusal in
-    let sends = c.in-Err-send_head.ensures values end.log is.conn in
+    let sends = c.in-Err-send_head.ensures values end.log is.streams.conn in
     let act = SendFields c.args.id sends.0 sends.1 in (
       end_with_log end (with_call end.log act (Refused refusal)),
       refuses_response end _ c.args.id (message_value c.args.message.now) stream refusal asked.0
           asked.1 given (rw c.asks_head.ensures at c.in_default-check_response.ensures.ok)
-          sends.2 (unchanged_by end act refusal sends.3),
-      quiet_call values c.args.self.now _ end act (Refused refusal) is sends.3 sends.4 refl refl
-          (λ i. refused_fields_send_none i c.args.id sends.0 sends.1 refusal),
+          sends.2 (unchanged_by end act refusal sends.3 sends.4),
+      called_as values c.args.self.now _ end act (Refused refusal) is sends.4 sends.5 refl refl
+          refl (λ i. refused_fields_send_none i c.args.id sends.0 sends.1 refusal)
+          (λ i wrong. cc) (λ i. refused_fields_keep i c.args.id sends.0 sends.1 refusal),
     )

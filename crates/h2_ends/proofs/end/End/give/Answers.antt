@@ -1,22 +1,36 @@
 -- The message is given to the stream where something is kept of it.
 use Rattle.std.proofs.Common.{ap, sym, refl}
 use Rattle.std.specs.Option.{is_some}
-use Rattle.h2_ends.proofs.RequestGiven.{given_here, given_nowhere}
+use Rattle.h2_ends.proofs.RequestGiven.{IsWidened, with_span, with_none, given_here, given_nowhere}
 use Rattle.h2_ends.proofs.end.End.give.Goals as goal
-use Rattle.h2_ends.proofs.end.End.give.Goals.{in-Some, in_default}
+use Rattle.h2_ends.proofs.end.End.give.Goals.{then-not-is_head_alone, else-not-is_head_alone}
 
-pub returns : goal.returns
-returns c = λ values end gives. c.forget_if_over.ensures values end
-    (gives c.match-get_mut.self
-    (elim c.match-get_mut.branch [
-      | in-Some w ↦
-          let stream = record w.in-Some.stream.now { outgoing = w.outgoing_of.result } in
-          let holds = c.get_mut.follows.holds stream in
-          let some = ap is_some (sym w.in-Some.ensures.value) in
-          rw w.self-is (given_here c.args.self.now _ c.args.id c.args.message
-          w.in-Some.stream.now stream w.in-Some.ensures.value (rw w.outgoing_of.ensures refl) refl
-          refl (holds.3 some).0)
-      | in_default w ↦
-          rw w.self-is (given_nowhere c.args.self.now _ c.args.id c.args.message
-          w.in_default.ensures.value refl refl c.get_mut.follows.holds-at-none)
-    ]))
+pub returns-in-Some : goal.returns-in-Some
+returns-in-Some c =
+    let widened : IsWidened c.args.self.now c.args.id c.args.message c.if-not-is_head_alone.self =
+    elim c.if-not-is_head_alone.branch [
+      | then-not-is_head_alone w ↦ rw w.self-is (with_span c.args.self.now c.args.id
+          c.args.message w.with-self.result w.with-self.ensures.here w.with-self.ensures.more)
+      | else-not-is_head_alone w ↦ rw w.self-is (with_none c.args.self.now c.args.id
+          c.args.message c.is_head_alone.result c.is_head_alone.ensures
+          w.if-not-is_head_alone.false)
+    ] in
+    let stream = record c.in-Some.stream.now { outgoing = c.outgoing_of.result } in
+    let holds = c.get_mut.follows.holds stream in
+    let some = ap is_some (sym c.in-Some.ensures.value) in
+    given_here c.args.self.now c.if-not-is_head_alone.self _ c.args.id c.args.message
+    c.in-Some.stream.now stream widened c.in-Some.ensures.value (rw c.outgoing_of.ensures refl)
+    refl refl refl (holds.3 some).0
+
+pub returns-in_default : goal.returns-in_default
+returns-in_default c =
+    let widened : IsWidened c.args.self.now c.args.id c.args.message c.if-not-is_head_alone.self =
+    elim c.if-not-is_head_alone.branch [
+      | then-not-is_head_alone w ↦ rw w.self-is (with_span c.args.self.now c.args.id
+          c.args.message w.with-self.result w.with-self.ensures.here w.with-self.ensures.more)
+      | else-not-is_head_alone w ↦ rw w.self-is (with_none c.args.self.now c.args.id
+          c.args.message c.is_head_alone.result c.is_head_alone.ensures
+          w.if-not-is_head_alone.false)
+    ] in
+    given_nowhere c.args.self.now c.if-not-is_head_alone.self _ c.args.id c.args.message widened
+    c.in_default.ensures.value refl refl c.get_mut.follows.holds-at-none refl

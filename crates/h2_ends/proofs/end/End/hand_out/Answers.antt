@@ -2,6 +2,7 @@
 use Rattle.std.proofs.Common.{[], refl, ap, length}
 use Rattle.h2_log.specs.Events.{ResetEvent, GoAwayEvent, UnprocessedEvent, AckedEvent, PongEvent}
 use Rattle.h2_conn.specs.declared.conn.Conn.{Conn}
+use Rattle.h2_pair.specs.Tokens.{tokens_of_event}
 use Rattle.h2_ends.specs.Ends.{part_of_event}
 use Rattle.h2_ends.specs.EndTakes.{end_with_log}
 use Rattle.h2_ends.specs.Loans.{BodyLiesIn, IsBodyIn}
@@ -9,6 +10,9 @@ use Rattle.h2_ends.specs.Taking.{code_unread}
 use Rattle.h2_ends.proofs.TakeHands.{fields_on, data_on, event_passed, fields_handed}
 use Rattle.h2_ends.proofs.TakeHands.{fields_not_handed, data_handed, data_not_handed, same_body}
 use Rattle.h2_ends.proofs.TakeHands.{reset_lies}
+use Rattle.h2_ends.proofs.TakeInStep.{told_as, reset_but, unprocessed_but}
+use Rattle.h2_end_laws.specs.Told.{take_has_fields, take_has_data, take_may_close}
+use Rattle.h2_end_laws.specs.Told.{event_may_close}
 use Rattle.h2_ends.proofs.end.End.hand_out.Goals as goal
 
 pub returns-then-read_data-clause-lies : goal.returns-then-read_data-clause-lies
@@ -31,7 +35,8 @@ returns-then-read_data-clause-hands c = λ octets body.
           c.in-Data.id octets c.in-Data.flow c.in-Data.end log said
           (c.if-read_data.ensures.reads values (end_with_log end log) octets counted
           (data_on values c.args.self.now end c.args.piece.now count c.in-Data.id octets
-          c.in-Data.flow c.in-Data.end log said)),
+          c.in-Data.flow c.in-Data.end log c.with-self.result c.with-self.ensures.here c.with-self.ensures.more
+          said)),
     )
 
 pub returns-else-read_data-clause-lies : goal.returns-else-read_data-clause-lies
@@ -51,7 +56,8 @@ returns-else-read_data-clause-hands c = λ octets none.
           c.refuse-in-Data.result said
           (c.if-read_data.ensures.reads values (end_with_log end log) lent refl
           (data_on values c.args.self.now end c.args.piece.now count c.in-Data.id lent
-          c.in-Data.flow c.in-Data.end log said))
+          c.in-Data.flow c.in-Data.end log c.with-self.result c.with-self.ensures.here c.with-self.ensures.more
+          said))
           (c.refuse-in-Data.ensures.answers values (end_with_log end log))
           c.refuse-in-Data.ensures.resets,
     )
@@ -107,7 +113,9 @@ returns-in-Reset-clause-hands c = λ octets none. (
       let said = rw c.in-Reset.is at reported in
       event_passed values c.args.self.now c.forget_if_over.new.self end c.args.piece.now count
       (ResetEvent c.in-Reset.id c.in-Reset.code c.in-Reset.ours) log said refl
-      (c.forget_if_over.ensures values (end_with_log end log) said.represents),
+      (c.forget_if_over.ensures.represents values (end_with_log end log)
+      (reset_but values c.args.self.now end c.args.piece.now count c.in-Reset.id c.in-Reset.code
+      c.in-Reset.ours log said)),
 )
 
 pub returns-in-Unprocessed-clause-lies : goal.returns-in-Unprocessed-clause-lies
@@ -123,7 +131,9 @@ returns-in-Unprocessed-clause-hands c = λ octets none. (
       let said = rw c.in-Unprocessed.is at reported in
       event_passed values c.args.self.now c.forget_if_over-in-Unprocessed.new.self end
       c.args.piece.now count (UnprocessedEvent c.in-Unprocessed.id) log said refl
-      (c.forget_if_over-in-Unprocessed.ensures values (end_with_log end log) said.represents),
+      (c.forget_if_over-in-Unprocessed.ensures.represents values (end_with_log end log)
+      (unprocessed_but values c.args.self.now end c.args.piece.now count c.in-Unprocessed.id log
+      said)),
 )
 
 pub returns-in-GoAway-clause-lies : goal.returns-in-GoAway-clause-lies
@@ -131,14 +141,17 @@ unfolding BodyLiesIn
 returns-in-GoAway-clause-lies c = tt
 
 pub returns-in-GoAway-clause-hands : goal.returns-in-GoAway-clause-hands
-unfolding part_of_event
+unfolding part_of_event tokens_of_event take_has_fields take_has_data take_may_close
+    event_may_close
 returns-in-GoAway-clause-hands c = λ octets none. (
   [],
   rw c.in-GoAway.is tt,
   λ values end count log reported.
       let said = rw c.in-GoAway.is at reported in
       event_passed values c.args.self.now c.args.self.now end c.args.piece.now count
-      (GoAwayEvent c.in-GoAway.last c.in-GoAway.code) log said refl said.represents,
+      (GoAwayEvent c.in-GoAway.last c.in-GoAway.code) log said refl (told_as values
+      c.args.self.now end c.args.piece.now count (GoAwayEvent c.in-GoAway.last c.in-GoAway.code) log
+      said (λ i. refl) (λ i. refl) (λ i. refl) (λ i. refl)),
 )
 
 pub returns-in-Acked-clause-lies : goal.returns-in-Acked-clause-lies
@@ -146,14 +159,17 @@ unfolding BodyLiesIn
 returns-in-Acked-clause-lies c = tt
 
 pub returns-in-Acked-clause-hands : goal.returns-in-Acked-clause-hands
-unfolding part_of_event
+unfolding part_of_event tokens_of_event take_has_fields take_has_data take_may_close
+    event_may_close
 returns-in-Acked-clause-hands c = λ octets none. (
   [],
   rw c.in-Acked.is tt,
   λ values end count log reported.
       let said = rw c.in-Acked.is at reported in
       event_passed values c.args.self.now c.args.self.now end c.args.piece.now count AckedEvent log
-      said refl said.represents,
+      said refl (told_as values
+      c.args.self.now end c.args.piece.now count AckedEvent log
+      said (λ i. refl) (λ i. refl) (λ i. refl) (λ i. refl)),
 )
 
 pub returns-in-Pong-clause-lies : goal.returns-in-Pong-clause-lies
@@ -161,12 +177,15 @@ unfolding BodyLiesIn
 returns-in-Pong-clause-lies c = tt
 
 pub returns-in-Pong-clause-hands : goal.returns-in-Pong-clause-hands
-unfolding part_of_event
+unfolding part_of_event tokens_of_event take_has_fields take_has_data take_may_close
+    event_may_close
 returns-in-Pong-clause-hands c = λ octets none. (
   [],
   rw c.in-Pong.is tt,
   λ values end count log reported.
       let said = rw c.in-Pong.is at reported in
       event_passed values c.args.self.now c.args.self.now end c.args.piece.now count
-      (PongEvent c.in-Pong.octets) log said refl said.represents,
+      (PongEvent c.in-Pong.octets) log said refl (told_as values
+      c.args.self.now end c.args.piece.now count (PongEvent c.in-Pong.octets) log
+      said (λ i. refl) (λ i. refl) (λ i. refl) (λ i. refl)),
 )

@@ -1,10 +1,10 @@
 -- Whatever had happened at the start, nothing more could go on streams up to the last one.
-use Rattle.std.proofs.Common.{◌+◌, ◌-◌}
+use Rattle.std.proofs.Common.{◌-◌}
 use Rattle.h2_ends.proofs.SendingPump.{PumpsTo}
 use Rattle.h2_ends.proofs.end.End.pump.Given as goal
 
 abbrev pub invariant-loop-id : goal.invariant-loop-id
-invariant-loop-id l = PumpsTo l.initial.self l.self l.count (l.last + 1)
+invariant-loop-id l = PumpsTo l.initial.self l.self l.left l.count l.last
 
 abbrev pub decreases-loop-id : goal.decreases-loop-id
 decreases-loop-id l = 4294967296 - l.last

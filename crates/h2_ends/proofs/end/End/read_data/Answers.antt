@@ -21,7 +21,7 @@ returns-then-not-data-clause-reads c = λ values happened octets counted is.
     (λ reads parts follows.
     rw c.if-not-data.true at c.data.ensures reads parts octets counted follows)
     (keeps_but c.args.self.now _ c.args.id (Some (with_reading stream c.data.new.self))
-    (holds.3 (ap is_some found)).0) refl refl
+    (holds.3 (ap is_some found)).0) refl refl refl
 
 pub returns-clause-reads : goal.returns-clause-reads
 unfolding ReadsData
@@ -38,5 +38,5 @@ returns-clause-reads c = λ values happened octets counted is.
     (λ reads parts follows.
     rw c.if-not-data.false at c.data.ensures reads parts octets counted follows)
     (keeps_but c.args.self.now _ c.args.id (Some (with_reading stream c.data.new.self))
-    (holds.3 (ap is_some found)).0) refl refl in
-    (read.0, c.forget_if_closed.ensures.represents values _ read.1)
+    (holds.3 (ap is_some found)).0) refl refl refl in
+    (read.0, c.forget_if_closed.ensures.represents values _ read.1 read.2)

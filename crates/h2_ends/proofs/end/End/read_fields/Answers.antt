@@ -14,7 +14,7 @@ returns-in_default-fields-clause-reads c = λ values happened is.
     c.fields.new.self is found
     (λ reads parts follows. rw c.list.ensures at c.in_default-fields.ensures reads parts follows)
     (keeps_but c.args.self.now _ c.args.id (Some (with_reading stream c.fields.new.self))
-    (holds.3 (ap is_some found)).0) refl refl
+    (holds.3 (ap is_some found)).0) refl refl refl
 
 pub returns-clause-reads : goal.returns-clause-reads
 unfolding ReadsFields
@@ -30,5 +30,7 @@ returns-clause-reads c = λ values happened is.
     c.in-Some-fields.place stream c.fields.new.self is found
     (λ reads parts follows. rw c.list.ensures at c.in-Some-fields.ensures reads parts follows)
     (keeps_but c.args.self.now _ c.args.id (Some (with_reading stream c.fields.new.self))
-    (holds.3 (ap is_some found)).0) refl refl in
-    ((read.0.0, c.forget_if_closed.ensures.represents values _ read.0.1), read.1)
+    (holds.3 (ap is_some found)).0) refl refl refl in (
+      (read.0.0, c.forget_if_closed.ensures.represents values _ read.0.1 read.0.2),
+      read.1,
+    )

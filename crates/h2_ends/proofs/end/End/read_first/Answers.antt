@@ -16,7 +16,7 @@ returns-clause-reads c = λ values happened is.
     c.new-reading.result c.fields.new.self is c.requires.first
     (rw c.first_reads.ensures at c.new-reading.ensures)
     (λ reads parts follows. rw c.list.ensures at c.in-Some.ensures reads parts follows) refl refl
-    c.in-Err.ensures.err
+    refl c.in-Err.ensures.err
 
 pub returns-in-Ok-clause-reads : goal.returns-in-Ok-clause-reads
 returns-in-Ok-clause-reads c = λ values happened is.
@@ -25,4 +25,4 @@ returns-in-Ok-clause-reads c = λ values happened is.
     (rw c.first_reads.ensures at c.new-reading.ensures)
     (λ reads parts follows. rw c.list.ensures at c.in-Some.ensures reads parts follows)
     (keeps_but c.args.self.now _ c.args.id (Some (first_stream c.fields.new.self))
-    c.in-Ok.ensures.updates.0) refl refl
+    c.in-Ok.ensures.updates.0) refl refl refl

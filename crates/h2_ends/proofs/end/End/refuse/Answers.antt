@@ -8,24 +8,23 @@ unfolding AnswersRefusal
 returns-in-Some-clause-answers c = λ values end is.
     let made = refused values c.args.self.now
     (record c.args.self.now { conn = c.refuse-refused.new.self }) c.args.id c.code-code.result _
-    end c.refuse-refused.ensures refl refl is in
+    end c.refuse-refused.ensures refl refl refl is in
+    let now = c.forget_if_over.ensures.represents values _ made.2 in
     rw (← c.code-code.ensures) (
       made.0,
       made.1,
-      (sym (c.failed.ensures values _ made.2.conn) ∙ c.in-Some.is, made.2),
+      (sym (c.failed.ensures values _ now.streams.conn) ∙ c.in-Some.is, now),
     )
 
-pub returns-clause-answers : goal.returns-clause-answers
+pub returns-in-None-clause-answers : goal.returns-in-None-clause-answers
 unfolding AnswersRefusal
-returns-clause-answers c = λ values end is.
+returns-in-None-clause-answers c = λ values end is.
     let made = refused values c.args.self.now
     (record c.args.self.now { conn = c.refuse-refused.new.self }) c.args.id c.code-code.result _
-    end c.refuse-refused.ensures refl refl is in
+    end c.refuse-refused.ensures refl refl refl is in
+    let now = c.forget_if_over.ensures.represents values _ made.2 in
     rw (← c.code-code.ensures) (
       made.0,
       made.1,
-      (
-        sym (c.failed.ensures values _ made.2.conn) ∙ c.in_default.is,
-        c.forget_if_over.ensures values _ made.2,
-      ),
+      (sym (c.failed.ensures values _ now.streams.conn) ∙ c.in-None.is, now),
     )

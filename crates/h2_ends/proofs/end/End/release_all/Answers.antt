@@ -12,6 +12,7 @@ returns-then-is_some c =
 pub loop-id-init : goal.loop-id-init
 loop-id-init c =
     begins_release c.args.self.now c.failed.result c.failed.ensures c.if-is_some.ensures
+    c.saturating_sub-last.result c.saturating_sub-last.ensures
 
 pub loop-id-smaller-then-owed-eq0 : goal.loop-id-smaller-then-owed-eq0
 loop-id-smaller-then-owed-eq0 c = omega (arith, c.in-Some.ensures.above)
@@ -20,7 +21,7 @@ pub loop-id-preserved-then-owed-eq0 : goal.loop-id-preserved-then-owed-eq0
 loop-id-preserved-then-owed-eq0 c =
     passes_stream c.args.self.now c.loop-id.self c.in-Some.id c.owed-owed.result
     (comes_to c.args.self.now c.loop-id.self c.loop-id.last c.in-Some.id c.loop-id.invariant
-    c.in-Some.ensures.number) c.owed-owed.ensures c.if-owed-eq0.true
+    c.in-Some.ensures.next) c.owed-owed.ensures c.if-owed-eq0.true
 
 pub loop-id-smaller : goal.loop-id-smaller
 loop-id-smaller c = omega (arith, c.in-Some.ensures.above)
@@ -29,16 +30,17 @@ pub loop-id-preserved : goal.loop-id-preserved
 loop-id-preserved c =
     releases_stream c.args.self.now c.loop-id.self _ c.in-Some.id c.owed-owed.result
     (comes_to c.args.self.now c.loop-id.self c.loop-id.last c.in-Some.id c.loop-id.invariant
-    c.in-Some.ensures.number) c.owed-owed.ensures c.if-owed-eq0.false c.in-Ok.ensures refl refl
+    c.in-Some.ensures.next) c.owed-owed.ensures c.if-owed-eq0.false (omega arith) (omega arith)
+    c.in-Ok.ensures refl refl refl
 
 pub returns-in-Err : goal.returns-in-Err
 returns-in-Err c =
     refuses_stream c.args.self.now c.loop-id.self _ c.in-Some.id c.owed-owed.result
     c.in-Err.refusal (comes_to c.args.self.now c.loop-id.self c.loop-id.last c.in-Some.id
-    c.loop-id.invariant c.in-Some.ensures.number) c.owed-owed.ensures c.if-owed-eq0.false
-    c.in-Err.ensures refl refl
+    c.loop-id.invariant c.in-Some.ensures.next) c.owed-owed.ensures c.if-owed-eq0.false
+    (omega arith) (omega arith) c.in-Err.ensures refl refl refl
 
 pub returns : goal.returns
 returns c =
-    ends_release c.args.self.now c.loop-id.self c.loop-id.last c.loop-id.invariant
-    c.in_default.ensures.number
+    ends_release c.args.self.now c.loop-id.self c.loop-id.last c.none-self.result c.loop-id.invariant
+    c.in_default.ensures.next

@@ -28,8 +28,8 @@ returns-in-Ok c = (
             (Number id) id (message_value message),
         may_request values end (message_value message) c.args.self.now c.open.new.self id
             c.in_default.ensures.ok opens,
-        c.give.ensures values _ (λ given gives. request_given values c.args.self.now
-            c.open.new.self given end id message is opens gives),
+        request_given values c.args.self.now c.open.new.self c.give.new.self end id message is
+            opens c.give.ensures,
       ),
 )
 

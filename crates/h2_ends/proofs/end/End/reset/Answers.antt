@@ -1,18 +1,18 @@
 use Rattle.std.proofs.Common.{refl}
 use Rattle.std.proofs.lemmas.Result.{err_from_is_err_and}
-use Rattle.h2_log.specs.Acts.{Done}
-use Rattle.h2_ends.proofs.ControlSteps.{resets}
+use Rattle.h2_ends.proofs.ControlSteps.{reset_is_refused, reset_is_done}
 use Rattle.h2_ends.proofs.end.End.reset.Goals as goal
 
 pub returns-in_err-reset : goal.returns-in_err-reset
 returns-in_err-reset c =
     let answer = err_from_is_err_and c.from_residual.result c.from_residual.ensures.1 in
     rw (answer.1, answer.2)
-    (resets c.args.self.now _ c.args.id c.args.code _ c.in_err-reset.ensures refl refl)
+    (reset_is_refused c.args.self.now _ c.args.id c.args.code _ c.in_err-reset.ensures refl refl
+    refl)
 
 pub returns : goal.returns
 returns c = λ values end is.
-    let made = resets c.args.self.now
-    (record c.args.self.now { conn = c.reset.new.self }) c.args.id c.args.code Done
-    c.in_ok-reset.ensures refl refl values end is in
-    (made.0, c.forget_if_over.ensures values _ made.1)
+    let made = reset_is_done values c.args.self.now
+    (record c.args.self.now { conn = c.reset.new.self }) end c.args.id c.args.code is
+    c.in_ok-reset.ensures refl refl refl in
+    (made.0, c.forget_if_over.ensures.represents values _ made.1)

@@ -1,0 +1,257 @@
+-- What the verdict on an item says of the stream that it ends, resets or opens, and of what is
+-- reported of it.
+use Rattle.std.proofs.Common.{◌≡◌, ℕ, ◌==◌, ◌&&◌, ◌||◌, Bool, true, false, List, [], ◌∷◌}
+use Rattle.std.proofs.Common.{Option, Some, None, refl, sym, ◌∙◌, inl, inr, subst}
+use Rattle.std.specs.List.{list_any}
+use Rattle.std.proofs.lemmas.Bool.{both_ways, or_cases, or_left, and_parts, eqb-true}
+use Rattle.std.proofs.lemmas.Bool.{false_from_ne_true}
+use Rattle.h2_frame.specs.declared.code.Code.{Code}
+use Rattle.h2_frame.specs.Frames.{Data, Headers, Priority, Reset, Settings, Ping, GoAway}
+use Rattle.h2_frame.specs.Frames.{WindowUpdate, Continuation, Unknown}
+use Rattle.h2_frame.specs.Encoding.{stream_of}
+use Rattle.h2_block.specs.Grouping.{Item, alone, block}
+use Rattle.h2_log.specs.Items.{ends, resets, stream_of_item}
+use Rattle.h2_log.specs.Events.{reports_unprocessed}
+use Rattle.h2_log.specs.States.{State, Idle, Active, ClosedByUs, Closed, is_used, state_by}
+use Rattle.h2_log.specs.Log.{Log, active, state, goaway_written}
+use Rattle.h2_log.specs.View.{View}
+use Rattle.h2_log.specs.LogView.{log_view}
+use Rattle.h2_log.specs.Verdicts.{Verdict, ConnectionFault, StreamFault, NoEvent, Reported}
+use Rattle.h2_log.specs.Verdicts.{block_verdict, opening_verdict, reset_verdict}
+use Rattle.h2_log.specs.ItemRules.{Decoded, peer_opens, verdict_by_rules, verdict_of}
+use Rattle.h2_log.specs.ItemEffects.{events_of}
+use Rattle.h2_log_laws.proofs.ReaderStates.{active_used, state_active, state_is_active}
+use Rattle.h2_log_laws.proofs.ReplyInvariant.{used_more, used_here}
+use Rattle.h2_end_laws.specs.Over.{used}
+use Rattle.h2_end_laws.specs.Told.{event_may_close}
+use Rattle.h2_end_laws.proofs.ReadVerdicts.{Says, says_data, says_of}
+use Rattle.h2_end_laws.proofs.ReadingRules.{IsFaulty}
+
+-- Whether the item ends or resets the stream.
+abbrev pub closes : ℕ → Item → Bool
+closes i item = ends i item || resets i item
+
+-- Where it does, the stream is its own.
+pub closes_own : (i : ℕ) (item : Item) → closes i item ≡ true → stream_of_item item ≡ i
+unfolding ends resets stream_of_item stream_of
+closes_own i (block stream end octets) is = elim (or_cases (stream == i && end) false is) [
+  | inl here ↦ eqb-true stream i (and_parts _ _ here).0
+  | inr wrong ↦ absurd (both_ways false refl wrong)
+]
+closes_own i (alone (Data stream end octets pad)) is =
+    elim (or_cases (stream == i && end) false is) [
+      | inl here ↦ eqb-true stream i (and_parts _ _ here).0
+      | inr wrong ↦ absurd (both_ways false refl wrong)
+    ]
+closes_own i (alone (Reset stream code)) is = eqb-true stream i is
+closes_own i (alone frame) is = absurd (both_ways false refl is)
+
+-- A block that opens its stream, and any block, is checked so.
+says_opening : (F S T : Type 0) (left full large : Bool) → F → S → (left ≡ false → T)
+    → Says F S T (opening_verdict left full large)
+unfolding opening_verdict
+says_opening F S T true full large f s t = s
+says_opening F S T false true large f s t = f
+says_opening F S T false false true f s t = f
+says_opening F S T false false false f s t = t refl
+
+says_block : (F S T : Type 0) (state : State) (opens left full ended large : Bool)
+    → (state ≡ Idle → opens ≡ true → F × S × (left ≡ false → T)) → (state ≡ Active → F × T)
+    → (state ≡ ClosedByUs → S) → Says F S T (block_verdict state opens left full ended large)
+unfolding block_verdict
+says_block F S T Idle true left full ended large i a c =
+    let all = i refl refl in says_opening F S T left full large all.0 all.1 all.2
+says_block F S T Idle false left full ended large i a c = tt
+says_block F S T Closed opens left full ended large i a c = tt
+says_block F S T ClosedByUs opens left full ended large i a c = c refl
+says_block F S T Active opens left full true large i a c = (a refl).0
+says_block F S T Active opens left full false true i a c = (a refl).0
+says_block F S T Active opens left full false false i a c = (a refl).1
+
+-- RST_STREAM is checked so.
+says_reset : (F S T : Type 0) (state : State) → (state ≡ Active → T) → (state ≡ ClosedByUs → S)
+    → (state ≡ Closed → S) → Says F S T (reset_verdict state)
+unfolding reset_verdict
+says_reset F S T Idle a c d = tt
+says_reset F S T Active a c d = a refl
+says_reset F S T ClosedByUs a c d = c refl
+says_reset F S T Closed a c d = d refl
+
+-- The state of an active stream.
+pub active_state : (log : Log) (i : ℕ) → active log i ≡ true → state log i ≡ Active
+active_state log i alive =
+    state_active _ _ _ (active_used log.role i log.received log.sent log.reported alive) alive
+
+-- An active stream is in no other state.
+not_closed_by_us : {A : Type 0} (s : State) → s ≡ Active → s ≡ ClosedByUs → A
+not_closed_by_us s alive is = let both : Active ≡ ClosedByUs = sym alive ∙ is in cc
+
+not_closed : {A : Type 0} (s : State) → s ≡ Active → s ≡ Closed → A
+not_closed s alive is = let both : Active ≡ Closed = sym alive ∙ is in cc
+
+not_idle : {A : Type 0} (s : State) → s ≡ Active → s ≡ Idle → A
+not_idle s alive is = let both : Active ≡ Idle = sym alive ∙ is in cc
+
+-- Of an item that ends or resets an active stream something is reported, by the rules.
+active_told : (log : Log) (decoded : Option Decoded) (item : Item)
+    → state log (stream_of_item item) ≡ Active → (i : ℕ) → closes i item ≡ true
+    → Says (Unit {0}) ⊥ (Unit {0}) (verdict_by_rules (log_view log) decoded item)
+unfolding verdict_by_rules stream_of_item stream_of ends resets
+active_told log None (block stream end octets) alive i is = tt
+active_told log (Some decoded) (block stream end octets) alive i is =
+    says_block (Unit {0}) ⊥ (Unit {0}) (state log stream) (peer_opens (log_view log) stream)
+    _ _ _ _ (λ idle opens. not_idle (state log stream) alive idle) (λ same. (tt, tt))
+    (not_closed_by_us (state log stream) alive)
+active_told log decoded (alone (Data stream end octets pad)) alive i is =
+    says_data (Unit {0}) ⊥ (Unit {0}) (state log stream) _ _ _ (λ same. tt)
+    (not_closed_by_us (state log stream) alive) (λ same. tt)
+active_told log decoded (alone (Reset stream code)) alive i is =
+    says_reset (Unit {0}) ⊥ (Unit {0}) (state log stream) (λ same. tt)
+    (not_closed_by_us (state log stream) alive) (not_closed (state log stream) alive)
+active_told log decoded (alone frame) alive i is = absurd (both_ways false refl is)
+
+-- An item of which nothing is reported, and that is no fault, closes no active stream.
+pub silent_keeps : (log : Log) (decoded : Option Decoded) (item : Item) (i : ℕ)
+    → verdict_of (log_view log) decoded item ≡ NoEvent → active log i ≡ true
+    → closes i item ≡ false
+silent_keeps log decoded item i is alive =
+    false_from_ne_true _ (λ closed.
+    let own = closes_own i item closed in
+    let here : state log (stream_of_item item) ≡ Active =
+    subst (λ (j : ℕ). state log j ≡ Active) (sym own) (active_state log i alive) in
+    subst (Says (Unit {0}) ⊥ (Unit {0})) is
+    (says_of (Unit {0}) ⊥ (Unit {0}) log decoded item
+    (active_told log decoded item here i closed)))
+
+-- What is reported of an item that closes a stream may close it.
+pub reported_closes : (view : View) (decoded : Option Decoded) (item : Item) (i : ℕ)
+    → closes i item ≡ true
+    → list_any (event_may_close i) (events_of view decoded Reported item) ≡ true
+unfolding ends resets events_of event_may_close
+reported_closes view decoded (block stream end octets) i is = is
+reported_closes view decoded (alone (Data stream end octets pad)) i is = is
+reported_closes view decoded (alone (Reset stream code)) i is = or_left _ _ is
+reported_closes view decoded (alone frame) i is = absurd (both_ways false refl is)
+
+-- What is reported of an item names no stream as unprocessed.
+pub events_name_none : (view : View) (decoded : Option Decoded) (verdict : Verdict) (item : Item)
+    (i : ℕ) → list_any (reports_unprocessed i) (events_of view decoded verdict item) ≡ false
+unfolding events_of reports_unprocessed
+events_name_none view decoded (ConnectionFault code) item i = refl
+events_name_none view decoded (StreamFault code) item i = refl
+events_name_none view decoded NoEvent item i = refl
+events_name_none view decoded Reported (block stream end octets) i = refl
+events_name_none view decoded Reported (alone (Data stream end octets pad)) i = refl
+events_name_none view decoded Reported (alone (Headers stream end whole fragment pad priority)) i =
+    refl
+events_name_none view decoded Reported (alone (Priority stream octets)) i = refl
+events_name_none view decoded Reported (alone (Reset stream code)) i = refl
+events_name_none view decoded Reported (alone (Settings ack pairs)) i = refl
+events_name_none view decoded Reported (alone (Ping ack octets)) i = refl
+events_name_none view decoded Reported (alone (GoAway last code debug)) i = refl
+events_name_none view decoded Reported (alone (WindowUpdate stream increment)) i = refl
+events_name_none view decoded Reported (alone (Continuation stream whole fragment)) i = refl
+events_name_none view decoded Reported (alone (Unknown kind flags stream payload)) i = refl
+
+-- A stream in another state than Idle is used.
+state_used : (used active closed_by_us : Bool) → (state_by used active closed_by_us ≡ Idle → ⊥)
+    → used ≡ true
+state_used true active closed_by_us other = refl
+state_used false active closed_by_us other = absurd (other refl)
+
+-- So it is once the item is read.
+known_used : (log : Log) (item : Item) (i : ℕ) → (state log i ≡ Idle → ⊥)
+    → is_used log.role i (item ∷ log.received) log.sent ≡ true
+known_used log item i other =
+    used_more log.role i (item ∷ []) [] log.received log.sent (state_used _ _ _ other)
+
+-- One state isn't another.
+no_idle : (s one : State) → s ≡ one → (one ≡ Idle → ⊥) → s ≡ Idle → ⊥
+no_idle s one is other idle = other (sym is ∙ idle)
+
+-- The stream of an item that ends or resets it is used once the item is read, by the rules.
+used_told : (log : Log) (decoded : Option Decoded) (item : Item) (i : ℕ) → closes i item ≡ true
+    → Says (IsFaulty log item) (IsFaulty log item) (IsFaulty log item)
+    (verdict_by_rules (log_view log) decoded item)
+unfolding verdict_by_rules stream_of_item stream_of ends resets
+used_told log None (block stream end octets) i is = tt
+used_told log (Some decoded) (block stream end octets) i is =
+    let item = block stream end octets in
+    let known : (one : State) → (one ≡ Idle → ⊥) → state log stream ≡ one → IsFaulty log item =
+    λ one other same. known_used log item stream (no_idle (state log stream) one same other) in
+    says_block (IsFaulty log item) (IsFaulty log item) (IsFaulty log item) (state log stream)
+    (peer_opens (log_view log) stream) _ _ _ _
+    (λ idle opens. let now = used_here log.role stream end octets log.received log.sent opens in
+    (now, now, λ stays. now))
+    (λ same. (known Active (λ wrong. cc) same, known Active (λ wrong. cc) same))
+    (known ClosedByUs (λ wrong. cc))
+used_told log decoded (alone (Data stream end octets pad)) i is =
+    let item = alone (Data stream end octets pad) in
+    let known : (one : State) → (one ≡ Idle → ⊥) → state log stream ≡ one → IsFaulty log item =
+    λ one other same. known_used log item stream (no_idle (state log stream) one same other) in
+    says_data (IsFaulty log item) (IsFaulty log item) (IsFaulty log item) (state log stream) _ _ _
+    (known Active (λ wrong. cc)) (known ClosedByUs (λ wrong. cc)) (known Active (λ wrong. cc))
+used_told log decoded (alone (Reset stream code)) i is =
+    let item = alone (Reset stream code) in
+    let known : (one : State) → (one ≡ Idle → ⊥) → state log stream ≡ one → IsFaulty log item =
+    λ one other same. known_used log item stream (no_idle (state log stream) one same other) in
+    says_reset (IsFaulty log item) (IsFaulty log item) (IsFaulty log item) (state log stream)
+    (known Active (λ wrong. cc)) (known ClosedByUs (λ wrong. cc)) (known Closed (λ wrong. cc))
+used_told log decoded (alone frame) i is = absurd (both_ways false refl is)
+
+-- What holds of each verdict but a fault of the connection, holds of this one.
+pub said_of : (A : Type 0) (verdict : Verdict)
+    → ((code : Code) → verdict ≡ ConnectionFault code → ⊥) → Says A A A verdict → A
+said_of A (ConnectionFault code) on says = absurd (on code refl)
+said_of A (StreamFault code) on says = says
+said_of A NoEvent on says = says
+said_of A Reported on says = says
+
+-- An item that is no fault of the connection ends or resets no stream that isn't used after it.
+pub unused_kept : (log : Log) (decoded : Option Decoded) (item : Item) (verdict : Verdict) (i : ℕ)
+    → verdict_of (log_view log) decoded item ≡ verdict
+    → ((code : Code) → verdict ≡ ConnectionFault code → ⊥)
+    → is_used log.role i (item ∷ log.received) log.sent ≡ false → closes i item ≡ false
+unused_kept log decoded item verdict i is on unused =
+    false_from_ne_true _ (λ closed.
+    let says = says_of _ _ _ log decoded item (used_told log decoded item i closed) in
+    let here : IsFaulty log item =
+    said_of (IsFaulty log item) verdict on
+    (subst (Says (IsFaulty log item) (IsFaulty log item) (IsFaulty log item)) is says) in
+    both_ways _ unused
+    (subst (λ (j : ℕ). is_used log.role j (item ∷ log.received) log.sent ≡ true)
+    (closes_own i item closed) here))
+
+-- A block that is reported, of a stream that isn't active, is one that the peer opens, where no
+-- GOAWAY was written, and its number wasn't used; by the rules.
+abbrev pub IsNew : Log → ℕ → Type 0
+IsNew log i = (peer_opens (log_view log) i ≡ true) × (goaway_written log ≡ false)
+    × (used log i ≡ false)
+
+-- An idle stream isn't used.
+idle_unused : (used active closed_by_us : Bool) → state_by used active closed_by_us ≡ Idle
+    → used ≡ false
+idle_unused false active closed_by_us idle = refl
+idle_unused true true closed_by_us idle = cc
+idle_unused true false true idle = cc
+idle_unused true false false idle = cc
+
+new_by_rules : (log : Log) (decoded : Option Decoded) (i : ℕ) (end : Bool) (octets : List ℕ)
+    → active log i ≡ false
+    → Says (Unit {0}) (Unit {0}) (IsNew log i)
+    (verdict_by_rules (log_view log) decoded (block i end octets))
+unfolding verdict_by_rules
+new_by_rules log None i end octets inactive = tt
+new_by_rules log (Some decoded) i end octets inactive =
+    says_block (Unit {0}) (Unit {0}) (IsNew log i) (state log i) (peer_opens (log_view log) i)
+    _ _ _ _ (λ idle opens. (tt, tt, λ stays. (opens, stays, idle_unused _ _ _ idle)))
+    (λ same. absurd (both_ways _ inactive (state_is_active _ _ _ same))) (λ closed. tt)
+
+-- And so it is by the verdict.
+pub new_told : (log : Log) (decoded : Option Decoded) (i : ℕ) (end : Bool) (octets : List ℕ)
+    → verdict_of (log_view log) decoded (block i end octets) ≡ Reported
+    → active log i ≡ false → IsNew log i
+new_told log decoded i end octets is inactive =
+    subst (Says (Unit {0}) (Unit {0}) (IsNew log i)) is
+    (says_of (Unit {0}) (Unit {0}) (IsNew log i) log decoded (block i end octets)
+    (new_by_rules log decoded i end octets inactive))

@@ -1,0 +1,354 @@
+-- A stream is active once a call has answered its number; or, where it wasn't active, once fields
+-- of it were reported: at a server.
+use Rattle.std.proofs.Common.{◌≡◌, ◌⊎◌, ℕ, ◌%◌, ◌==◌, ◌&&◌, Bool, true, false, List, [], ◌∷◌}
+use Rattle.std.proofs.Common.{◌++◌, Option, Some, refl, sym, ◌∙◌, inl, inr, subst}
+use Rattle.std.specs.List.{list_any}
+use Rattle.std.proofs.lemmas.Bool.{both_ways, or_cases, or_parts, or_from, or_left, and_left}
+use Rattle.std.proofs.lemmas.Bool.{and_parts}
+use Rattle.std.proofs.lemmas.Bool.{and_from, and_right, eqb-true, eq-eqb, false_from_ne_true}
+use Rattle.std.proofs.lemmas.List.{append_cancel_right}
+use Rattle.hpack.specs.declared.types.field.Field.{Field}
+use Rattle.h2_frame.specs.declared.code.Code.{Code}
+use Rattle.h2_frame.specs.Frames.{Data, Reset, Settings, Ping, GoAway}
+use Rattle.h2_block.specs.Grouping.{Item, alone, block}
+use Rattle.h2_log.specs.declared.role.Role.{Role}
+use Rattle.h2_log.specs.declared.role.Role.TheVariants.{Client, Server}
+use Rattle.h2_log.specs.Acts.{Values, Open, Number}
+use Rattle.h2_log.specs.Items.{is_block_on, ends, resets, is_goaway, is_goaway_below}
+use Rattle.h2_log.specs.Events.{Event, FieldsEvent, reports_unprocessed}
+use Rattle.h2_log.specs.Settings.{is_server}
+use Rattle.h2_log.specs.States.{is_above, is_active, is_used}
+use Rattle.h2_log.specs.Log.{Log, active}
+use Rattle.h2_log.specs.LogView.{log_view}
+use Rattle.h2_log.specs.Verdicts.{Verdict, ConnectionFault, StreamFault, NoEvent, Reported}
+use Rattle.h2_log.specs.ItemRules.{Decoded, replies_to, verdict_of}
+use Rattle.h2_log.specs.ItemEffects.{events_of}
+use Rattle.h2_log.specs.CallRules.{answer_of, items_of}
+use Rattle.h2_log.specs.LogCalls.{MayAnswer, accepts, refuses, lacks, fails, with_call}
+use Rattle.h2_log.specs.Allowed.{AllowedHistory, starts, reads, writes, Allowed, MayOpen}
+use Rattle.h2_log.specs.Allowed.{MayContinue}
+use Rattle.h2_log.specs.Histories.{IsLog}
+use Rattle.h2_log.proofs.StreamLemmas.{stream_of_log}
+use Rattle.h2_log_laws.proofs.InvariantLogs.{written_is_allowed}
+use Rattle.h2_log_laws.proofs.ItemLists.{any_after}
+use Rattle.h2_log_laws.proofs.LogGrowth.{grows_call}
+use Rattle.h2_log_laws.proofs.ReaderStates.{active_from, active_used, lasts_from, opens_here}
+use Rattle.h2_log_laws.proofs.ReplyInvariant.{used_more, resets_used}
+use Rattle.h2_end_laws.specs.Over.{used}
+use Rattle.h2_end_laws.specs.Takes.{MayTake, Took, has_failed, reports_unprocessed as named_one}
+use Rattle.h2_end_laws.specs.Takes.{ends_no_frame, ends_frame, meets_fault, runs_out_of_memory}
+use Rattle.h2_end_laws.specs.Written.{IsCredit}
+use Rattle.h2_end_laws.proofs.OverNumbers.{opened_is_new}
+use Rattle.h2_end_laws.proofs.ToldFrames.{active_added, no_event}
+use Rattle.h2_end_laws.proofs.ToldItems.{new_told, events_name_none}
+use Rattle.h2_end_laws.proofs.ToldLogs.{LogIsKnown, known_of_logs}
+use Rattle.h2_end_laws.proofs.ToldStays.{harmless_append, harmless_credit, harmless_replies}
+use Rattle.h2_end_laws.proofs.ToldStays.{none_ends, none_resets, none_below, none_of_both}
+use Rattle.h2_end_laws.proofs.ToldSteps.{Adds, AfterFrame, stays_same, has_broken, has_read}
+use Rattle.h2_end_laws.proofs.ToldSteps.{frame_used, frame_after}
+use Rattle.h2_end_laws.proofs.WrittenSteps.{call_writes}
+
+-- A block that a client writes uses its number.
+opening_uses : (role : Role) (i : ℕ) (end : Bool) (octets : List ℕ) (received sent : List Item)
+    → role ≡ Client → i % 2 ≡ 1 → is_used role i received (block i end octets ∷ sent) ≡ true
+unfolding is_used is_block_on
+opening_uses Server i end octets received sent client odd = cc
+opening_uses Client i end octets received sent client odd =
+    let is_odd = eq-eqb (i % 2) 1 odd in
+    and_from _ _ is_odd (opens_here i (block i end octets ∷ sent) is_odd
+    (or_left (i == i) _ (eq-eqb i i refl)))
+
+-- So does a block that may be written.
+block_uses : (role : Role) (i : ℕ) (end : Bool) (octets : List ℕ) (received sent : List Item)
+    → MayOpen role i received sent ⊎ MayContinue role i received sent
+    → is_used role i received (block i end octets ∷ sent) ≡ true
+block_uses role i end octets received sent (inl opens) =
+    opening_uses role i end octets received sent opens.client opens.odd
+block_uses role i end octets received sent (inr goes) =
+    used_more role i [] (block i end octets ∷ []) received sent
+    (active_used role i received sent [] goes.active)
+
+-- What may be written with END_STREAM is of a number that is used then.
+end_uses : (role : Role) (i : ℕ) (received sent : List Item) (item : Item)
+    → Allowed role received sent item → ends i item ≡ true
+    → is_used role i received (item ∷ sent) ≡ true
+unfolding ends
+end_uses role i received sent (block stream end octets) allowed is =
+    subst (λ (j : ℕ). is_used role j received (block stream end octets ∷ sent) ≡ true)
+    (eqb-true stream i (and_parts _ _ is).0)
+    (block_uses role stream end octets received sent allowed.1)
+end_uses role i received sent (alone (Data stream end octets pad)) allowed is =
+    subst (λ (j : ℕ). is_used role j received (alone (Data stream end octets pad) ∷ sent) ≡ true)
+    (eqb-true stream i (and_parts _ _ is).0)
+    (used_more role stream [] (alone (Data stream end octets pad) ∷ []) received sent
+    (active_used role stream received sent [] (allowed.1).goes_on.active))
+end_uses role i received sent (alone frame) allowed is = absurd (both_ways false refl is)
+
+-- An opening ends nothing.
+settings_end : (i : ℕ) (ack : Bool) (pairs : List (ℕ × ℕ))
+    → ends i (alone (Settings ack pairs)) ≡ false
+unfolding ends
+settings_end i ack pairs = refl
+
+-- What was ended is used.
+ends_used : (role : Role) (i : ℕ) (received sent : List Item) → AllowedHistory role received sent
+    → list_any (ends i) sent ≡ true → is_used role i received sent ≡ true
+ends_used role i _ _ (starts values ok) some =
+    absurd (both_ways _ (or_from _ _ (settings_end i false _) refl) some)
+ends_used role i _ sent (reads {received = received} item with_sent) some =
+    used_more role i (item ∷ []) [] received sent (ends_used role i received sent with_sent some)
+ends_used role i received _ (writes {sent = sent} item with_sent allowed) some =
+    elim (or_cases (ends i item) (list_any (ends i) sent) some) [
+      | inl here ↦ end_uses role i received sent item allowed here
+      | inr before ↦ used_more role i [] (item ∷ []) received sent
+          (ends_used role i received sent with_sent before)
+    ]
+
+-- Nothing was written of a number that wasn't used.
+pub record IsUnwritten (i : ℕ) (sent : List Item) : Type 0 where
+  pub unended : list_any (ends i) sent ≡ false
+  pub unreset : list_any (resets i) sent ≡ false
+
+pub unused_unwritten : (role : Role) (values : Values) (log : Log) (i : ℕ)
+    → IsLog role values log → used log i ≡ false → IsUnwritten i log.sent
+unused_unwritten role values log i is unused =
+    let own = (stream_of_log role values log is).role in
+    let allowed : AllowedHistory log.role log.received log.sent =
+    subst (λ (r : Role). AllowedHistory r log.received log.sent) (sym own)
+    (written_is_allowed role values log is) in
+    record {
+      unended = false_from_ne_true _ (λ some. both_ways _ unused
+          (ends_used log.role i log.received log.sent allowed some));
+      unreset = false_from_ne_true _ (λ some. both_ways _ unused
+          (resets_used log.role i log.received log.sent allowed some));
+    }
+
+-- A client's stream is active once its block was written.
+open_at_client : (role : Role) (i : ℕ) (received sent : List Item) (reported : List Event)
+    → role ≡ Client → i % 2 == 1 ≡ true → list_any (is_block_on i) sent ≡ true
+    → list_any (ends i) received ≡ false → list_any (resets i) received ≡ false
+    → list_any (resets i) sent ≡ false → list_any (reports_unprocessed i) reported ≡ false
+    → is_active role i received sent reported ≡ true
+unfolding is_above
+open_at_client Server i received sent reported client odd here unended unreset kept unnamed = cc
+open_at_client Client i received sent reported client odd here unended unreset kept unnamed =
+    active_from Client i received sent reported (record {
+      odd = odd;
+      opened = here;
+      below = refl;
+      lasts = lasts_from i received sent (record {
+        ended = and_left (list_any (ends i) received) (list_any (ends i) sent) unended;
+        unreset = unreset;
+        kept = kept;
+      });
+      unnamed = unnamed;
+    })
+
+-- At a server, once its block was read, where no GOAWAY was written.
+no_below : (i : ℕ) (item : Item) → is_goaway item ≡ false → is_goaway_below i item ≡ false
+unfolding is_goaway is_goaway_below
+no_below i (alone (GoAway last code debug)) none = absurd (both_ways true none refl)
+no_below i item none = refl
+
+no_goaway_below : (i : ℕ) (items : List Item) → list_any is_goaway items ≡ false
+    → list_any (is_goaway_below i) items ≡ false
+no_goaway_below i [] none = refl
+no_goaway_below i (item ∷ items) none =
+    let both = or_parts (is_goaway item) (list_any is_goaway items) none in
+    or_from _ _ (no_below i item both.0) (no_goaway_below i items both.1)
+
+open_at_server : (role : Role) (i : ℕ) (received sent : List Item) (reported : List Event)
+    → role ≡ Server → i % 2 == 1 ≡ true → list_any (is_block_on i) received ≡ true
+    → list_any (is_goaway_below i) sent ≡ false → list_any (ends i) sent ≡ false
+    → list_any (resets i) received ≡ false → list_any (resets i) sent ≡ false
+    → list_any (reports_unprocessed i) reported ≡ false
+    → is_active role i received sent reported ≡ true
+unfolding is_above
+open_at_server Client i received sent reported server odd here below unended unreset kept unnamed =
+    cc
+open_at_server Server i received sent reported server odd here below unended unreset kept unnamed =
+    active_from Server i received sent reported (record {
+      odd = odd;
+      opened = here;
+      below = below;
+      lasts = lasts_from i received sent (record {
+        ended = and_right (list_any (ends i) received) (list_any (ends i) sent) unended;
+        unreset = unreset;
+        kept = kept;
+      });
+      unnamed = unnamed;
+    })
+
+-- A number that was used is odd.
+used_odd : (role : Role) (i : ℕ) (received sent : List Item)
+    → is_used role i received sent ≡ true → i % 2 == 1 ≡ true
+unfolding is_used
+used_odd role i received sent was = (and_parts _ _ was).0
+
+-- The block that opens stands behind what was written after it; neither resets the stream.
+block_there : (i : ℕ) (end : Bool) (octets : List ℕ) (credit sent : List Item)
+    → list_any (is_block_on i) (credit ++ (block i end octets ∷ sent)) ≡ true
+unfolding is_block_on
+block_there i end octets credit sent =
+    any_after (is_block_on i) credit (block i end octets ∷ sent)
+    (or_left (i == i) (list_any (is_block_on i) sent) (eq-eqb i i refl))
+
+block_resets : (i id : ℕ) (end : Bool) (octets : List ℕ) → resets i (block id end octets) ≡ false
+unfolding resets
+block_resets i id end octets = refl
+
+-- The answer is the one of the rules.
+open_rules : (log : Log) (fields : List Field) (end : Bool) (id : ℕ)
+    → MayAnswer log (Open fields end) (Number id)
+    → Number id ≡ answer_of (log_view log) (Open fields end)
+open_rules log fields end id (accepts none is) = is
+open_rules log fields end id (refuses refusal holds is) = cc
+open_rules log fields end id (lacks none may is) = cc
+open_rules log fields end id (fails none may is) = cc
+
+-- A stream is active once a call has answered its number.
+pub active_by_open : (role : Role) (values : Values) (log : Log) (fields : List Field)
+    (end : Bool) (id : ℕ) → IsLog role values log → MayAnswer log (Open fields end) (Number id)
+    → active (with_call log (Open fields end) (Number id)) id ≡ true
+unfolding items_of
+active_by_open role values log fields end id is may =
+    let act = Open fields end in
+    let new = opened_is_new role values log fields end id is may in
+    let odd = used_odd _ id _ _ new.3 in
+    let known = known_of_logs role values log is id in
+    let unwritten = unused_unwritten role values log id is new.2 in
+    let grows = grows_call log act (Number id) in
+    let writes = call_writes log act (Number id) (open_rules log fields end id may)
+    (λ other code wrong. cc) in
+    let kept = none_of_both (resets id) writes.credit (block id end _ ∷ log.sent)
+    (none_resets log.role id writes.credit (harmless_credit log.role id writes.credit
+    writes.is_credit)) (or_from _ _ (block_resets id id end _) unwritten.unreset) in
+    rw (grows.role, grows.received, grows.reported, writes.sent)
+    (open_at_client log.role id log.received _ log.reported new.0 odd
+    (block_there id end _ writes.credit log.sent) (known.unended new.2) (known.unreset new.2) kept
+    (known.unnamed new.2))
+
+-- It is a server where the peer opens streams.
+server_of : (role : Role) (odd : Bool) → (is_server role && odd) ≡ true → role ≡ Server
+server_of Server odd is = refl
+server_of Client odd is = absurd (both_ways false refl is)
+
+-- The block stands first.
+block_first : (i : ℕ) (end : Bool) (octets : List ℕ) (received : List Item)
+    → list_any (is_block_on i) (block i end octets ∷ received) ≡ true
+unfolding is_block_on
+block_first i end octets received = or_left (i == i) _ (eq-eqb i i refl)
+
+-- A block that was reported has opened its stream, where that wasn't active.
+block_opens : (before after : Log) (decoded : Option Decoded) (i : ℕ) (end : Bool)
+    (octets : List ℕ) (credit : List Item)
+    → verdict_of (log_view before) decoded (block i end octets) ≡ Reported → IsCredit credit
+    → Adds before after (block i end octets ∷ [])
+    (credit ++ replies_to Reported (block i end octets))
+    (events_of (log_view before) decoded Reported (block i end octets))
+    → active before i ≡ false → LogIsKnown i before
+    → (used before i ≡ false → IsUnwritten i before.sent)
+    → (before.role ≡ Server) × (active after i ≡ true)
+block_opens before after decoded i end octets credit is is_credit adds inactive known unwritten =
+    let item = block i end octets in
+    let items = credit ++ replies_to Reported item in
+    let new = new_told before decoded i end octets is inactive in
+    let server = server_of before.role (i % 2 == 1) new.0 in
+    let unsaid = unwritten new.2 in
+    let replies = harmless_replies before.role i Reported item
+    (λ wrong. absurd (both_ways false refl wrong)) in
+    let harmless = harmless_append before.role i credit (replies_to Reported item)
+    (harmless_credit before.role i credit is_credit) replies in (
+      server,
+      active_added before after (item ∷ []) items _ i adds
+          ∙ open_at_server before.role i (item ∷ before.received) (items ++ before.sent) _ server
+          (and_parts _ _ new.0).1 (block_first i end octets before.received)
+          (none_of_both (is_goaway_below i) items before.sent
+          (none_below before.role i items server harmless)
+          (no_goaway_below i before.sent new.1))
+          (none_of_both (ends i) items before.sent (none_ends before.role i items harmless)
+          unsaid.unended)
+          (or_from _ _ (block_resets i i end octets) (known.unreset new.2))
+          (none_of_both (resets i) items before.sent (none_resets before.role i items harmless)
+          unsaid.unreset)
+          (none_of_both (reports_unprocessed i)
+          (events_of (log_view before) decoded Reported item) before.reported
+          (events_name_none (log_view before) decoded Reported item i) (known.unnamed new.2)),
+    )
+
+-- An item of which fields are reported.
+read_opens : (before after : Log) (decoded : Option Decoded) (item : Item) (verdict : Verdict)
+    (credit : List Item) (id : ℕ) (list : List Field) (end : Bool)
+    → verdict_of (log_view before) decoded item ≡ verdict
+    → ((code : Code) → verdict ≡ ConnectionFault code → ⊥) → IsCredit credit
+    → Adds before after (item ∷ []) (credit ++ replies_to verdict item)
+    (events_of (log_view before) decoded verdict item)
+    → events_of (log_view before) decoded verdict item ≡ FieldsEvent id list end ∷ []
+    → active before id ≡ false → LogIsKnown id before
+    → (used before id ≡ false → IsUnwritten id before.sent)
+    → (before.role ≡ Server) × (active after id ≡ true)
+unfolding events_of
+read_opens before after decoded item (ConnectionFault code) credit id list end is on is_credit adds
+    one inactive known unwritten = absurd (on code refl)
+read_opens before after decoded item (StreamFault code) credit id list end is on is_credit adds one
+    inactive known unwritten = cc
+read_opens before after decoded item NoEvent credit id list end is on is_credit adds one inactive
+    known unwritten = cc
+read_opens before after decoded (block stream last octets) Reported credit id list end is on
+    is_credit adds one inactive known unwritten =
+    let same : id ≡ stream = cc in
+    let now = block_opens before after decoded stream last octets credit is is_credit adds
+    (subst (λ (j : ℕ). active before j ≡ false) same inactive)
+    (subst (λ (j : ℕ). LogIsKnown j before) same known)
+    (subst (λ (j : ℕ). used before j ≡ false → IsUnwritten j before.sent) same unwritten) in
+    (now.0, subst (λ (j : ℕ). active after j ≡ true) (sym same) now.1)
+read_opens before after decoded (alone (Data stream last octets pad)) Reported credit id list end is
+    on is_credit adds one inactive known unwritten = cc
+read_opens before after decoded (alone (Reset stream code)) Reported credit id list end is
+    on is_credit adds one inactive known unwritten = cc
+read_opens before after decoded (alone (Settings ack pairs)) Reported credit id list end is
+    on is_credit adds one inactive known unwritten = cc
+read_opens before after decoded (alone (Ping ack octets)) Reported credit id list end is
+    on is_credit adds one inactive known unwritten = cc
+read_opens before after decoded (alone (GoAway last code debug)) Reported credit id list end is
+    on is_credit adds one inactive known unwritten = cc
+read_opens before after decoded (alone frame) Reported credit id list end is
+    on is_credit adds one inactive known unwritten = cc
+
+-- A frame of which fields are reported.
+frame_opens_it : (before after : Log) (decoded : Option Decoded) (id : ℕ) (list : List Field)
+    (end : Bool) → AfterFrame before decoded after
+    → after.reported ≡ FieldsEvent id list end ∷ before.reported
+    → active before id ≡ false → LogIsKnown id before
+    → (used before id ≡ false → IsUnwritten id before.sent)
+    → (before.role ≡ Server) × (active after id ≡ true)
+frame_opens_it before after decoded id list end (stays_same adds failed) one inactive known
+    unwritten = no_event _ before.reported (sym adds.reported ∙ one)
+frame_opens_it before after decoded id list end (has_broken code last up adds failed) one inactive
+    known unwritten = no_event _ before.reported (sym adds.reported ∙ one)
+frame_opens_it before after decoded id list end
+    (has_read item verdict credit is on is_credit adds failed) one inactive known unwritten =
+    read_opens before after decoded item verdict credit id list end is on is_credit adds
+    (append_cancel_right _ (FieldsEvent id list end ∷ []) before.reported
+    (sym adds.reported ∙ one)) inactive known unwritten
+
+-- A stream of which fields are reported, and that wasn't active, is active then: at a server.
+pub active_by_fields : (role : Role) (values : Values) (log after : Log) (piece : List ℕ)
+    (count id : ℕ) (list : List Field) (end : Bool) → IsLog role values log
+    → MayTake log piece (Took count (Some (FieldsEvent id list end))) after
+    → active log id ≡ false → (log.role ≡ Server) × (active after id ≡ true)
+active_by_fields role values log after piece count id list end is
+    (has_failed code failed answers same) inactive = cc
+active_by_fields role values log after piece count id list end is
+    (named_one up some answers same) inactive = cc
+active_by_fields role values log after piece count id list end is
+    (ends_no_frame takes unparsed part answers same) inactive = cc
+active_by_fields role values log after piece count id list end is
+    (ends_frame takes octets unused joined frame decoded framed sees same answers) inactive =
+    frame_opens_it (frame_used log octets frame) after decoded id list end
+    (rw same (frame_after log octets decoded frame)) answers.2 inactive
+    (known_of_logs role values log is id) (unused_unwritten role values log id is)
+active_by_fields role values log after piece count id list end is
+    (meets_fault takes octets unused joined fault at answers same) inactive = cc
+active_by_fields role values log after piece count id list end is
+    (runs_out_of_memory up octets unused joined may answers same) inactive = cc

@@ -1,0 +1,337 @@
+-- Where nothing is owed on a stream, nothing is after a call, nor after a call of `take` that
+-- reports no octets of it.
+use Rattle.std.proofs.Common.{◌≡◌, ℕ, ◌+◌, ◌-◌, ◌≤◌, Bool, true, false}
+use Rattle.std.proofs.Common.{if◌then◌else◌, List, [], ◌∷◌, ◌++◌, Option, Some, None, refl}
+use Rattle.std.proofs.Common.{sym, ap, ◌∙◌, inl, inr, arith, subst}
+use Rattle.std.proofs.lemmas.Bool.{both_ways, cases_Bool, false_from_ne_true}
+use Rattle.std.proofs.lemmas.List.{append_cancel_right}
+use Rattle.h2_frame.specs.declared.code.Code.{Code}
+use Rattle.h2_frame.specs.declared.code.Code.TheVariants.{InternalError}
+use Rattle.h2_frame.specs.Frames.{Frame}
+use Rattle.h2_wire.specs.Faults.{wire_fault_code}
+use Rattle.h2_wire.proofs.ReadingLemmas.{none_some}
+use Rattle.h2_block.specs.Grouping.{Item}
+use Rattle.h2_log.specs.declared.role.Role.{Role}
+use Rattle.h2_log.specs.Acts.{Values, Act, Answer, Open, Refuse, PutOut, Number, Count}
+use Rattle.h2_log.specs.Acts.{OutOfMemory, Refused}
+use Rattle.h2_log.specs.Events.{Event, DataEvent, UnprocessedEvent, flow_on, reported_total}
+use Rattle.h2_log.specs.Log.{Log, active, owed, released, unreleased, next_unprocessed}
+use Rattle.h2_log.specs.LogView.{log_view}
+use Rattle.h2_log.specs.Verdicts.{Verdict, ConnectionFault, StreamFault, NoEvent, Reported}
+use Rattle.h2_log.specs.ItemRules.{Decoded, FrameStep, fails_with, begins_block, completes}
+use Rattle.h2_log.specs.ItemRules.{frame_step}
+use Rattle.h2_log.specs.CallRules.{conditions, returns_before_put_out}
+use Rattle.h2_log.specs.LogSteps.{read, used, with_sent, with_reported, with_unreturned}
+use Rattle.h2_log.specs.LogSteps.{with_credit_returned, with_failure, with_verdict, with_step}
+use Rattle.h2_log.specs.LogSteps.{with_frame, took_frame, took_none}
+use Rattle.h2_log.specs.LogCalls.{MayAnswer, accepts, refuses, lacks, fails, called, refused_with}
+use Rattle.h2_log.specs.LogCalls.{before_put_out, with_call}
+use Rattle.h2_log.specs.Histories.{IsLog}
+use Rattle.h2_log_laws.proofs.CallConditions.{none_holds, none_since}
+use Rattle.h2_log_laws.proofs.InvariantLogs.{log_represents}
+use Rattle.h2_log_laws.proofs.LogHistory.{history_of, reported_append}
+use Rattle.h2_log_laws.proofs.LogInvariant.{Good, active_before}
+use Rattle.h2_end_laws.specs.Takes.{TakeAnswer, MayTake, Took, Failed, events_answered}
+use Rattle.h2_end_laws.specs.Takes.{AnswersFrame, has_failed, reports_unprocessed as named_one}
+use Rattle.h2_end_laws.specs.Takes.{ends_no_frame, ends_frame, meets_fault, runs_out_of_memory}
+use Rattle.h2_end_laws.specs.Told.{take_has_data}
+use Rattle.h2_end_laws.proofs.OverRoom.{sent_calls, due_calls, items_calls, released_more}
+use Rattle.h2_end_laws.proofs.OverRoom.{owed_inactive, owed_active, owed_none, left_is}
+use Rattle.h2_end_laws.proofs.ToldCalls.{inactive_by_call}
+use Rattle.h2_end_laws.proofs.ToldFrames.{active_added}
+use Rattle.h2_end_laws.proofs.ToldSteps.{Adds, AfterFrame, stays_same, has_broken, has_read}
+use Rattle.h2_end_laws.proofs.ToldSteps.{AfterCall, was_refused, was_broken, was_accepted}
+use Rattle.h2_end_laws.proofs.ToldSteps.{frame_used, frame_after, part_after, fault_after}
+use Rattle.h2_end_laws.proofs.ToldSteps.{none_adds, call_after}
+use Rattle.h2_end_laws.proofs.ToldTakes.{part_reported, fault_reported}
+
+-- Of a stream that a step makes active no octets were reported before it: it wasn't opened.
+new_unreported : (before after : Log) (reads items : List Item) (events : List Event) (i : ℕ)
+    → Adds before after reads items events → Good (history_of before)
+    → active before i ≡ false → active after i ≡ true
+    → reported_total (flow_on i) before.reported ≡ 0
+new_unreported before after reads items events i adds good inactive alive =
+    good.opened i (false_from_ne_true _ (λ opened. both_ways _ inactive
+    (active_before before.role i reads items before.received before.sent events before.reported
+    (sym (active_added before after reads items events i adds) ∙ alive) opened)))
+
+-- What is left of a stream's octets after a step, by the lists.
+left_after : (before after : Log) (reads items : List Item) (events : List Event) (i : ℕ)
+    → Adds before after reads items events
+    → unreleased after i
+    ≡ (reported_total (flow_on i) events + reported_total (flow_on i) before.reported)
+    - released i after.calls
+left_after before after reads items events i adds =
+    left_is after i
+    ∙ ap (λ (line : List Event). reported_total (flow_on i) line - released i after.calls)
+    adds.reported
+    ∙ ap (λ (n : ℕ). n - released i after.calls)
+    (reported_append (flow_on i) events before.reported)
+
+-- A step that reports no octets of a stream makes nothing owed on it.
+none_owed_after : (before after : Log) (reads items : List Item) (events : List Event) (i : ℕ)
+    → Adds before after reads items events
+    → released i before.calls ≤ released i after.calls
+    → reported_total (flow_on i) events ≡ 0
+    → (active before i ≡ false → active after i ≡ true → Good (history_of before))
+    → owed before i ≡ 0 → owed after i ≡ 0
+none_owed_after before after reads items events i adds more quiet good none =
+    elim (cases_Bool (active after i)) [
+      | inl alive ↦ elim (cases_Bool (active before i)) [
+        | inl was ↦ owed_none after i (omega (
+          arith,
+          none,
+          more,
+          quiet,
+          left_after before after reads items events i adds,
+          owed_active before i was,
+          left_is before i,
+        ))
+        | inr inactive ↦ owed_none after i (omega (
+          arith,
+          quiet,
+          left_after before after reads items events i adds,
+          new_unreported before after reads items events i adds (good inactive alive) inactive
+              alive,
+        ))
+      ]
+      | inr over ↦ owed_inactive after i over
+    ]
+
+-- No octets are reported where nothing is.
+none_of_none : (i : ℕ) → reported_total (flow_on i) [] ≡ 0
+unfolding reported_total
+none_of_none i = refl
+
+-- A call is one more: one that refuses a stream, and one that puts output out.
+refused_calls : (log : Log) (act : Act) (answer : Answer) (fault : Option Code)
+    → (refused_with log act answer fault).calls ≡ (act, answer) ∷ log.calls
+unfolding refused_with
+refused_calls log act answer (Some code) = sent_calls (called log act answer) _
+refused_calls log act answer None = items_calls log act answer
+
+ready_by : (log : Log) (b : Bool)
+    → (if b then with_credit_returned log else log).calls ≡ log.calls
+ready_by log true = sent_calls (record log { unreturned = 0 }) _
+ready_by log false = refl
+
+ready_calls : (log : Log) → (before_put_out log).calls ≡ log.calls
+unfolding before_put_out
+ready_calls log = ready_by log (returns_before_put_out (log_view log))
+
+-- Any call.
+call_calls : (log : Log) (act : Act) (answer : Answer)
+    → (with_call log act answer).calls ≡ (act, answer) ∷ log.calls
+unfolding with_call
+call_calls log act (Refused refusal) = refl
+call_calls log act OutOfMemory = sent_calls (called log act OutOfMemory) _
+call_calls log (Refuse id code) answer = refused_calls log (Refuse id code) answer _
+call_calls log (PutOut count) (Count given) = ready_calls (called log (PutOut count) (Count given))
+call_calls log act answer = items_calls log act answer
+
+call_releases : (log : Log) (act : Act) (answer : Answer) (i : ℕ)
+    → released i log.calls ≤ released i (with_call log act answer).calls
+call_releases log act answer i = rw (call_calls log act answer)
+    (released_more i act answer log.calls)
+
+-- Only a call that opens a stream answers a number, as long as the connection is up.
+number_up : (log : Log) (act : Act) (i : ℕ) → MayAnswer log act (Number i) → log.failed ≡ None
+unfolding conditions
+number_up log (Open fields end) i (accepts none is) =
+    none_since log.failed (none_holds _ none).0
+number_up log act i (accepts none is) = cc
+number_up log act i (refuses refusal holds is) = cc
+number_up log act i (lacks none may is) = cc
+number_up log act i (fails none may is) = cc
+
+-- So the connection is up where a call makes a stream active.
+up_unless : (failed : Option Code) → ((failed ≡ None → ⊥) → ⊥) → failed ≡ None
+up_unless None down = refl
+up_unless (Some code) down = absurd (down (λ up. none_some code (sym up)))
+
+opens_up : (log : Log) (act : Act) (answer : Answer) (i : ℕ) → MayAnswer log act answer
+    → active log i ≡ false → active (with_call log act answer) i ≡ true → log.failed ≡ None
+opens_up log act answer i may inactive alive =
+    up_unless log.failed (λ down. both_ways _
+    (inactive_by_call log act answer i may inactive (λ is. down (number_up log act i
+    (subst (λ (one : Answer). MayAnswer log act one) is may)))) alive)
+
+-- What is known of a log whose connection is up.
+log_good : (role : Role) (values : Values) (log : Log) → IsLog role values log
+    → log.failed ≡ None → Good (history_of log)
+log_good role values log is = (log_represents role values log is).good
+
+-- A call.
+owed_by : (log after : Log) (act : Act) (answer : Answer) (i : ℕ) → AfterCall log act answer after
+    → released i log.calls ≤ released i after.calls
+    → (active log i ≡ false → active after i ≡ true → Good (history_of log))
+    → owed log i ≡ 0 → owed after i ≡ 0
+owed_by log after act answer i (was_refused refusal is adds) more good none =
+    none_owed_after log after [] [] [] i adds more (none_of_none i) good none
+owed_by log after act answer i (was_broken code adds failed) more good none =
+    none_owed_after log after [] _ [] i adds more (none_of_none i) good none
+owed_by log after act answer i (was_accepted credit is_credit free is adds) more good none =
+    none_owed_after log after [] _ [] i adds more (none_of_none i) good none
+
+-- Where nothing is owed on a stream, nothing is after a call.
+pub none_owed_by_call : (role : Role) (values : Values) (log : Log) (act : Act) (answer : Answer)
+    (i : ℕ) → IsLog role values log → MayAnswer log act answer → owed log i ≡ 0
+    → owed (with_call log act answer) i ≡ 0
+none_owed_by_call role values log act answer i is may none =
+    owed_by log (with_call log act answer) act answer i (call_after log act answer may)
+    (call_releases log act answer i)
+    (λ inactive alive. log_good role values log is (opens_up log act answer i may inactive alive))
+    none
+
+-- What is reported is no call.
+reported_calls : (log : Log) (events : List Event) → (with_reported log events).calls ≡ log.calls
+unfolding with_reported
+reported_calls log [] = refl
+reported_calls log (event ∷ events) = refl
+
+-- Nor is what is read: an item that was replied to,
+replied_calls : (log : Log) (decoded : Option Decoded) (item : Item) (more : ℕ)
+    (replies : List Item) (events : List Event)
+    → (with_reported (with_unreturned more (with_sent (read log decoded item) replies))
+    events).calls ≡ log.calls
+replied_calls log decoded item more replies events =
+    reported_calls _ events ∙ due_calls more _ ∙ sent_calls (read log decoded item) replies
+
+-- by its verdict,
+verdict_calls : (log : Log) (decoded : Option Decoded) (item : Item) (verdict : Verdict)
+    → (with_verdict log decoded item verdict).calls ≡ log.calls
+unfolding with_verdict
+verdict_calls log decoded item (ConnectionFault code) = sent_calls log _
+verdict_calls log decoded item (StreamFault code) = replied_calls log decoded item _ _ _
+verdict_calls log decoded item NoEvent = replied_calls log decoded item _ _ _
+verdict_calls log decoded item Reported = replied_calls log decoded item _ _ _
+
+-- what a frame makes of the block that has begun,
+step_calls : (log : Log) (decoded : Option Decoded) (step : FrameStep)
+    → (with_step log decoded step).calls ≡ log.calls
+unfolding with_step
+step_calls log decoded (fails_with code) = sent_calls log _
+step_calls log decoded (begins_block begun) = refl
+step_calls log decoded (completes item) =
+    verdict_calls (record log { begun = None }) decoded item _
+
+-- a frame,
+frame_calls : (log : Log) (octets : List ℕ) (decoded : Option Decoded) (frame : Frame)
+    → (took_frame log octets decoded frame).calls ≡ log.calls
+unfolding with_frame used
+frame_calls log octets decoded frame =
+    step_calls (record (used log octets []) { frames = log.frames ++ frame ∷ [] }) decoded
+    (frame_step (log_view (used log octets [])) frame)
+
+-- octets with which no frame ends,
+part_calls : (log : Log) (octets unparsed : List ℕ) → (used log octets unparsed).calls ≡ log.calls
+unfolding used
+part_calls log octets unparsed = refl
+
+-- octets that make a fault,
+fault_calls : (log : Log) (octets : List ℕ) (code : Code) (last : ℕ)
+    → (with_failure code last (used log octets [])).calls ≡ log.calls
+fault_calls log octets code last =
+    sent_calls (used log octets []) _ ∙ part_calls log octets []
+
+-- and a stream that is reported as unprocessed.
+named_calls : (log : Log) → (took_none log).calls ≡ log.calls
+named_calls log = reported_calls _ _ ∙ due_calls _ log
+
+-- Where the calls are the same, so is what was released.
+same_released : (i : ℕ) (before after : Log) → after.calls ≡ before.calls
+    → released i before.calls ≤ released i after.calls
+same_released i before after same = rw same (omega arith)
+
+-- A frame that reports no octets of the stream.
+owed_by_frame : (before after : Log) (decoded : Option Decoded) (i : ℕ)
+    → AfterFrame before decoded after → after.calls ≡ before.calls → Good (history_of before)
+    → (after.failed ≡ before.failed → (events : List Event)
+    → after.reported ≡ events ++ before.reported → reported_total (flow_on i) events ≡ 0)
+    → owed before i ≡ 0 → owed after i ≡ 0
+owed_by_frame before after decoded i (stays_same adds failed) same good quiet none =
+    none_owed_after before after [] [] [] i adds (same_released i before after same)
+    (none_of_none i) (λ inactive alive. good) none
+owed_by_frame before after decoded i (has_broken code last up adds failed) same good quiet none =
+    none_owed_after before after [] _ [] i adds (same_released i before after same)
+    (none_of_none i) (λ inactive alive. good) none
+owed_by_frame before after decoded i (has_read item verdict credit is on is_credit adds failed)
+    same good quiet none =
+    none_owed_after before after (item ∷ []) _ _ i adds (same_released i before after same)
+    (quiet failed _ adds.reported) (λ inactive alive. good) none
+
+-- Nothing is reported of octets that are used, nor of a fault.
+owed_by_none : (log after : Log) (i : ℕ) → AfterFrame log None after
+    → after.calls ≡ log.calls → after.reported ≡ log.reported → Good (history_of log)
+    → owed log i ≡ 0 → owed after i ≡ 0
+owed_by_none log after i steps same reported good none =
+    owed_by_frame log after None i steps same good (λ failed events is.
+    subst (λ (line : List Event). reported_total (flow_on i) line ≡ 0)
+    (append_cancel_right [] events log.reported (sym reported ∙ is)) (none_of_none i)) none
+
+-- What is answered has no octets of the stream.
+answered_quiet : (i count : ℕ) (event : Option Event) → take_has_data i (Took count event) ≡ false
+    → reported_total (flow_on i) (events_answered event) ≡ 0
+unfolding take_has_data reported_total flow_on
+answered_quiet i count None none = refl
+answered_quiet i count (Some (DataEvent id octets flow end)) none = rw none refl
+answered_quiet i count (Some event) none = refl
+
+-- So it is of what is reported of a frame.
+frame_quiet : (before after : Log) (count i : ℕ) (answer : TakeAnswer) → before.failed ≡ None
+    → AnswersFrame before after count answer → take_has_data i answer ≡ false
+    → after.failed ≡ before.failed → (events : List Event)
+    → after.reported ≡ events ++ before.reported → reported_total (flow_on i) events ≡ 0
+frame_quiet before after count i (Took n event) up answers none same events is =
+    subst (λ (line : List Event). reported_total (flow_on i) line ≡ 0)
+    (append_cancel_right _ _ before.reported (sym answers.2 ∙ is))
+    (answered_quiet i n event none)
+frame_quiet before after count i (Failed code) up answers none same events is =
+    none_some code (sym up ∙ sym same ∙ answers)
+
+-- A stream that is reported as unprocessed has no octets.
+named_quiet : (i id : ℕ) → reported_total (flow_on i) (UnprocessedEvent id ∷ []) ≡ 0
+unfolding reported_total flow_on
+named_quiet i id = refl
+
+-- Octets that are used leave as much owed.
+used_owed : (log : Log) (octets : List ℕ) (frame : Frame) (i : ℕ) → owed log i ≡ 0
+    → owed (frame_used log octets frame) i ≡ 0
+unfolding owed unreleased
+used_owed log octets frame i none = none
+
+-- Where nothing is owed on a stream, nothing is after a call of `take`, unless it reports octets
+-- of the stream.
+pub none_owed_by_take : (role : Role) (values : Values) (log after : Log) (piece : List ℕ)
+    (answer : TakeAnswer) (i : ℕ) → IsLog role values log → MayTake log piece answer after
+    → owed log i ≡ 0 → take_has_data i answer ≡ false → owed after i ≡ 0
+none_owed_by_take role values log after piece answer i is (has_failed code failed answers same)
+    none quiet = rw same none
+none_owed_by_take role values log after piece answer i is (named_one up some answers same) none
+    quiet =
+    let adds = none_adds log in
+    rw same (none_owed_after log (took_none log) [] adds.0 _ i adds.2
+    (same_released i log (took_none log) (named_calls log)) (named_quiet i (next_unprocessed log))
+    (λ inactive alive. log_good role values log is up) none)
+none_owed_by_take role values log after piece answer i is
+    (ends_no_frame takes unparsed part answers same) none quiet =
+    rw same (owed_by_none log _ i (part_after log piece unparsed) (part_calls log piece unparsed)
+    (part_reported log piece unparsed) (log_good role values log is takes.up) none)
+none_owed_by_take role values log after piece answer i is
+    (ends_frame takes octets unused joined frame decoded framed sees same answers) none quiet =
+    owed_by_frame (frame_used log octets frame) after decoded i
+    (rw same (frame_after log octets decoded frame))
+    (rw same (frame_calls log octets decoded frame)) (log_good role values log is takes.up)
+    (frame_quiet (frame_used log octets frame) after _ i answer takes.up answers quiet)
+    (used_owed log octets frame i none)
+none_owed_by_take role values log after piece answer i is
+    (meets_fault takes octets unused joined fault at answers same) none quiet =
+    rw same (owed_by_none log _ i (fault_after log octets (wire_fault_code fault))
+    (fault_calls log octets (wire_fault_code fault) _)
+    (fault_reported log octets (wire_fault_code fault) _)
+    (log_good role values log is takes.up) none)
+none_owed_by_take role values log after piece answer i is
+    (runs_out_of_memory up octets unused joined may answers same) none quiet =
+    rw same (owed_by_none log _ i (fault_after log octets InternalError)
+    (fault_calls log octets InternalError _) (fault_reported log octets InternalError _)
+    (log_good role values log is up) none)

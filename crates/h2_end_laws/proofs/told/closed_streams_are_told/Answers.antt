@@ -1,0 +1,10 @@
+-- By the lemmas on streams that stay active.
+use Rattle.h2_end_laws.proofs.ToldCalls.{active_by_call}
+use Rattle.h2_end_laws.proofs.ToldTakes.{active_by_take}
+use Rattle.h2_end_laws.proofs.told.closed_streams_are_told.Goals as goal
+
+pub returns-clause-calls : goal.returns-clause-calls
+returns-clause-calls c = active_by_call
+
+pub returns-clause-takes : goal.returns-clause-takes
+returns-clause-takes c = active_by_take

@@ -1,0 +1,269 @@
+-- What a step leaves of what keeps step with what has happened, stream by stream.
+use Rattle.std.proofs.Common.{◌≡◌, ◌≢◌, ℕ, false, List, [], ◌∷◌, ◌++◌, Option, Some, None, sym, ap}
+use Rattle.std.proofs.Common.{◌∙◌, inl, inr, append-nil}
+use Rattle.std.proofs.lemmas.Bool.{both_ways, cases_Bool}
+use Rattle.std.proofs.lemmas.List.Elements.{Contains-append_right}
+use Rattle.h2_log.specs.declared.role.Role.{Role}
+use Rattle.h2_log.specs.Acts.{Values, Act, Answer, Number}
+use Rattle.h2_log.specs.Events.{Event}
+use Rattle.h2_log.specs.Log.{Log, active}
+use Rattle.h2_log.specs.LogCalls.{MayAnswer, with_call}
+use Rattle.h2_log.specs.Histories.{IsLog}
+use Rattle.h2_log_laws.proofs.LogGrowth.{grows_call}
+use Rattle.h2_end_laws.specs.Takes.{TakeAnswer, MayTake, AfterTake, Took, Failed, has_failed}
+use Rattle.h2_end_laws.specs.Takes.{reports_unprocessed, ends_no_frame, ends_frame, meets_fault}
+use Rattle.h2_end_laws.specs.Takes.{runs_out_of_memory}
+use Rattle.h2_end_laws.proofs.OverCalls.{over_by_call}
+use Rattle.h2_end_laws.proofs.OverReads.{over_by_take}
+use Rattle.h2_end_laws.proofs.TakeAnswers.{log_after_take}
+use Rattle.h2_conn.specs.Conn.{ConnRepresents}
+use Rattle.h2_message.specs.Messages.{SentMessage}
+use Rattle.h2_pair.specs.Tokens.{Token, tokens_of_event, tokens_of_call, tokens_heard}
+use Rattle.h2_pair.proofs.HeardCalls.{call_calls}
+use Rattle.h2_ends.specs.declared.end.End.{End}
+use Rattle.h2_ends.specs.declared.outgoing.Stream.{Stream}
+use Rattle.h2_ends.specs.declared.span.Span.{Span}
+use Rattle.h2_ends.specs.declared.span.Spans.{Spans}
+use Rattle.h2_ends.specs.Ends.{EndLog, Passed, tokens_of_parts}
+use Rattle.h2_ends.specs.EndTakes.{end_with_log, end_with_handed}
+use Rattle.h2_ends.specs.Represents.{EndRepresents, RepresentsBut, IsInStep, KeepsActive, kept_at}
+use Rattle.h2_ends.specs.Represents.{HandsInOrder, OwesWithin, WasRefused, outgoing_in}
+use Rattle.h2_end_laws.specs.Told.{call_may_close, take_may_close, take_has_data}
+use Rattle.h2_end_laws.specs.Told.{take_has_fields}
+use Rattle.h2_end_laws.proofs.ToldCalls.{active_by_call, inactive_by_call}
+use Rattle.h2_end_laws.proofs.ToldTakes.{active_by_take, inactive_by_take}
+use Rattle.h2_end_laws.proofs.ToldOwed.{none_owed_by_call, none_owed_by_take}
+use Rattle.h2_ends.proofs.EndTokens.{take_calls}
+use Rattle.h2_ends.proofs.EndSteps.{called_end, quiet_call, same_handed, passed_none}
+
+-- what a call of `take` reports of a stream, token by token
+abbrev pub tokens_told : ℕ → TakeAnswer → List Token
+tokens_told i (Took count (Some event)) = tokens_of_event i event
+tokens_told i answer = []
+
+-- A stream that was refused was so.
+refused_called : (log : Log) (act : Act) (answer : Answer) (i : ℕ) → WasRefused log i
+    → WasRefused (with_call log act answer) i
+refused_called log act answer i was = (
+  was.0,
+  was.1,
+  rw (call_calls log act answer)
+      (Contains-append_right ((act, answer) ∷ []) log.calls _ was.2),
+)
+
+-- Other messages that were accepted, and more calls, leave what was handed out.
+handed_called : (happened : EndLog) (act : Act) (answer : Answer)
+    (accepted : List (ℕ × SentMessage)) (i : ℕ) → MayAnswer happened.log act answer
+    → HandsInOrder happened i → HandsInOrder (called_end happened act answer accepted) i
+handed_called happened act answer accepted i may (inl same) =
+    inl (ap (tokens_heard i) (grows_call happened.log act answer).reported ∙ same)
+handed_called happened act answer accepted i may (inr cut) =
+    inr (record {
+      refused = refused_called happened.log act answer i cut.refused;
+      last = elim cut.last [
+        | inl past ↦ inl (over_by_call happened.log act answer i may past)
+        | inr down ↦ inr (λ up. down ((grows_call happened.log act answer).up up))
+      ];
+      prefix = (
+        cut.prefix.0,
+        ap (tokens_heard i) (grows_call happened.log act answer).reported ∙ cut.prefix.1,
+      );
+    })
+
+-- Where something is owed after a call it was before, and so after octets that are not the stream's.
+pub owes_called : (role : Role) (values : Values) (span : Span) (log : Log) (act : Act)
+    (answer : Answer) (i : ℕ) → IsLog role values log → MayAnswer log act answer
+    → OwesWithin span log i → OwesWithin span (with_call log act answer) i
+owes_called role values span log act answer i came may owes = λ some.
+    owes (λ none. some (none_owed_by_call role values log act answer i came may none))
+
+pub owes_taken : (role : Role) (values : Values) (span : Span) (log after : Log)
+    (piece : List ℕ) (answer : TakeAnswer) (i : ℕ) → IsLog role values log
+    → MayTake log piece answer after → take_has_data i answer ≡ false
+    → OwesWithin span log i → OwesWithin span after i
+owes_taken role values span log after piece answer i came may no_data owes = λ some.
+    owes (λ none. some (none_owed_by_take role values log after piece answer i came may none
+    no_data))
+
+-- A call that does not open the stream.
+pub in_step_called : (role : Role) (values : Values) (spans : Spans) (stream : Option Stream)
+    (happened : EndLog) (act : Act) (answer : Answer) (accepted : List (ℕ × SentMessage)) (i : ℕ)
+    → IsLog role values happened.log → MayAnswer happened.log act answer → answer ≢ Number i
+    → IsInStep spans stream happened i
+    → IsInStep spans stream (called_end happened act answer accepted) i
+in_step_called role values spans stream happened act answer accepted i came may other is =
+    record {
+      all = λ up alive. elim (cases_Bool (active happened.log i)) [
+        | inl was ↦ is.all ((grows_call happened.log act answer).up up) was
+        | inr not ↦ absurd (both_ways _ (inactive_by_call happened.log act answer i may not other)
+            alive)
+      ];
+      handed = handed_called happened act answer accepted i may is.handed;
+      within = is.within;
+      owes = owes_called role values spans.owing happened.log act answer i came may is.owes;
+    }
+
+-- A call that does not close the stream.
+pub active_called : (role : Role) (values : Values) (log : Log) (act : Act) (answer : Answer)
+    (stream : Option Stream) (i : ℕ) → IsLog role values log → MayAnswer log act answer
+    → call_may_close i act answer ≡ false → KeepsActive log stream i
+    → KeepsActive (with_call log act answer) stream i
+active_called role values log act answer stream i is may stays keeps =
+    λ some. active_by_call role values log act answer i is may (keeps some) stays
+
+-- A connection that is up was so before.
+up_before : (log after : Log) (piece : List ℕ) (answer : TakeAnswer)
+    → MayTake log piece answer after → after.failed ≡ None → log.failed ≡ None
+up_before log after piece answer (has_failed code failed answers same) up =
+    ap (λ (new : Log). new.failed) (sym same) ∙ up
+up_before log after piece answer (reports_unprocessed was some answers same) up = was
+up_before log after piece answer (ends_no_frame takes unparsed part answers same) up = takes.up
+up_before log after piece answer
+    (ends_frame takes octets unused joined frame decoded framed sees same answers) up = takes.up
+up_before log after piece answer
+    (meets_fault takes octets unused joined fault at answers same) up = takes.up
+up_before log after piece answer
+    (runs_out_of_memory was octets unused joined may answers same) up = was
+
+-- What was heard on a stream of which nothing is reported.
+heard_taken : (log after : Log) (piece : List ℕ) (answer : TakeAnswer) (i : ℕ)
+    → AfterTake log after piece answer → tokens_told i answer ≡ []
+    → tokens_heard i after.reported ≡ tokens_heard i log.reported
+unfolding tokens_heard
+heard_taken log after piece (Took count None) i says none = ap (tokens_heard i) says.5
+heard_taken log after piece (Took count (Some event)) i says none =
+    ap (tokens_heard i) says.5
+    ∙ ap (λ (more : List Token). tokens_heard i log.reported ++ more) none
+    ∙ append-nil (tokens_heard i log.reported)
+heard_taken log after piece (Failed code) i says none = ap (tokens_heard i) says.4
+
+-- So it leaves what was handed out.
+handed_taken : (happened : EndLog) (piece : List ℕ) (answer : TakeAnswer) (log : Log) (i : ℕ)
+    → MayTake happened.log piece answer log → tokens_told i answer ≡ []
+    → HandsInOrder happened i → HandsInOrder (end_with_log happened log) i
+handed_taken happened piece answer log i may none (inl same) =
+    inl (heard_taken happened.log log piece answer i
+    (log_after_take happened.log log piece answer may) none ∙ same)
+handed_taken happened piece answer log i may none (inr cut) =
+    inr (record {
+      refused = (
+        cut.refused.0,
+        cut.refused.1,
+        rw (take_calls happened.log log piece answer may) cut.refused.2,
+      );
+      last = elim cut.last [
+        | inl past ↦ inl (over_by_take happened.log log piece answer i may past)
+        | inr down ↦ inr (λ up. down (up_before happened.log log piece answer may up))
+      ];
+      prefix = (
+        cut.prefix.0,
+        heard_taken happened.log log piece answer i
+            (log_after_take happened.log log piece answer may) none ∙ cut.prefix.1,
+      );
+    })
+
+-- Octets of which nothing of the stream is reported.
+pub in_step_taken : (role : Role) (values : Values) (spans : Spans) (stream : Option Stream)
+    (happened : EndLog) (piece : List ℕ) (answer : TakeAnswer) (log : Log) (i : ℕ)
+    → IsLog role values happened.log → MayTake happened.log piece answer log
+    → tokens_told i answer ≡ [] → take_has_fields i answer ≡ false
+    → take_has_data i answer ≡ false → IsInStep spans stream happened i
+    → IsInStep spans stream (end_with_log happened log) i
+in_step_taken role values spans stream happened piece answer log i came may none no_fields no_data
+    is =
+    record {
+      all = λ up alive. elim (cases_Bool (active happened.log i)) [
+        | inl was ↦ is.all (up_before happened.log log piece answer may up) was
+        | inr not ↦ absurd (both_ways _
+            (inactive_by_take role values happened.log log piece answer i came may not
+            no_fields) alive)
+      ];
+      handed = handed_taken happened piece answer log i may none is.handed;
+      within = is.within;
+      owes = owes_taken role values spans.owing happened.log log piece answer i came may no_data
+          is.owes;
+    }
+
+-- Octets that do not close it.
+pub active_taken : (role : Role) (values : Values) (log after : Log) (piece : List ℕ)
+    (answer : TakeAnswer) (stream : Option Stream) (i : ℕ) → IsLog role values log
+    → MayTake log piece answer after → take_may_close i answer ≡ false
+    → KeepsActive log stream i → KeepsActive after stream i
+active_taken role values log after piece answer stream i is may stays keeps =
+    λ some. active_by_take role values log after piece answer i is may (keeps some) stays
+
+-- Something is passed on.
+pub in_step_passed : (spans : Spans) (stream : Option Stream) (happened : EndLog) (event : Event)
+    (i : ℕ) → IsInStep spans stream happened i
+    → IsInStep spans stream (end_with_handed happened happened.log (Passed event)) i
+in_step_passed spans stream happened event i is =
+    let same = sym (ap tokens_of_parts
+    (same_handed happened (Passed event) i (passed_none i event)).handed) in
+    record {
+      all = is.all;
+      handed = elim is.handed [
+        | inl heard ↦ inl (heard ∙ same)
+        | inr cut ↦ inr (record {
+          refused = cut.refused;
+          last = cut.last;
+          prefix = (
+            cut.prefix.0,
+            cut.prefix.1
+                ∙ ap (λ (tokens : List Token). tokens ++ cut.prefix.0) same,
+          );
+        })
+      ];
+      within = is.within;
+      owes = is.owes;
+    }
+
+-- Something else is kept, with the same message to send.
+pub in_step_with : (spans : Spans) (stream other : Option Stream) (happened : EndLog) (i : ℕ)
+    → (stream ≢ None → other ≢ None) → outgoing_in other ≡ outgoing_in stream
+    → IsInStep spans stream happened i → IsInStep spans other happened i
+in_step_with spans stream other happened i keeps same is =
+    record {
+      all = λ up alive. keeps (is.all up alive);
+      handed = is.handed;
+      within = λ waiting waits. is.within waiting (sym same ∙ waits);
+      owes = is.owes;
+    }
+
+-- A call that opens and closes no stream, and sends no token.
+pub called_as : (values : Values) (end new : End) (happened : EndLog) (act : Act)
+    (answer : Answer) → EndRepresents values end happened → MayAnswer happened.log act answer
+    → ConnRepresents values new.conn (with_call happened.log act answer)
+    → new.role ≡ end.role → new.streams ≡ end.streams → new.spans ≡ end.spans
+    → ((i : ℕ) → tokens_of_call i act answer ≡ []) → ((i : ℕ) → answer ≢ Number i)
+    → ((i : ℕ) → call_may_close i act answer ≡ false)
+    → EndRepresents values new (end_with_log happened (with_call happened.log act answer))
+called_as values end new happened act answer is may conn role streams spans none other stays =
+    record {
+      streams = quiet_call values end new happened act answer is.streams may conn role streams none;
+      in_step = λ i. rw (spans, streams)
+          (in_step_called _ values end.spans (kept_at i end.streams.entries) happened act answer
+          happened.accepted i is.streams.conn.machine.came may (other i) (is.in_step i));
+      active = λ i. rw streams
+          (active_called _ values happened.log act answer (kept_at i end.streams.entries) i
+          is.streams.conn.machine.came may (stays i) (is.active i));
+    }
+
+-- The same where it may close one.
+pub called_but : (values : Values) (end new : End) (happened : EndLog) (act : Act)
+    (answer : Answer) (id : ℕ) → EndRepresents values end happened
+    → MayAnswer happened.log act answer
+    → ConnRepresents values new.conn (with_call happened.log act answer)
+    → new.role ≡ end.role → new.streams ≡ end.streams → new.spans ≡ end.spans
+    → ((i : ℕ) → tokens_of_call i act answer ≡ []) → ((i : ℕ) → answer ≢ Number i)
+    → ((i : ℕ) → i ≢ id → call_may_close i act answer ≡ false)
+    → RepresentsBut values new (end_with_log happened (with_call happened.log act answer)) id
+called_but values end new happened act answer id is may conn role streams spans none other stays =
+    record {
+      streams = quiet_call values end new happened act answer is.streams may conn role streams none;
+      in_step = λ i. rw (spans, streams)
+          (in_step_called _ values end.spans (kept_at i end.streams.entries) happened act answer
+          happened.accepted i is.streams.conn.machine.came may (other i) (is.in_step i));
+      active = λ i but. rw streams
+          (active_called _ values happened.log act answer (kept_at i end.streams.entries) i
+          is.streams.conn.machine.came may (stays i but) (is.active i));
+    }
