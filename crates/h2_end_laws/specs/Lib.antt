@@ -8,5 +8,5 @@ pub mod Replays
 pub mod Scripts
 pub mod Sendings
 pub mod Takes
-pub mod Told
+pub mod Activity
 pub mod Written

@@ -3,6 +3,7 @@
 //! reports. Each is the contract of a function that does nothing.
 #![tactic(auto)]
 
+mod activity;
 mod pieces;
 mod reads;
 mod replays;
@@ -10,9 +11,12 @@ mod streams;
 mod takes;
 #[cfg(test)]
 mod tests;
-mod told;
 mod writes;
 
+pub use activity::{
+    active_streams_stay_active, owed_octets_are_reported, refused_streams_are_closed,
+    streams_become_active,
+};
 pub use pieces::{pieces_do_not_matter, prefix_of_the_output};
 pub use reads::{events_are_of_the_items, items_are_frames_grouped};
 pub use replays::replays_are_logs;
@@ -21,10 +25,6 @@ pub use streams::{
     released_is_not_owed, sending_gives_no_room,
 };
 pub use takes::take_answers;
-pub use told::{
-    closed_streams_are_told, opened_streams_are_told, owed_octets_are_told,
-    refused_streams_are_closed,
-};
 pub use writes::{
     blocks_are_of_the_lists, each_is_replied_to, each_step_writes_what_it_owes,
     nothing_follows_a_failure, receive_window_is_kept, stream_window_is_conserved,

@@ -11,7 +11,7 @@ use Rattle.h2_ends.specs.declared.end.End.{End}
 use Rattle.h2_ends.specs.Ends.{EndLog}
 use Rattle.h2_ends.specs.EndTakes.{end_with_log}
 use Rattle.h2_ends.specs.Represents.{EndAnswers, EndRepresents, RepresentsBut}
-use Rattle.h2_end_laws.specs.Told.{call_may_close}
+use Rattle.h2_end_laws.specs.Activity.{call_may_close}
 use Rattle.h2_ends.proofs.InSteps.{called_as, called_but}
 
 -- A call that opens and closes no stream, and sends no token.

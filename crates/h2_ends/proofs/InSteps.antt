@@ -28,18 +28,18 @@ use Rattle.h2_ends.specs.Ends.{EndLog, Passed, tokens_of_parts}
 use Rattle.h2_ends.specs.EndTakes.{end_with_log, end_with_handed}
 use Rattle.h2_ends.specs.Represents.{EndRepresents, RepresentsBut, IsInStep, KeepsActive, kept_at}
 use Rattle.h2_ends.specs.Represents.{HandsInOrder, OwesWithin, WasRefused, outgoing_in}
-use Rattle.h2_end_laws.specs.Told.{call_may_close, take_may_close, take_has_data}
-use Rattle.h2_end_laws.specs.Told.{take_has_fields}
-use Rattle.h2_end_laws.proofs.ToldCalls.{active_by_call, inactive_by_call}
-use Rattle.h2_end_laws.proofs.ToldTakes.{active_by_take, inactive_by_take}
-use Rattle.h2_end_laws.proofs.ToldOwed.{none_owed_by_call, none_owed_by_take}
+use Rattle.h2_end_laws.specs.Activity.{call_may_close, take_may_close, take_has_data}
+use Rattle.h2_end_laws.specs.Activity.{take_has_fields}
+use Rattle.h2_end_laws.proofs.ActivityCalls.{active_by_call, inactive_by_call}
+use Rattle.h2_end_laws.proofs.ActivityTakes.{active_by_take, inactive_by_take}
+use Rattle.h2_end_laws.proofs.ActivityOwed.{none_owed_by_call, none_owed_by_take}
 use Rattle.h2_ends.proofs.EndTokens.{take_calls}
 use Rattle.h2_ends.proofs.EndSteps.{called_end, quiet_call, same_handed, passed_none}
 
 -- what a call of `take` reports of a stream, token by token
-abbrev pub tokens_told : ℕ → TakeAnswer → List Token
-tokens_told i (Took count (Some event)) = tokens_of_event i event
-tokens_told i answer = []
+abbrev pub tokens_reported : ℕ → TakeAnswer → List Token
+tokens_reported i (Took count (Some event)) = tokens_of_event i event
+tokens_reported i answer = []
 
 -- A stream that was refused was so.
 refused_called : (log : Log) (act : Act) (answer : Answer) (i : ℕ) → WasRefused log i
@@ -70,7 +70,8 @@ handed_called happened act answer accepted i may (inr cut) =
       );
     })
 
--- Where something is owed after a call it was before, and so after octets that are not the stream's.
+-- Where something is owed after a call it was before, and so after octets that are not the
+-- stream's.
 pub owes_called : (role : Role) (values : Values) (span : Span) (log : Log) (act : Act)
     (answer : Answer) (i : ℕ) → IsLog role values log → MayAnswer log act answer
     → OwesWithin span log i → OwesWithin span (with_call log act answer) i
@@ -127,7 +128,7 @@ up_before log after piece answer
 
 -- What was heard on a stream of which nothing is reported.
 heard_taken : (log after : Log) (piece : List ℕ) (answer : TakeAnswer) (i : ℕ)
-    → AfterTake log after piece answer → tokens_told i answer ≡ []
+    → AfterTake log after piece answer → tokens_reported i answer ≡ []
     → tokens_heard i after.reported ≡ tokens_heard i log.reported
 unfolding tokens_heard
 heard_taken log after piece (Took count None) i says none = ap (tokens_heard i) says.5
@@ -139,7 +140,7 @@ heard_taken log after piece (Failed code) i says none = ap (tokens_heard i) says
 
 -- So it leaves what was handed out.
 handed_taken : (happened : EndLog) (piece : List ℕ) (answer : TakeAnswer) (log : Log) (i : ℕ)
-    → MayTake happened.log piece answer log → tokens_told i answer ≡ []
+    → MayTake happened.log piece answer log → tokens_reported i answer ≡ []
     → HandsInOrder happened i → HandsInOrder (end_with_log happened log) i
 handed_taken happened piece answer log i may none (inl same) =
     inl (heard_taken happened.log log piece answer i
@@ -166,7 +167,7 @@ handed_taken happened piece answer log i may none (inr cut) =
 pub in_step_taken : (role : Role) (values : Values) (spans : Spans) (stream : Option Stream)
     (happened : EndLog) (piece : List ℕ) (answer : TakeAnswer) (log : Log) (i : ℕ)
     → IsLog role values happened.log → MayTake happened.log piece answer log
-    → tokens_told i answer ≡ [] → take_has_fields i answer ≡ false
+    → tokens_reported i answer ≡ [] → take_has_fields i answer ≡ false
     → take_has_data i answer ≡ false → IsInStep spans stream happened i
     → IsInStep spans stream (end_with_log happened log) i
 in_step_taken role values spans stream happened piece answer log i came may none no_fields no_data

@@ -201,8 +201,8 @@ module _ (values : Values) (start : EndLog) where
       → EndRepresents values (record end { spans = record end.spans { waiting = left } }) happened
   ends_represent count end left happened last is active none before =
       record {
-        streams = to_end values (record end { spans = record end.spans { waiting = left } }) (keeps_of end) happened
-            is.represents (λ i. refl);
+        streams = to_end values (record end { spans = record end.spans { waiting = left } })
+            (keeps_of end) happened is.represents (λ i. refl);
         in_step = λ i. record {
           all = (is.in_step i).all;
           handed = (is.in_step i).handed;

@@ -32,7 +32,7 @@ use Rattle.h2_ends.specs.Represents.{outgoing_in}
 use Rattle.h2_ends.specs.Pumping as pumping
 use Rattle.h2_ends.specs.Pumping.{end_after_call, with_outgoing, keeps_with, IsPumping, LacksSpace}
 use Rattle.h2_ends.specs.Pumping.{KeepsActiveOnly, KeepsActiveBut, sends_data, sends_trailers}
-use Rattle.h2_end_laws.specs.Told.{call_may_close}
+use Rattle.h2_end_laws.specs.Activity.{call_may_close}
 use Rattle.h2_ends.proofs.InSteps.{in_step_called, active_called}
 use Rattle.h2_ends.proofs.PumpCalls.{pump_keeps}
 use Rattle.h2_ends.proofs.PumpEnds.{keeps_here, keeps_other, kept_is, call_represents, same_by}
@@ -193,8 +193,8 @@ module _ (values : Values) (start : EndLog) (role : Role) (spans : Spans)
       in_step_after : (outgoing : Outgoing) (i : ℕ)
           → IsInStep spans (keeps_to outgoing i) (end_after_call happened act answer) i
       in_step_after outgoing i =
-          let was = in_step_called _ values spans (keeps_to (outgoings.Waiting waits) i) happened act
-          answer happened.accepted i is.pumping.represents.represents.machine.came may (opens i)
+          let was = in_step_called _ values spans (keeps_to (outgoings.Waiting waits) i) happened
+          act answer happened.accepted i is.pumping.represents.represents.machine.came may (opens i)
           (is.pumping.in_step i) in
           elim (cases_eq i id) [
             | inl same ↦ subst (λ (j : ℕ). IsInStep spans (keeps_to outgoing j)
@@ -285,7 +285,8 @@ module _ (values : Values) (start : EndLog) (role : Role) (spans : Spans)
             let end = is_none waits.trailers in
             let within = data_within happened.log id octets end n may in
             let after = end_after_call happened (data_act id waits) (Count n) in
-            let rest = waits_after happened id waits n waits_here (omega (arith, some)) within goes in
+            let rest = waits_after happened id waits n waits_here (omega (arith, some)) within
+            goes in
             record {
               pumping = data_pumping (outgoings.Waiting (sent_more waits n)) rest;
               alive = stays_active happened.log id octets end n may

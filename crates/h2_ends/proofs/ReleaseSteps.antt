@@ -1,6 +1,6 @@
 -- The calls of a release of all that is owed, one more at their end.
-use Rattle.std.proofs.Common.{◌≡◌, ◌≢◌, ◌⊎◌, inl, inr, ℕ, ◌+◌, ◌<◌, ◌-◌, false, [], Option, Some, None}
-use Rattle.std.proofs.Common.{Ok, Err, refl, sym, ◌∙◌, subst, arith, nat_lt, ltb-true, ltb-false}
+use Rattle.std.proofs.Common.{◌≡◌, ◌≢◌, ◌⊎◌, inl, inr, ℕ, ◌+◌, ◌<◌, ◌-◌, false, [], Option}
+use Rattle.std.proofs.Common.{Some, None, Ok, Err, refl, sym, ◌∙◌, subst, arith, nat_lt, ltb-true, ltb-false}
 use Rattle.std.proofs.lemmas.Bool.{cases_Bool, cases_eq}
 use Rattle.h2_log.specs.declared.refusal.Refusal.{Refusal}
 use Rattle.h2_log.specs.Acts.{Values, Answer, IsTypedAct, Release, Done, Refused}
@@ -17,7 +17,7 @@ use Rattle.h2_ends.specs.EndCalls.{IsNextOwed, MayReleaseAll}
 use Rattle.h2_ends.specs.declared.span.Span.{Span}
 use Rattle.h2_ends.specs.Represents.{EndRepresents, InSpan}
 use Rattle.h2_ends.specs.Pumping.{end_after_call, LacksSpace}
-use Rattle.h2_end_laws.specs.Told.{call_may_close}
+use Rattle.h2_end_laws.specs.Activity.{call_may_close}
 use Rattle.h2_ends.proofs.InSteps.{called_as}
 use Rattle.h2_ends.proofs.PumpRefusals.{release_refused}
 use Rattle.h2_ends.proofs.PumpSteps.{IsNext, zero_inactive}

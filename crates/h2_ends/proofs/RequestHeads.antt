@@ -32,8 +32,8 @@ use Rattle.h2_ends.specs.Represents.{EndRepresents, RepresentsBut, RepresentsStr
 use Rattle.h2_ends.specs.Represents.{IsStream, IsOutgoing, IsUntouched, kept_at}
 use Rattle.h2_ends.specs.Heads.{IsGiven, IsOpened, IsAnswered, KeepsOne, given_stream}
 use Rattle.h2_ends.proofs.EndSteps.{called_end, stepped}
-use Rattle.h2_end_laws.proofs.ToldOpened.{active_by_open}
-use Rattle.h2_end_laws.proofs.ToldCalls.{active_by_call}
+use Rattle.h2_end_laws.proofs.ActivityOpened.{active_by_open}
+use Rattle.h2_end_laws.proofs.ActivityCalls.{active_by_call}
 use Rattle.h2_ends.proofs.InSteps.{owes_called, in_step_called}
 use Rattle.h2_ends.proofs.RequestSteps.{stepped_but, and_that, opens_one, open_keeps, fields_keep}
 use Rattle.h2_ends.proofs.RequestSteps.{head_keeps, handed_open, within_given}

@@ -81,7 +81,7 @@ opens_surely values old new end message list ends (Err refusal) first refuses ty
     let one : first.0 ≡ refusal = cc in (
       end_with_log end (with_call end.log act (Refused refusal)),
       refuses refusal (first.1 ∙ ap Some one),
-      unchanged_by end act refusal typed may,
+      unchanged_by end act refusal typed tt may,
       called_as values old new end act (Refused refusal) is may conn role streams waiting
           (λ i. refused_sends_none i list ends refusal) (λ i wrong. cc)
           (λ i. refused_open_keeps i list ends refusal),
@@ -185,7 +185,7 @@ opens_not values old new end message id (Err refusal) err fits next typed is may
       end_with_log end (with_call end.log act (Refused refusal)),
       refuses_fitting end.log act message refusal fits
           (refused_so end.log act refusal (λ same. cc) may),
-      unchanged_by end act refusal typed may,
+      unchanged_by end act refusal typed tt may,
       kept_alike values mid new (end_with_log end (with_call end.log act (Refused refusal)))
           (called_as values old mid end act (Refused refusal) is may conn refl refl refl
           (λ i. refused_sends_none i message.head (is_head_alone message) refusal)

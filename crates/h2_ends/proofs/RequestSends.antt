@@ -20,7 +20,7 @@ use Rattle.h2_conn.specs.Conn.{ConnRepresents, answer_by}
 use Rattle.h2_message.specs.declared.message.Message.{Message}
 use Rattle.h2_message.specs.Messages.{SentMessage, trailer_fields}
 use Rattle.h2_message.specs.Values.{message_value}
-use Rattle.h2_ends.specs.EndCalls.{is_head_alone, IsUnchanged}
+use Rattle.h2_ends.specs.EndCalls.{is_head_alone, IsHeadCall, IsUnchanged}
 use Rattle.h2_ends.specs.EndTakes.{end_with_log}
 use Rattle.h2_ends.specs.Ends.{EndLog}
 use Rattle.h2_ends.specs.Heads.{SendsHead}
@@ -115,10 +115,11 @@ sends_head values log id message (Err refusal) conn fits typed may new =
 
 -- What an end represents after a call that the connection refused.
 pub unchanged_by : (end : EndLog) (act : Act) (refusal : Refusal) → IsTypedAct act
+    → IsHeadCall act
     → MayAnswer end.log act (Refused refusal)
     → IsUnchanged end (end_with_log end (with_call end.log act (Refused refusal)))
 unfolding IsUnchanged
-unchanged_by end act refusal typed may = inr (act, refusal, typed, may, refl)
+unchanged_by end act refusal typed head may = inr (act, refusal, typed, head, may, refl)
 
 pub unchanged_itself : (end : EndLog) → IsUnchanged end end
 unfolding IsUnchanged

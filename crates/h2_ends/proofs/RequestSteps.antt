@@ -27,7 +27,7 @@ use Rattle.h2_ends.specs.Represents.{EndRepresents, RepresentsBut, RepresentsStr
 use Rattle.h2_ends.specs.Represents.{IsWithin, InSpan, HandsInOrder, KeepsActive}
 use Rattle.h2_ends.specs.Heads.{KeepsOne, given_stream}
 use Rattle.h2_ends.proofs.EndSteps.{called_end, kept}
-use Rattle.h2_end_laws.specs.Told.{call_may_close}
+use Rattle.h2_end_laws.specs.Activity.{call_may_close}
 use Rattle.h2_ends.proofs.InSteps.{in_step_called, active_called}
 
 -- What is in a span is in a wider one.

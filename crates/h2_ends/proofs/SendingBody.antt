@@ -154,7 +154,8 @@ module _ (conn : Conn) (id : ℕ) (waits : Waiting) (count : ℕ) (now new : Con
         → IsGoing conn id waits count new (sent_more left n) total
     going_on n total is answers = λ values start role spans keeps stream happened begun.
         let (after, way) = goes values start role spans keeps stream happened begun in
-        let sends = has_octets values start role spans keeps id stream sum now after left way some in
+        let sends = has_octets values start role spans keeps id stream sum now after left way
+        some in
         let both = of_the_rest (Count n) answers values after.log
         sends.pumping.represents.represents in
         let then = end_after_call after (data_act id left) (Count n) in
@@ -173,7 +174,8 @@ module _ (conn : Conn) (id : ℕ) (waits : Waiting) (count : ℕ) (now new : Con
     unfolding HasGone
     going_stuck n zero answers = λ values start role spans keeps stream happened begun.
         let (after, way) = goes values start role spans keeps stream happened begun in
-        let sends = has_octets values start role spans keeps id stream sum now after left way some in
+        let sends = has_octets values start role spans keeps id stream sum now after left way
+        some in
         let both = of_the_rest (Count 0)
         (subst (λ (m : ℕ). ConnAnswers now (SendData id octets end) (Count m) new) zero answers)
         values after.log sends.pumping.represents.represents in (
@@ -189,7 +191,8 @@ module _ (conn : Conn) (id : ℕ) (waits : Waiting) (count : ℕ) (now new : Con
     going_refused refusal result stops answers =
         λ values start role spans keeps stream happened begun.
         let (after, way) = goes values start role spans keeps stream happened begun in
-        let sends = has_octets values start role spans keeps id stream sum now after left way some in
+        let sends = has_octets values start role spans keeps id stream sum now after left way
+        some in
         let both = of_the_rest (Refused refusal) answers values after.log
         sends.pumping.represents.represents in
         let then = end_after_call after (data_act id left) (Refused refusal) in (
@@ -222,8 +225,8 @@ module _ (conn : Conn) (id : ℕ) (waits : Waiting) (count : ℕ) (now new : Con
         way are in
         let both = answers values after.log sends.pumping.represents.represents in (
           end_after_call after (SendFields id fields true) Done,
-          fields_go values start role spans keeps id stream sum now after left sends new fields typed
-              are none both.0 both.1,
+          fields_go values start role spans keeps id stream sum now after left sends new fields
+              typed are none both.0 both.1,
         )
 
     -- or refused.

@@ -119,7 +119,8 @@ forgets_none new forgotten id (inr gone) none waits is = wrong (ap outgoing_in (
 
 module _ (old now : End) (left : Span) (count last : ℕ) (goes : PumpsTo old now left count last)
   where
-    module _ (id : ℕ) (next : IsNextIn now.conn now.spans.waiting last (Some id)) (new : End) (sum : ℕ) where
+    module _ (id : ℕ) (next : IsNextIn now.conn now.spans.waiting last (Some id)) (new : End)
+        (sum : ℕ) where
       -- comes to a stream, on which it sends,
       comes_there : (progress : SendState) → PumpsOn now id count (Ok progress) new sum
           → (values : Values) (start : EndLog) → EndRepresents values old start
@@ -241,7 +242,8 @@ module _ (old now : End) (left : Span) (count last : ℕ) (goes : PumpsTo old no
           let live = next_read happened.log last id
           (next values happened.log so.goes.represents.represents).0 in
           let (after, ended) = sends values start happened
-          (pump_comes values start count now happened last id so.goes live) so.active live.alive in (
+          (pump_comes values start count now happened last id so.goes live) so.active
+          live.alive in (
             after,
             subst (λ (r : Refusal). MayPump start (Err (refusals.Conn r)) after) (sym ended.1)
                 (pump_lacks values start sum after up (subst (λ (r : Refusal).

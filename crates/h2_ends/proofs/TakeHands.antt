@@ -39,9 +39,9 @@ use Rattle.h2_ends.proofs.TakeActive.{data_is_active}
 use Rattle.h2_ends.proofs.InSteps.{owes_taken}
 use Rattle.h2_ends.proofs.TakeInStep.{differs, passed_over, read_on, reported_wider}
 use Rattle.h2_ends.proofs.TakeRefusing.{memory_fails}
-use Rattle.h2_end_laws.specs.Told.{take_has_fields, take_has_data, take_may_close}
-use Rattle.h2_end_laws.specs.Told.{event_may_close}
-use Rattle.h2_end_laws.proofs.ToldOpened.{active_by_fields}
+use Rattle.h2_end_laws.specs.Activity.{take_has_fields, take_has_data, take_may_close}
+use Rattle.h2_end_laws.specs.Activity.{event_may_close}
+use Rattle.h2_end_laws.proofs.ActivityOpened.{active_by_fields}
 
 -- The end may answer so, and represents what has happened then.
 abbrev pub Hands : Values → EndLog → List ℕ → EndAnswer → End → Type 0

@@ -30,9 +30,9 @@ use Rattle.h2_ends.specs.Taking.{HasReported, IsReadOn, end_with_part}
 use Rattle.h2_ends.proofs.EndParts.{handed_elsewhere}
 use Rattle.h2_ends.proofs.EndSteps.{kept, taken, same_handed, parts_handed, handed_part, handed_on}
 use Rattle.h2_ends.proofs.EndSteps.{passed_on}
-use Rattle.h2_ends.proofs.InSteps.{tokens_told, in_step_taken, active_taken, in_step_passed}
-use Rattle.h2_end_laws.specs.Told.{take_may_close, event_may_close, take_has_fields}
-use Rattle.h2_end_laws.specs.Told.{take_has_data}
+use Rattle.h2_ends.proofs.InSteps.{tokens_reported, in_step_taken, active_taken, in_step_passed}
+use Rattle.h2_end_laws.specs.Activity.{take_may_close, event_may_close, take_has_fields}
+use Rattle.h2_end_laws.specs.Activity.{take_has_data}
 
 -- An end represents what has happened where what it keeps of the one stream is active too.
 pub represents_all : (values : Values) (end : End) (happened : EndLog) (id : ℕ)
@@ -64,7 +64,7 @@ pub quiet_taken : (values : Values) (old new : End) (end : EndLog) (piece : List
     (answer : TakeAnswer) (log : Log) → EndRepresents values old end
     → MayTake end.log piece answer log → ConnRepresents values new.conn log
     → new.role ≡ old.role → new.streams ≡ old.streams → new.spans ≡ old.spans
-    → ((i : ℕ) → tokens_told i answer ≡ []) → ((i : ℕ) → take_has_fields i answer ≡ false)
+    → ((i : ℕ) → tokens_reported i answer ≡ []) → ((i : ℕ) → take_has_fields i answer ≡ false)
     → ((i : ℕ) → take_has_data i answer ≡ false) → ((i : ℕ) → take_may_close i answer ≡ false)
     → EndRepresents values new (end_with_log end log)
 quiet_taken values old new end piece answer log is may conn role streams waiting none no_fields
@@ -79,14 +79,14 @@ quiet_taken values old new end piece answer log is may conn role streams waiting
     }
 
 -- An event that is no part of a message, and may close one stream.
-told_but : (values : Values) (now : End) (end : EndLog) (piece : List ℕ) (count id : ℕ)
+reported_but : (values : Values) (now : End) (end : EndLog) (piece : List ℕ) (count id : ℕ)
     (event : Event) (log : Log) → HasReported values now end piece count event log
     → ((i : ℕ) → tokens_of_event i event ≡ [])
     → ((i : ℕ) → take_has_fields i (Took count (Some event)) ≡ false)
     → ((i : ℕ) → take_has_data i (Took count (Some event)) ≡ false)
     → ((i : ℕ) → i ≢ id → take_may_close i (Took count (Some event)) ≡ false)
     → RepresentsBut values now (end_with_log end log) id
-told_but values now end piece count id event log reported none no_fields no_data lasts =
+reported_but values now end piece count id event log reported none no_fields no_data lasts =
     record {
       streams = reported.streams;
       in_step = λ i. in_step_taken reported.logged.0 values now.spans (kept now i) end piece
@@ -98,16 +98,16 @@ told_but values now end piece count id event log reported none no_fields no_data
     }
 
 -- One that closes none.
-pub told_as : (values : Values) (now : End) (end : EndLog) (piece : List ℕ) (count : ℕ)
+pub reported_as : (values : Values) (now : End) (end : EndLog) (piece : List ℕ) (count : ℕ)
     (event : Event) (log : Log) → HasReported values now end piece count event log
     → ((i : ℕ) → tokens_of_event i event ≡ [])
     → ((i : ℕ) → take_has_fields i (Took count (Some event)) ≡ false)
     → ((i : ℕ) → take_has_data i (Took count (Some event)) ≡ false)
     → ((i : ℕ) → take_may_close i (Took count (Some event)) ≡ false)
     → EndRepresents values now (end_with_log end log)
-told_as values now end piece count event log reported none no_fields no_data lasts =
+reported_as values now end piece count event log reported none no_fields no_data lasts =
     represents_all values now (end_with_log end log) 0
-    (told_but values now end piece count 0 event log reported none no_fields no_data
+    (reported_but values now end piece count 0 event log reported none no_fields no_data
     (λ i other. lasts i))
     (active_taken reported.logged.0 values end.log log piece (Took count (Some event)) (kept now 0)
     0 reported.logged.1 reported.took (lasts 0) (reported.active 0))
@@ -122,7 +122,7 @@ pub reset_but : (values : Values) (now : End) (end : EndLog) (piece : List ℕ) 
     → RepresentsBut values now (end_with_log end log) id
 unfolding tokens_of_event take_has_fields take_has_data take_may_close event_may_close
 reset_but values now end piece count id code ours log reported =
-    told_but values now end piece count id (ResetEvent id code ours) log reported (λ i. refl)
+    reported_but values now end piece count id (ResetEvent id code ours) log reported (λ i. refl)
     (λ i. refl) (λ i. refl) (λ i other. differs i id other)
 
 pub unprocessed_but : (values : Values) (now : End) (end : EndLog) (piece : List ℕ)
@@ -130,7 +130,7 @@ pub unprocessed_but : (values : Values) (now : End) (end : EndLog) (piece : List
     → RepresentsBut values now (end_with_log end log) id
 unfolding tokens_of_event take_has_fields take_has_data take_may_close event_may_close
 unprocessed_but values now end piece count id log reported =
-    told_but values now end piece count id (UnprocessedEvent id) log reported (λ i. refl)
+    reported_but values now end piece count id (UnprocessedEvent id) log reported (λ i. refl)
     (λ i. refl) (λ i. refl) (λ i other. differs i id other)
 
 -- The connection was up before it reported something.

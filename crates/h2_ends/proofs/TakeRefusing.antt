@@ -27,8 +27,8 @@ use Rattle.h2_ends.proofs.ControlSteps.{refuse_tokens}
 use Rattle.h2_ends.proofs.EndSteps.{kept, quiet_call}
 use Rattle.h2_ends.proofs.InSteps.{in_step_called, active_called, owes_called}
 use Rattle.h2_ends.proofs.TakeInStep.{differs}
-use Rattle.h2_end_laws.specs.Told.{call_may_close}
-use Rattle.h2_end_laws.proofs.ToldCalls.{inactive_by_refusal}
+use Rattle.h2_end_laws.specs.Activity.{call_may_close}
+use Rattle.h2_end_laws.proofs.ActivityCalls.{inactive_by_refusal}
 
 -- A refusal opens no stream.
 refuse_opens_none : (log : Log) (id code i : ℕ) (answer : Answer)

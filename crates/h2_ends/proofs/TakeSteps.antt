@@ -14,7 +14,7 @@ use Rattle.h2_ends.specs.Taking.{HasReported}
 use Rattle.h2_ends.proofs.EndSteps.{taken, taken_kept, kept}
 use Rattle.h2_ends.proofs.TakeHands.{Hands}
 use Rattle.h2_ends.proofs.TakeInStep.{quiet_taken}
-use Rattle.h2_end_laws.specs.Told.{take_has_data, take_has_fields, take_may_close}
+use Rattle.h2_end_laws.specs.Activity.{take_has_data, take_has_fields, take_may_close}
 
 -- The connection may answer so, and represents the log then.
 abbrev pub Tells : Values → EndLog → List ℕ → TakeAnswer → End → Type 0

@@ -42,11 +42,17 @@ RefusesMessage log act message refusal =
     (refusal_of_message log act message ≡ Some refusal)
     ⊎ ((refusal_of_message log act message ≡ None) × (refusal ≡ Memory))
 
--- Nothing has happened, but that the connection may have refused a call.
+-- The call sends the head of a message.
+abbrev pub IsHeadCall : Act → Type 0
+IsHeadCall (Open fields end) = Unit {0}
+IsHeadCall (SendFields id fields end) = Unit {0}
+IsHeadCall act = ⊥
+
+-- Nothing has happened, but that the connection may have refused a call that sends a head.
 unfoldable pub IsUnchanged : (before after : EndLog) → Type 0
 IsUnchanged before after =
     (after ≡ before)
-    ⊎ ((act : Act) × (refusal : Refusal) × IsTypedAct act
+    ⊎ ((act : Act) × (refusal : Refusal) × IsTypedAct act × IsHeadCall act
     × MayAnswer before.log act (Refused refusal)
     × (after ≡ end_with_log before (with_call before.log act (Refused refusal))))
 

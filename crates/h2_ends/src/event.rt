@@ -45,8 +45,8 @@ pub enum EndEvent<'a> {
         id: u32,
         /// Why, by its number.
         code: u32,
-        /// Whether it is over for a fault of the peer, a malformed message among them: then this
-        /// end has reset it, unless the peer had closed it by then.
+        /// Whether this end has reset it: for a fault of the peer, a malformed message among them,
+        /// or since it takes no more streams. No RST_STREAM is sent where the peer has closed it.
         ours: bool,
     },
     /// The peer has not processed this request, and will not (section 6.8).

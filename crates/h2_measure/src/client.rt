@@ -66,6 +66,7 @@ fn send<W: Write>(alloc: Global, client: &mut Client, to: &mut W) -> Result<()> 
         to.write_all(&output)?;
         pumped?;
     }
+    to.flush()?;
     Ok(())
 }
 

@@ -9,6 +9,8 @@ mod encoding;
 mod input;
 mod server;
 mod serving;
+#[cfg(test)]
+mod tests;
 
 use counts::Counts;
 use std::alloc::Global;

@@ -1,7 +1,7 @@
 //! A server over any reader and writer: the README's example.
 
 use anyhow::Result;
-use h2_ends::{Config, EndEvent, Field, Message, Server};
+use h2_ends::{Config, EndEvent, Field, FieldList, Message, Server};
 use std::alloc::Global;
 use std::io::{Read, Write};
 
@@ -23,19 +23,18 @@ pub(crate) fn serve<R: Read, W: Write>(alloc: Global, from: &mut R, to: &mut W) 
     Ok(())
 }
 
-/// Takes what was read, and answers the requests that end in it.
+/// Takes what was read, and answers the requests whose heads are in it.
 fn take_piece(alloc: Global, server: &mut Server, piece: &[u8]) -> Result<()> {
     let mut unused = piece;
     for _ in 0..=piece.len() {
         let taken = server.take(unused)?;
         unused = &unused[taken.used..];
-        let (id, end) = match taken.event {
-            Some(EndEvent::Head { id, end, .. } | EndEvent::Body { id, end, .. }) => (id, end),
-            Some(EndEvent::Trailers { id, .. }) => (id, true),
+        let (id, to_head) = match taken.event {
+            Some(EndEvent::Head { id, list, .. }) => (id, asks_head(list)),
             None if unused.is_empty() => break,
             _ => continue,
         };
-        if end && let Err((_, refusal)) = server.respond(id, hello(alloc)?) {
+        if let Err((_, refusal)) = server.respond(id, hello(alloc, to_head)?) {
             return Err(refusal.into());
         }
     }
@@ -55,16 +54,30 @@ fn send<W: Write>(alloc: Global, server: &mut Server, to: &mut W) -> Result<()> 
         to.write_all(&output)?;
         pumped?;
     }
+    to.flush()?;
     Ok(())
 }
 
+/// Whether a request asks with HEAD: then its answer has no body.
+fn asks_head(list: &FieldList) -> bool {
+    for place in 0..list.len() {
+        if let Some(field) = list.get(place)
+            && field.name == b":method".as_slice()
+        {
+            return field.value == b"HEAD".as_slice();
+        }
+    }
+    false
+}
+
 /// What each request is answered with.
-fn hello(alloc: Global) -> Result<Message> {
+fn hello(alloc: Global, to_head: bool) -> Result<Message> {
+    let body: &[u8] = if to_head { b"" } else { b"hello\n" };
     let mut head = Vec::new(alloc);
     head.push(Field::copy_of(alloc, b":status", b"200", false)?)?;
     Ok(Message {
         head,
-        body: Vec::from_slice(alloc, b"hello\n")?,
+        body: Vec::from_slice(alloc, body)?,
         trailers: None,
     })
 }

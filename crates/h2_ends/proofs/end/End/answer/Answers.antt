@@ -115,7 +115,7 @@ returns-in-Err-send_head c = λ values end is.
       end_with_log end (with_call end.log act (Refused refusal)),
       refuses_response end _ c.args.id (message_value c.args.message.now) stream refusal asked.0
           asked.1 given (rw c.asks_head.ensures at c.in_default-check_response.ensures.ok)
-          sends.2 (unchanged_by end act refusal sends.3 sends.4),
+          sends.2 (unchanged_by end act refusal sends.3 tt sends.4),
       called_as values c.args.self.now _ end act (Refused refusal) is sends.4 sends.5 refl refl
           refl (λ i. refused_fields_send_none i c.args.id sends.0 sends.1 refusal)
           (λ i wrong. cc) (λ i. refused_fields_keep i c.args.id sends.0 sends.1 refusal),

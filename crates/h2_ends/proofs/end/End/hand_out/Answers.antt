@@ -10,9 +10,9 @@ use Rattle.h2_ends.specs.Taking.{code_unread}
 use Rattle.h2_ends.proofs.TakeHands.{fields_on, data_on, event_passed, fields_handed}
 use Rattle.h2_ends.proofs.TakeHands.{fields_not_handed, data_handed, data_not_handed, same_body}
 use Rattle.h2_ends.proofs.TakeHands.{reset_lies}
-use Rattle.h2_ends.proofs.TakeInStep.{told_as, reset_but, unprocessed_but}
-use Rattle.h2_end_laws.specs.Told.{take_has_fields, take_has_data, take_may_close}
-use Rattle.h2_end_laws.specs.Told.{event_may_close}
+use Rattle.h2_ends.proofs.TakeInStep.{reported_as, reset_but, unprocessed_but}
+use Rattle.h2_end_laws.specs.Activity.{take_has_fields, take_has_data, take_may_close}
+use Rattle.h2_end_laws.specs.Activity.{event_may_close}
 use Rattle.h2_ends.proofs.end.End.hand_out.Goals as goal
 
 pub returns-then-read_data-clause-lies : goal.returns-then-read_data-clause-lies
@@ -35,8 +35,8 @@ returns-then-read_data-clause-hands c = λ octets body.
           c.in-Data.id octets c.in-Data.flow c.in-Data.end log said
           (c.if-read_data.ensures.reads values (end_with_log end log) octets counted
           (data_on values c.args.self.now end c.args.piece.now count c.in-Data.id octets
-          c.in-Data.flow c.in-Data.end log c.with-self.result c.with-self.ensures.here c.with-self.ensures.more
-          said)),
+          c.in-Data.flow c.in-Data.end log c.with-self.result c.with-self.ensures.here
+          c.with-self.ensures.more said)),
     )
 
 pub returns-else-read_data-clause-lies : goal.returns-else-read_data-clause-lies
@@ -56,8 +56,8 @@ returns-else-read_data-clause-hands c = λ octets none.
           c.refuse-in-Data.result said
           (c.if-read_data.ensures.reads values (end_with_log end log) lent refl
           (data_on values c.args.self.now end c.args.piece.now count c.in-Data.id lent
-          c.in-Data.flow c.in-Data.end log c.with-self.result c.with-self.ensures.here c.with-self.ensures.more
-          said))
+          c.in-Data.flow c.in-Data.end log c.with-self.result c.with-self.ensures.here
+          c.with-self.ensures.more said))
           (c.refuse-in-Data.ensures.answers values (end_with_log end log))
           c.refuse-in-Data.ensures.resets,
     )
@@ -149,7 +149,7 @@ returns-in-GoAway-clause-hands c = λ octets none. (
   λ values end count log reported.
       let said = rw c.in-GoAway.is at reported in
       event_passed values c.args.self.now c.args.self.now end c.args.piece.now count
-      (GoAwayEvent c.in-GoAway.last c.in-GoAway.code) log said refl (told_as values
+      (GoAwayEvent c.in-GoAway.last c.in-GoAway.code) log said refl (reported_as values
       c.args.self.now end c.args.piece.now count (GoAwayEvent c.in-GoAway.last c.in-GoAway.code) log
       said (λ i. refl) (λ i. refl) (λ i. refl) (λ i. refl)),
 )
@@ -167,7 +167,7 @@ returns-in-Acked-clause-hands c = λ octets none. (
   λ values end count log reported.
       let said = rw c.in-Acked.is at reported in
       event_passed values c.args.self.now c.args.self.now end c.args.piece.now count AckedEvent log
-      said refl (told_as values
+      said refl (reported_as values
       c.args.self.now end c.args.piece.now count AckedEvent log
       said (λ i. refl) (λ i. refl) (λ i. refl) (λ i. refl)),
 )
@@ -185,7 +185,7 @@ returns-in-Pong-clause-hands c = λ octets none. (
   λ values end count log reported.
       let said = rw c.in-Pong.is at reported in
       event_passed values c.args.self.now c.args.self.now end c.args.piece.now count
-      (PongEvent c.in-Pong.octets) log said refl (told_as values
+      (PongEvent c.in-Pong.octets) log said refl (reported_as values
       c.args.self.now end c.args.piece.now count (PongEvent c.in-Pong.octets) log
       said (λ i. refl) (λ i. refl) (λ i. refl) (λ i. refl)),
 )

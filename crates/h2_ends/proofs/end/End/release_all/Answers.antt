@@ -42,5 +42,5 @@ returns-in-Err c =
 
 pub returns : goal.returns
 returns c =
-    ends_release c.args.self.now c.loop-id.self c.loop-id.last c.none-self.result c.loop-id.invariant
-    c.in_default.ensures.next
+    ends_release c.args.self.now c.loop-id.self c.loop-id.last c.none-self.result
+    c.loop-id.invariant c.in_default.ensures.next

@@ -1,8 +1,8 @@
 -- By the lemmas on streams that become active.
-use Rattle.h2_end_laws.proofs.ToldCalls.{inactive_by_call}
-use Rattle.h2_end_laws.proofs.ToldOpened.{active_by_open, active_by_fields}
-use Rattle.h2_end_laws.proofs.ToldTakes.{inactive_by_take}
-use Rattle.h2_end_laws.proofs.told.opened_streams_are_told.Goals as goal
+use Rattle.h2_end_laws.proofs.ActivityCalls.{inactive_by_call}
+use Rattle.h2_end_laws.proofs.ActivityOpened.{active_by_open, active_by_fields}
+use Rattle.h2_end_laws.proofs.ActivityTakes.{inactive_by_take}
+use Rattle.h2_end_laws.proofs.activity.streams_become_active.Goals as goal
 
 pub returns-clause-calls : goal.returns-clause-calls
 returns-clause-calls c = inactive_by_call

@@ -1,6 +1,6 @@
 -- By the lemmas on what is owed.
-use Rattle.h2_end_laws.proofs.ToldOwed.{none_owed_by_call, none_owed_by_take}
-use Rattle.h2_end_laws.proofs.told.owed_octets_are_told.Goals as goal
+use Rattle.h2_end_laws.proofs.ActivityOwed.{none_owed_by_call, none_owed_by_take}
+use Rattle.h2_end_laws.proofs.activity.owed_octets_are_reported.Goals as goal
 
 pub returns-clause-calls : goal.returns-clause-calls
 returns-clause-calls c = none_owed_by_call

@@ -23,7 +23,7 @@ use Rattle.h2_log.specs.ItemEffects.{events_of}
 use Rattle.h2_log_laws.proofs.ReaderStates.{active_used, state_active, state_is_active}
 use Rattle.h2_log_laws.proofs.ReplyInvariant.{used_more, used_here}
 use Rattle.h2_end_laws.specs.Over.{used}
-use Rattle.h2_end_laws.specs.Told.{event_may_close}
+use Rattle.h2_end_laws.specs.Activity.{event_may_close}
 use Rattle.h2_end_laws.proofs.ReadVerdicts.{Says, says_data, says_of}
 use Rattle.h2_end_laws.proofs.ReadingRules.{IsFaulty}
 
@@ -93,22 +93,22 @@ not_idle : {A : Type 0} (s : State) → s ≡ Active → s ≡ Idle → A
 not_idle s alive is = let both : Active ≡ Idle = sym alive ∙ is in cc
 
 -- Of an item that ends or resets an active stream something is reported, by the rules.
-active_told : (log : Log) (decoded : Option Decoded) (item : Item)
+active_reported : (log : Log) (decoded : Option Decoded) (item : Item)
     → state log (stream_of_item item) ≡ Active → (i : ℕ) → closes i item ≡ true
     → Says (Unit {0}) ⊥ (Unit {0}) (verdict_by_rules (log_view log) decoded item)
 unfolding verdict_by_rules stream_of_item stream_of ends resets
-active_told log None (block stream end octets) alive i is = tt
-active_told log (Some decoded) (block stream end octets) alive i is =
+active_reported log None (block stream end octets) alive i is = tt
+active_reported log (Some decoded) (block stream end octets) alive i is =
     says_block (Unit {0}) ⊥ (Unit {0}) (state log stream) (peer_opens (log_view log) stream)
     _ _ _ _ (λ idle opens. not_idle (state log stream) alive idle) (λ same. (tt, tt))
     (not_closed_by_us (state log stream) alive)
-active_told log decoded (alone (Data stream end octets pad)) alive i is =
+active_reported log decoded (alone (Data stream end octets pad)) alive i is =
     says_data (Unit {0}) ⊥ (Unit {0}) (state log stream) _ _ _ (λ same. tt)
     (not_closed_by_us (state log stream) alive) (λ same. tt)
-active_told log decoded (alone (Reset stream code)) alive i is =
+active_reported log decoded (alone (Reset stream code)) alive i is =
     says_reset (Unit {0}) ⊥ (Unit {0}) (state log stream) (λ same. tt)
     (not_closed_by_us (state log stream) alive) (not_closed (state log stream) alive)
-active_told log decoded (alone frame) alive i is = absurd (both_ways false refl is)
+active_reported log decoded (alone frame) alive i is = absurd (both_ways false refl is)
 
 -- An item of which nothing is reported, and that is no fault, closes no active stream.
 pub silent_keeps : (log : Log) (decoded : Option Decoded) (item : Item) (i : ℕ)
@@ -121,7 +121,7 @@ silent_keeps log decoded item i is alive =
     subst (λ (j : ℕ). state log j ≡ Active) (sym own) (active_state log i alive) in
     subst (Says (Unit {0}) ⊥ (Unit {0})) is
     (says_of (Unit {0}) ⊥ (Unit {0}) log decoded item
-    (active_told log decoded item here i closed)))
+    (active_reported log decoded item here i closed)))
 
 -- What is reported of an item that closes a stream may close it.
 pub reported_closes : (view : View) (decoded : Option Decoded) (item : Item) (i : ℕ)
@@ -170,12 +170,12 @@ no_idle : (s one : State) → s ≡ one → (one ≡ Idle → ⊥) → s ≡ Idl
 no_idle s one is other idle = other (sym is ∙ idle)
 
 -- The stream of an item that ends or resets it is used once the item is read, by the rules.
-used_told : (log : Log) (decoded : Option Decoded) (item : Item) (i : ℕ) → closes i item ≡ true
+used_reported : (log : Log) (decoded : Option Decoded) (item : Item) (i : ℕ) → closes i item ≡ true
     → Says (IsFaulty log item) (IsFaulty log item) (IsFaulty log item)
     (verdict_by_rules (log_view log) decoded item)
 unfolding verdict_by_rules stream_of_item stream_of ends resets
-used_told log None (block stream end octets) i is = tt
-used_told log (Some decoded) (block stream end octets) i is =
+used_reported log None (block stream end octets) i is = tt
+used_reported log (Some decoded) (block stream end octets) i is =
     let item = block stream end octets in
     let known : (one : State) → (one ≡ Idle → ⊥) → state log stream ≡ one → IsFaulty log item =
     λ one other same. known_used log item stream (no_idle (state log stream) one same other) in
@@ -185,19 +185,19 @@ used_told log (Some decoded) (block stream end octets) i is =
     (now, now, λ stays. now))
     (λ same. (known Active (λ wrong. cc) same, known Active (λ wrong. cc) same))
     (known ClosedByUs (λ wrong. cc))
-used_told log decoded (alone (Data stream end octets pad)) i is =
+used_reported log decoded (alone (Data stream end octets pad)) i is =
     let item = alone (Data stream end octets pad) in
     let known : (one : State) → (one ≡ Idle → ⊥) → state log stream ≡ one → IsFaulty log item =
     λ one other same. known_used log item stream (no_idle (state log stream) one same other) in
     says_data (IsFaulty log item) (IsFaulty log item) (IsFaulty log item) (state log stream) _ _ _
     (known Active (λ wrong. cc)) (known ClosedByUs (λ wrong. cc)) (known Active (λ wrong. cc))
-used_told log decoded (alone (Reset stream code)) i is =
+used_reported log decoded (alone (Reset stream code)) i is =
     let item = alone (Reset stream code) in
     let known : (one : State) → (one ≡ Idle → ⊥) → state log stream ≡ one → IsFaulty log item =
     λ one other same. known_used log item stream (no_idle (state log stream) one same other) in
     says_reset (IsFaulty log item) (IsFaulty log item) (IsFaulty log item) (state log stream)
     (known Active (λ wrong. cc)) (known ClosedByUs (λ wrong. cc)) (known Closed (λ wrong. cc))
-used_told log decoded (alone frame) i is = absurd (both_ways false refl is)
+used_reported log decoded (alone frame) i is = absurd (both_ways false refl is)
 
 -- What holds of each verdict but a fault of the connection, holds of this one.
 pub said_of : (A : Type 0) (verdict : Verdict)
@@ -214,7 +214,7 @@ pub unused_kept : (log : Log) (decoded : Option Decoded) (item : Item) (verdict 
     → is_used log.role i (item ∷ log.received) log.sent ≡ false → closes i item ≡ false
 unused_kept log decoded item verdict i is on unused =
     false_from_ne_true _ (λ closed.
-    let says = says_of _ _ _ log decoded item (used_told log decoded item i closed) in
+    let says = says_of _ _ _ log decoded item (used_reported log decoded item i closed) in
     let here : IsFaulty log item =
     said_of (IsFaulty log item) verdict on
     (subst (Says (IsFaulty log item) (IsFaulty log item) (IsFaulty log item)) is says) in
@@ -248,10 +248,10 @@ new_by_rules log (Some decoded) i end octets inactive =
     (λ same. absurd (both_ways _ inactive (state_is_active _ _ _ same))) (λ closed. tt)
 
 -- And so it is by the verdict.
-pub new_told : (log : Log) (decoded : Option Decoded) (i : ℕ) (end : Bool) (octets : List ℕ)
+pub new_reported : (log : Log) (decoded : Option Decoded) (i : ℕ) (end : Bool) (octets : List ℕ)
     → verdict_of (log_view log) decoded (block i end octets) ≡ Reported
     → active log i ≡ false → IsNew log i
-new_told log decoded i end octets is inactive =
+new_reported log decoded i end octets is inactive =
     subst (Says (Unit {0}) (Unit {0}) (IsNew log i)) is
     (says_of (Unit {0}) (Unit {0}) (IsNew log i) log decoded (block i end octets)
     (new_by_rules log decoded i end octets inactive))

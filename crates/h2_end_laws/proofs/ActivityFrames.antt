@@ -24,15 +24,15 @@ use Rattle.h2_log.specs.ItemEffects.{events_of, fields_of}
 use Rattle.h2_log_laws.proofs.ItemLists.{any_after}
 use Rattle.h2_log_laws.proofs.LogInvariant.{active_before}
 use Rattle.h2_log_laws.proofs.ReaderStates.{active_parts, lasts_parts}
-use Rattle.h2_end_laws.specs.Told.{event_may_close}
+use Rattle.h2_end_laws.specs.Activity.{event_may_close}
 use Rattle.h2_end_laws.specs.Written.{IsCredit}
 use Rattle.h2_end_laws.proofs.ReadVerdicts.{Says, says_of}
 use Rattle.h2_end_laws.proofs.ReadingRules.{IsFaulty, IsUnreported, IsSaid, LogIsLow, rules_say}
-use Rattle.h2_end_laws.proofs.ToldItems.{closes, closes_own, silent_keeps, reported_closes}
-use Rattle.h2_end_laws.proofs.ToldItems.{events_name_none}
-use Rattle.h2_end_laws.proofs.ToldStays.{none_of_both, harmless_append, harmless_credit}
-use Rattle.h2_end_laws.proofs.ToldStays.{harmless_replies, harmless_goaway, stays_active}
-use Rattle.h2_end_laws.proofs.ToldSteps.{Adds, AfterFrame, stays_same, has_broken, has_read}
+use Rattle.h2_end_laws.proofs.ActivityItems.{closes, closes_own, silent_keeps, reported_closes}
+use Rattle.h2_end_laws.proofs.ActivityItems.{events_name_none}
+use Rattle.h2_end_laws.proofs.ActivityStays.{none_of_both, harmless_append, harmless_credit}
+use Rattle.h2_end_laws.proofs.ActivityStays.{harmless_replies, harmless_goaway, stays_active}
+use Rattle.h2_end_laws.proofs.ActivitySteps.{Adds, AfterFrame, stays_same, has_broken, has_read}
 
 -- Whether a stream is active after a step, by what the step adds.
 pub active_added : (before after : Log) (reads items : List Item) (events : List Event) (i : ℕ)
@@ -199,12 +199,12 @@ pub record HasFields (before after : Log) (i : ℕ) : Type 0 where
   pub same : after.failed ≡ before.failed
 
 -- So it is of a block that is reported.
-fields_told : (before after : Log) (decoded : Option Decoded) (item : Item) (i : ℕ)
+fields_reported : (before after : Log) (decoded : Option Decoded) (item : Item) (i : ℕ)
     → is_block_on i item ≡ true
     → after.reported ≡ events_of (log_view before) decoded Reported item ++ before.reported
     → after.failed ≡ before.failed → HasFields before after i
 unfolding is_block_on events_of
-fields_told before after decoded (block stream end octets) i is reported failed =
+fields_reported before after decoded (block stream end octets) i is reported failed =
     record {
       fields = fields_of decoded;
       end = end;
@@ -213,7 +213,7 @@ fields_told before after decoded (block stream end octets) i is reported failed 
           (eqb-true stream i is);
       same = failed;
     }
-fields_told before after decoded (alone frame) i is reported failed =
+fields_reported before after decoded (alone frame) i is reported failed =
     absurd (both_ways false refl is)
 
 -- What is unreported of a block is of a stream that this end has closed.
@@ -225,7 +225,7 @@ silent_closed log (block stream end octets) i is silent =
 silent_closed log (alone frame) i is silent = absurd (both_ways false refl is)
 
 -- A block that was read, by its verdict: the stream is closed by this end, or fields are reported.
-block_told : (before after : Log) (decoded : Option Decoded) (item : Item) (verdict : Verdict)
+block_reported : (before after : Log) (decoded : Option Decoded) (item : Item) (verdict : Verdict)
     (credit : List Item) (i : ℕ) → LogIsLow before → is_block_on i item ≡ true
     → verdict_of (log_view before) decoded item ≡ verdict
     → ((code : Code) → verdict ≡ ConnectionFault code → ⊥)
@@ -233,17 +233,18 @@ block_told : (before after : Log) (decoded : Option Decoded) (item : Item) (verd
     → after.failed ≡ before.failed
     → (is_closed_by_us before.role i ((credit ++ replies_to verdict item) ++ before.sent) ≡ true)
     ⊎ HasFields before after i
-block_told before after decoded item (ConnectionFault code) credit i low here is on reported
+block_reported before after decoded item (ConnectionFault code) credit i low here is on reported
     failed = absurd (on code refl)
-block_told before after decoded item (StreamFault code) credit i low here is on reported failed =
+block_reported before after decoded item (StreamFault code) credit i low here is on reported
+    failed =
     inl (fault_resets before.role i credit before.sent code item (block_stream i item here))
-block_told before after decoded item NoEvent credit i low here is on reported failed =
+block_reported before after decoded item NoEvent credit i low here is on reported failed =
     let silent = subst (Says (IsFaulty before item) (IsUnreported before item)
     (IsSaid before item)) is
     (says_of _ _ _ before decoded item (rules_say before decoded item low)) in
     inl (closed_more before.role i _ before.sent (silent_closed before item i here silent))
-block_told before after decoded item Reported credit i low here is on reported failed =
-    inr (fields_told before after decoded item i here reported failed)
+block_reported before after decoded item Reported credit i low here is on reported failed =
+    inr (fields_reported before after decoded item i here reported failed)
 
 -- An item that was read, by whether it is a block of the stream.
 read_opens : (before after : Log) (decoded : Option Decoded) (item : Item) (verdict : Verdict)
@@ -256,7 +257,7 @@ read_opens : (before after : Log) (decoded : Option Decoded) (item : Item) (verd
     → (active before i ≡ true) ⊎ HasFields before after i
 read_opens before after decoded item verdict credit i low is on is_credit adds failed alive
     (inl here) =
-    elim (block_told before after decoded item verdict credit i low here is on adds.reported
+    elim (block_reported before after decoded item verdict credit i low here is on adds.reported
     failed) [
       | inl closed ↦ absurd (closed_inactive before.role i _ _ _ closed
           (sym (active_added before after (item ∷ []) _ _ i adds) ∙ alive))

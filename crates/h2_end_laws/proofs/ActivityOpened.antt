@@ -39,13 +39,13 @@ use Rattle.h2_end_laws.specs.Takes.{MayTake, Took, has_failed, reports_unprocess
 use Rattle.h2_end_laws.specs.Takes.{ends_no_frame, ends_frame, meets_fault, runs_out_of_memory}
 use Rattle.h2_end_laws.specs.Written.{IsCredit}
 use Rattle.h2_end_laws.proofs.OverNumbers.{opened_is_new}
-use Rattle.h2_end_laws.proofs.ToldFrames.{active_added, no_event}
-use Rattle.h2_end_laws.proofs.ToldItems.{new_told, events_name_none}
-use Rattle.h2_end_laws.proofs.ToldLogs.{LogIsKnown, known_of_logs}
-use Rattle.h2_end_laws.proofs.ToldStays.{harmless_append, harmless_credit, harmless_replies}
-use Rattle.h2_end_laws.proofs.ToldStays.{none_ends, none_resets, none_below, none_of_both}
-use Rattle.h2_end_laws.proofs.ToldSteps.{Adds, AfterFrame, stays_same, has_broken, has_read}
-use Rattle.h2_end_laws.proofs.ToldSteps.{frame_used, frame_after}
+use Rattle.h2_end_laws.proofs.ActivityFrames.{active_added, no_event}
+use Rattle.h2_end_laws.proofs.ActivityItems.{new_reported, events_name_none}
+use Rattle.h2_end_laws.proofs.ActivityLogs.{LogIsKnown, known_of_logs}
+use Rattle.h2_end_laws.proofs.ActivityStays.{harmless_append, harmless_credit, harmless_replies}
+use Rattle.h2_end_laws.proofs.ActivityStays.{none_ends, none_resets, none_below, none_of_both}
+use Rattle.h2_end_laws.proofs.ActivitySteps.{Adds, AfterFrame, stays_same, has_broken, has_read}
+use Rattle.h2_end_laws.proofs.ActivitySteps.{frame_used, frame_after}
 use Rattle.h2_end_laws.proofs.WrittenSteps.{call_writes}
 
 -- A block that a client writes uses its number.
@@ -252,7 +252,7 @@ block_opens : (before after : Log) (decoded : Option Decoded) (i : ℕ) (end : B
 block_opens before after decoded i end octets credit is is_credit adds inactive known unwritten =
     let item = block i end octets in
     let items = credit ++ replies_to Reported item in
-    let new = new_told before decoded i end octets is inactive in
+    let new = new_reported before decoded i end octets is inactive in
     let server = server_of before.role (i % 2 == 1) new.0 in
     let unsaid = unwritten new.2 in
     let replies = harmless_replies before.role i Reported item

@@ -1,4 +1,4 @@
-//! Which streams are active: whatever opens or closes one is told.
+//! Which streams are active: what opens and closes one, and what is owed.
 
 ghost use Rattle.std.specs.Prelude.{◌≡◌, ◌≢◌, ℕ, Bool, true, false, List, Some, None};
 ghost use Rattle.hpack.specs.declared.types.field.Field.{Field};
@@ -10,12 +10,12 @@ ghost use Rattle.h2_log.specs.Log.{Log, active, owed};
 ghost use Rattle.h2_log.specs.LogCalls.{MayAnswer, with_call};
 ghost use Rattle.h2_log.specs.Histories.{IsLog};
 ghost use Rattle.h2_end_laws.specs.Takes.{TakeAnswer, MayTake, Took};
-ghost use Rattle.h2_end_laws.specs.Told.{call_may_close, take_may_close, take_has_data};
-ghost use Rattle.h2_end_laws.specs.Told.{take_has_fields};
+ghost use Rattle.h2_end_laws.specs.Activity.{call_may_close, take_may_close, take_has_data};
+ghost use Rattle.h2_end_laws.specs.Activity.{take_has_fields};
 
 /// A stream stays active, unless a call ends this side of it or resets it, or what `take` answers
 /// says that it may be closed (RFC 9113, section 5.1). A failure closes none.
-pub fn closed_streams_are_told()
+pub fn active_streams_stay_active()
     ensures calls { (role : Role) (values : Values) (log : Log) (act : Act) (answer : Answer)
         (i : ℕ) → IsLog role values log → MayAnswer log act answer → active log i ≡ true
         → call_may_close i act answer ≡ false → active (with_call log act answer) i ≡ true }
@@ -26,7 +26,7 @@ pub fn closed_streams_are_told()
 
 /// A stream that isn't active becomes so where a call answers its number, or where `take` reports
 /// a field block of it: at a server (sections 5.1 and 5.1.1).
-pub fn opened_streams_are_told()
+pub fn streams_become_active()
     ensures calls { (log : Log) (act : Act) (answer : Answer) (i : ℕ) → MayAnswer log act answer
         → active log i ≡ false → answer ≢ Number i
         → active (with_call log act answer) i ≡ false }
@@ -51,7 +51,7 @@ pub fn refused_streams_are_closed()
 
 /// Where nothing is owed on a stream, nothing is after a call, nor after octets, unless `take`
 /// reports octets of the stream (section 6.9).
-pub fn owed_octets_are_told()
+pub fn owed_octets_are_reported()
     ensures calls { (role : Role) (values : Values) (log : Log) (act : Act) (answer : Answer)
         (i : ℕ) → IsLog role values log → MayAnswer log act answer → owed log i ≡ 0
         → owed (with_call log act answer) i ≡ 0 }

@@ -33,13 +33,13 @@ use Rattle.h2_log_laws.proofs.ReplyInvariant.{used_more}
 use Rattle.h2_end_laws.specs.Over.{used as was_used}
 use Rattle.h2_end_laws.proofs.ReadingCalls.{log_read}
 use Rattle.h2_end_laws.proofs.ReadingRules.{LogIsLow}
-use Rattle.h2_end_laws.proofs.ToldFrames.{was_active, frame_opens, HasFields}
-use Rattle.h2_end_laws.proofs.ToldItems.{events_name_none, unused_kept}
-use Rattle.h2_end_laws.proofs.ToldStays.{none_of_both}
-use Rattle.h2_end_laws.proofs.ToldSteps.{Adds, AfterFrame, stays_same, has_broken, has_read}
-use Rattle.h2_end_laws.proofs.ToldSteps.{AfterCall, was_refused, was_broken, was_accepted}
-use Rattle.h2_end_laws.proofs.ToldSteps.{frame_used, frame_after, fault_after, none_adds}
-use Rattle.h2_end_laws.proofs.ToldSteps.{call_after}
+use Rattle.h2_end_laws.proofs.ActivityFrames.{was_active, frame_opens, HasFields}
+use Rattle.h2_end_laws.proofs.ActivityItems.{events_name_none, unused_kept}
+use Rattle.h2_end_laws.proofs.ActivityStays.{none_of_both}
+use Rattle.h2_end_laws.proofs.ActivitySteps.{Adds, AfterFrame, stays_same, has_broken, has_read}
+use Rattle.h2_end_laws.proofs.ActivitySteps.{AfterCall, was_refused, was_broken, was_accepted}
+use Rattle.h2_end_laws.proofs.ActivitySteps.{frame_used, frame_after, fault_after, none_adds}
+use Rattle.h2_end_laws.proofs.ActivitySteps.{call_after}
 
 -- This is known of a number.
 pub record IsKnown (i : ℕ) (role : Role) (received sent : List Item)

@@ -34,16 +34,16 @@ use Rattle.h2_log_laws.proofs.LogInvariant.{Good, active_before}
 use Rattle.h2_end_laws.specs.Takes.{TakeAnswer, MayTake, Took, Failed, events_answered}
 use Rattle.h2_end_laws.specs.Takes.{AnswersFrame, has_failed, reports_unprocessed as named_one}
 use Rattle.h2_end_laws.specs.Takes.{ends_no_frame, ends_frame, meets_fault, runs_out_of_memory}
-use Rattle.h2_end_laws.specs.Told.{take_has_data}
+use Rattle.h2_end_laws.specs.Activity.{take_has_data}
 use Rattle.h2_end_laws.proofs.OverRoom.{sent_calls, due_calls, items_calls, released_more}
 use Rattle.h2_end_laws.proofs.OverRoom.{owed_inactive, owed_active, owed_none, left_is}
-use Rattle.h2_end_laws.proofs.ToldCalls.{inactive_by_call}
-use Rattle.h2_end_laws.proofs.ToldFrames.{active_added}
-use Rattle.h2_end_laws.proofs.ToldSteps.{Adds, AfterFrame, stays_same, has_broken, has_read}
-use Rattle.h2_end_laws.proofs.ToldSteps.{AfterCall, was_refused, was_broken, was_accepted}
-use Rattle.h2_end_laws.proofs.ToldSteps.{frame_used, frame_after, part_after, fault_after}
-use Rattle.h2_end_laws.proofs.ToldSteps.{none_adds, call_after}
-use Rattle.h2_end_laws.proofs.ToldTakes.{part_reported, fault_reported}
+use Rattle.h2_end_laws.proofs.ActivityCalls.{inactive_by_call}
+use Rattle.h2_end_laws.proofs.ActivityFrames.{active_added}
+use Rattle.h2_end_laws.proofs.ActivitySteps.{Adds, AfterFrame, stays_same, has_broken, has_read}
+use Rattle.h2_end_laws.proofs.ActivitySteps.{AfterCall, was_refused, was_broken, was_accepted}
+use Rattle.h2_end_laws.proofs.ActivitySteps.{frame_used, frame_after, part_after, fault_after}
+use Rattle.h2_end_laws.proofs.ActivitySteps.{none_adds, call_after}
+use Rattle.h2_end_laws.proofs.ActivityTakes.{part_reported, fault_reported}
 
 -- Of a stream that a step makes active no octets were reported before it: it wasn't opened.
 new_unreported : (before after : Log) (reads items : List Item) (events : List Event) (i : ℕ)

@@ -20,15 +20,15 @@ use Rattle.h2_log.specs.Histories.{IsLog}
 use Rattle.h2_end_laws.specs.Takes.{TakeAnswer, MayTake, Took, Failed, events_answered}
 use Rattle.h2_end_laws.specs.Takes.{AnswersFrame, has_failed, reports_unprocessed as named_one}
 use Rattle.h2_end_laws.specs.Takes.{ends_no_frame, ends_frame, meets_fault, runs_out_of_memory}
-use Rattle.h2_end_laws.specs.Told.{event_may_close, take_may_close, take_has_fields}
+use Rattle.h2_end_laws.specs.Activity.{event_may_close, take_may_close, take_has_fields}
 use Rattle.h2_end_laws.proofs.ReadingCalls.{log_read}
 use Rattle.h2_end_laws.proofs.ReadingRules.{LogIsLow}
-use Rattle.h2_end_laws.proofs.ToldCalls.{active_low}
-use Rattle.h2_end_laws.proofs.ToldFrames.{active_added, frame_keeps_active, frame_opens, HasFields}
-use Rattle.h2_end_laws.proofs.ToldFrames.{no_event, was_active, credit_no_block}
-use Rattle.h2_end_laws.proofs.ToldStays.{harmless_credit, stays_active}
-use Rattle.h2_end_laws.proofs.ToldSteps.{frame_used, frame_after, part_after, fault_after}
-use Rattle.h2_end_laws.proofs.ToldSteps.{none_adds, AfterFrame}
+use Rattle.h2_end_laws.proofs.ActivityCalls.{active_low}
+use Rattle.h2_end_laws.proofs.ActivityFrames.{active_added, frame_keeps_active, frame_opens}
+use Rattle.h2_end_laws.proofs.ActivityFrames.{HasFields, no_event, was_active, credit_no_block}
+use Rattle.h2_end_laws.proofs.ActivityStays.{harmless_credit, stays_active}
+use Rattle.h2_end_laws.proofs.ActivitySteps.{frame_used, frame_after, part_after, fault_after}
+use Rattle.h2_end_laws.proofs.ActivitySteps.{none_adds, AfterFrame}
 
 -- Nothing that is answered may close the stream.
 answered_keeps : (i count : ℕ) (event : Option Event) → take_may_close i (Took count event) ≡ false

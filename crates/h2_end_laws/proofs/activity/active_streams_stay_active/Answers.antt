@@ -1,7 +1,7 @@
 -- By the lemmas on streams that stay active.
-use Rattle.h2_end_laws.proofs.ToldCalls.{active_by_call}
-use Rattle.h2_end_laws.proofs.ToldTakes.{active_by_take}
-use Rattle.h2_end_laws.proofs.told.closed_streams_are_told.Goals as goal
+use Rattle.h2_end_laws.proofs.ActivityCalls.{active_by_call}
+use Rattle.h2_end_laws.proofs.ActivityTakes.{active_by_take}
+use Rattle.h2_end_laws.proofs.activity.active_streams_stay_active.Goals as goal
 
 pub returns-clause-calls : goal.returns-clause-calls
 returns-clause-calls c = active_by_call

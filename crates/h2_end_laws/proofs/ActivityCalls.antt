@@ -33,19 +33,19 @@ use Rattle.h2_log.specs.LogCalls.{MayAnswer, accepts, refuses, lacks, fails, wit
 use Rattle.h2_log.specs.Histories.{IsLog}
 use Rattle.h2_log_laws.proofs.ItemLists.{any_after}
 use Rattle.h2_log_laws.proofs.ReaderStates.{active_parts, active_used, lasts_parts}
-use Rattle.h2_end_laws.specs.Told.{call_may_close}
+use Rattle.h2_end_laws.specs.Activity.{call_may_close}
 use Rattle.h2_end_laws.proofs.OverCalls.{items_no_block}
 use Rattle.h2_end_laws.proofs.OverLists.{IsInactive, inactive_sent}
 use Rattle.h2_end_laws.proofs.OverNumbers.{open_answer, fields_active, used_below}
 use Rattle.h2_end_laws.proofs.OverSteps.{call_keeps}
-use Rattle.h2_end_laws.proofs.ToldFrames.{active_added}
-use Rattle.h2_end_laws.proofs.ToldLogs.{known_of_logs}
-use Rattle.h2_end_laws.proofs.ToldStays.{AreHarmless, harmless_append, harmless_credit}
-use Rattle.h2_end_laws.proofs.ToldStays.{harmless_block, harmless_body, harmless_reset}
-use Rattle.h2_end_laws.proofs.ToldStays.{harmless_goaway, harmless_settings}
-use Rattle.h2_end_laws.proofs.ToldStays.{harmless_ping, harmless_release, stays_active}
-use Rattle.h2_end_laws.proofs.ToldSteps.{AfterCall, was_refused, was_broken, was_accepted}
-use Rattle.h2_end_laws.proofs.ToldSteps.{call_after}
+use Rattle.h2_end_laws.proofs.ActivityFrames.{active_added}
+use Rattle.h2_end_laws.proofs.ActivityLogs.{known_of_logs}
+use Rattle.h2_end_laws.proofs.ActivityStays.{AreHarmless, harmless_append, harmless_credit}
+use Rattle.h2_end_laws.proofs.ActivityStays.{harmless_block, harmless_body, harmless_reset}
+use Rattle.h2_end_laws.proofs.ActivityStays.{harmless_goaway, harmless_settings}
+use Rattle.h2_end_laws.proofs.ActivityStays.{harmless_ping, harmless_release, stays_active}
+use Rattle.h2_end_laws.proofs.ActivitySteps.{AfterCall, was_refused, was_broken, was_accepted}
+use Rattle.h2_end_laws.proofs.ActivitySteps.{call_after}
 
 -- What a call writes closes no stream, unless it ends or resets it; what it opens is another one.
 items_harmless : (role : Role) (i : ℕ) (view : View) (act : Act) (answer : Answer)
