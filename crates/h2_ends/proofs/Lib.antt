@@ -1,5 +1,5 @@
-mod EndTokens
-mod EndParts
+pub mod EndTokens
+pub mod EndParts
 mod EndSteps
 mod InSteps
 mod TableSteps
@@ -8,7 +8,7 @@ mod ControlStart
 mod ControlForgets
 mod TakeActive
 mod TakeInStep
-mod TakeRefusing
+pub mod TakeRefusing
 mod TakeReads
 mod TakeHands
 mod TakeSteps
@@ -35,3 +35,8 @@ mod SendingRelease
 mod SendingBody
 mod SendingStreams
 mod SendingPump
+mod QuietOwes
+mod QuietRoom
+mod QuietSends
+mod QuietEnds
+pub mod ReadableParts

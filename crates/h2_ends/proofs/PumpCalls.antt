@@ -174,6 +174,17 @@ module _ (values : Values) (start : EndLog) where
       none_inactive happened.log i (keeps_of end i) waits (active i)
       (none i above ((is.in_step i).within waits waiting_is)) waiting_is
 
+  pub all_stuck : (count : ℕ) (end : End) (happened : EndLog) (last : ℕ)
+      → PumpGoes values start count end happened (last + 1)
+      → KeepsActiveOnly happened.log (keeps_of end)
+      → ((j : ℕ) → last < j → InSpan end.spans.waiting j → active happened.log j ≡ false)
+      → (i : ℕ) → IsStuckOn happened i
+  all_stuck count end happened last is active none i = elim (up_to_or i last) [
+    | inl here ↦ is.below i (omega (arith, here))
+    | inr above ↦ stuck_unless_waiting values end.conn end.role (keeps_of end) happened i
+        is.represents (none_above count end happened last i is active none above)
+  ]
+
   pub pump_ends : (count : ℕ) (end : End) (happened : EndLog) (last : ℕ)
       → start.log.failed ≡ None → PumpGoes values start count end happened (last + 1)
       → KeepsActiveOnly happened.log (keeps_of end)
@@ -184,11 +195,7 @@ module _ (values : Values) (start : EndLog) where
     up,
     inr (
       pumps_all start happened count is.calls,
-      λ i. elim (up_to_or i last) [
-        | inl here ↦ is.below i (omega (arith, here))
-        | inr above ↦ stuck_unless_waiting values end.conn end.role (keeps_of end) happened i
-            is.represents (none_above count end happened last i is active none above)
-      ],
+      all_stuck count end happened last is active none,
     ),
   )
 

@@ -84,7 +84,7 @@ none_goes log after i (OctetToken octet ∷ tokens) keeps never = λ could.
       | inl room ↦ never (and_parts _ _ room)
       | inr none ↦ both_ways _ (keeps none) (and_from _ _ could.0 could.1)
     ]
-none_goes log after i (FieldsToken list ∷ tokens) keeps never = never
+none_goes log after i (FieldsToken list end ∷ tokens) keeps never = never
 none_goes log after i (EndToken ∷ tokens) keeps never = never
 
 -- A call that writes no block on a stream, and sends nothing of it, leaves it stuck.

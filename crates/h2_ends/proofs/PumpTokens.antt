@@ -33,7 +33,7 @@ use Rattle.h2_ends.specs.Represents.{IsWaiting, IsOutgoing, tokens_kept}
 use Rattle.h2_ends.proofs.PumpStuck.{out_after, stuck_empty, stuck_octet}
 
 -- what waits after the octets of the body
-abbrev tail_kept : Waiting → List Token
+abbrev pub tail_kept : Waiting → List Token
 tail_kept waiting =
     trailers_tokens (option_map (λ fields. fields.items) waiting.trailers) ++ EndToken ∷ []
 
@@ -106,7 +106,7 @@ stuck_unsaid end id none =
     (tokens_given said)) none ∙ nothing_left (length (tokens_out end id)))
 
 -- An octet is next, where some are left.
-some_octet : (octets : List ℕ) → length octets ≢ 0
+pub some_octet : (octets : List ℕ) → length octets ≢ 0
     → (octet : ℕ) × (rest : List ℕ) × (octets ≡ octet ∷ rest)
 some_octet [] some = absurd (some refl)
 some_octet (octet ∷ rest) some = (octet, rest, refl)
@@ -239,13 +239,13 @@ sent_after_data end id waiting n waits none all =
 
 -- Once no octets are left and the trailers were sent, all was sent.
 fields_tokens : (id : ℕ) (fields : List Field)
-    → tokens_of_call id (SendFields id fields true) Done ≡ FieldsToken fields ∷ (EndToken ∷ [])
+    → tokens_of_call id (SendFields id fields true) Done ≡ FieldsToken fields true ∷ (EndToken ∷ [])
 unfolding tokens_of_call end_tokens
 fields_tokens id fields = rw (eq-eqb id id refl) refl
 
 trailers_kept : (waiting : Waiting) (fields : List Field) → length (octets_left waiting) ≡ 0
     → option_map (λ list. list.items) waiting.trailers ≡ Some fields
-    → tokens_kept waiting ≡ FieldsToken fields ∷ (EndToken ∷ [])
+    → tokens_kept waiting ≡ FieldsToken fields true ∷ (EndToken ∷ [])
 unfolding trailers_tokens
 trailers_kept waiting fields none are =
     ap (λ (octets : List ℕ). each OctetToken octets ++ tail_kept waiting)

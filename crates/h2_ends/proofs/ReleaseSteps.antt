@@ -1,6 +1,7 @@
 -- The calls of a release of all that is owed, one more at their end.
 use Rattle.std.proofs.Common.{◌≡◌, ◌≢◌, ◌⊎◌, inl, inr, ℕ, ◌+◌, ◌<◌, ◌-◌, false, [], Option}
-use Rattle.std.proofs.Common.{Some, None, Ok, Err, refl, sym, ◌∙◌, subst, arith, nat_lt, ltb-true, ltb-false}
+use Rattle.std.proofs.Common.{Some, None, Ok, Err, refl, sym, ◌∙◌, subst, arith, nat_lt, ltb-true}
+use Rattle.std.proofs.Common.{ltb-false}
 use Rattle.std.proofs.lemmas.Bool.{cases_Bool, cases_eq}
 use Rattle.h2_log.specs.declared.refusal.Refusal.{Refusal}
 use Rattle.h2_log.specs.Acts.{Values, Answer, IsTypedAct, Release, Done, Refused}

@@ -27,7 +27,8 @@ use Rattle.h2_ends.specs.declared.outgoing.Outgoing.{Outgoing}
 use Rattle.h2_ends.specs.declared.outgoing.Outgoing.TheVariants as outgoings
 use Rattle.h2_ends.specs.declared.outgoing.Stream.{Stream}
 use Rattle.h2_ends.specs.Ends.{EndLog, message_for, reads_on, tokens_out, asked_head}
-use Rattle.h2_ends.specs.EndCalls.{is_head_alone, end_with_message, IsAsked, MayRespond}
+use Rattle.h2_ends.specs.EndCalls.{end_with_message, IsAsked, MayRespond}
+use Rattle.h2_pair.specs.Tokens.{is_head_alone}
 use Rattle.h2_ends.specs.Represents.{EndRepresents, RepresentsBut, RepresentsStreams, IsKept}
 use Rattle.h2_ends.specs.Represents.{IsStream, IsOutgoing, IsUntouched, kept_at}
 use Rattle.h2_ends.specs.Heads.{IsGiven, IsOpened, IsAnswered, KeepsOne, given_stream}

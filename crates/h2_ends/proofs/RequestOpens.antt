@@ -27,7 +27,8 @@ use Rattle.h2_ends.specs.declared.outgoing.Outgoing.TheVariants as outgoings
 use Rattle.h2_ends.specs.declared.outgoing.Stream.{Stream}
 use Rattle.h2_ends.specs.Ends.{EndLog}
 use Rattle.h2_ends.specs.EndTakes.{end_with_log}
-use Rattle.h2_ends.specs.EndCalls.{is_head_alone, RefusesMessage}
+use Rattle.h2_ends.specs.EndCalls.{RefusesMessage}
+use Rattle.h2_pair.specs.Tokens.{is_head_alone}
 use Rattle.h2_ends.specs.Represents.{EndRepresents, kept_at}
 use Rattle.h2_ends.specs.Heads.{Opens, KeepsOne}
 use Rattle.h2_ends.proofs.InSteps.{called_as}

@@ -20,7 +20,8 @@ use Rattle.h2_conn.specs.Conn.{ConnRepresents, answer_by}
 use Rattle.h2_message.specs.declared.message.Message.{Message}
 use Rattle.h2_message.specs.Messages.{SentMessage, trailer_fields}
 use Rattle.h2_message.specs.Values.{message_value}
-use Rattle.h2_ends.specs.EndCalls.{is_head_alone, IsHeadCall, IsUnchanged}
+use Rattle.h2_ends.specs.EndCalls.{IsHeadCall, IsUnchanged}
+use Rattle.h2_pair.specs.Tokens.{is_head_alone}
 use Rattle.h2_ends.specs.EndTakes.{end_with_log}
 use Rattle.h2_ends.specs.Ends.{EndLog}
 use Rattle.h2_ends.specs.Heads.{SendsHead}

@@ -14,7 +14,7 @@ use Rattle.h2_pair.specs.Tokens.{Token, FieldsToken, OctetToken, EndToken, end_t
 use Rattle.h2_pair.specs.Tokens.{trailers_tokens, message_tokens, tokens_of_call}
 use Rattle.h2_ends.specs.declared.outgoing.Outgoing.TheVariants as outgoings
 use Rattle.h2_ends.specs.Ends.{EndLog, message_for, tokens_given, tokens_out}
-use Rattle.h2_ends.specs.EndCalls.{is_head_alone}
+use Rattle.h2_pair.specs.Tokens.{is_head_alone}
 use Rattle.h2_ends.specs.Represents.{IsOutgoing, SendsInOrder}
 use Rattle.h2_ends.specs.Heads.{outgoing_for}
 use Rattle.h2_ends.proofs.EndSteps.{called_end}
@@ -22,7 +22,8 @@ use Rattle.h2_ends.proofs.EndTokens.{call_tokens}
 
 -- the tokens of a message's head
 abbrev pub head_tokens : SentMessage → List Token
-head_tokens message = FieldsToken message.head ∷ end_tokens (is_head_alone message)
+head_tokens message =
+    FieldsToken message.head (is_head_alone message) ∷ end_tokens (is_head_alone message)
 
 -- What follows the head of a message without body and trailers is its end.
 alone_by : (body : List ℕ) (trailers : Option (List Field))
@@ -44,15 +45,17 @@ some_by f (octet ∷ body) trailers is = inl (omega arith)
 
 -- What waits once the head was sent, by whether it is alone.
 rest_by : (message : SentMessage) (b : Bool) → is_head_alone message ≡ b → (rest : List Token)
-    × (message_tokens message ≡ (FieldsToken message.head ∷ end_tokens b) ++ rest)
+    × (message_tokens message ≡ (FieldsToken message.head b ∷ end_tokens b) ++ rest)
 unfolding message_tokens end_tokens
 rest_by message true is = (
   [],
-  ap (λ (tokens : List Token). FieldsToken message.head ∷ tokens)
-      (alone_by message.body message.trailers is),
+  rw is (ap (λ (tokens : List Token). FieldsToken message.head true ∷ tokens)
+      (alone_by message.body message.trailers is)),
 )
-rest_by message false is =
-    (each OctetToken message.body ++ (trailers_tokens message.trailers ++ EndToken ∷ []), refl)
+rest_by message false is = (
+  each OctetToken message.body ++ (trailers_tokens message.trailers ++ EndToken ∷ []),
+  rw is refl,
+)
 
 -- Where the head of a message was sent, that is the beginning of what is said on the stream.
 pub sent_in_order : (end : EndLog) (id : ℕ) (message : SentMessage)
@@ -71,7 +74,7 @@ sent_in_order end id message accepted sent =
 outgoing_by : (end : EndLog) (id : ℕ) (message : Message) (b : Bool)
     → is_head_alone (message_value message) ≡ b
     → message_for id end.accepted ≡ Some (message_value message)
-    → tokens_out end id ≡ FieldsToken message.head.items ∷ end_tokens b
+    → tokens_out end id ≡ FieldsToken message.head.items b ∷ end_tokens b
     → is_too_large (trailer_fields (message_value message).trailers) ≡ false
     → IsOutgoing end id (if b then outgoings.Sent else outgoings.Waiting (record {
       body = message.body;
@@ -82,14 +85,14 @@ unfolding IsOutgoing message_tokens end_tokens
 outgoing_by end id message true is accepted sent fits = (
   message_value message,
   accepted,
-  ap (λ (tokens : List Token). FieldsToken message.head.items ∷ tokens)
-      (alone_by message.body.items (message_value message).trailers is) ∙ sym sent,
+  rw is (ap (λ (tokens : List Token). FieldsToken message.head.items true ∷ tokens)
+      (alone_by message.body.items (message_value message).trailers is)) ∙ sym sent,
 )
 outgoing_by end id message false is accepted sent fits =
     record {
       message = message_value message;
       accepted = accepted;
-      rest = rw sent refl;
+      rest = rw (sent, is) refl;
       begun = λ none. let wrong = sym sent ∙ none in cc;
       some = some_by _ message.body.items message.trailers is;
       fits = fits;

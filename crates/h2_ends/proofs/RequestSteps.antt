@@ -22,7 +22,7 @@ use Rattle.h2_ends.specs.declared.outgoing.Waiting.{Waiting}
 use Rattle.h2_ends.specs.declared.span.Span.{Span}
 use Rattle.h2_ends.specs.declared.span.Spans.{Spans}
 use Rattle.h2_ends.specs.Ends.{EndLog, tokens_handed}
-use Rattle.h2_ends.specs.EndCalls.{is_head_alone}
+use Rattle.h2_pair.specs.Tokens.{is_head_alone}
 use Rattle.h2_ends.specs.Represents.{EndRepresents, RepresentsBut, RepresentsStreams, IsInStep}
 use Rattle.h2_ends.specs.Represents.{IsWithin, InSpan, HandsInOrder, KeepsActive}
 use Rattle.h2_ends.specs.Heads.{KeepsOne, given_stream}

@@ -18,7 +18,8 @@ use Rattle.h2_ends.specs.declared.outgoing.Outgoing.TheVariants as outgoings
 use Rattle.h2_ends.specs.declared.outgoing.Stream.{Stream}
 use Rattle.h2_ends.specs.declared.refusal.EndRefusal.TheVariants as refusals
 use Rattle.h2_ends.specs.Ends.{EndLog, message_for}
-use Rattle.h2_ends.specs.EndCalls.{is_head_alone, end_with_message, IsAsked, IsNotAsked, MayRespond}
+use Rattle.h2_ends.specs.EndCalls.{end_with_message, IsAsked, IsNotAsked, MayRespond}
+use Rattle.h2_pair.specs.Tokens.{is_head_alone}
 use Rattle.h2_ends.specs.EndCalls.{RefusesMessage, IsUnchanged, broken_by_answer}
 use Rattle.h2_ends.specs.Represents.{EndRepresents, IsKept, IsStream, IsOutgoing, kept_at}
 use Rattle.h2_ends.proofs.RequestHeads.{server_reads}

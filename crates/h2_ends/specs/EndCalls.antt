@@ -20,14 +20,11 @@ use Rattle.h2_message.specs.Messages.{SentMessage, trailer_fields, broken_by_req
 use Rattle.h2_message.specs.Messages.{broken_by_response}
 use Rattle.h2_message.specs.Phases.{asks_head_first}
 use Rattle.h2_pair.specs.Quiet.{IsStuck}
+use Rattle.h2_pair.specs.Tokens.{is_head_alone}
 use Rattle.h2_ends.specs.declared.refusal.EndRefusal.{EndRefusal}
 use Rattle.h2_ends.specs.declared.refusal.EndRefusal.TheVariants as refusals
 use Rattle.h2_ends.specs.Ends.{EndLog, message_for, parts_on, tokens_waiting}
 use Rattle.h2_ends.specs.EndTakes.{end_with_log}
-
--- Whether a message is its head alone: then that has END_STREAM.
-abbrev pub is_head_alone : SentMessage → Bool
-is_head_alone message = length message.body == 0 && is_none message.trailers
 
 -- why the connection refuses a message whose head this call sends: as the call, and C10 of the
 -- trailers too

@@ -1,7 +1,7 @@
 -- What has happened at a client or a server: its connection's log, the messages that it was given,
 -- and what it has handed out (RFC 9113, section 8.1).
-use Rattle.std.specs.Prelude.{ℕ, ◌==◌, Bool, true, false, if◌then◌else◌, List, [], ◌∷◌, ◌++◌}
-use Rattle.std.specs.Prelude.{length, drop, map as each, Option, Some, None}
+use Rattle.std.specs.Prelude.{◌≡◌, ◌≢◌, ◌⊎◌, ℕ, ◌==◌, Bool, true, false, if◌then◌else◌, List}
+use Rattle.std.specs.Prelude.{[], ◌∷◌, ◌++◌, length, drop, map as each, Option, Some, None}
 use Rattle.hpack.specs.declared.types.field.Field.{Field}
 use Rattle.h2_frame.specs.declared.code.Code.{Code}
 use Rattle.h2_log.specs.Events.{Event, FieldsEvent, DataEvent}
@@ -75,12 +75,17 @@ tokens_waiting end i = drop (length (tokens_out end i)) (tokens_said end i)
 
 -- what it has handed out on a stream, token by token
 unfoldable pub tokens_of_part : (Part × Bool) → List Token
-tokens_of_part (FieldsPart list, end) = FieldsToken list ∷ end_tokens end
+tokens_of_part (FieldsPart list, end) = FieldsToken list end ∷ end_tokens end
 tokens_of_part (OctetsPart octets, end) = each OctetToken octets ++ end_tokens end
 
 unfoldable pub tokens_of_parts : List (Part × Bool) → List Token
 tokens_of_parts [] = []
 tokens_of_parts (part ∷ parts) = tokens_of_part part ++ tokens_of_parts parts
+
+-- The part is no empty DATA without END_STREAM.
+unfoldable pub IsNoEmptyPart : (Part × Bool) → Type 0
+IsNoEmptyPart (FieldsPart list, end) = Unit {0}
+IsNoEmptyPart (OctetsPart octets, end) = (octets ≢ []) ⊎ (end ≡ true)
 
 abbrev pub tokens_handed : EndLog → ℕ → List Token
 tokens_handed end i = tokens_of_parts (parts_on i end.handed)

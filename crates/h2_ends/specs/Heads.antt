@@ -22,7 +22,8 @@ use Rattle.h2_ends.specs.declared.outgoing.Outgoing.{Outgoing}
 use Rattle.h2_ends.specs.declared.outgoing.Outgoing.TheVariants as outgoings
 use Rattle.h2_ends.specs.declared.outgoing.Stream.{Stream}
 use Rattle.h2_ends.specs.Ends.{EndLog}
-use Rattle.h2_ends.specs.EndCalls.{is_head_alone, RefusesMessage, IsUnchanged, MayRespond}
+use Rattle.h2_ends.specs.EndCalls.{RefusesMessage, IsUnchanged, MayRespond}
+use Rattle.h2_pair.specs.Tokens.{is_head_alone}
 use Rattle.h2_ends.specs.EndCalls.{end_with_message}
 use Rattle.h2_ends.specs.Represents.{EndRepresents, InSpan, kept_at}
 

@@ -1,5 +1,6 @@
 pub mod EndCalls
 pub mod EndTakes
+pub mod Quiet
 pub mod Ends
 pub mod Loans
 pub mod Represents

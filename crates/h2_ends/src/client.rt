@@ -1,12 +1,14 @@
 //! A client.
 
-ghost use Rattle.std.specs.Prelude.{◌≡◌, IfOk, IfErr, OnErr};
+ghost use Rattle.std.specs.Prelude.{◌≡◌, ◌↔◌, true, IfOk, IfErr, OnErr};
 ghost use Rattle.h2_config.specs.ConfigValues.{values_of};
 ghost use Rattle.h2_log.specs.declared.role.Role.TheVariants as roles;
 ghost use Rattle.h2_log.specs.Acts.{ResetStream, SendPing, SendGoAway, ChangeSettings, PutOut};
-ghost use Rattle.h2_log.specs.Acts.{Count, Done};
+ghost use Rattle.h2_log.specs.Acts.{Values, Count, Done};
 ghost use Rattle.h2_conn.specs.Conn.{GivesOut, answer_by};
 ghost use Rattle.h2_message.specs.Values.{message_value};
+ghost use Rattle.h2_ends.specs.Ends.{EndLog};
+ghost use Rattle.h2_ends.specs.Quiet.{IsQuietEnd};
 ghost use Rattle.h2_ends.specs.Represents.{EndRepresents, EndAnswers, EndPumps, EndReleases};
 ghost use Rattle.h2_ends.specs.Represents.{EndRequests, new_end};
 
@@ -131,6 +133,17 @@ impl Client {
             (answer_by (λ done. Done) result) self.new.end }
     {
         self.end.change_settings(config)
+    }
+
+    /// Whether the connection is up, no output waits, nothing is owed or to be returned to the
+    /// connection's window, and of what waits of messages nothing could be sent. A part of a frame
+    /// may be held, and an event that needs no octets still be handed out. It looks at the streams
+    /// where something waits or is owed.
+    pub fn is_quiet(&self) -> bool
+        ensures { (values : Values) (end : EndLog) → EndRepresents values self.now.end end
+            → (result ≡ true) ↔ IsQuietEnd end }
+    {
+        self.end.is_quiet()
     }
 
     /// Appends as many octets of the output as wait, and at most `count`, to `out`, and takes them

@@ -14,8 +14,10 @@ mod client;
 mod control;
 mod end;
 mod event;
+mod laws;
 mod lending;
 mod outgoing;
+mod quiet;
 mod refusal;
 mod sending;
 mod server;
@@ -32,5 +34,6 @@ pub use h2_frame::Code;
 pub use h2_message::{
     Field, FieldList, FieldRef, Malformed, Message, Octets, check_request, check_response,
 };
+pub use laws::sent_parts_are_readable;
 pub use refusal::EndRefusal;
 pub use server::Server;

@@ -8,7 +8,7 @@ ghost use Rattle.h2_conn.specs.Conn.{ConnRepresents};
 ghost use Rattle.h2_message.specs.Messages.{trailer_fields};
 ghost use Rattle.h2_message.specs.Values.{message_value};
 ghost use Rattle.h2_ends.specs.Ends.{EndLog};
-ghost use Rattle.h2_ends.specs.EndCalls.{is_head_alone};
+ghost use Rattle.h2_pair.specs.Tokens.{is_head_alone};
 ghost use Rattle.h2_ends.specs.Heads.{AnswersHead, IsGiven, Opens, SendsHead, outgoing_for};
 ghost use Rattle.h2_ends.specs.Represents.{EndRepresents, EndPumps, EndReleases, EndRequests};
 ghost use Rattle.h2_ends.specs.Represents.{EndResponds};
@@ -209,7 +209,7 @@ impl End {
 }
 
 /// The next active stream of a span above a number.
-fn next_in(conn: &Conn, span: Span, above: u32) -> Option<u32>
+pub(crate) fn next_in(conn: &Conn, span: Span, above: u32) -> Option<u32>
     ensures next { IsNextIn conn.now span above result }
     ensures above { IfSome result (λ id. above < id) }
 {

@@ -13,6 +13,7 @@ mod many;
 mod messages;
 mod notes;
 mod outputs;
+mod quiet;
 mod requests;
 mod servers;
 mod side;

@@ -3,14 +3,14 @@ mod OctetLemmas
 mod ClassLemmas
 mod ReadingRules
 mod PhaseSteps
-mod PhaseWhole
+pub mod PhaseWhole
 mod ReadingWhole
 mod ReadingSteps
 mod PhaseEnds
 mod ReadingHeads
 mod ReadingParts
 mod ReadingFollows
-mod LawSent
+pub mod LawSent
 pub mod examples
 mod CheckBodies
 mod CheckRules

@@ -20,7 +20,7 @@ use Rattle.h2_log_laws.proofs.ReaderStates.{active_parts}
 use Rattle.h2_pair.specs.HeaderTables.{block_count}
 use Rattle.h2_message.specs.Messages.{SentMessage}
 use Rattle.h2_pair.specs.Tokens.{Token, FieldsToken, OctetToken, EndToken, end_tokens}
-use Rattle.h2_pair.specs.Tokens.{trailers_tokens, message_tokens}
+use Rattle.h2_pair.specs.Tokens.{is_head_alone, trailers_tokens, message_tokens}
 use Rattle.h2_pair.proofs.HeardTokens.{item_tokens, frame_tokens, tokens_of_items}
 use Rattle.h2_pair.proofs.HeardGoAways.{speaks}
 
@@ -127,7 +127,7 @@ silent_tokens i (block stream end octets ∷ items) (list ∷ lists) none =
 -- Whether a token is the end.
 unfoldable pub is_end : Token → Bool
 is_end EndToken = true
-is_end (FieldsToken list) = false
+is_end (FieldsToken list end) = false
 is_end (OctetToken octet) = false
 
 -- Some token of either.
@@ -151,7 +151,7 @@ block_ending : (i stream : ℕ) (end : Bool) (octets : List ℕ) (list : List Fi
 unfolding item_tokens
 block_ending i stream true octets list here =
     let same : (stream == i) ≡ true = (and_parts (stream == i) true here).0 in
-    rw same (ending (FieldsToken list ∷ []))
+    rw same (ending (FieldsToken list true ∷ []))
 block_ending i stream false octets list here =
     absurd (both_ways false refl ((and_parts (stream == i) false here).1))
 
@@ -200,13 +200,14 @@ ended_tokens i (block stream end octets ∷ items) (list ∷ lists) many here =
 -- A message has its end last.
 abbrev before_end : SentMessage → List Token
 before_end message =
-    FieldsToken message.head ∷ (each OctetToken message.body ++ trailers_tokens message.trailers)
+    FieldsToken message.head (is_head_alone message)
+    ∷ (each OctetToken message.body ++ trailers_tokens message.trailers)
 
 message_ends : (message : SentMessage)
     → message_tokens message ≡ before_end message ++ EndToken ∷ []
 unfolding message_tokens
 message_ends message =
-    ap (λ (line : List Token). FieldsToken message.head ∷ line)
+    ap (λ (line : List Token). FieldsToken message.head (is_head_alone message) ∷ line)
     (sym (append_assoc (each OctetToken message.body) (trailers_tokens message.trailers)
     (EndToken ∷ [])))
 

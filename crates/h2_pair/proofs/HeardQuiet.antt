@@ -145,7 +145,7 @@ pub could_go : (writer reader : Half) (i : ℕ) (token : Token) → IsIdle write
     → CouldGo writer.log i token
 could_go writer reader i (OctetToken octet) idle =
     (stream_open writer reader i idle, connection_open writer reader i idle)
-could_go writer reader i (FieldsToken list) idle = tt
+could_go writer reader i (FieldsToken list end) idle = tt
 could_go writer reader i EndToken idle = tt
 
 -- An end that has sent something on a stream.

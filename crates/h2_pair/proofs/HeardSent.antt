@@ -281,7 +281,7 @@ items_told i most id octets end count sent lists some =
     lists some (omega (arith, length-take count octets)))
 
 -- A payload has some octets.
-some_payload : (received : List Item) → 0 < max_payload_sent_by received
+pub some_payload : (received : List Item) → 0 < max_payload_sent_by received
 unfolding max_payload_sent_by
 some_payload received = omega arith
 

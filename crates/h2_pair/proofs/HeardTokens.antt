@@ -17,7 +17,7 @@ frame_tokens i frame = []
 -- what an item carries on the stream; a field block carries this list
 unfoldable pub item_tokens : ℕ → Item → List Field → List Token
 item_tokens i (block stream end octets) list =
-    if stream == i then FieldsToken list ∷ end_tokens end else []
+    if stream == i then FieldsToken list end ∷ end_tokens end else []
 item_tokens i (alone frame) list = frame_tokens i frame
 
 -- what items carry on the stream, the first token first; the newest item stands first, and so does

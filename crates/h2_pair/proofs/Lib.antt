@@ -44,6 +44,8 @@ pub mod HeardGoAways
 pub mod HeardWhole
 pub mod HeardMessages
 pub mod HeardQuiet
+pub mod NoEmptySent
+pub mod NoEmptyHeard
 pub mod StepPairs
 pub mod StepCalls
 pub mod StepTakes

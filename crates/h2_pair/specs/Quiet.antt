@@ -38,7 +38,7 @@ abbrev pub CouldGo : Log → ℕ → Token → Type 0
 CouldGo log i (OctetToken octet) =
     (int_lt (pos 0) (send_window log i) ≡ true)
     × (int_lt (pos 0) (connection_send_window log.received log.sent) ≡ true)
-CouldGo log i (FieldsToken list) = Unit {0}
+CouldGo log i (FieldsToken list end) = Unit {0}
 CouldGo log i EndToken = Unit {0}
 
 -- The next of the tokens that wait, if there is one, cannot go.

@@ -19,9 +19,8 @@ pub fn waiting_of_a_pair()
 {}
 
 /// Where no connection failed because it was out of memory or by the layer above, neither end has
-/// failed,
-/// none has reset a stream for a fault of the other, and each reset was asked for (RFC 9113,
-/// section 5.4).
+/// failed, none has reset a stream for a fault of the other, and each reset was asked for (RFC
+/// 9113, section 5.4).
 pub fn no_faults_of_a_pair()
     ensures at_client { (client_values server_values : Values) (client server : Half)
         (pair : IsPair client_values server_values client server) → IsUndisturbed pair

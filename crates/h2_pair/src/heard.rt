@@ -1,10 +1,12 @@
 //! What is heard on a stream is what was sent on it.
 
 ghost use Rattle.std.specs.Prelude.{◌≡◌, ℕ, List};
+ghost use Rattle.std.specs.List.{AllByRecursion};
 ghost use Rattle.h2_log.specs.Acts.{Values};
 ghost use Rattle.h2_pair.specs.Pairs.{Half, IsPair};
 ghost use Rattle.h2_pair.specs.Undisturbed.{IsUndisturbed};
 ghost use Rattle.h2_pair.specs.Tokens.{Token, tokens_sent, tokens_heard, IsPrefixOfTokens};
+ghost use Rattle.h2_pair.specs.Tokens.{IsNoEmptyData};
 ghost use Rattle.h2_message.specs.Messages.{SentMessage};
 ghost use Rattle.h2_pair.specs.Tokens.{message_tokens};
 ghost use Rattle.h2_pair.specs.Quiet.{IsQuiet, WasReset, IsSending, IsStuck};
@@ -45,8 +47,7 @@ pub fn all_is_heard()
 
 /// Once an undisturbed pair is quiet, and what waits of a message could not go, the message was
 /// heard whole on its stream, unless that was reset: in a quiet pair no window holds it back. That
-/// a
-/// pair becomes quiet isn't promised.
+/// a pair becomes quiet isn't promised.
 pub fn quiet_messages_are_whole()
     ensures at_server { (client_values server_values : Values) (client server : Half) (i : ℕ)
         (message : SentMessage) (waiting : List Token)
@@ -60,4 +61,15 @@ pub fn quiet_messages_are_whole()
         → IsQuiet client server → (WasReset client.log server.log i → ⊥)
         → IsSending server.log i message waiting → IsStuck server.log i waiting
         → tokens_heard i client.log.reported ≡ message_tokens message }
+{}
+
+/// No DATA that an end of a pair reports is empty, unless it has END_STREAM: the other end sends
+/// none.
+pub fn no_data_is_empty()
+    ensures at_server { (client_values server_values : Values) (client server : Half)
+        → IsPair client_values server_values client server
+        → AllByRecursion IsNoEmptyData server.log.reported }
+    ensures at_client { (client_values server_values : Values) (client server : Half)
+        → IsPair client_values server_values client server
+        → AllByRecursion IsNoEmptyData client.log.reported }
 {}

@@ -3,7 +3,7 @@
 use super::messages::{GET, R, R_FOUR, R_LARGEST, R_TRAILERS, Said, Tail};
 use super::notes::Note;
 use super::steps::{CLIENT, Step, first_undone};
-use crate::Refusal;
+use crate::{Refusal, sent_parts_are_readable};
 
 /// A request with trailers that have no fields.
 const EMPTY_TRAILERS: &Said = &Said {
@@ -186,6 +186,11 @@ const CALLS: &[&[Step]] = &[
         Step::Writes(&["000008070000000000 00000000 00000000"]),
     ],
 ];
+
+#[test]
+fn laws_are_called() {
+    sent_parts_are_readable();
+}
 
 #[test]
 fn requests_are_sent(rt: HostRuntime) {

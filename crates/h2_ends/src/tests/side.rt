@@ -72,6 +72,13 @@ impl Side {
         }
     }
 
+    pub(crate) fn is_quiet(&self) -> bool {
+        match self {
+            Side::Client(client) => client.is_quiet(),
+            Side::Server(server) => server.is_quiet(),
+        }
+    }
+
     pub(crate) fn pump(&mut self) -> Result<usize, EndRefusal> {
         match self {
             Side::Client(client) => client.pump(),

@@ -52,6 +52,8 @@ pub(crate) enum Step {
     Owes(u32, u32),
     /// At least so many octets of output wait.
     WaitsAtLeast(usize),
+    /// Whether it is quiet.
+    IsQuiet(bool),
     /// The least active stream above a number.
     NextLive(u32, Option<u32>),
     /// Whole requests open so many streams, and each gets this answer.
@@ -150,6 +152,7 @@ fn shows(tried: &mut Tried, step: &Step) -> bool {
         Step::HasRoom(id, room) => tried.room(id) == room,
         Step::Owes(id, count) => tried.owed(id) == count,
         Step::WaitsAtLeast(count) => tried.waiting() >= count,
+        Step::IsQuiet(quiet) => tried.is_quiet() == quiet,
         Step::NextLive(above, id) => tried.next_live(above) == id,
         _ => false,
     }

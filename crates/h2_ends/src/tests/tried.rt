@@ -288,4 +288,8 @@ impl Tried {
     pub(crate) fn next_live(&self, above: u32) -> Option<u32> {
         self.side.conn().next_live(above)
     }
+
+    pub(crate) fn is_quiet(&self) -> bool {
+        self.side.is_quiet()
+    }
 }

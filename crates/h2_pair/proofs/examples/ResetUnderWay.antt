@@ -132,9 +132,9 @@ returns_what_is_dropped = refl
 
 -- On stream 3 all that was sent was heard.
 heard_whole :
-    (tokens_heard 3 quiet_pair.server.log.reported ≡ FieldsToken short_request
+    (tokens_heard 3 quiet_pair.server.log.reported ≡ FieldsToken short_request false
     ∷ map OctetToken (replicate 65535 3) ++ EndToken ∷ [])
-    × (tokens_sent 3 quiet_pair.client.log.calls ≡ FieldsToken short_request
+    × (tokens_sent 3 quiet_pair.client.log.calls ≡ FieldsToken short_request false
     ∷ map OctetToken (replicate 65535 3) ++ EndToken ∷ [])
 unfolding computing after_move after_moves tokens_heard tokens_sent tokens_of_call tokens_of_event
     end_tokens
@@ -142,7 +142,7 @@ heard_whole = (refl, refl)
 
 -- On stream 1 the fields were heard, of the fields, 20,000 octets and the end that were sent.
 heard_in_part :
-    (tokens_heard 1 quiet_pair.server.log.reported ≡ FieldsToken short_request ∷ [])
+    (tokens_heard 1 quiet_pair.server.log.reported ≡ FieldsToken short_request false ∷ [])
     × (length (tokens_sent 1 quiet_pair.client.log.calls) ≡ 20002)
 unfolding computing after_move after_moves tokens_heard tokens_sent tokens_of_call tokens_of_event
     end_tokens

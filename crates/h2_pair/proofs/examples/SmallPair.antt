@@ -125,10 +125,11 @@ calls_and_events = (refl, refl, refl, refl)
 
 -- On stream 1 all that was sent was heard, both ways.
 all_heard :
-    (tokens_sent 1 quiet_pair.client.log.calls ≡ FieldsToken request ∷ EndToken ∷ [])
-    × (tokens_heard 1 quiet_pair.server.log.reported ≡ FieldsToken request ∷ EndToken ∷ [])
-    × (tokens_sent 1 quiet_pair.server.log.calls ≡ FieldsToken short_answer ∷ EndToken ∷ [])
-    × (tokens_heard 1 quiet_pair.client.log.reported ≡ FieldsToken short_answer ∷ EndToken ∷ [])
+    (tokens_sent 1 quiet_pair.client.log.calls ≡ FieldsToken request true ∷ EndToken ∷ [])
+    × (tokens_heard 1 quiet_pair.server.log.reported ≡ FieldsToken request true ∷ EndToken ∷ [])
+    × (tokens_sent 1 quiet_pair.server.log.calls ≡ FieldsToken short_answer true ∷ EndToken ∷ [])
+    × (tokens_heard 1 quiet_pair.client.log.reported
+    ≡ FieldsToken short_answer true ∷ EndToken ∷ [])
 unfolding computing tokens_sent tokens_heard tokens_of_call tokens_of_event end_tokens
 all_heard = (refl, refl, refl, refl)
 

@@ -2,7 +2,7 @@
 use Rattle.std.proofs.Common.{true, refl, sym, ◌∙◌}
 use Rattle.h2_log.specs.Acts.{Open}
 use Rattle.h2_message.specs.Values.{message_value}
-use Rattle.h2_ends.specs.EndCalls.{is_head_alone}
+use Rattle.h2_pair.specs.Tokens.{is_head_alone}
 use Rattle.h2_ends.proofs.RequestRefusals.{refuses_fitting}
 use Rattle.h2_ends.proofs.RequestSends.{unchanged_itself, open_typed}
 use Rattle.h2_ends.proofs.TableSteps.{keeps_but}

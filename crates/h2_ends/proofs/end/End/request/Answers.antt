@@ -2,7 +2,8 @@
 use Rattle.std.proofs.Common.{refl}
 use Rattle.h2_log.specs.Acts.{Open, Number}
 use Rattle.h2_message.specs.Values.{message_value}
-use Rattle.h2_ends.specs.EndCalls.{is_head_alone, end_with_message}
+use Rattle.h2_ends.specs.EndCalls.{end_with_message}
+use Rattle.h2_pair.specs.Tokens.{is_head_alone}
 use Rattle.h2_ends.proofs.RequestHeads.{request_given, may_request, breaks_request}
 use Rattle.h2_ends.proofs.RequestHeads.{refuses_request}
 use Rattle.h2_ends.proofs.end.End.request.Goals as goal

@@ -2,7 +2,8 @@
 use Rattle.std.proofs.Common.{refl, sym, ◌∙◌}
 use Rattle.h2_log.specs.Acts.{SendFields, Done}
 use Rattle.h2_message.specs.Values.{message_value}
-use Rattle.h2_ends.specs.EndCalls.{is_head_alone, end_with_message}
+use Rattle.h2_ends.specs.EndCalls.{end_with_message}
+use Rattle.h2_pair.specs.Tokens.{is_head_alone}
 use Rattle.h2_ends.specs.Represents.{EndRepresents}
 use Rattle.h2_ends.proofs.RequestHeads.{respond_given, respond_waits}
 use Rattle.h2_ends.proofs.end.End.respond.Goals as goal

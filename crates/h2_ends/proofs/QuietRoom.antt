@@ -1,0 +1,61 @@
+-- Whether both windows let an octet go on a stream, by what a connection answers of them.
+use Rattle.std.proofs.Common.{◌≡◌, ◌≢◌, ℕ, Bool, true, false, if◌then◌else◌, ℤ, pos}
+use Rattle.std.proofs.Common.{int_lt, Option, Some, None, is_some, refl, sym, ap, subst}
+use Rattle.std.proofs.lemmas.Bool.{both_ways, and_parts, false_from_ne_true, ne_eqb}
+use Rattle.h2_frame.specs.declared.code.Code.{Code}
+use Rattle.h2_log.specs.CallRules.{reader_room}
+use Rattle.h2_log.specs.Log.{Log, active, send_window}
+use Rattle.h2_log.specs.LogView.{log_view}
+use Rattle.h2_log.specs.Windows.{connection_send_window}
+use Rattle.h2_end_laws.specs.Over.{has_room}
+use Rattle.h2_ends.specs.Quiet.{HasRoom}
+use Rattle.h2_ends.proofs.PumpSteps.{zero_inactive}
+
+-- What the connection answers of its own window, as long as it is up,
+room_of_all : (log : Log) → log.failed ≡ None
+    → reader_room (log_view log) 0 ≡ Some (connection_send_window log.received log.sent)
+room_of_all log up =
+    ap (λ (b : Bool). if b then None else Some (connection_send_window log.received log.sent))
+    (ap is_some up)
+
+-- and of an active stream's.
+not_zero : (log : Log) (id : ℕ) → active log id ≡ true → id ≢ 0
+not_zero log id alive zero =
+    both_ways _ (zero_inactive log) (subst (λ (i : ℕ). active log i ≡ true) zero alive)
+
+room_of_stream : (log : Log) (id : ℕ) → log.failed ≡ None → active log id ≡ true
+    → reader_room (log_view log) id ≡ Some (send_window log id)
+room_of_stream log id up alive =
+    rw (up, ne_eqb id 0 (not_zero log id alive), alive) refl
+
+-- It answers that there is none once it has failed.
+up_by : (failed : Option Code) (room : Option ℤ)
+    → HasRoom (if is_some failed then None else room) → failed ≡ None
+up_by None room has = refl
+up_by (Some code) room has = absurd has
+
+pub up_by_room : (log : Log) → HasRoom (reader_room (log_view log) 0) → log.failed ≡ None
+up_by_room log has =
+    up_by log.failed (Some (connection_send_window log.received log.sent)) has
+
+-- So an octet has room on an active stream where both answers say so,
+pub has_both : (log : Log) (id : ℕ) → active log id ≡ true
+    → HasRoom (reader_room (log_view log) 0) → HasRoom (reader_room (log_view log) id)
+    → (int_lt (pos 0) (send_window log id) ≡ true)
+    × (int_lt (pos 0) (connection_send_window log.received log.sent) ≡ true)
+has_both log id alive all here =
+    let up = up_by_room log all in (
+      subst HasRoom (room_of_stream log id up alive) here,
+      subst HasRoom (room_of_all log up) all,
+    )
+
+-- and has none where one of them doesn't.
+pub no_room_of_all : (log : Log) (id : ℕ) → log.failed ≡ None
+    → (HasRoom (reader_room (log_view log) 0) → ⊥) → has_room log id ≡ false
+no_room_of_all log id up none = false_from_ne_true _ (λ room.
+    none (subst HasRoom (sym (room_of_all log up)) (and_parts _ _ room).1))
+
+pub no_room_of_stream : (log : Log) (id : ℕ) → log.failed ≡ None → active log id ≡ true
+    → (HasRoom (reader_room (log_view log) id) → ⊥) → has_room log id ≡ false
+no_room_of_stream log id up alive none = false_from_ne_true _ (λ room.
+    none (subst HasRoom (sym (room_of_stream log id up alive)) (and_parts _ _ room).0))

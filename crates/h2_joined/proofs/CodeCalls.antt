@@ -1,0 +1,74 @@
+-- Calls of an end are acts of two joined ends.
+use Rattle.std.proofs.Common.{◌≡◌, ℕ, Result, refl, sym, subst}
+use Rattle.h2_log.specs.Acts.{Act, Answer, IsTypedAct}
+use Rattle.h2_log.specs.LogCalls.{with_call}
+use Rattle.h2_ends.specs.declared.refusal.EndRefusal.{EndRefusal}
+use Rattle.h2_ends.specs.EndTakes.{end_with_log}
+use Rattle.h2_ends.specs.Represents.{EndPumps, EndReleases, EndAnswers}
+use Rattle.h2_joined.specs.declared.act.Side.{Side}
+use Rattle.h2_joined.specs.declared.act.Acted.{Acted}
+use Rattle.h2_joined.specs.declared.act.Acted.TheVariants as acted
+use Rattle.h2_joined.specs.declared.joined.Joined.{Joined}
+use Rattle.h2_joined.specs.Joints.{Doing, Pumps, ReleasesAll, Calls, acted_by, acted_as, IsCall}
+use Rattle.h2_joined.specs.Joints.{pumps, releases_all, calls}
+use Rattle.h2_joined.specs.Kept.{Acts, made, end_at}
+use Rattle.h2_joined.proofs.KeptActs.{ChangesEnd, acts_on_end}
+use Rattle.h2_joined.proofs.KeptEnds.{pumped_says, released_says}
+
+-- The answer is this one.
+answered_as : (side : Side) (old new : Joined) (doing : Doing) (one other : Acted) → one ≡ other
+    → Acts old (made side doing other) new → Acts old (made side doing one) new
+answered_as side old new doing one other same acts =
+    subst (λ (answer : Acted). Acts old (made side doing answer) new) (sym same) acts
+
+pub pump_acts : (side : Side) (old new : Joined) (result : Result ℕ EndRefusal) (answer : Acted)
+    → answer ≡ acted_by acted.Count result → ChangesEnd side old new
+    → EndPumps (end_at side old) result (end_at side new) → Acts old (made side Pumps answer) new
+pump_acts side old new result answer same changes does =
+    answered_as side old new Pumps answer _ same
+    (acts_on_end side old new Pumps (acted_by acted.Count result) changes
+    (λ values one other represents.
+    let (after, may, now) = does values one.happened represents in
+    let says = pumped_says one.happened result after may in
+    record {
+      after = after;
+      may = pumps result after may;
+      represents = now;
+      accepted = says.accepted;
+      handed = says.handed;
+    }))
+
+pub release_acts : (side : Side) (old new : Joined) (result : Result (Unit {0}) EndRefusal)
+    (answer : Acted) → answer ≡ acted_by (λ done. acted.Done) result → ChangesEnd side old new
+    → EndReleases (end_at side old) result (end_at side new)
+    → Acts old (made side ReleasesAll answer) new
+release_acts side old new result answer same changes does =
+    answered_as side old new ReleasesAll answer _ same
+    (acts_on_end side old new ReleasesAll (acted_by (λ done. acted.Done) result) changes
+    (λ values one other represents.
+    let (after, may, now) = does values one.happened represents in
+    let says = released_says one.happened result after may in
+    record {
+      after = after;
+      may = releases_all result after may;
+      represents = now;
+      accepted = says.accepted;
+      handed = says.handed;
+    }))
+
+pub call_acts : (side : Side) (old new : Joined) (act : Act) (answered : Answer) (answer : Acted)
+    → answer ≡ acted_as answered → IsCall act → IsTypedAct act → ChangesEnd side old new
+    → EndAnswers (end_at side old) act answered (end_at side new)
+    → Acts old (made side (Calls act) answer) new
+call_acts side old new act answered answer same is typed changes does =
+    answered_as side old new (Calls act) answer _ same
+    (acts_on_end side old new (Calls act) (acted_as answered) changes
+    (λ values one other represents.
+    let (may, now) = does values one.happened represents in
+    record {
+      after = end_with_log one.happened (with_call one.happened.log act answered);
+      may = calls act answered is typed may;
+      represents = now;
+      accepted = refl;
+      handed = refl;
+    }))

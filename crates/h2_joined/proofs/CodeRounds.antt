@@ -1,0 +1,163 @@
+-- Octets that are handed to `take` again and again.
+use Rattle.std.proofs.Common.{◌≡◌, ℕ, zero, ◌+◌, ◌≤◌, Bool, false, List, length, drop, refl, sym}
+use Rattle.std.proofs.Common.{ap}
+use Rattle.std.proofs.Common.{◌∙◌, subst, Some, None, inr, arith}
+use Rattle.std.proofs.lemmas.List.{drop-drop, length-drop}
+use Rattle.h2_frame.specs.declared.code.Code.{Code}
+use Rattle.h2_log.specs.Acts.{Values}
+use Rattle.h2_ends.specs.Ends.{EndLog}
+use Rattle.h2_joined.specs.declared.act.Side.{Side}
+use Rattle.h2_joined.specs.declared.octets.Next.TheVariants as nexts
+use Rattle.h2_joined.specs.declared.octets.Delivered.TheVariants as delivered
+use Rattle.h2_joined.specs.declared.joined.Joined.{Joined}
+use Rattle.h2_joined.specs.Joints.{Delivery, IsDelivered, Whole, Fails, Stops, is_whole, goes_on}
+use Rattle.h2_joined.specs.Joints.{fails}
+use Rattle.h2_joined.specs.Joints.{stops}
+use Rattle.h2_joined.specs.Delivering.{ChangesOnly, IsKeptAt, TakesNext, TakesAll}
+use Rattle.h2_joined.proofs.CodeTakes.{both_only}
+
+-- So many octets were delivered so far: the rest goes on from there.
+pub record TakesSome (values : Values) (side : Side) (end : EndLog) (octets : List ℕ) (taken : ℕ)
+    (now : Joined) : Type 0 where
+  pub between : EndLog
+  pub kept : IsKeptAt values side now between
+  pub accepted : between.accepted ≡ end.accepted
+  pub delivers : (delivery : Delivery) (after : EndLog)
+      → IsDelivered between (drop taken octets) delivery after
+      → IsDelivered end octets delivery after
+
+-- The same whatever has happened at the end, with what has changed.
+pub record TakesSoFar (side : Side) (old : Joined) (octets : List ℕ) (taken : ℕ) (now : Joined)
+    : Type 0 where
+  pub within : taken ≤ length octets
+  pub goes : now.stopped ≡ false
+  pub only : ChangesOnly side old now
+  pub takes : (values : Values) (end : EndLog) → IsKeptAt values side old end
+      → TakesSome values side end octets taken now
+
+pub takes_first : (side : Side) (old : Joined) (octets : List ℕ) → old.stopped ≡ false
+    → TakesSoFar side old octets 0 old
+takes_first side old octets goes =
+    record {
+      within = omega arith;
+      goes = goes;
+      only = record { other_end = refl; other_kept = refl; accepted = refl; incoming = refl };
+      takes = λ values end keeps.
+          record {
+            between = end;
+            kept = keeps;
+            accepted = refl;
+            delivers = λ delivery after delivers. delivers;
+          };
+    }
+
+module _ (side : Side) (old now new : Joined) (octets : List ℕ) (taken : ℕ)
+    (sofar : TakesSoFar side old octets taken now) where
+  pub takes_more : (used : ℕ)
+      → TakesNext side now (drop taken octets) (nexts.Again used) new
+      → TakesSoFar side old octets (taken + used) new
+  takes_more used next =
+      let rest = drop-drop used taken octets in
+      let left = length-drop taken octets in
+      record {
+        within = omega (arith, sofar.within, next.within, left);
+        goes = next.stops;
+        only = both_only side old now new sofar.only next.only;
+        takes = λ values end keeps.
+            let some = sofar.takes values end keeps in
+            let more = next.takes values some.between some.kept in
+            let (handed, may, progress) = more.goes_on in
+            record {
+              between = more.after;
+              kept = more.kept;
+              accepted = more.accepted ∙ some.accepted;
+              delivers = λ delivery after delivers.
+                  some.delivers delivery after (goes_on (drop taken octets) used handed delivery
+                  may progress (subst (λ (o : List ℕ). IsDelivered more.after o delivery after)
+                  (sym rest) delivers));
+            };
+      }
+
+  pub takes_whole : TakesNext side now (drop taken octets) nexts.Whole new
+      → TakesAll side old octets delivered.Whole new
+  takes_whole next =
+      record {
+        within = tt;
+        only = both_only side old now new sofar.only next.only;
+        stops = next.stops;
+        takes = λ values end keeps.
+            let some = sofar.takes values end keeps in
+            let more = next.takes values some.between some.kept in
+            record {
+              after = more.after;
+              delivers = some.delivers Whole more.after (is_whole (drop taken octets)
+                  more.goes_on);
+              accepted = more.accepted ∙ some.accepted;
+              kept = more.kept;
+            };
+      }
+
+  pub takes_failed : (code : Code)
+      → TakesNext side now (drop taken octets) (nexts.Failed code) new
+      → TakesAll side old octets (delivered.Failed code) new
+  takes_failed code next =
+      record {
+        within = tt;
+        only = both_only side old now new sofar.only next.only;
+        stops = next.stops;
+        takes = λ values end keeps.
+            let some = sofar.takes values end keeps in
+            let more = next.takes values some.between some.kept in
+            record {
+              after = more.after;
+              delivers = some.delivers (Fails code) more.after (fails (drop taken octets) code
+                  more.goes_on);
+              accepted = more.accepted ∙ some.accepted;
+              kept = more.kept;
+            };
+      }
+
+  pub takes_stopped : (used : ℕ)
+      → TakesNext side now (drop taken octets) (nexts.Stopped used) new
+      → TakesAll side old octets (delivered.Stopped (taken + used)) new
+  takes_stopped used next =
+      let rest = drop-drop used taken octets in
+      let left = length-drop taken octets in
+      record {
+        within = omega (arith, sofar.within, next.within, left);
+        only = both_only side old now new sofar.only next.only;
+        stops = tt;
+        takes = λ values end keeps.
+            let some = sofar.takes values end keeps in
+            let more = next.takes values some.between some.kept in
+            let (handed, may) = more.goes_on in
+            record {
+              after = more.after;
+              delivers = subst (λ (o : List ℕ). IsDelivered end octets (Stops o) more.after) rest
+                  (some.delivers (Stops (drop used (drop taken octets))) more.after
+                  (goes_on (drop taken octets) used (Some handed)
+                  (Stops (drop used (drop taken octets))) may (inr (λ none. cc))
+                  (stops (drop used (drop taken octets)))));
+              accepted = more.accepted ∙ some.accepted;
+              kept = more.kept;
+            };
+      }
+
+-- The rounds are over.
+pub takes_no_more : (side : Side) (old now : Joined) (octets : List ℕ) (taken : ℕ)
+    → TakesSoFar side old octets taken now → TakesAll side old octets (delivered.Stopped taken) now
+takes_no_more side old now octets taken sofar =
+    record {
+      within = sofar.within;
+      only = sofar.only;
+      stops = tt;
+      takes = λ values end keeps.
+          let some = sofar.takes values end keeps in
+          record {
+            after = some.between;
+            delivers = some.delivers (Stops (drop taken octets)) some.between
+                (stops (drop taken octets));
+            accepted = some.accepted;
+            kept = some.kept;
+          };
+    }

@@ -1,0 +1,67 @@
+-- What delivering octets makes of an end: call after call of `take`, until all octets are used and
+-- nothing is handed out, the connection has failed, or what was handed out cannot be kept.
+use Rattle.std.proofs.Common.{◌≡◌, ℕ, List, ◌++◌, drop, length, Option, Some, None, refl, subst}
+use Rattle.std.proofs.Math.Seq.{drop-length}
+use Rattle.h2_frame.specs.declared.code.Code.{Code}
+use Rattle.h2_log.specs.Log.{Log, next_unprocessed}
+use Rattle.h2_pair.proofs.StepUnprocessed.{take_reports_all}
+use Rattle.h2_ends.specs.Ends.{EndLog, EndAnswer, EndTook, EndFailed}
+use Rattle.h2_ends.specs.EndTakes.{EndMayTake, AnswersRefused, fails, hands_nothing, passes}
+use Rattle.h2_ends.specs.EndTakes.{hands_out, refuses, runs_out_of_memory}
+use Rattle.h2_joined.specs.Joints as joints
+use Rattle.h2_joined.specs.Joints.{KeepsOrder, Delivery, Whole, Fails, Stops, IsDelivered}
+use Rattle.h2_joined.proofs.HoldsTakes.{Around, HoldsIn, FallsIn, take_leads}
+
+-- Where a stream is refused, something is handed out, or the connection has failed.
+refusal_hands : (end after : EndLog) (log : Log) (count id used : ℕ) (answer : EndAnswer)
+    (failed : Option Code) → AnswersRefused end log count id answer after failed
+    → answer ≡ EndTook used None → ⊥
+unfolding AnswersRefused
+refusal_hands end after log count id used answer None answers none =
+    let one = answers.0 in cc
+refusal_hands end after log count id used answer (Some code) answers none =
+    let one = answers.0 in cc
+
+-- A call of `take` that hands out nothing leaves no stream that the peer does not process and that
+-- was not reported.
+reports_all : (end : EndLog) (piece : List ℕ) (answer : EndAnswer) (after : EndLog) (count : ℕ)
+    → EndMayTake end piece answer after → answer ≡ EndTook count None
+    → next_unprocessed after.log ≡ 0
+reports_all end piece answer after count (fails code log may answers same) none = absurd (cc)
+reports_all end piece answer after count (hands_nothing used log may answers same) none =
+    rw same (take_reports_all end.log log piece used may)
+reports_all end piece answer after count (passes used event log may unread answers same) none =
+    absurd (cc)
+reports_all end piece answer after count
+    (hands_out used event log may id part of readable answers same) none = absurd (cc)
+reports_all end piece answer after count
+    (refuses used event log may id part of stops refused answers leads) none =
+    absurd (refusal_hands end after _ used id count answer _ leads none)
+reports_all end piece answer after count
+    (runs_out_of_memory used id list ends log may role first readable refused answers_it answers
+    same) none = absurd (cc)
+
+-- What holds after a delivery, by how it ends.
+abbrev pub DeliversIn : Around → (later : List ℕ) → Delivery → EndLog → Type 0
+DeliversIn around later Whole after =
+    HoldsIn around after later × (next_unprocessed after.log ≡ 0)
+DeliversIn around later (Fails code) after = FallsIn around code after later
+DeliversIn around later (Stops unused) after = HoldsIn around after (unused ++ later)
+
+-- After each call it holds, and so after the delivery.
+pub delivery_leads : (around : Around) (end : EndLog) (octets later : List ℕ)
+    (delivery : Delivery) (after : EndLog) → KeepsOrder around.other.happened
+    → HoldsIn around end (octets ++ later) → IsDelivered end octets delivery after
+    → DeliversIn around later delivery after
+delivery_leads around end _ later _ after order is (joints.is_whole octets may) = (
+  subst (λ (left : List ℕ). HoldsIn around after (left ++ later)) (drop-length octets)
+      (take_leads around end octets later (EndTook (length octets) None) after order is may),
+  reports_all end octets (EndTook (length octets) None) after (length octets) may refl,
+)
+delivery_leads around end _ later _ after order is
+    (joints.goes_on {between = between} octets count handed delivery may more delivered) =
+    delivery_leads around between (drop count octets) later delivery after order
+    (take_leads around end octets later (EndTook count handed) between order is may) delivered
+delivery_leads around end _ later _ after order is (joints.fails octets code may) =
+    take_leads around end octets later (EndFailed code) after order is may
+delivery_leads around end _ later _ after order is (joints.stops octets) = is

@@ -1,0 +1,122 @@
+-- What an ordinary call of the connection keeps, an act of such calls keeps.
+use Rattle.std.proofs.Common.{inl, inr, ℕ, true, Option, Some, None, Result, Ok, Err, sym, subst}
+use Rattle.h2_log.specs.declared.refusal.Refusal.{Refusal}
+use Rattle.h2_log.specs.declared.refusal.Refusal.TheVariants.{Closed, OutputFull, Memory}
+use Rattle.h2_log.specs.Acts.{Act, Answer, IsTypedAct, Open, SendFields, SendData, Release, Count}
+use Rattle.h2_log.specs.Acts.{Done, Refused}
+use Rattle.h2_log.specs.Log.{owed}
+use Rattle.h2_log.specs.LogCalls.{MayAnswer, with_call}
+use Rattle.h2_message.specs.Messages.{SentMessage}
+use Rattle.h2_ends.specs.declared.refusal.EndRefusal.{EndRefusal}
+use Rattle.h2_ends.specs.declared.refusal.EndRefusal.TheVariants as refusals
+use Rattle.h2_ends.specs.Ends.{EndLog}
+use Rattle.h2_ends.specs.EndTakes.{end_with_log}
+use Rattle.h2_ends.specs.EndCalls.{IsHeadCall, IsUnchanged, MayRequest, MayRespond, Pumps}
+use Rattle.h2_ends.specs.EndCalls.{pumps_no_more, pumps_data, pumps_trailers, data_refused}
+use Rattle.h2_ends.specs.EndCalls.{trailers_refused, MayPump, Releases, releases_no_more}
+use Rattle.h2_ends.specs.EndCalls.{releases_one, releases_refused, MayReleaseAll}
+use Rattle.h2_joined.proofs.JointCalls.{IsOrdinary}
+
+-- An ordinary call keeps what holds of an end.
+abbrev pub KeptByCalls : (EndLog → Type 0) → Type 0
+KeptByCalls Holds =
+    (end : EndLog) (act : Act) (answer : Answer) → Holds end → IsOrdinary act → IsTypedAct act
+    → MayAnswer end.log act answer → Holds (end_with_log end (with_call end.log act answer))
+
+-- So do the calls of a pump,
+holds_by_pumps : (Holds : EndLog → Type 0) → KeptByCalls Holds → (end after : EndLog) (count : ℕ)
+    (refused : Option Refusal) → Pumps end count refused after → Holds end → Holds after
+holds_by_pumps Holds kept _ _ _ _ (pumps_no_more end) holds = holds
+holds_by_pumps Holds kept _ _ _ _
+    (pumps_data end id sent more octets ends refused after next typed may others) holds =
+    holds_by_pumps Holds kept
+    (end_with_log end (with_call end.log (SendData id octets ends) (Count sent))) after more
+    refused others (kept end (SendData id octets ends) (Count sent) holds tt typed may)
+holds_by_pumps Holds kept _ _ _ _
+    (pumps_trailers end id more list refused after next typed may others) holds =
+    holds_by_pumps Holds kept
+    (end_with_log end (with_call end.log (SendFields id list true) Done)) after more refused others
+    (kept end (SendFields id list true) Done holds tt typed may)
+holds_by_pumps Holds kept _ _ _ _ (data_refused end id octets ends refusal next typed may) holds =
+    kept end (SendData id octets ends) (Refused refusal) holds tt typed may
+holds_by_pumps Holds kept _ _ _ _ (trailers_refused end id list refusal next typed may) holds =
+    kept end (SendFields id list true) (Refused refusal) holds tt typed may
+
+-- and those of a release of all that is owed.
+holds_by_releases : (Holds : EndLog → Type 0) → KeptByCalls Holds → (end after : EndLog)
+    (refused : Option Refusal) → Releases end refused after → Holds end → Holds after
+holds_by_releases Holds kept _ _ _ (releases_no_more end) holds = holds
+holds_by_releases Holds kept _ _ _ (releases_one end id refused after next typed may others) holds =
+    holds_by_releases Holds kept
+    (end_with_log end (with_call end.log (Release id (owed end.log id)) Done)) after refused others
+    (kept end (Release id (owed end.log id)) Done holds tt typed may)
+holds_by_releases Holds kept _ _ _ (releases_refused end id refusal next typed may) holds =
+    kept end (Release id (owed end.log id)) (Refused refusal) holds tt typed may
+
+-- A call that sends a head is ordinary.
+ordinary_head : (act : Act) → IsHeadCall act → IsOrdinary act
+ordinary_head (Open fields end) head = tt
+ordinary_head (SendFields id fields end) head = tt
+ordinary_head act head = absurd head
+
+-- Where nothing has happened, but that a head was refused, what holds is kept.
+holds_unchanged : (Holds : EndLog → Type 0) → KeptByCalls Holds → (end after : EndLog)
+    → IsUnchanged end after → Holds end → Holds after
+unfolding IsUnchanged
+holds_unchanged Holds kept end after (inl same) holds = subst Holds (sym same) holds
+holds_unchanged Holds kept end after (inr (act, refusal, typed, head, may, same)) holds =
+    subst Holds (sym same) (kept end act (Refused refusal) holds (ordinary_head act head) typed may)
+
+-- So it is with a pump,
+pub holds_by_pump : (Holds : EndLog → Type 0) → KeptByCalls Holds → (end after : EndLog)
+    (result : Result ℕ EndRefusal) → MayPump end result after → Holds end → Holds after
+unfolding MayPump
+holds_by_pump Holds kept end after (Ok count) (up, inl (pumps, full)) holds =
+    holds_by_pumps Holds kept end after count (Some OutputFull) pumps holds
+holds_by_pump Holds kept end after (Ok count) (up, inr (pumps, stuck)) holds =
+    holds_by_pumps Holds kept end after count None pumps holds
+holds_by_pump Holds kept end after (Err (refusals.Conn Closed)) (failed, same) holds =
+    subst Holds (sym same) holds
+holds_by_pump Holds kept end after (Err (refusals.Conn Memory)) (up, count, pumps) holds =
+    holds_by_pumps Holds kept end after count (Some Memory) pumps holds
+holds_by_pump Holds kept end after (Err other) may holds = absurd may
+
+-- with a release of all that is owed,
+pub holds_by_release : (Holds : EndLog → Type 0) → KeptByCalls Holds → (end after : EndLog)
+    (result : Result (Unit {0}) EndRefusal) → MayReleaseAll end result after → Holds end
+    → Holds after
+unfolding MayReleaseAll
+holds_by_release Holds kept end after (Ok done) (up, releases, none) holds =
+    holds_by_releases Holds kept end after None releases holds
+holds_by_release Holds kept end after (Err (refusals.Conn Closed)) (failed, same) holds =
+    subst Holds (sym same) holds
+holds_by_release Holds kept end after (Err (refusals.Conn OutputFull)) (up, releases, full, some)
+    holds = holds_by_releases Holds kept end after (Some OutputFull) releases holds
+holds_by_release Holds kept end after (Err (refusals.Conn Memory)) (up, releases) holds =
+    holds_by_releases Holds kept end after (Some Memory) releases holds
+holds_by_release Holds kept end after (Err other) may holds = absurd may
+
+-- and with a message that is refused.
+pub holds_by_refused_request : (Holds : EndLog → Type 0) → KeptByCalls Holds → (end after : EndLog)
+    (message : SentMessage) (refusal : EndRefusal) → MayRequest end message (Err refusal) after
+    → Holds end → Holds after
+unfolding MayRequest
+holds_by_refused_request Holds kept end after message (refusals.BadMessage rule) (broken, same)
+    holds = subst Holds (sym same) holds
+holds_by_refused_request Holds kept end after message (refusals.Conn refusal)
+    (well, refuses, unchanged) holds = holds_unchanged Holds kept end after unchanged holds
+holds_by_refused_request Holds kept end after message other may holds = absurd may
+
+pub holds_by_refused_response : (Holds : EndLog → Type 0) → KeptByCalls Holds → (end after : EndLog)
+    (id : ℕ) (message : SentMessage) (refusal : EndRefusal)
+    → MayRespond end id message (Err refusal) after → Holds end → Holds after
+unfolding MayRespond
+holds_by_refused_response Holds kept end after id message refusals.NotAsked (unasked, same) holds =
+    subst Holds (sym same) holds
+holds_by_refused_response Holds kept end after id message refusals.Answered (asked, some, same)
+    holds = subst Holds (sym same) holds
+holds_by_refused_response Holds kept end after id message (refusals.BadMessage rule)
+    (asked, none, broken, same) holds = subst Holds (sym same) holds
+holds_by_refused_response Holds kept end after id message (refusals.Conn refusal)
+    (asked, none, well, refuses, unchanged) holds =
+    holds_unchanged Holds kept end after unchanged holds

@@ -1,0 +1,82 @@
+-- What an end has handed out is a prefix of what the other was given to say.
+use Rattle.std.proofs.Common.{◌≡◌, ◌≢◌, inl, inr, ℕ, true, List, [], sym, ◌∙◌, append-nil, subst}
+use Rattle.std.specs.List.{list_any}
+use Rattle.std.proofs.lemmas.Bool.{cases_Bool, and_from}
+use Rattle.h2_block.specs.Grouping.{Item}
+use Rattle.h2_log.specs.declared.role.Role.{Role}
+use Rattle.h2_log.specs.declared.role.Role.TheVariants.{Client}
+use Rattle.h2_log.specs.Acts.{Values}
+use Rattle.h2_log.specs.Histories.{IsLog}
+use Rattle.h2_log.specs.Log.{Log}
+use Rattle.h2_log.specs.States.{is_used, openings}
+use Rattle.h2_log.proofs.StreamLemmas.{stream_of_log}
+use Rattle.h2_log_laws.proofs.InvariantLogs.{written_is_allowed}
+use Rattle.h2_log_laws.proofs.ReaderStates.{opens_here}
+use Rattle.h2_end_laws.specs.Over.{used}
+use Rattle.h2_end_laws.specs.Sendings.{lists_accepted}
+use Rattle.h2_pair.specs.Tokens.{Token, tokens_sent, tokens_heard, IsPrefixOfTokens}
+use Rattle.h2_pair.proofs.HeardGoAways.{speaks}
+use Rattle.h2_pair.proofs.HeardMessages.{IsOpened, spoken_opened, silent_tokens}
+use Rattle.h2_pair.proofs.HeardPairs.{server_hears, client_hears, begins_message}
+use Rattle.h2_pair.proofs.HeardSent.{tokens_carried}
+use Rattle.h2_ends.specs.Ends.{EndLog, tokens_handed, tokens_said, tokens_out}
+use Rattle.h2_ends.specs.Represents.{HandsInOrder, SendsInOrder}
+use Rattle.h2_joined.specs.Joints.{JointEnd, Made, half_of}
+use Rattle.h2_joined.proofs.JointHolds.{JointHolds}
+
+-- What was handed out of a stream is a prefix of what its connection has reported.
+handed_begins : (end : EndLog) (i : ℕ) → HandsInOrder end i
+    → IsPrefixOfTokens (tokens_handed end i) (tokens_heard i end.log.reported)
+handed_begins end i (inl same) = ([], same ∙ sym (append-nil (tokens_handed end i)))
+handed_begins end i (inr cut) = cut.prefix
+
+-- A prefix of a prefix is one.
+prefix_of_prefix : (one other whole : List Token) → IsPrefixOfTokens one other
+    → IsPrefixOfTokens other whole → IsPrefixOfTokens one whole
+prefix_of_prefix one other whole begins (rest, is) =
+    begins_message one other rest whole begins is
+
+-- What one end has handed out is a prefix of what the other was given, where that was heard.
+handed_said : (one other : EndLog) (i : ℕ) → HandsInOrder one i → SendsInOrder other i
+    → IsPrefixOfTokens (tokens_heard i one.log.reported) (tokens_out other i)
+    → IsPrefixOfTokens (tokens_handed one i) (tokens_said other i)
+handed_said one other i hands sends heard =
+    begins_message (tokens_handed one i) (tokens_out other i) sends.waiting (tokens_said other i)
+    (prefix_of_prefix (tokens_handed one i) (tokens_heard i one.log.reported)
+    (tokens_out other i) (handed_begins one i hands) heard) sends.prefix
+
+-- So it is at the server, and at the client.
+pub server_hands : (client_values server_values : Values) (made : List Made)
+    (client server : JointEnd) (i : ℕ) → JointHolds client_values server_values made client server
+    → IsPrefixOfTokens (tokens_handed server.happened i) (tokens_said client.happened i)
+server_hands client_values server_values made client server i holds =
+    handed_said server.happened client.happened i (holds.server_order.hands i)
+    (holds.client_order.sends i) (server_hears client_values server_values
+    (half_of client holds.client_lost) (half_of server holds.server_lost) i holds.pair)
+
+pub client_hands : (client_values server_values : Values) (made : List Made)
+    (client server : JointEnd) (i : ℕ) → JointHolds client_values server_values made client server
+    → IsPrefixOfTokens (tokens_handed client.happened i) (tokens_said server.happened i)
+client_hands client_values server_values made client server i holds =
+    handed_said client.happened server.happened i (holds.client_order.hands i)
+    (holds.server_order.sends i) (client_hears client_values server_values
+    (half_of client holds.client_lost) (half_of server holds.server_lost) i holds.pair)
+
+-- A stream that was opened is used.
+opened_used : (role : Role) (i : ℕ) (received sent : List Item) → IsOpened role i received sent
+    → is_used role i received sent ≡ true
+unfolding is_used
+opened_used role i received sent is =
+    and_from _ _ is.odd (opens_here i (openings role received sent) is.odd is.opened)
+
+-- So is one on which a client has sent something.
+pub sent_used : (values : Values) (log : Log) (i : ℕ) → IsLog Client values log
+    → tokens_sent i log.calls ≢ [] → used log i ≡ true
+sent_used values log i is some = elim (cases_Bool (list_any (speaks i) log.sent)) [
+  | inl spoken ↦ subst (λ (role : Role). is_used role i log.received log.sent ≡ true)
+      (sym (stream_of_log Client values log is).role)
+      (opened_used Client i log.received log.sent (spoken_opened Client i log.received log.sent
+      (written_is_allowed Client values log is) spoken))
+  | inr silent ↦ absurd (some (tokens_carried i Client values log is
+      ∙ silent_tokens i log.sent (lists_accepted log.calls) silent))
+]

@@ -1,0 +1,80 @@
+-- Of two new ends all of it holds.
+use Rattle.std.proofs.Common.{◌≡◌, inl, inr, [], refl}
+use Rattle.h2_log.specs.declared.role.Role.{Role}
+use Rattle.h2_log.specs.declared.role.Role.TheVariants as roles
+use Rattle.h2_log.specs.Acts.{Values, AreInRange}
+use Rattle.h2_log.specs.Log.{next_unprocessed}
+use Rattle.h2_log.specs.LogCalls.{opened}
+use Rattle.h2_log.specs.LogSteps.{with_sent}
+use Rattle.h2_log.specs.States.{least_block}
+use Rattle.h2_pair.specs.Pairs.{begins}
+use Rattle.h2_pair.specs.Tokens.{tokens_sent, tokens_heard}
+use Rattle.h2_pair.specs.Undisturbed.{IsUndisturbed}
+use Rattle.h2_pair.proofs.FaultsInvariant.{none_in}
+use Rattle.h2_ends.specs.Ends.{message_for, parts_on, tokens_given, tokens_of_parts}
+use Rattle.h2_ends.specs.Represents.{new_end}
+use Rattle.h2_joined.specs.declared.act.Side.{Side}
+use Rattle.h2_joined.specs.Joints.{KeepsOrder, new_joint_end}
+use Rattle.h2_joined.proofs.JointHolds.{JointHolds, EndHolds, AcceptWell}
+
+-- A new end has said and handed out nothing,
+new_order : (role : Role) (values : Values) → KeepsOrder (new_end role values)
+unfolding opened with_sent tokens_sent tokens_heard message_for parts_on tokens_given
+    tokens_of_parts
+new_order role values =
+    record {
+      sends = λ i. record { waiting = []; prefix = refl; begun = λ given. absurd (given refl) };
+      hands = λ i. inl refl;
+    }
+
+-- was asked for nothing,
+new_holds : (side : Side) (role : Role) (values : Values)
+    → EndHolds [] side (new_end role values)
+unfolding opened with_sent tokens_heard parts_on tokens_of_parts
+new_holds side role values =
+    record {
+      heard = λ i. refl;
+      says = λ i. tt;
+      passed = λ event here. absurd (none_in _ here);
+      reported = λ event none here. absurd (none_in _ here);
+      asked = λ id code here. elim here [
+        | inl reset ↦ absurd (none_in _ reset)
+        | inr refusal ↦ absurd (none_in _ refusal)
+      ];
+    }
+
+-- and has accepted no message.
+new_accepted : (client_values server_values : Values)
+    → AcceptWell (new_end roles.Client client_values) (new_end roles.Server server_values)
+unfolding message_for
+new_accepted client_values server_values =
+    record {
+      requests = λ i message is. cc;
+      answers = λ i message is. absurd (cc);
+    }
+
+-- No stream is to be reported.
+new_reported : (values : Values) → next_unprocessed (opened roles.Client values) ≡ 0
+unfolding opened with_sent next_unprocessed least_block
+new_reported values = refl
+
+pub new_ends_hold : (client_values server_values : Values) → AreInRange client_values
+    → AreInRange server_values
+    → JointHolds client_values server_values [] (new_joint_end roles.Client client_values)
+    (new_joint_end roles.Server server_values)
+unfolding IsUndisturbed
+new_ends_hold client_values server_values client_range server_range =
+    record {
+      client_lost = [];
+      server_lost = [];
+      pair = begins client_range server_range;
+      client_order = new_order roles.Client client_values;
+      server_order = new_order roles.Server server_values;
+      calm = λ had. record {
+        undisturbed = tt;
+        client_holds = new_holds _ roles.Client client_values;
+        server_holds = new_holds _ roles.Server server_values;
+        accepted = new_accepted client_values server_values;
+        all_reported = new_reported client_values;
+      };
+    }

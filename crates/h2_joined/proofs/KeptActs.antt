@@ -1,0 +1,263 @@
+-- An act at one end of two joined ends is one more act of both.
+use Rattle.std.proofs.Common.{map as each, ◌≡◌, ℕ, Bool, List, ◌∷◌, ◌++◌, reverse, refl, sym, ap}
+use Rattle.std.proofs.Common.{subst}
+use Rattle.std.proofs.Common.{◌∙◌, [], false}
+use Rattle.std.specs.Prelude.{◌≢◌}
+use Rattle.std.proofs.lemmas.List.{map_push, reverse-append}
+use Rattle.h2_log.specs.Acts.{Values}
+use Rattle.h2_message.specs.Messages.{SentMessage}
+use Rattle.h2_ends.specs.declared.end.End.{End}
+use Rattle.h2_ends.specs.Ends.{EndLog, Handed}
+use Rattle.h2_ends.specs.Represents.{EndRepresents}
+use Rattle.h2_joined.specs.declared.act.Side.{Side}
+use Rattle.h2_joined.specs.declared.act.Side.TheVariants as sides
+use Rattle.h2_joined.specs.declared.act.Acted.{Acted}
+use Rattle.h2_joined.specs.declared.act.Acted.TheVariants as acted
+use Rattle.h2_joined.specs.declared.kept.Accepted.{Accepted}
+use Rattle.h2_joined.specs.declared.kept.JointEvent.{JointEvent}
+use Rattle.h2_joined.specs.declared.kept.Kept.{Kept}
+use Rattle.h2_joined.specs.declared.pipe.Pipe.{Pipe}
+use Rattle.h2_joined.specs.declared.joined.Joined.{Joined}
+use Rattle.h2_joined.specs.Joints.{Doing, JointEnd, MayDo, KeepsOrder, with_happened, lacks_memory}
+use Rattle.h2_joined.specs.Joints.{client_acts, server_acts}
+use Rattle.h2_joined.specs.Kept.{HoldsOctets, KeepsHanded, KeepsEnd, JoinedRepresents, Acts, made}
+use Rattle.h2_joined.specs.Kept.{accepted_value, event_value, end_at, kept_of, other_side}
+
+-- What was sent and handed out at an end that is represented keeps the order.
+keeps_order : (values : Values) (end : End) (happened : EndLog)
+    → EndRepresents values end happened → KeepsOrder happened
+keeps_order values end happened represents =
+    record {
+      sends = represents.streams.sent;
+      hands = λ i. (represents.in_step i).handed;
+    }
+
+-- What an act at one end has to show: it may be made, and both ends and what is kept are as it
+-- says.
+pub record DoesAt (values : Values) (side : Side) (one other : JointEnd) (doing : Doing)
+    (answer : Acted) (new : Joined) : Type 0 where
+  pub new_one : JointEnd
+  pub new_other : JointEnd
+  pub may : MayDo one other doing answer new_one new_other
+  pub represents : EndRepresents values (end_at side new) new_one.happened
+  pub kept : KeepsEnd new.stopped (kept_of side new) new_one
+  pub happened : new_other.happened ≡ other.happened
+  pub other_kept : KeepsEnd new.stopped (kept_of (other_side side) new) new_other
+
+-- whatever has happened at both
+abbrev pub DoesAll : Side → (old new : Joined) → Doing → Acted → Type 0
+DoesAll side old new doing answer =
+    (values : Values) (one other : JointEnd) → EndRepresents values (end_at side old) one.happened
+    → KeepsEnd old.stopped (kept_of side old) one
+    → KeepsEnd old.stopped (kept_of (other_side side) old) other
+    → DoesAt values side one other doing answer new
+
+-- The other end represents the same.
+other_represents : (values : Values) (old new : End) (before after : EndLog) → new ≡ old
+    → after ≡ before → EndRepresents values old before → EndRepresents values new after
+other_represents values old new before after same stays represents =
+    subst (λ (end : End). EndRepresents values end after) (sym same)
+    (subst (λ (happened : EndLog). EndRepresents values old happened) (sym stays) represents)
+
+pub acts_by : (side : Side) (old new : Joined) (doing : Doing) (answer : Acted)
+    → end_at (other_side side) new ≡ end_at (other_side side) old
+    → (answer ≢ acted.OutOfMemory → old.stopped ≡ false → new.stopped ≡ false)
+    → DoesAll side old new doing answer → Acts old (made side doing answer) new
+acts_by sides.Client old new doing answer same stays does ours theirs acts client server both =
+    let done =
+    does ours client server both.client_represents both.client_kept both.server_kept in (
+      done.new_one,
+      done.new_other,
+      record {
+        joint = client_acts both.joint doing answer done.may
+            (keeps_order ours new.client.end done.new_one.happened done.represents);
+        client_represents = done.represents;
+        server_represents = other_represents theirs old.server.end new.server.end
+            server.happened done.new_other.happened same done.happened both.server_represents;
+        client_kept = done.kept;
+        server_kept = done.other_kept;
+        not_stopped = λ had. stays had.0.act (both.not_stopped had.1);
+      },
+    )
+acts_by sides.Server old new doing answer same stays does theirs ours acts client server both =
+    let done =
+    does ours server client both.server_represents both.server_kept both.client_kept in (
+      done.new_other,
+      done.new_one,
+      record {
+        joint = server_acts both.joint doing answer done.may
+            (keeps_order ours new.server.end done.new_one.happened done.represents);
+        client_represents = other_represents theirs old.client.end new.client.end
+            client.happened done.new_other.happened same done.happened both.client_represents;
+        server_represents = done.represents;
+        client_kept = done.other_kept;
+        server_kept = done.kept;
+        not_stopped = λ had. stays had.0.act (both.not_stopped had.1);
+      },
+    )
+
+-- What is kept of an end is the same, but for where it lies.
+pub record SameKept (old new : Kept) : Type 0 where
+  pub incoming : new.incoming ≡ old.incoming
+  pub accepted : new.accepted.items ≡ old.accepted.items
+  pub handed : new.handed.items ≡ old.handed.items
+
+pub same_kept : (old new : Kept) → new ≡ old → SameKept old new
+same_kept old new same =
+    record {
+      incoming = ap (λ (k : Kept). k.incoming) same;
+      accepted = ap (λ (k : Kept). k.accepted.items) same;
+      handed = ap (λ (k : Kept). k.handed.items) same;
+    }
+
+-- Only this end has changed, and nothing that is kept.
+pub record ChangesEnd (side : Side) (old new : Joined) : Type 0 where
+  pub other_end : end_at (other_side side) new ≡ end_at (other_side side) old
+  pub kept : SameKept (kept_of side old) (kept_of side new)
+  pub other_kept : kept_of (other_side side) new ≡ kept_of (other_side side) old
+  pub stopped : new.stopped ≡ old.stopped
+
+-- What is kept stays so, where the end has accepted and handed out nothing.
+pub keeps_same : (before after : Bool) (old new : Kept) (one new_one : JointEnd)
+    → KeepsEnd before old one → after ≡ before → SameKept old new
+    → new_one.incoming ≡ one.incoming → new_one.happened.accepted ≡ one.happened.accepted
+    → new_one.happened.handed ≡ one.happened.handed → KeepsEnd after new new_one
+keeps_same before after old new one new_one keeps stays same incoming accepted handed =
+    record {
+      incoming = subst (λ (pipe : Pipe). HoldsOctets pipe new_one.incoming) (sym same.incoming)
+          (subst (λ (octets : List ℕ). HoldsOctets old.incoming octets) (sym incoming)
+          keeps.incoming);
+      accepted = accepted ∙ keeps.accepted
+          ∙ ap (λ (items : List Accepted). reverse (each accepted_value items))
+          (sym same.accepted);
+      handed = subst (λ (stopped : Bool). KeepsHanded stopped new.handed.items
+          new_one.happened.handed) (sym stays)
+          (subst (λ (items : List JointEvent). KeepsHanded before items new_one.happened.handed)
+          (sym same.handed) (subst (λ (all : List Handed). KeepsHanded before old.handed.items all)
+          (sym handed) keeps.handed));
+    }
+
+-- What a call of one end has to show, that accepts and hands out nothing.
+pub record HappensAt (values : Values) (new : End) (one other : JointEnd) (doing : Doing)
+    (answer : Acted) : Type 0 where
+  pub after : EndLog
+  pub may : MayDo one other doing answer (with_happened one after) other
+  pub represents : EndRepresents values new after
+  pub accepted : after.accepted ≡ one.happened.accepted
+  pub handed : after.handed ≡ one.happened.handed
+
+pub acts_on_end : (side : Side) (old new : Joined) (doing : Doing) (answer : Acted)
+    → ChangesEnd side old new
+    → ((values : Values) (one other : JointEnd)
+    → EndRepresents values (end_at side old) one.happened
+    → HappensAt values (end_at side new) one other doing answer)
+    → Acts old (made side doing answer) new
+acts_on_end side old new doing answer changes happens =
+    acts_by side old new doing answer changes.other_end
+    (λ some goes_on. changes.stopped ∙ goes_on)
+    (λ values one other represents keeps other_keeps.
+    let does = happens values one other represents in
+    record {
+      new_one = with_happened one does.after;
+      new_other = other;
+      may = does.may;
+      represents = does.represents;
+      kept = keeps_same old.stopped new.stopped (kept_of side old) (kept_of side new) one
+          (with_happened one does.after) keeps changes.stopped changes.kept refl does.accepted
+          does.handed;
+      happened = refl;
+      other_kept = keeps_same old.stopped new.stopped (kept_of (other_side side) old)
+          (kept_of (other_side side) new) other other other_keeps changes.stopped
+          (same_kept (kept_of (other_side side) old) (kept_of (other_side side) new)
+          changes.other_kept) refl refl refl;
+    })
+
+-- Memory was refused before anything was done.
+pub acts_without_memory : (side : Side) (old new : Joined) (doing : Doing)
+    → end_at side new ≡ end_at side old → ChangesEnd side old new
+    → Acts old (made side doing acted.OutOfMemory) new
+acts_without_memory side old new doing same changes =
+    acts_on_end side old new doing acted.OutOfMemory changes (λ values one other represents.
+    record {
+      after = one.happened;
+      may = lacks_memory doing;
+      represents = subst (λ (end : End). EndRepresents values end one.happened) (sym same)
+          represents;
+      accepted = refl;
+      handed = refl;
+    })
+
+-- Only this end has changed, and of what is kept of it this is accepted too.
+pub record AcceptsAt (side : Side) (old new : Joined) (one : Accepted) : Type 0 where
+  pub other_end : end_at (other_side side) new ≡ end_at (other_side side) old
+  pub incoming : (kept_of side new).incoming ≡ (kept_of side old).incoming
+  pub accepted : (kept_of side new).accepted.items
+      ≡ (kept_of side old).accepted.items ++ one ∷ []
+  pub handed : (kept_of side new).handed.items ≡ (kept_of side old).handed.items
+  pub other_kept : kept_of (other_side side) new ≡ kept_of (other_side side) old
+  pub stopped : new.stopped ≡ old.stopped
+
+-- One more is the newest.
+pub newest : {A B : Type 0} (value : A → B) (items : List A) (one : A)
+    → reverse (each value (items ++ one ∷ [])) ≡ value one ∷ reverse (each value items)
+newest value items one =
+    ap reverse (map_push value items one) ∙ reverse-append (each value items) (value one ∷ [])
+
+keeps_accepted : (side : Side) (old new : Joined) (accepted : Accepted) (one new_one : JointEnd)
+    → AcceptsAt side old new accepted → KeepsEnd old.stopped (kept_of side old) one
+    → new_one.incoming ≡ one.incoming
+    → new_one.happened.accepted ≡ accepted_value accepted ∷ one.happened.accepted
+    → new_one.happened.handed ≡ one.happened.handed
+    → KeepsEnd new.stopped (kept_of side new) new_one
+keeps_accepted side old new accepted one new_one accepts keeps incoming said handed =
+    let before = kept_of side old in
+    let after = kept_of side new in
+    let same = keeps_same old.stopped new.stopped before
+    (record after { accepted = before.accepted }) one
+    (record new_one { happened = record new_one.happened { accepted = one.happened.accepted } })
+    keeps accepts.stopped
+    (record { incoming = accepts.incoming; accepted = refl; handed = accepts.handed })
+    incoming refl handed in
+    record {
+      incoming = same.incoming;
+      accepted = said
+          ∙ ap (λ (all : List (ℕ × SentMessage)). accepted_value accepted ∷ all) keeps.accepted
+          ∙ sym (newest accepted_value before.accepted.items accepted)
+          ∙ ap (λ (items : List Accepted). reverse (each accepted_value items))
+          (sym accepts.accepted);
+      handed = same.handed;
+    }
+
+-- What a call of one end has to show, that accepts a message.
+pub record SaysAt (values : Values) (new : End) (one other : JointEnd) (doing : Doing)
+    (answer : Acted) (accepted : Accepted) : Type 0 where
+  pub after : EndLog
+  pub may : MayDo one other doing answer (with_happened one after) other
+  pub represents : EndRepresents values new after
+  pub says : after.accepted ≡ accepted_value accepted ∷ one.happened.accepted
+  pub handed : after.handed ≡ one.happened.handed
+
+pub acts_accepting : (side : Side) (old new : Joined) (doing : Doing) (answer : Acted)
+    (accepted : Accepted) → AcceptsAt side old new accepted
+    → ((values : Values) (one other : JointEnd)
+    → EndRepresents values (end_at side old) one.happened
+    → SaysAt values (end_at side new) one other doing answer accepted)
+    → Acts old (made side doing answer) new
+acts_accepting side old new doing answer accepted accepts says =
+    acts_by side old new doing answer accepts.other_end
+    (λ some goes_on. accepts.stopped ∙ goes_on)
+    (λ values one other represents keeps other_keeps.
+    let does = says values one other represents in
+    record {
+      new_one = with_happened one does.after;
+      new_other = other;
+      may = does.may;
+      represents = does.represents;
+      kept = keeps_accepted side old new accepted one (with_happened one does.after) accepts
+          keeps refl does.says does.handed;
+      happened = refl;
+      other_kept = keeps_same old.stopped new.stopped (kept_of (other_side side) old)
+          (kept_of (other_side side) new) other other other_keeps accepts.stopped
+          (same_kept (kept_of (other_side side) old) (kept_of (other_side side) new)
+          accepts.other_kept) refl refl refl;
+    })

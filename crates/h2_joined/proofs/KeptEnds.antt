@@ -1,0 +1,190 @@
+-- What a call of an end makes of the messages that it has accepted and of what it has handed out.
+use Rattle.std.proofs.Common.{◌≡◌, ℕ, Bool, List, [], ◌∷◌, Option, Some, None, Result, Ok, Err, inl}
+use Rattle.std.proofs.Common.{inr}
+use Rattle.std.proofs.Common.{refl, sym, ap, ◌∙◌, subst, ◌⊎◌, ⊎_elim}
+use Rattle.hpack.specs.declared.types.field.Field.{Field}
+use Rattle.h2_frame.specs.declared.code.Code.{Code}
+use Rattle.h2_log.specs.declared.refusal.Refusal.{Refusal}
+use Rattle.h2_log.specs.declared.refusal.Refusal.TheVariants as reasons
+use Rattle.h2_log.specs.Log.{Log}
+use Rattle.h2_log.specs.LogCalls.{with_call}
+use Rattle.h2_message.specs.Messages.{SentMessage}
+use Rattle.h2_ends.specs.declared.refusal.EndRefusal.{EndRefusal}
+use Rattle.h2_ends.specs.declared.refusal.EndRefusal.TheVariants as refusals
+use Rattle.h2_ends.specs.Ends.{EndLog, Handed, Passed, EndAnswer, EndTook, EndFailed}
+use Rattle.h2_ends.specs.EndTakes.{EndMayTake, AnswersRefused, fails, hands_nothing, passes}
+use Rattle.h2_ends.specs.EndTakes.{hands_out, refuses, runs_out_of_memory}
+use Rattle.h2_ends.specs.EndCalls.{MayRequest, MayRespond, MayPump, MayReleaseAll, IsUnchanged}
+use Rattle.h2_ends.specs.EndCalls.{Pumps, pumps_no_more, pumps_data, pumps_trailers}
+use Rattle.h2_ends.specs.EndCalls.{data_refused, trailers_refused}
+use Rattle.h2_ends.specs.EndCalls.{Releases, releases_no_more, releases_one, releases_refused}
+
+-- The end has accepted and handed out nothing more.
+pub record SaysNothing (before after : EndLog) : Type 0 where
+  pub accepted : after.accepted ≡ before.accepted
+  pub handed : after.handed ≡ before.handed
+
+says_itself : (before after : EndLog) → after ≡ before → SaysNothing before after
+says_itself before after same =
+    record {
+      accepted = ap (λ (end : EndLog). end.accepted) same;
+      handed = ap (λ (end : EndLog). end.handed) same;
+    }
+
+-- Calls of its connection say nothing.
+pump_says : (before : EndLog) (count : ℕ) (refused : Option Refusal) (after : EndLog)
+    → Pumps before count refused after → SaysNothing before after
+pump_says before count refused after (pumps_no_more end) =
+    record { accepted = refl; handed = refl }
+pump_says before count refused after (pumps_data end id sent more octets ends refusal last next typed
+    may rest) =
+    let says = pump_says _ more refusal last rest in
+    record { accepted = says.accepted; handed = says.handed }
+pump_says before count refused after (pumps_trailers end id more list refusal last next typed may
+    rest) =
+    let says = pump_says _ more refusal last rest in
+    record { accepted = says.accepted; handed = says.handed }
+pump_says before count refused after (data_refused end id octets ends refusal next typed may) =
+    record { accepted = refl; handed = refl }
+pump_says before count refused after (trailers_refused end id list refusal next typed may) =
+    record { accepted = refl; handed = refl }
+
+pub pumped_says : (before : EndLog) (result : Result ℕ EndRefusal) (after : EndLog)
+    → MayPump before result after → SaysNothing before after
+unfolding MayPump
+pumped_says before (Ok count) after may =
+    elim may.1 [
+      | inl all ↦ pump_says before count _ after all.0
+      | inr all ↦ pump_says before count _ after all.0
+    ]
+pumped_says before (Err (refusals.Conn reasons.Closed)) after may =
+    says_itself before after may.1
+pumped_says before (Err (refusals.Conn reasons.Memory)) after may =
+    pump_says before may.1 _ after may.2
+pumped_says before (Err other) after may = absurd may
+
+release_says : (before : EndLog) (refused : Option Refusal) (after : EndLog)
+    → Releases before refused after → SaysNothing before after
+release_says before refused after (releases_no_more end) =
+    record { accepted = refl; handed = refl }
+release_says before refused after (releases_one end id refusal last next typed may rest) =
+    let says = release_says _ refusal last rest in
+    record { accepted = says.accepted; handed = says.handed }
+release_says before refused after (releases_refused end id refusal next typed may) =
+    record { accepted = refl; handed = refl }
+
+pub released_says : (before : EndLog) (result : Result (Unit {0}) EndRefusal) (after : EndLog)
+    → MayReleaseAll before result after → SaysNothing before after
+unfolding MayReleaseAll
+released_says before (Ok done) after may = release_says before _ after may.1
+released_says before (Err (refusals.Conn reasons.Closed)) after may =
+    says_itself before after may.1
+released_says before (Err (refusals.Conn reasons.OutputFull)) after may =
+    release_says before _ after may.1
+released_says before (Err (refusals.Conn reasons.Memory)) after may =
+    release_says before _ after may.1
+released_says before (Err other) after may = absurd may
+
+-- A refused message changes nothing, but that the connection may have refused a call.
+unchanged_says : (before after : EndLog) → IsUnchanged before after → SaysNothing before after
+unfolding IsUnchanged
+unchanged_says before after (inl same) = says_itself before after same
+unchanged_says before after (inr called) =
+    record {
+      accepted = ap (λ (end : EndLog). end.accepted) called.5;
+      handed = ap (λ (end : EndLog). end.handed) called.5;
+    }
+
+pub request_refused : (before : EndLog) (message : SentMessage) (refusal : EndRefusal)
+    (after : EndLog) → MayRequest before message (Err refusal) after → SaysNothing before after
+unfolding MayRequest
+request_refused before message (refusals.BadMessage rule) after may =
+    says_itself before after may.1
+request_refused before message (refusals.Conn refusal) after may =
+    unchanged_says before after may.2
+request_refused before message other after may = absurd may
+
+pub respond_refused : (before : EndLog) (id : ℕ) (message : SentMessage) (refusal : EndRefusal)
+    (after : EndLog) → MayRespond before id message (Err refusal) after
+    → SaysNothing before after
+unfolding MayRespond
+respond_refused before id message refusals.NotAsked after may = says_itself before after may.1
+respond_refused before id message refusals.Answered after may = says_itself before after may.2
+respond_refused before id message (refusals.BadMessage rule) after may =
+    says_itself before after may.3
+respond_refused before id message (refusals.Conn refusal) after may =
+    unchanged_says before after may.4
+
+-- The end has accepted a message.
+pub record SaysMessage (before : EndLog) (id : ℕ) (message : SentMessage) (after : EndLog)
+    : Type 0 where
+  pub accepted : after.accepted ≡ (id, message) ∷ before.accepted
+  pub handed : after.handed ≡ before.handed
+
+pub request_accepted : (before : EndLog) (message : SentMessage) (id : ℕ) (after : EndLog)
+    → MayRequest before message (Ok id) after → SaysMessage before id message after
+unfolding MayRequest
+request_accepted before message id after may =
+    record {
+      accepted = ap (λ (end : EndLog). end.accepted) may.3;
+      handed = ap (λ (end : EndLog). end.handed) may.3;
+    }
+
+pub respond_accepted : (before : EndLog) (id : ℕ) (message : SentMessage) (done : Unit {0})
+    (after : EndLog) → MayRespond before id message (Ok done) after
+    → SaysMessage before id message after
+unfolding MayRespond
+respond_accepted before id message done after may =
+    record {
+      accepted = ap (λ (end : EndLog). end.accepted) may.5;
+      handed = ap (λ (end : EndLog). end.handed) may.5;
+    }
+
+-- what was handed out once a call of `take` has this answer
+abbrev pub handed_after : EndAnswer → List Handed → List Handed
+handed_after (EndTook count (Some one)) handed = one ∷ handed
+handed_after (EndTook count None) handed = handed
+handed_after (EndFailed code) handed = handed
+
+-- A call of `take` has accepted nothing, and has handed out what it answers.
+pub record SaysTaken (before : EndLog) (answer : EndAnswer) (after : EndLog) : Type 0 where
+  pub accepted : after.accepted ≡ before.accepted
+  pub handed : after.handed ≡ handed_after answer before.handed
+
+-- By its answer, and what has happened then.
+taken_as : (before : EndLog) (answer is : EndAnswer) (log : Log) (handed : List Handed)
+    (after : EndLog) → answer ≡ is
+    → after ≡ record before { log = log; handed = handed } → handed ≡ handed_after is before.handed
+    → SaysTaken before answer after
+taken_as before answer is log handed after same now says =
+    record {
+      accepted = ap (λ (end : EndLog). end.accepted) now;
+      handed = ap (λ (end : EndLog). end.handed) now ∙ says
+          ∙ ap (λ (one : EndAnswer). handed_after one before.handed) (sym same);
+    }
+
+refused_says : (before : EndLog) (log : Log) (count id : ℕ) (answer : EndAnswer) (after : EndLog)
+    (failed : Option Code) → AnswersRefused before log count id answer after failed
+    → SaysTaken before answer after
+unfolding AnswersRefused
+refused_says before log count id answer after None refused =
+    taken_as before answer _ log _ after refused.0 refused.1 refl
+refused_says before log count id answer after (Some code) refused =
+    taken_as before answer _ log _ after refused.0 refused.1 refl
+
+pub taken_says : (before : EndLog) (piece : List ℕ) (answer : EndAnswer) (after : EndLog)
+    → EndMayTake before piece answer after → SaysTaken before answer after
+taken_says before piece answer after (fails code log takes same now) =
+    taken_as before answer _ log _ after same now refl
+taken_says before piece answer after (hands_nothing count log takes same now) =
+    taken_as before answer _ log _ after same now refl
+taken_says before piece answer after (passes count event log takes none same now) =
+    taken_as before answer _ log _ after same now refl
+taken_says before piece answer after (hands_out count event log takes id part is readable same now) =
+    taken_as before answer _ log _ after same now refl
+taken_says before piece answer after (refuses count event log takes id part is broken refused may
+    answers) =
+    refused_says before _ count id answer after _ answers
+taken_says before piece answer after (runs_out_of_memory count id list ends log takes role none
+    readable refused may same now) =
+    taken_as before answer _ _ _ after same now refl

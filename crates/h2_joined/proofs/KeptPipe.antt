@@ -1,0 +1,57 @@
+-- The octets of a pipe, once some were delivered.
+use Rattle.std.proofs.Common.{◌≡◌, ℕ, ◌+◌, ◌-◌, ◌^◌, ◌≤◌, ◌<◌, min, List, [], ◌++◌, length, take}
+use Rattle.std.proofs.Common.{drop}
+use Rattle.std.proofs.Common.{refl, sym, ap, ◌∙◌, arith}
+use Rattle.std.proofs.lemmas.List.{length-append, length-take-le, take-append-drop, drop-drop}
+use Rattle.std.proofs.lemmas.List.{drop_at, drop_min}
+use Rattle.std.specs.Vec.{vec_len}
+use Rattle.h2_joined.specs.declared.pipe.Pipe.{Pipe}
+use Rattle.h2_joined.specs.Kept.{HoldsOctets}
+
+-- how many octets of a pipe were delivered once so many more are, of all that it has
+abbrev pub IsUsed : Pipe → (count used : ℕ) → Type 0
+IsUsed pipe count used =
+    used ≡ min (min (pipe.used + count) (2 ^ 64 - 1)) (length pipe.octets.items)
+
+-- What is left then.
+pub left_after : (pipe : Pipe) (octets : List ℕ) (count used : ℕ) → HoldsOctets pipe octets
+    → length pipe.octets.items < 2 ^ 64 → IsUsed pipe count used
+    → drop used pipe.octets.items ≡ drop count octets
+left_after pipe octets count used holds small is =
+    let sum = length-append holds.delivered octets in
+    let all = ap length holds.items in
+    let more : used ≡ length holds.delivered + min count (length octets) =
+    omega (arith, is, sum, all, holds.count, small) in
+    rw (
+      holds.items,
+      more,
+      ← drop-drop (min count (length octets)) (length holds.delivered)
+          (holds.delivered ++ octets),
+      drop_at holds.delivered octets (length holds.delivered) refl,
+    )
+    (drop_min count octets)
+
+-- The octets that were delivered are kept.
+pub holds_behind : (pipe new : Pipe) (octets : List ℕ) (count used : ℕ)
+    → HoldsOctets pipe octets → length pipe.octets.items < 2 ^ 64 → IsUsed pipe count used
+    → new.octets.items ≡ pipe.octets.items → new.used ≡ used → HoldsOctets new (drop count octets)
+holds_behind pipe new octets count used holds small is same at =
+    record {
+      delivered = take used pipe.octets.items;
+      items = same ∙ sym (take-append-drop used pipe.octets.items)
+          ∙ ap (λ (left : List ℕ). take used pipe.octets.items ++ left)
+          (left_after pipe octets count used holds small is);
+      count = at ∙ sym (length-take-le used pipe.octets.items (omega (arith, is)));
+    }
+
+-- They are dropped.
+pub holds_alone : (pipe new : Pipe) (octets : List ℕ) (count used : ℕ)
+    → HoldsOctets pipe octets → length pipe.octets.items < 2 ^ 64 → IsUsed pipe count used
+    → new.octets.items ≡ drop used pipe.octets.items → new.used ≡ 0
+    → HoldsOctets new (drop count octets)
+holds_alone pipe new octets count used holds small is left none =
+    record {
+      delivered = [];
+      items = left ∙ left_after pipe octets count used holds small is;
+      count = none;
+    }

@@ -1,0 +1,63 @@
+-- Two joined ends are quiet where both are, and both pipes are empty.
+use Rattle.std.proofs.Common.{◌≡◌, ℕ, ◌≤◌, Bool, true, false, List, [], ◌∷◌, length, refl}
+use Rattle.std.proofs.Common.{arith}
+use Rattle.std.specs.Prelude.{◌↔◌}
+use Rattle.std.proofs.lemmas.Bool.{both_ways}
+use Rattle.h2_log.specs.Acts.{Values}
+use Rattle.h2_ends.specs.declared.end.End.{End}
+use Rattle.h2_ends.specs.Ends.{EndLog}
+use Rattle.h2_ends.specs.Quiet.{IsQuietEnd}
+use Rattle.h2_ends.specs.Represents.{EndRepresents}
+use Rattle.h2_joined.specs.declared.joined.Joined.{Joined}
+use Rattle.h2_joined.specs.declared.pipe.Pipe.{Pipe}
+use Rattle.h2_joined.specs.Headline.{AreQuiet}
+use Rattle.h2_joined.specs.Joints.{JointEnd, Made}
+use Rattle.h2_joined.specs.Kept.{HoldsOctets, JoinedRepresents}
+
+-- what `len` of a pipe answers
+abbrev pub CountsPipe : Pipe → ℕ → Type 0
+CountsPipe pipe count = (octets : List ℕ) → HoldsOctets pipe octets → count ≡ length octets
+
+-- what `is_quiet` of an end answers
+abbrev pub TellsQuiet : End → Bool → Type 0
+TellsQuiet end quiet = (values : Values) (log : EndLog) → EndRepresents values end log
+    → (quiet ≡ true) ↔ IsQuietEnd log
+
+-- whatever has happened at the two ends
+abbrev pub TellsBoth : Joined → Bool → Type 0
+TellsBoth joined quiet = (client_values server_values : Values) (made : List Made)
+    (client server : JointEnd)
+    → JoinedRepresents client_values server_values joined made client server
+    → (quiet ≡ true) ↔ AreQuiet client server
+
+no_octets : (octets : List ℕ) → length octets ≡ 0 → octets ≡ []
+no_octets [] none = refl
+no_octets (octet ∷ octets) none = absurd (omega (arith, none))
+
+pub busy_client : (joined : Joined) (one : Bool) → TellsQuiet joined.client.end one
+    → one ≡ false → TellsBoth joined one
+busy_client joined one tells busy client_values server_values made client server is = (
+  λ never. absurd (both_ways one busy never),
+  λ quiet. (tells client_values client.happened is.client_represents).1 quiet.quiet_client,
+)
+
+pub both_quiet : (joined : Joined) (to_client to_server : ℕ) (one other : Bool)
+    → CountsPipe joined.at_client.incoming to_client
+    → CountsPipe joined.at_server.incoming to_server
+    → TellsQuiet joined.client.end one → TellsQuiet joined.server.end other
+    → to_client ≤ 0 → to_server ≤ 0 → one ≡ true → TellsBoth joined other
+both_quiet joined to_client to_server one other counts_client counts_server tells_client
+    tells_server none_client none_server quiet_client client_values server_values made client
+    server is = (
+      λ quiet. record {
+        quiet_client =
+            (tells_client client_values client.happened is.client_represents).0 quiet_client;
+        quiet_server = (tells_server server_values server.happened is.server_represents).0 quiet;
+        to_client = no_octets client.incoming
+            (omega (arith, none_client, counts_client client.incoming is.client_kept.incoming));
+        to_server = no_octets server.incoming
+            (omega (arith, none_server, counts_server server.incoming is.server_kept.incoming));
+      },
+      λ quiet. (tells_server server_values server.happened is.server_represents).1
+          quiet.quiet_server,
+    )

@@ -1,0 +1,32 @@
+-- By the lemma on a call of the connection.
+use Rattle.std.proofs.Common.{refl, rules}
+use Rattle.hpack_text.proofs.ReadLemmas.{all_octets}
+use Rattle.h2_log.specs.Acts.{IsTypedAct, SendPing, Done}
+use Rattle.h2_conn.specs.Conn.{answer_by}
+use Rattle.h2_ends.specs.Represents.{EndAnswers}
+use Rattle.h2_joined.specs.Kept.{end_at}
+use Rattle.h2_joined.proofs.KeptActs.{ChangesEnd, same_kept}
+use Rattle.h2_joined.proofs.CodeCalls.{call_acts}
+use Rattle.h2_joined.proofs.joined.Joined.ping.Goals.{in-Client, in-Server}
+use Rattle.h2_joined.proofs.joined.Joined.ping.Goals as goal
+
+pub returns : goal.returns
+unfolding IsTypedAct
+returns c =
+    let old = c.args.self.now in
+    let new = c.match-side.self in
+    let act = SendPing c.args.octets in
+    let does : ChangesEnd c.args.side old new
+    × EndAnswers (end_at c.args.side old) act (answer_by (λ done. Done) c.match-side.done)
+    (end_at c.args.side new) =
+    elim c.match-side.branch [
+      | in-Client w ↦ rw (w.in-Client.is, w.self-is, w.done-is) (
+        record { other_end = refl; kept = same_kept _ _ refl; other_kept = refl; stopped = refl },
+        w.ping.ensures,
+      )
+      | in-Server w ↦ rw (w.in-Server.is, w.self-is, w.done-is) (
+        record { other_end = refl; kept = same_kept _ _ refl; other_kept = refl; stopped = refl },
+        w.ping-in-Server.ensures,
+      )
+    ] in
+    call_acts c.args.side old new act _ c.done.result c.done.ensures tt (search rules, all_octets c.args.octets (λ i. search rules)) does.0 does.1

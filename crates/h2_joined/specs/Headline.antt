@@ -1,0 +1,38 @@
+-- When two joined ends are quiet, which streams were reset, and what an end that reports no fault
+-- has handed out (RFC 9113, sections 5.1, 5.4 and 6.8).
+use Rattle.std.specs.Prelude.{◌≡◌, ◌⊎◌, ℕ, true, false, List, [], None}
+use Rattle.std.specs.List.{Contains}
+use Rattle.h2_log.specs.Acts.{ResetStream}
+use Rattle.h2_log.specs.Events.{ResetEvent, UnprocessedEvent}
+use Rattle.h2_ends.specs.Ends.{EndLog, Passed}
+use Rattle.h2_ends.specs.Quiet.{IsQuietEnd}
+use Rattle.h2_joined.specs.declared.act.Side.{Side}
+use Rattle.h2_joined.specs.declared.act.Acted.TheVariants.{Done}
+use Rattle.h2_joined.specs.Joints.{Calls, JointEnd, Made}
+
+-- Both ends are quiet, and so are both pipes.
+pub record AreQuiet (client server : JointEnd) : Type 0 where
+  pub quiet_client : IsQuietEnd client.happened
+  pub quiet_server : IsQuietEnd server.happened
+  pub to_client : client.incoming ≡ []
+  pub to_server : server.incoming ≡ []
+
+-- A Reset of the stream was made at the end, with the code, and was done.
+abbrev pub WasResetAt : List Made → Side → (id code : ℕ) → Type 0
+WasResetAt made side id code =
+    Contains made (record { side = side; doing = Calls (ResetStream id code); acted = Done })
+
+-- A Reset of the stream was made at either end, or the client was told that the server does not
+-- process it.
+abbrev pub WasResetIn : List Made → (client : JointEnd) → ℕ → Type 0
+WasResetIn made client i =
+    ((side : Side) × (code : ℕ) × WasResetAt made side i code)
+    ⊎ Contains client.happened.handed (Passed (UnprocessedEvent i))
+
+-- The end reports no fault: its connection has not failed, it has handed out no reset of its own,
+-- and each reset that the peer made was made by a Reset there.
+pub record ReportsNoFault (made : List Made) (end : EndLog) (peer : Side) : Type 0 where
+  pub up : end.log.failed ≡ None
+  pub no_reset_of_ours : (id code : ℕ) → Contains end.handed (Passed (ResetEvent id code true)) → ⊥
+  pub asked : (id code : ℕ) → Contains end.handed (Passed (ResetEvent id code false))
+      → WasResetAt made peer id code

@@ -1,0 +1,203 @@
+-- A client and a server joined by two pipes: what may be done with them, and what has happened
+-- then (RFC 9113, section 3).
+use Rattle.std.specs.Prelude.{◌≡◌, ◌≢◌, ◌⊎◌, ◌<◌, ◌^◌, ℕ, List, [], ◌∷◌, ◌++◌, length, take, drop}
+use Rattle.std.specs.Prelude.{Option, Some, None, Result, Ok, Err}
+use Rattle.std.specs.List.{AllByRecursion}
+use Rattle.hpack.specs.Written.{AreOctets}
+use Rattle.h2_frame.specs.declared.code.Code.{Code}
+use Rattle.h2_frame.specs.declared.code.Code.TheVariants.{InternalError}
+use Rattle.h2_log.specs.declared.role.Role.{Role}
+use Rattle.h2_log.specs.declared.role.Role.TheVariants.{Client, Server}
+use Rattle.h2_log.specs.Acts.{Values, AreInRange, Act, Answer, IsTypedAct, Number, Count, Done}
+use Rattle.h2_log.specs.Acts.{OutOfMemory, Refused, ResetStream, SendPing, SendGoAway}
+use Rattle.h2_log.specs.Acts.{ChangeSettings, PutOut}
+use Rattle.h2_log.specs.LogCalls.{MayAnswer, with_call}
+use Rattle.h2_message.specs.Messages.{SentMessage}
+use Rattle.h2_pair.specs.Pairs.{Half, given_since}
+use Rattle.h2_ends.specs.declared.refusal.EndRefusal.{EndRefusal}
+use Rattle.h2_ends.specs.declared.refusal.EndRefusal.TheVariants.{Conn}
+use Rattle.h2_ends.specs.Ends.{EndLog, Handed, EndTook, EndFailed}
+use Rattle.h2_ends.specs.EndTakes.{EndMayTake, end_with_log}
+use Rattle.h2_ends.specs.EndCalls.{MayRequest, MayRespond, MayPump, MayReleaseAll}
+use Rattle.h2_ends.specs.Represents.{new_end, SendsInOrder, HandsInOrder}
+use Rattle.h2_joined.specs.declared.act.Side.{Side}
+use Rattle.h2_joined.specs.declared.act.Side.TheVariants as sides
+use Rattle.h2_joined.specs.declared.act.Acted.{Acted}
+use Rattle.h2_joined.specs.declared.act.Acted.TheVariants as acted
+
+-- what is done with one end of the two
+pub data Doing : Type 0 where
+  -- a request is made; a response is given
+  Requests : (message : SentMessage) → Doing
+  Responds : (id : ℕ) (message : SentMessage) → Doing
+  -- `pump` and `release_all`
+  Pumps : Doing
+  ReleasesAll : Doing
+  -- a call of the connection: of `reset`, `ping`, `go_away` or `change_settings`
+  Calls : (act : Act) → Doing
+  -- octets of its output are put on the pipe to the other end
+  Moves : (count : ℕ) → Doing
+  -- octets are delivered to it from the pipe that leads to it
+  Delivers : (count : ℕ) → Doing
+
+-- an end with the pipe that leads to it
+pub record JointEnd : Type 0 where
+  -- what has happened at the end
+  pub happened : EndLog
+  -- octets that the other end gave out and that weren't delivered yet, the first one first
+  pub incoming : List ℕ
+
+abbrev pub new_joint_end : Role → Values → JointEnd
+new_joint_end role values = record { happened = new_end role values; incoming = [] }
+
+-- the end once this has happened at it
+abbrev pub with_happened : JointEnd → EndLog → JointEnd
+with_happened one happened = record one { happened = happened }
+
+-- the end once a call of its connection was answered
+abbrev pub with_answer : JointEnd → Act → Answer → JointEnd
+with_answer one act answer =
+    with_happened one (end_with_log one.happened (with_call one.happened.log act answer))
+
+-- the other end once the call has put octets on the pipe to it
+abbrev pub with_given : (other one : JointEnd) → Act → Answer → JointEnd
+with_given other one act answer = record other {
+  incoming = other.incoming
+      ++ given_since one.happened.log (with_call one.happened.log act answer);
+}
+
+-- what is answered, by what a call of the end has answered
+abbrev pub acted_by : {A : Type 0} → (A → Acted) → Result A EndRefusal → Acted
+acted_by done (Ok value) = done value
+acted_by done (Err refusal) = acted.Refused refusal
+
+-- what is answered, by what a call of the connection has answered
+abbrev pub acted_as : Answer → Acted
+acted_as (Number id) = acted.Id id
+acted_as (Count count) = acted.Count count
+acted_as Done = acted.Done
+acted_as OutOfMemory = acted.Done
+acted_as (Refused refusal) = acted.Refused (Conn refusal)
+
+-- The call is one of `reset`, `ping`, `go_away` and `change_settings`.
+abbrev pub IsCall : Act → Type 0
+IsCall (ResetStream id code) = Unit {0}
+IsCall (SendPing octets) = Unit {0}
+IsCall SendGoAway = Unit {0}
+IsCall (ChangeSettings values) = Unit {0}
+IsCall act = ⊥
+
+-- how it ends that octets are delivered
+pub data Delivery : Type 0 where
+  -- all of them were used
+  Whole : Delivery
+  -- the connection has failed
+  Fails : (code : Code) → Delivery
+  -- memory was refused to keep what was handed out; these octets were not used
+  Stops : (unused : List ℕ) → Delivery
+
+-- Octets are handed to `take` until they are used and nothing is handed out, or the connection has
+-- failed; or it stops, since what was handed out cannot be kept.
+pub data IsDelivered : EndLog → List ℕ → Delivery → EndLog → Type 0 where
+  is_whole : {end after : EndLog} → (octets : List ℕ)
+      → EndMayTake end octets (EndTook (length octets) None) after
+      → IsDelivered end octets Whole after
+  goes_on : {end between after : EndLog} → (octets : List ℕ) (count : ℕ)
+      (handed : Option Handed) (delivery : Delivery)
+      → EndMayTake end octets (EndTook count handed) between
+      → (count < length octets) ⊎ (handed ≢ None)
+      → IsDelivered between (drop count octets) delivery after
+      → IsDelivered end octets delivery after
+  fails : {end after : EndLog} → (octets : List ℕ) (code : Code)
+      → EndMayTake end octets (EndFailed code) after → IsDelivered end octets (Fails code) after
+  stops : {end : EndLog} → (octets : List ℕ) → IsDelivered end octets (Stops octets) end
+
+-- What may be answered where something is done with one end, and what has happened at both then.
+-- It is what the end answers to the call; and where memory was refused to copy a message or to keep
+-- what was handed out, that.
+pub data MayDo (one other : JointEnd) : Doing → Acted → (new_one new_other : JointEnd) → Type 0
+  where
+    requests : (message : SentMessage) (result : Result ℕ EndRefusal) (after : EndLog)
+        → AreOctets message.head → MayRequest one.happened message result after
+        → MayDo one other (Requests message) (acted_by acted.Id result)
+        (with_happened one after) other
+    responds : (id : ℕ) (message : SentMessage) (result : Result (Unit {0}) EndRefusal)
+        (after : EndLog) → id < 2 ^ 32 → AreOctets message.head
+        → MayRespond one.happened id message result after
+        → MayDo one other (Responds id message) (acted_by (λ done. acted.Done) result)
+        (with_happened one after) other
+    pumps : (result : Result ℕ EndRefusal) (after : EndLog) → MayPump one.happened result after
+        → MayDo one other Pumps (acted_by acted.Count result) (with_happened one after) other
+    releases_all : (result : Result (Unit {0}) EndRefusal) (after : EndLog)
+        → MayReleaseAll one.happened result after
+        → MayDo one other ReleasesAll (acted_by (λ done. acted.Done) result)
+        (with_happened one after) other
+    calls : (act : Act) (answer : Answer) → IsCall act → IsTypedAct act
+        → MayAnswer one.happened.log act answer
+        → MayDo one other (Calls act) (acted_as answer) (with_answer one act answer) other
+    moves : (count : ℕ) (answer : Answer) → IsTypedAct (PutOut count)
+        → MayAnswer one.happened.log (PutOut count) answer
+        → MayDo one other (Moves count) (acted_as answer) (with_answer one (PutOut count) answer)
+        (with_given other one (PutOut count) answer)
+    delivers : (count : ℕ) (after : EndLog) → one.happened.log.failed ≡ None
+        → IsDelivered one.happened (take count one.incoming) Whole after
+        → MayDo one other (Delivers count) (acted.Count (length (take count one.incoming)))
+        (record { happened = after; incoming = drop count one.incoming }) other
+    -- the octets are off the pipe, used or not
+    delivery_fails : (count : ℕ) (code : Code) (after : EndLog) → one.happened.log.failed ≡ None
+        → IsDelivered one.happened (take count one.incoming) (Fails code) after
+        → MayDo one other (Delivers count) (acted.Failed code)
+        (record { happened = after; incoming = drop count one.incoming }) other
+    -- none is taken
+    has_failed : (count : ℕ) (code : Code) → one.happened.log.failed ≡ Some code
+        → MayDo one other (Delivers count) (acted.Failed code) one other
+    delivery_stops : (count : ℕ) (unused : List ℕ) (after : EndLog)
+        → IsDelivered one.happened (take count one.incoming) (Stops unused) after
+        → MayDo one other (Delivers count) acted.OutOfMemory
+        (record { happened = after; incoming = unused ++ drop count one.incoming }) other
+    lacks_memory : (doing : Doing) → MayDo one other doing acted.OutOfMemory one other
+
+-- What was sent and handed out at an end on each stream keeps the order.
+pub record KeepsOrder (end : EndLog) : Type 0 where
+  pub sends : (i : ℕ) → SendsInOrder end i
+  pub hands : (i : ℕ) → HandsInOrder end i
+
+-- an act: what was done with which end, and what was answered
+pub record Made : Type 0 where
+  pub side : Side
+  pub doing : Doing
+  pub acted : Acted
+
+-- The acts were made, the newest first, on a new client and a new server with these values of their
+-- own settings, and this has happened at them.
+pub data IsJoint (client_values server_values : Values) : List Made
+    → (client server : JointEnd) → Type 0 where
+  begins : AreInRange client_values → AreInRange server_values
+      → IsJoint client_values server_values [] (new_joint_end Client client_values)
+      (new_joint_end Server server_values)
+  client_acts : {made : List Made} → {client server new_client new_server : JointEnd}
+      → IsJoint client_values server_values made client server
+      → (doing : Doing) (answer : Acted) → MayDo client server doing answer new_client new_server
+      → KeepsOrder new_client.happened
+      → IsJoint client_values server_values
+      (record { side = sides.Client; doing = doing; acted = answer } ∷ made)
+      new_client new_server
+  server_acts : {made : List Made} → {client server new_client new_server : JointEnd}
+      → IsJoint client_values server_values made client server
+      → (doing : Doing) (answer : Acted) → MayDo server client doing answer new_server new_client
+      → KeepsOrder new_server.happened
+      → IsJoint client_values server_values
+      (record { side = sides.Server; doing = doing; acted = answer } ∷ made)
+      new_client new_server
+
+-- Memory was not refused to an act, nor to a connection that took octets.
+pub record HadMemory (made : Made) : Type 0 where
+  pub act : made.acted ≢ acted.OutOfMemory
+  pub connection : made.acted ≢ acted.Failed InternalError
+
+abbrev pub AllHadMemory : List Made → Type 0
+AllHadMemory made = AllByRecursion HadMemory made
+
+-- an end as half of a pair; `lost`: octets that were delivered once it had failed, and not used
+abbrev pub half_of : JointEnd → (lost : List ℕ) → Half
+half_of one lost = record { log = one.happened.log; incoming = one.incoming; lost = lost }

@@ -1,0 +1,128 @@
+-- What is kept of the two ends, and what it stands for.
+use Rattle.std.specs.Prelude.{map as each, ◌≡◌, ℕ, Bool, false, List, [], ◌∷◌, ◌++◌, length}
+use Rattle.std.specs.Prelude.{reverse}
+use Rattle.h2_config.specs.ConfigValues.{values_of}
+use Rattle.h2_log.specs.Acts as log
+use Rattle.h2_log.specs.Acts.{Values}
+use Rattle.h2_log.specs.Events as events
+use Rattle.h2_message.specs.Messages.{SentMessage}
+use Rattle.h2_message.specs.Values.{message_value}
+use Rattle.h2_ends.specs.declared.end.End.{End}
+use Rattle.h2_ends.specs.Ends.{Handed, InterimHanded, HeadHanded, BodyHanded, TrailersHanded}
+use Rattle.h2_ends.specs.Ends.{Passed}
+use Rattle.h2_ends.specs.Represents.{EndRepresents}
+use Rattle.h2_joined.specs.declared.act.Side.{Side}
+use Rattle.h2_joined.specs.declared.act.Side.TheVariants as sides
+use Rattle.h2_joined.specs.declared.act.Acted.{Acted}
+use Rattle.h2_joined.specs.declared.act.JointAct.{JointAct}
+use Rattle.h2_joined.specs.declared.act.JointAct.TheVariants as acts
+use Rattle.h2_joined.specs.declared.kept.Accepted.{Accepted}
+use Rattle.h2_joined.specs.declared.kept.JointEvent.{JointEvent}
+use Rattle.h2_joined.specs.declared.kept.JointEvent.TheVariants as kept
+use Rattle.h2_joined.specs.declared.kept.Kept.{Kept}
+use Rattle.h2_joined.specs.declared.pipe.Pipe.{Pipe}
+use Rattle.h2_joined.specs.declared.joined.Joined.{Joined}
+use Rattle.h2_joined.specs.Joints.{Doing, Requests, Responds, Pumps, ReleasesAll, Calls, Moves}
+use Rattle.h2_joined.specs.Joints.{Delivers, JointEnd, Made, IsJoint, AllHadMemory}
+
+-- an event
+abbrev pub event_value : JointEvent → Handed
+event_value (kept.Interim id list) = InterimHanded id list.items
+event_value (kept.Head id list end) = HeadHanded id list.items end
+event_value (kept.Body id octets end) = BodyHanded id octets.items end
+event_value (kept.Trailers id list) = TrailersHanded id list.items
+event_value (kept.Reset id code ours) = Passed (events.ResetEvent id code ours)
+event_value (kept.Unprocessed id) = Passed (events.UnprocessedEvent id)
+event_value (kept.GoAway last code) = Passed (events.GoAwayEvent last code)
+event_value kept.Acked = Passed events.AckedEvent
+event_value (kept.Pong octets) = Passed (events.PongEvent octets)
+
+-- a message that was accepted, with its stream
+abbrev pub accepted_value : Accepted → ℕ × SentMessage
+accepted_value accepted = (accepted.id, message_value accepted.message)
+
+-- the end with which something is done, and what
+abbrev pub side_of : JointAct → Side
+side_of (acts.Request message) = sides.Client
+side_of (acts.Respond id message) = sides.Server
+side_of (acts.Pump side) = side
+side_of (acts.Move from count) = from
+side_of (acts.Deliver to count) = to
+side_of (acts.ReleaseAll side) = side
+side_of (acts.Reset side id code) = side
+side_of (acts.Ping side octets) = side
+side_of (acts.GoAway side) = side
+side_of (acts.ChangeSettings side config) = side
+
+abbrev pub doing_of : JointAct → Doing
+doing_of (acts.Request message) = Requests (message_value message)
+doing_of (acts.Respond id message) = Responds id (message_value message)
+doing_of (acts.Pump side) = Pumps
+doing_of (acts.Move from count) = Moves count
+doing_of (acts.Deliver to count) = Delivers count
+doing_of (acts.ReleaseAll side) = ReleasesAll
+doing_of (acts.Reset side id code) = Calls (log.ResetStream id code)
+doing_of (acts.Ping side octets) = Calls (log.SendPing octets)
+doing_of (acts.GoAway side) = Calls log.SendGoAway
+doing_of (acts.ChangeSettings side config) = Calls (log.ChangeSettings (values_of config))
+
+-- what was done with an end, and what was answered
+abbrev pub made : Side → Doing → Acted → Made
+made side doing acted = record { side = side; doing = doing; acted = acted }
+
+-- an act with its answer
+abbrev pub made_of : JointAct → Acted → Made
+made_of act acted = made (side_of act) (doing_of act) acted
+
+-- The pipe holds these octets, after those that were delivered.
+pub record HoldsOctets (pipe : Pipe) (octets : List ℕ) : Type 0 where
+  pub delivered : List ℕ
+  pub items : pipe.octets.items ≡ delivered ++ octets
+  pub count : pipe.used ≡ length delivered
+
+-- What was handed out is kept, in order: all of it, but for what could not be kept, at last.
+pub record KeepsHanded (stopped : Bool) (kept : List JointEvent) (handed : List Handed) : Type 0
+  where
+    pub lost : List Handed
+    pub same : handed ≡ lost ++ reverse (each event_value kept)
+    pub none_lost : stopped ≡ false → lost ≡ []
+
+-- What is kept of an end is what has happened at it, and the pipe to it.
+pub record KeepsEnd (stopped : Bool) (kept : Kept) (one : JointEnd) : Type 0 where
+  pub incoming : HoldsOctets kept.incoming one.incoming
+  pub accepted : one.happened.accepted ≡ reverse (each accepted_value kept.accepted.items)
+  pub handed : KeepsHanded stopped kept.handed.items one.happened.handed
+
+-- The acts were made, the newest first, this has happened at the two ends, and it is what they
+-- represent and what is kept of them: all of it where memory was not refused.
+pub record JoinedRepresents (client_values server_values : Values) (joined : Joined)
+    (made : List Made) (client server : JointEnd) : Type 0 where
+  pub joint : IsJoint client_values server_values made client server
+  pub client_represents : EndRepresents client_values joined.client.end client.happened
+  pub server_represents : EndRepresents server_values joined.server.end server.happened
+  pub client_kept : KeepsEnd joined.stopped joined.at_client client
+  pub server_kept : KeepsEnd joined.stopped joined.at_server server
+  pub not_stopped : AllHadMemory made → joined.stopped ≡ false
+
+-- Whatever acts were made and whatever has happened: the act may have this answer, and the two ends
+-- represent what has happened then.
+abbrev pub Acts : (old : Joined) → Made → (new : Joined) → Type 0
+Acts old act new =
+    (client_values server_values : Values) (made : List Made) (client server : JointEnd)
+    → JoinedRepresents client_values server_values old made client server
+    → (new_client : JointEnd) × (new_server : JointEnd)
+    × JoinedRepresents client_values server_values new (act ∷ made) new_client new_server
+
+-- the end of a side, and what is kept of it
+abbrev pub end_at : Side → Joined → End
+end_at sides.Client joined = joined.client.end
+end_at sides.Server joined = joined.server.end
+
+abbrev pub kept_of : Side → Joined → Kept
+kept_of sides.Client joined = joined.at_client
+kept_of sides.Server joined = joined.at_server
+
+-- the other side
+abbrev pub other_side : Side → Side
+other_side sides.Client = sides.Server
+other_side sides.Server = sides.Client

@@ -1,0 +1,5 @@
+pub mod Joints
+pub mod Headline
+pub mod Kept
+pub mod Delivering
+pub mod Runs

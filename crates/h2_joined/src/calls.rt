@@ -1,0 +1,158 @@
+//! Acts that are calls of an end.
+
+ghost use Rattle.std.specs.Prelude.{◌≡◌, false};
+ghost use Rattle.h2_config.specs.ConfigValues.{values_of};
+ghost use Rattle.h2_log.specs.Acts.{ResetStream, SendPing, SendGoAway, ChangeSettings, Done};
+ghost use Rattle.h2_conn.specs.Conn.{answer_by};
+ghost use Rattle.h2_message.specs.Values.{message_value};
+ghost use Rattle.h2_joined.specs.declared.act.Side.TheVariants.{Client, Server};
+ghost use Rattle.h2_joined.specs.declared.act.Acted.TheVariants as acted;
+ghost use Rattle.h2_joined.specs.Joints.{Requests, Responds, Pumps, ReleasesAll, Calls, acted_as};
+ghost use Rattle.h2_joined.specs.Joints.{acted_by};
+ghost use Rattle.h2_joined.specs.Kept.{Acts, made};
+
+use crate::act::{Acted, Side};
+use crate::joined::Joined;
+use crate::kept::{Accepted, copy_twice};
+use h2_ends::{Config, EndRefusal, Message, Refusal};
+
+impl Joined {
+    /// The client makes a request.
+    pub(crate) fn request(&mut self, message: &Message) -> Acted
+        requires { self.old.stopped ≡ false }
+        ensures { Acts self.old (made Client (Requests (message_value message.now)) result)
+            self.new }
+    {
+        let Ok((given, kept)) = copy_twice(self.alloc, message) else {
+            return Acted::OutOfMemory;
+        };
+        if self.at_client.accepted.reserve(1).is_err() {
+            return Acted::OutOfMemory;
+        }
+        match self.client.request(given) {
+            Ok(id) => {
+                self.at_client.accept(Accepted { id, message: kept });
+                Acted::Id(id)
+            }
+            Err((_, refusal)) => Acted::Refused(refusal),
+        }
+    }
+
+    /// The server gives a response.
+    pub(crate) fn respond(&mut self, id: u32, message: &Message) -> Acted
+        requires { self.old.stopped ≡ false }
+        ensures { Acts self.old (made Server (Responds id (message_value message.now)) result)
+            self.new }
+    {
+        let Ok((given, kept)) = copy_twice(self.alloc, message) else {
+            return Acted::OutOfMemory;
+        };
+        if self.at_server.accepted.reserve(1).is_err() {
+            return Acted::OutOfMemory;
+        }
+        match self.server.respond(id, given) {
+            Ok(()) => {
+                self.at_server.accept(Accepted { id, message: kept });
+                Acted::Done
+            }
+            Err((_, refusal)) => Acted::Refused(refusal),
+        }
+    }
+
+    /// An end sends what windows let through.
+    pub(crate) fn pump(&mut self, side: Side) -> Acted
+        requires { self.old.stopped ≡ false }
+        ensures { Acts self.old (made side Pumps result) self.new }
+    {
+        counted(match side {
+            Side::Client => self.client.pump(),
+            Side::Server => self.server.pump(),
+        })
+    }
+
+    /// An end gives back what is owed.
+    pub(crate) fn release_all(&mut self, side: Side) -> Acted
+        requires { self.old.stopped ≡ false }
+        ensures { Acts self.old (made side ReleasesAll result) self.new }
+    {
+        released(match side {
+            Side::Client => self.client.release_all(),
+            Side::Server => self.server.release_all(),
+        })
+    }
+
+    /// An end resets a stream.
+    pub(crate) fn reset(&mut self, side: Side, id: u32, code: u32) -> Acted
+        requires { self.old.stopped ≡ false }
+        ensures { Acts self.old (made side (Calls (ResetStream id code)) result) self.new }
+    {
+        done(match side {
+            Side::Client => self.client.reset(id, code),
+            Side::Server => self.server.reset(id, code),
+        })
+    }
+
+    /// An end sends PING.
+    pub(crate) fn ping(&mut self, side: Side, octets: [u8; 8]) -> Acted
+        requires { self.old.stopped ≡ false }
+        ensures { Acts self.old (made side (Calls (SendPing octets)) result) self.new }
+    {
+        done(match side {
+            Side::Client => self.client.ping(octets),
+            Side::Server => self.server.ping(octets),
+        })
+    }
+
+    /// An end sends GOAWAY.
+    pub(crate) fn go_away(&mut self, side: Side) -> Acted
+        requires { self.old.stopped ≡ false }
+        ensures { Acts self.old (made side (Calls SendGoAway) result) self.new }
+    {
+        done(match side {
+            Side::Client => self.client.go_away(),
+            Side::Server => self.server.go_away(),
+        })
+    }
+
+    /// An end changes its settings.
+    pub(crate) fn change_settings(&mut self, side: Side, config: Config) -> Acted
+        requires { self.old.stopped ≡ false }
+        ensures { Acts self.old (made side (Calls (ChangeSettings (values_of config))) result)
+            self.new }
+    {
+        done(match side {
+            Side::Client => self.client.change_settings(config),
+            Side::Server => self.server.change_settings(config),
+        })
+    }
+}
+
+/// The answer of a pump.
+fn counted(outcome: Result<usize, EndRefusal>) -> Acted
+    ensures { result ≡ acted_by acted.Count outcome }
+{
+    match outcome {
+        Ok(count) => Acted::Count(count),
+        Err(refusal) => Acted::Refused(refusal),
+    }
+}
+
+/// The answer once all that is owed was released.
+fn released(outcome: Result<(), EndRefusal>) -> Acted
+    ensures { result ≡ acted_by (λ done. acted.Done) outcome }
+{
+    match outcome {
+        Ok(()) => Acted::Done,
+        Err(refusal) => Acted::Refused(refusal),
+    }
+}
+
+/// The answer of a call of the connection that says nothing but that it is done.
+fn done(outcome: Result<(), Refusal>) -> Acted
+    ensures { result ≡ acted_as (answer_by (λ done. Done) outcome) }
+{
+    match outcome {
+        Ok(()) => Acted::Done,
+        Err(refusal) => Acted::Refused(EndRefusal::Conn(refusal)),
+    }
+}

@@ -1,0 +1,145 @@
+//! Two joined ends.
+
+ghost use Rattle.std.specs.Prelude.{◌≡◌, ◌↔◌, ℕ, List, [], true, false, length, IfOk};
+ghost use Rattle.h2_config.specs.ConfigValues.{values_of};
+ghost use Rattle.h2_log.specs.Acts.{Values};
+ghost use Rattle.h2_log.specs.declared.role.Role.TheVariants as roles;
+ghost use Rattle.h2_joined.specs.Headline.{AreQuiet};
+ghost use Rattle.h2_joined.specs.Joints.{JointEnd, Made, new_joint_end};
+ghost use Rattle.h2_joined.specs.Kept.{Acts, HoldsOctets, JoinedRepresents, kept_of, made_of};
+ghost use Rattle.h2_joined.specs.Kept.{other_side};
+
+use crate::act::{Acted, JointAct, Side};
+use crate::kept::{Accepted, JointEvent, Kept};
+use h2_ends::{Client, Config, Server};
+use std::alloc::{AllocError, Global};
+
+/// A client and a server that are joined by two pipes in memory. It keeps what each has accepted
+/// and handed out.
+#[derive(Drop)]
+pub struct Joined {
+    pub(crate) alloc: Global,
+    pub(crate) client: Client,
+    pub(crate) server: Server,
+    pub(crate) at_client: Kept,
+    pub(crate) at_server: Kept,
+    /// Memory was refused to keep what an end has handed out.
+    pub(crate) stopped: bool,
+}
+
+impl Joined {
+    /// A new client and a new server, joined by empty pipes.
+    ///
+    /// # Errors
+    ///
+    /// [`AllocError`] where an allocation was refused.
+    pub fn new(alloc: Global, client: Config, server: Config) -> Result<Joined, AllocError>
+        ensures { IfOk result (λ joined. JoinedRepresents (values_of client) (values_of server)
+            joined [] (new_joint_end roles.Client (values_of client))
+            (new_joint_end roles.Server (values_of server))) }
+    {
+        let (Ok(client), Ok(server)) = (Client::new(alloc, client), Server::new(alloc, server))
+        else {
+            return Err(AllocError);
+        };
+        Ok(Joined {
+            alloc,
+            client,
+            server,
+            at_client: Kept::new(alloc),
+            at_server: Kept::new(alloc),
+            stopped: false,
+        })
+    }
+
+    /// Makes an act, and says what came of it: what the end answers to the call of its name; for
+    /// [`JointAct::Move`] and [`JointAct::Deliver`] how many octets were moved and delivered. A
+    /// refused act has changed nothing, but for what a `release_all` or a `pump` has done before it
+    /// was refused.
+    ///
+    /// Octets that were delivered to an end that fails are off the pipe; to an end that has failed
+    /// none are delivered.
+    pub fn act(&mut self, act: &JointAct) -> Acted
+        ensures { Acts self.old (made_of act.now result) self.new }
+    {
+        if self.stopped {
+            return Acted::OutOfMemory;
+        }
+        match act {
+            JointAct::Request(message) => self.request(message),
+            JointAct::Respond { id, message } => self.respond(*id, message),
+            JointAct::Pump(side) => self.pump(*side),
+            JointAct::Move { from, count } => self.put_on_pipe(*from, *count),
+            JointAct::Deliver { to, count } => self.deliver(*to, *count),
+            JointAct::ReleaseAll(side) => self.release_all(*side),
+            JointAct::Reset { side, id, code } => self.reset(*side, *id, *code),
+            JointAct::Ping { side, octets } => self.ping(*side, *octets),
+            JointAct::GoAway(side) => self.go_away(*side),
+            JointAct::ChangeSettings { side, config } => self.change_settings(*side, *config),
+        }
+    }
+
+    /// Whether nothing is under way between the two ends, and neither has anything to do: both are
+    /// quiet ([`Client::is_quiet`]) and both pipes empty.
+    pub fn quiet(&self) -> bool
+        ensures { (client_values server_values : Values) (made : List Made)
+            (client server : JointEnd)
+            → JoinedRepresents client_values server_values self.now made client server
+            → (result ≡ true) ↔ AreQuiet client server }
+    {
+        if self.at_client.incoming.len() > 0 {
+            return false;
+        }
+        if self.at_server.incoming.len() > 0 {
+            return false;
+        }
+        self.client.is_quiet() && self.server.is_quiet()
+    }
+
+    /// The client.
+    pub fn client(&self) -> &Client
+        ensures { result.now ≡ self.now.client }
+    {
+        &self.client
+    }
+
+    /// The server.
+    pub fn server(&self) -> &Server
+        ensures { result.now ≡ self.now.server }
+    {
+        &self.server
+    }
+
+    /// The messages that an end has accepted, with their streams, in order.
+    pub fn accepted(&self, side: Side) -> &[Accepted]
+        ensures { result.now ≡ (kept_of side self.now).accepted.items }
+    {
+        match side {
+            Side::Client => &self.at_client.accepted,
+            Side::Server => &self.at_server.accepted,
+        }
+    }
+
+    /// What an end has handed out, in order.
+    pub fn handed(&self, side: Side) -> &[JointEvent]
+        ensures { result.now ≡ (kept_of side self.now).handed.items }
+    {
+        match side {
+            Side::Client => &self.at_client.handed,
+            Side::Server => &self.at_server.handed,
+        }
+    }
+
+    /// How many octets of an end's output are on its pipe: they were moved, and are not delivered
+    /// to the other end yet.
+    pub fn piped(&self, side: Side) -> usize
+        ensures { (octets : List ℕ)
+            → HoldsOctets (kept_of (other_side side) self.now).incoming octets
+            → result ≡ length octets }
+    {
+        match side {
+            Side::Client => self.at_server.incoming.len(),
+            Side::Server => self.at_client.incoming.len(),
+        }
+    }
+}

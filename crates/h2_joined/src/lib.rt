@@ -1,0 +1,27 @@
+//! A client and a server joined by two pipes in memory, for whoever tests a program over HTTP/2
+//! without sockets (RFC 9113).
+//!
+//! [`Joined::act`] makes an act: a call of either end, or octets that are moved from an output to
+//! its pipe or delivered from a pipe. [`run`] makes a list of them. What each end has accepted and
+//! handed out is kept. Laws say what holds, whatever acts are made: the headline of this library.
+#![tactic(auto)]
+
+mod act;
+mod calls;
+mod joined;
+mod kept;
+mod laws;
+mod octets;
+mod pipe;
+mod running;
+#[cfg(test)]
+mod tests;
+
+pub use act::{Acted, JointAct, Side};
+pub use h2_ends::{Client, Code, Config, EndRefusal, Field, Message, Refusal, Server};
+pub use joined::Joined;
+pub use kept::{Accepted, JointEvent};
+pub use laws::{
+    handed_out_is_a_prefix, joined_ends_are_a_pair, no_fault_is_reported, quiet_ends_have_all,
+};
+pub use running::{headline, run};

@@ -1,0 +1,59 @@
+//! A pipe: octets that one end gave out and that the other has not taken yet.
+
+ghost use Rattle.std.specs.Prelude.{◌≡◌, ℕ, List, [], take, drop, length};
+ghost use Rattle.h2_joined.specs.Kept.{HoldsOctets};
+
+use std::alloc::Global;
+
+/// Octets in order, of which the first were delivered.
+#[derive(Debug, Drop)]
+pub(crate) struct Pipe {
+    /// The octets.
+    pub(crate) octets: Vec<u8>,
+    /// How many of them were delivered.
+    pub(crate) used: usize,
+}
+
+impl Pipe {
+    /// An empty pipe.
+    pub(crate) fn new(alloc: Global) -> Pipe
+        ensures { HoldsOctets result [] }
+    {
+        Pipe {
+            octets: Vec::new(alloc),
+            used: 0,
+        }
+    }
+
+    /// How many octets were not delivered.
+    pub(crate) fn len(&self) -> usize
+        ensures { (octets : List ℕ) → HoldsOctets self.now octets → result ≡ length octets }
+    {
+        self.octets.len().saturating_sub(self.used)
+    }
+
+    /// The first of them, and at most so many.
+    pub(crate) fn first(&self, count: usize) -> &[u8]
+        ensures { (octets : List ℕ) → HoldsOctets self.now octets
+            → result.now ≡ take count octets }
+    {
+        let start = self.used.min(self.octets.len());
+        let end = start.saturating_add(count).min(self.octets.len());
+        &self.octets[start..end]
+    }
+
+    /// Takes the first of them away. Those that were delivered are dropped once they are half of
+    /// all.
+    pub(crate) fn deliver(&mut self, count: usize)
+        ensures { (octets : List ℕ) → HoldsOctets self.old octets
+            → HoldsOctets self.new (drop count octets) }
+    {
+        let used = self.used.saturating_add(count).min(self.octets.len());
+        if used < self.octets.len() / 2 {
+            self.used = used;
+            return;
+        }
+        self.octets.drain(..used);
+        self.used = 0;
+    }
+}

@@ -1,0 +1,59 @@
+//! Lists of acts.
+
+ghost use Rattle.std.specs.Prelude.{◌≡◌, false, List, IfOk};
+ghost use Rattle.h2_config.specs.ConfigValues.{values_of};
+ghost use Rattle.h2_log.specs.Acts.{Values};
+ghost use Rattle.h2_joined.specs.declared.joined.Joined as types;
+ghost use Rattle.h2_joined.specs.Joints.{JointEnd, Made};
+ghost use Rattle.h2_joined.specs.Kept.{JoinedRepresents};
+ghost use Rattle.h2_joined.specs.Runs.{Runs, HasHeadline, HasMemory};
+
+use crate::act::{Acted, JointAct};
+use crate::joined::Joined;
+use h2_ends::{Config, EndRefusal, Refusal};
+use std::alloc::{AllocError, Global};
+
+/// The headline of this library. What each of two joined ends has handed out on every stream is a
+/// prefix of what the other has accepted for it, whatever acts were made. Where memory was not
+/// refused, neither end reports a fault; and once both are quiet, all of it was handed out, on
+/// every stream that was not reset.
+pub fn headline()
+    ensures { (client_values server_values : Values) (joined : types.Joined) (made : List Made)
+        (client server : JointEnd)
+        → JoinedRepresents client_values server_values joined made client server
+        → HasHeadline joined made client server }
+{}
+
+/// Makes the acts, in order, on a new client and a new server. A refused act is an act like any
+/// other. The headline holds of what it answers.
+///
+/// # Errors
+///
+/// [`AllocError`] where memory was refused: to the two ends, to an act, or to a call of an end
+/// (C12).
+pub fn run(
+    alloc: Global,
+    client: Config,
+    server: Config,
+    acts: &[JointAct],
+) -> Result<Joined, AllocError>
+    ensures { IfOk result (λ joined. Runs (values_of client) (values_of server) acts.now joined) }
+{
+    let mut joined = Joined::new(alloc, client, server)?;
+    for act in acts {
+        if was_refused_memory(joined.act(act)) {
+            return Err(AllocError);
+        }
+    }
+    Ok(joined)
+}
+
+/// Whether memory was refused to an act, or to a call of an end.
+fn was_refused_memory(acted: Acted) -> bool
+    ensures { result ≡ false → HasMemory acted }
+{
+    matches!(
+        acted,
+        Acted::OutOfMemory | Acted::Refused(EndRefusal::Conn(Refusal::Memory))
+    )
+}
