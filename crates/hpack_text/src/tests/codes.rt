@@ -2,8 +2,10 @@
 
 ghost use Rattle.std.specs.Prelude.{◌<◌};
 
-use crate::*;
-use std::test::Fail;
+use super::all_pass;
+use super::texts::{decodes, huffman_of, is_written};
+use crate::huff_step;
+use std::alloc::Global;
 
 /// The 256 octets in order, in the code, as another implementation (`hpack` 4.0 for Python) writes
 /// them.
@@ -47,63 +49,110 @@ static ALL_OCTETS: [u8; 583] = [
     0xff, 0xff, 0xf0, 0xff, 0xff, 0xfb, 0xbf,
 ];
 
-#[test]
-fn all_codes(rt: HostRuntime) -> Result<(), Fail> {
-    let mut text = Vec::new(rt.alloc());
+/// The 256 octets in order; none where memory was refused.
+fn all_octets(alloc: Global) -> Option<Vec<u8>> {
+    let mut text = Vec::new(alloc);
     for octet in 0..=255u8 {
-        text.push(octet)?;
+        if text.push(octet).is_err() {
+            return None;
+        }
     }
-    let text = text.as_slice();
-    assert!(rt; text.len() == 256);
-    let mut out = Vec::new(rt.alloc());
-    huff_write(text, &mut out)?;
-    assert_eq!(rt; out.as_slice(), ALL_OCTETS.as_slice());
-    assert_eq!(rt; huff_read(rt.alloc(), &out)?.as_slice(), text);
-    Ok(())
+    Some(text)
 }
 
-/// One step from a state, whose octet is put after the text.
-fn step(state: u8, half: u8, text: &mut Vec<u8>) -> Result<Option<u8>, Fail>
+/// Whether the text is written as these octets, and they are read back.
+fn is_coded_as(alloc: Global, text: &[u8], octets: &[u8]) -> bool {
+    is_written(huffman_of(alloc, text), octets) && decodes(alloc, octets, text)
+}
+
+/// Whether the 256 octets in order are coded as another implementation does.
+fn all_octets_are_coded(alloc: Global) -> bool {
+    match all_octets(alloc) {
+        Some(text) => text.len() == 256 && is_coded_as(alloc, &text, ALL_OCTETS.as_slice()),
+        None => false,
+    }
+}
+
+#[test]
+fn all_codes(rt: HostRuntime) {
+    assert!(rt; all_octets_are_coded(rt.alloc()));
+}
+
+/// The state after a half octet, whose symbol is put after the text; none at the end symbol, and
+/// where memory was refused.
+fn step(state: u8, half: u8, text: &mut Vec<u8>) -> Option<u8>
     requires { half < 16 }
 {
-    let Some((next, symbol)) = huff_step(state, half) else {
-        return Ok(None);
-    };
+    let (next, symbol) = huff_step(state, half)?;
     if let Some(symbol) = symbol {
-        text.push(symbol)?;
+        text.push(symbol).ok()?;
     }
-    Ok(Some(next))
+    Some(next)
 }
 
-#[test]
-fn steps_walk_all_codes(rt: HostRuntime) -> Result<(), Fail> {
-    for octet in 0..=255 {
-        let mut out = Vec::new(rt.alloc());
-        huff_write(&[octet], &mut out)?;
-        let mut text = Vec::new(rt.alloc());
-        let mut state = 0;
-        for bits in &out {
-            state = step(state, *bits / 16, &mut text)?.expect(&rt, "no end symbol");
-            state = step(state, *bits % 16, &mut text)?.expect(&rt, "no end symbol");
+/// The state after octets, whose symbols are put after the text.
+fn walk(octets: &[u8], text: &mut Vec<u8>) -> Option<u8> {
+    let mut state = 0;
+    for bits in octets {
+        let middle = step(state, *bits / 16, text)?;
+        state = step(middle, *bits % 16, text)?;
+    }
+    Some(state)
+}
+
+/// Whether the code of an octet leads to it, and its padding to a state of ones alone.
+fn is_walked(alloc: Global, octet: u8) -> bool {
+    let Some(octets) = huffman_of(alloc, &[octet]) else {
+        return false;
+    };
+    let mut text = Vec::new(alloc);
+    match walk(&octets, &mut text) {
+        Some(state) => state <= 7 && text.as_slice() == [octet].as_slice(),
+        None => false,
+    }
+}
+
+/// The first octet whose code doesn't lead to it.
+fn first_not_walked(alloc: Global) -> Option<usize> {
+    for octet in 0..=255u8 {
+        if !is_walked(alloc, octet) {
+            return Some(usize::from(octet));
         }
-        assert_eq!(rt; text.as_slice(), [octet].as_slice(), "{octet}");
-        assert!(rt; state <= 7, "padding after {octet}");
     }
-    Ok(())
+    None
 }
 
 #[test]
-fn steps_end_at_thirty_ones(rt: HostRuntime) -> Result<(), Fail> {
-    let mut text = Vec::new(rt.alloc());
+fn steps_walk_all_codes(rt: HostRuntime) {
+    all_pass(&rt, first_not_walked(rt.alloc()));
+}
+
+/// The state after 28 ones, which are no code.
+fn after_ones() -> Option<u8> {
     let mut state = 0;
     for _ in 0..7 {
-        state = step(state, 15, &mut text)?.expect(&rt, "no end symbol");
+        match huff_step(state, 15) {
+            Some((next, None)) => state = next,
+            _ => return None,
+        }
     }
-    assert_eq!(rt; text.len(), 0, "28 ones are no code");
+    Some(state)
+}
+
+/// Whether thirty ones, and whatever half octet they end in, lead to nothing after this state.
+fn ends_at_two_ones(state: u8) -> bool {
     for half in 12..16 {
-        assert_eq!(rt; huff_step(state, half), None, "28 ones and {half}");
+        if huff_step(state, half).is_some() {
+            return false;
+        }
     }
+    true
+}
+
+#[test]
+fn steps_end_at_thirty_ones(rt: HostRuntime) {
+    let state = after_ones().unwrap_or(0);
+    assert!(rt; state != 0 && ends_at_two_ones(state));
     // The code of 22 is 29 ones and a zero; two ones follow it.
     assert_eq!(rt; huff_step(state, 0b1011), Some((2, Some(22))));
-    Ok(())
 }
