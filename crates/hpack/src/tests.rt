@@ -1,11 +1,15 @@
 //! Tests.
 
+mod coders;
 mod decoder;
+mod decoders;
 mod encoder;
+mod encoders;
 mod field_list;
 mod fields;
 mod in_step;
 mod index;
-mod lists;
+mod pairs;
 mod ring;
 mod static_table;
+mod steps;

@@ -2,11 +2,10 @@
 
 ghost use Rattle.std.specs.Prelude.{◌<◌};
 
-use crate::tests::lists::encode_list;
-use crate::{Decoded, Decoder, Encoder, Field, FieldList, List, Octets, Table, list_size};
+use super::coders::Coders;
+use super::decoders::Answer;
+use crate::{Field, Octets, list_size};
 use std::alloc::{AllocError, Global};
-use std::process::Abort;
-use std::test::Fail;
 
 /// How many lists go through each pair.
 const LISTS: usize = 600;
@@ -80,23 +79,20 @@ impl Draw {
     }
 
     /// As many octets, each below the bound.
-    fn octets(&mut self, alloc: Global, count: usize, bound: u8) -> Result<Octets, AllocError>
+    fn octets(&mut self, alloc: Global, count: usize, bound: u8) -> Result<Vec<u8>, AllocError>
         requires { 0 < bound }
     {
         let mut octets = Vec::new(alloc);
         for _ in 0..count {
             octets.push(self.below(bound as usize) as u8)?;
         }
-        Ok(Octets::new(octets))
+        Ok(octets)
     }
 
     /// A value: a known one, one of few that are short, one of any octets, or one that is long.
-    fn value(&mut self, alloc: Global) -> Result<Octets, AllocError> {
+    fn value(&mut self, alloc: Global) -> Result<Vec<u8>, AllocError> {
         match self.below(16) {
-            0..=5 => {
-                let text = VALUES[self.below(VALUES.len())];
-                Octets::copy_of(alloc, text.as_bytes())
-            }
+            0..=5 => Vec::from_slice(alloc, VALUES[self.below(VALUES.len())].as_bytes()),
             6 => self.octets(alloc, 200, 255),
             7 => every_octet(alloc),
             8..=10 => {
@@ -113,9 +109,10 @@ impl Draw {
     /// A field, one in eight of them sensitive.
     fn field(&mut self, alloc: Global) -> Result<Field, AllocError> {
         let name = NAMES[self.below(NAMES.len())];
+        let value = self.value(alloc)?;
         Ok(Field {
             name: Octets::copy_of(alloc, name.as_bytes())?,
-            value: self.value(alloc)?,
+            value: Octets::new(value),
             sensitive: self.below(8) == 0,
         })
     }
@@ -128,165 +125,91 @@ impl Draw {
         }
         Ok(fields)
     }
+
+    /// Sets up to three limits, at so many of 64 blocks.
+    fn set_limits(&mut self, coders: &mut Coders, often: usize) {
+        if self.below(64) >= often {
+            return;
+        }
+        for _ in 0..self.below(4) {
+            coders.set_limit(LIMITS[self.below(LIMITS.len())]);
+        }
+    }
+
+    /// Whether a list goes through whole, or, one in eight, with a limit just below its size,
+    /// where there is a list.
+    fn passes(&mut self, coders: &mut Coders, fields: &[Field]) -> bool {
+        if self.below(8) > 0 {
+            return coders.pass_whole(fields).is_some();
+        }
+        match u32::try_from(list_size(fields)) {
+            Ok(0) => coders.pass(fields, 0, Answer::Whole(&[])),
+            Ok(size) => coders.pass(fields, size.saturating_sub(1), Answer::TooLarge),
+            Err(_) => false,
+        }
+    }
 }
 
 /// Each octet once.
-fn every_octet(alloc: Global) -> Result<Octets, AllocError> {
+fn every_octet(alloc: Global) -> Result<Vec<u8>, AllocError> {
     let mut octets = Vec::new(alloc);
     for octet in 0..=u8::MAX {
         octets.push(octet)?;
     }
-    Ok(Octets::new(octets))
+    Ok(octets)
 }
 
-/// An encoder, and two decoders of what it writes, the second one with a list that is kept.
-#[derive(Drop)]
-struct Pair {
-    encoder: Encoder,
-    decoder: Decoder,
-    other: Decoder,
-    kept: FieldList,
+/// What went through an encoder and its decoders.
+#[derive(Clone, Copy)]
+struct Seen {
+    /// How many lists have the most fields.
+    longest: usize,
+    /// The most entries of a table.
+    entries: usize,
 }
 
-impl Pair {
-    /// Sets up to three limits of both, at so many of 64 blocks.
-    fn draw_limits(&mut self, draw: &mut Draw, often: usize) {
-        if draw.below(64) >= often {
-            return;
-        }
-        for _ in 0..draw.below(4) {
-            let limit = LIMITS[draw.below(LIMITS.len())];
-            self.encoder.set_limit(limit);
-            self.decoder.set_limit(limit);
-            self.other.set_limit(limit);
-        }
-    }
-
-    /// The fields go through both, and what comes out is compared, and so are the tables.
-    fn check(&mut self, rt: &impl Abort, alloc: Global, fields: &[Field]) -> Result<(), Fail> {
-        let mut out = Vec::new(alloc);
-        encode_list(rt, &mut self.encoder, fields, &mut out)?;
-        let list = self.decoder.decode(&out, u32::MAX)?;
-        check_list(rt, &list, fields);
-        check_tables(rt, self.encoder.table(), self.decoder.table());
-        let decoded = self.other.decode_into(&out, u32::MAX, &mut self.kept)?;
-        assert_eq!(rt; decoded, Decoded::Whole);
-        check_kept(rt, &self.kept, fields);
-        check_tables(rt, self.encoder.table(), self.other.table());
-        Ok(())
-    }
-
-    /// The same with a limit just below the list's size, where there is a list.
-    fn check_limit(
-        &mut self,
-        rt: &impl Abort,
-        alloc: Global,
-        fields: &[Field],
-    ) -> Result<(), Fail> {
-        let mut out = Vec::new(alloc);
-        encode_list(rt, &mut self.encoder, fields, &mut out)?;
-        let size = u32::try_from(list_size(fields))?;
-        let list = self.decoder.decode(&out, size.saturating_sub(1))?;
-        assert_eq!(rt; matches!(list, List::TooLarge), size > 0);
-        check_tables(rt, self.encoder.table(), self.decoder.table());
-        let limit = size.saturating_sub(1);
-        let decoded = self.other.decode_into(&out, limit, &mut self.kept)?;
-        assert_eq!(rt; decoded == Decoded::TooLarge, size > 0);
-        assert!(rt; self.kept.is_empty());
-        check_tables(rt, self.encoder.table(), self.other.table());
-        Ok(())
+/// A list goes through; how many fields it has.
+fn one_list(alloc: Global, draw: &mut Draw, coders: &mut Coders, often: usize) -> Option<usize> {
+    draw.set_limits(coders, often);
+    match draw.list(alloc) {
+        Ok(fields) if draw.passes(coders, &fields) => Some(fields.len()),
+        _ => None,
     }
 }
 
-/// The list is of these fields.
-fn check_list(rt: &impl Abort, list: &List, fields: &[Field]) {
-    let List::Whole(found) = list else {
-        panic!(rt; "too large");
-    };
-    assert_eq!(rt; found.len(), fields.len());
-    for (one, field) in found.iter().zip(fields) {
-        assert_eq!(rt; one.name.as_slice(), field.name.as_slice());
-        assert_eq!(rt; one.value.as_slice(), field.value.as_slice());
-        assert_eq!(rt; one.sensitive, field.sensitive);
-    }
-}
-
-/// The list that is kept is of these fields.
-fn check_kept(rt: &impl Abort, kept: &FieldList, fields: &[Field]) {
-    assert_eq!(rt; kept.len(), fields.len());
-    for (place, field) in fields.iter().enumerate() {
-        let Some(one) = kept.get(place) else {
-            panic!(rt; "no field");
-        };
-        assert_eq!(rt; one.name, field.name.as_slice());
-        assert_eq!(rt; one.value, field.value.as_slice());
-        assert_eq!(rt; one.sensitive, field.sensitive);
-    }
-}
-
-/// The tables are the same.
-fn check_tables(rt: &impl Abort, table: &Table, other: &Table) {
-    assert_eq!(rt; table.len(), other.len());
-    assert_eq!(rt; table.size(), other.size());
-    assert_eq!(rt; table.maximum(), other.maximum());
-    for place in 0..table.len() {
-        check_entries(rt, table.get(place + 1), other.get(place + 1));
-    }
-}
-
-/// Both are the same entry.
-fn check_entries(rt: &impl Abort, one: Option<(&[u8], &[u8])>, other: Option<(&[u8], &[u8])>) {
-    let (Some(one), Some(other)) = (one, other) else {
-        panic!(rt; "no entry");
-    };
-    assert_eq!(rt; one.0, other.0);
-    assert_eq!(rt; one.1, other.1);
-}
-
-/// Lists go through a new pair; answers how many of them have the most fields, and the most entries
-/// of a table.
-fn check_pair(
-    rt: &impl Abort,
-    alloc: Global,
-    maximum: u32,
-    often: usize,
-) -> Result<(usize, usize), Fail> {
-    let mut pair = Pair {
-        encoder: Encoder::new(alloc, maximum)?,
-        decoder: Decoder::new(alloc, maximum)?,
-        other: Decoder::new(alloc, maximum)?,
-        kept: FieldList::new(alloc),
+/// Lists go through a new encoder and new decoders; what was seen, or the first list that didn't.
+fn all_lists(alloc: Global, maximum: u32, often: usize) -> Result<Seen, usize> {
+    let Some(mut coders) = Coders::new(alloc, maximum) else {
+        return Err(usize::MAX);
     };
     let mut draw = Draw {
         state: u64::from(maximum),
     };
     let mut longest: usize = 0;
-    let mut most: usize = 0;
-    for _ in 0..LISTS {
-        pair.draw_limits(&mut draw, often);
-        let fields = draw.list(alloc)?;
-        if draw.below(8) == 0 {
-            pair.check_limit(rt, alloc, &fields)?;
-        } else {
-            pair.check(rt, alloc, &fields)?;
+    let mut entries: usize = 0;
+    for place in 0..LISTS {
+        match one_list(alloc, &mut draw, &mut coders, often) {
+            Some(count) if count == MOST_FIELDS => longest = longest.saturating_add(1),
+            Some(_) => {}
+            None => return Err(place),
         }
-        if fields.len() == MOST_FIELDS {
-            longest = longest.saturating_add(1);
-        }
-        most = most.max(pair.encoder.table().len());
+        entries = entries.max(coders.len());
     }
-    Ok((longest, most))
+    Ok(Seen { longest, entries })
 }
 
 #[test]
-fn lists_in_step(rt: HostRuntime) -> Result<(), Fail> {
+fn lists_in_step(rt: HostRuntime) {
     let mut largest: usize = 0;
     for (maximum, often) in PAIRS {
-        let (longest, most) = check_pair(&rt, rt.alloc(), maximum, often)?;
-        assert!(rt; longest > 10, "few long lists at {maximum}");
-        largest = largest.max(most);
+        match all_lists(rt.alloc(), maximum, often) {
+            Ok(seen) => {
+                assert!(rt; seen.longest > 10, "few long lists at {maximum}");
+                largest = largest.max(seen.entries);
+            }
+            Err(place) => panic!(rt; "list {place} at {maximum}"),
+        }
     }
     // Some indices take two octets.
     assert!(rt; largest > 200, "small tables, of at most {largest} entries");
-    Ok(())
 }
