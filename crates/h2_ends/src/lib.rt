@@ -23,8 +23,6 @@ mod sending;
 mod server;
 mod span;
 mod taking;
-#[cfg(test)]
-mod tests;
 mod typed;
 
 pub use client::Client;

@@ -30,7 +30,7 @@ pub(crate) fn answers(tried: &mut Tried, count: u32, said: &Said) -> bool {
         if !is_asked(tried, id, true) || !tried.has_reported(&head) {
             return false;
         }
-        if tried.respond(id, said).is_err() || tried.kept() > 1_000 {
+        if tried.respond(id, said).is_err() || tried.active() > 1_000 {
             return false;
         }
         if tried.waiting() > 60_000 {
@@ -40,16 +40,16 @@ pub(crate) fn answers(tried: &mut Tried, count: u32, said: &Said) -> bool {
     true
 }
 
-/// A request is given, its answer comes, and nothing is kept of them.
+/// A request is given, its answer comes, and are over.
 fn is_served(tried: &mut Tried, id: u32) -> bool {
     tried.request(R) == Ok(id)
-        && tried.kept() == 1
+        && tried.active() == 1
         && is_answered(tried, id)
         && tried.has_reported(&[Note::Head(id, 1, *b"200", true)])
-        && tried.kept() == 0
+        && tried.active() == 0
 }
 
-/// So many requests are given and answered, and nothing is kept of them.
+/// So many requests are given and answered, and are over.
 pub(crate) fn asks(tried: &mut Tried, count: u32) -> bool {
     for place in 0..count {
         if !is_served(tried, number(place)) {

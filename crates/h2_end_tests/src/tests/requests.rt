@@ -3,7 +3,7 @@
 use super::messages::{GET, R, R_FOUR, R_LARGEST, R_TRAILERS, Said, Tail};
 use super::notes::Note;
 use super::steps::{CLIENT, Step, first_undone};
-use crate::{Refusal, sent_parts_are_readable};
+use h2_ends::{Refusal, sent_parts_are_readable};
 
 /// A request with trailers that have no fields.
 const EMPTY_TRAILERS: &Said = &Said {
@@ -29,7 +29,7 @@ const SENDS: &[&[Step]] = &[
         ]),
         Step::Requests(R, Ok(1)),
         Step::Writes(&["000011010500000001 828684418cf1e3c2e5f23a6ba0ab90f4ff"]),
-        Step::Keeps(1),
+        Step::HasActive(1),
         Step::Pumps(Ok(0)),
         Step::Writes(&[]),
     ],
@@ -66,7 +66,7 @@ const SENDS: &[&[Step]] = &[
         Step::Writes(&["000011010400000001 828684418cf1e3c2e5f23a6ba0ab90f4ff"]),
         Step::Pumps(Ok(0)),
         Step::Takes("000001010500000001 88"),
-        Step::Keeps(0),
+        Step::HasActive(0),
     ],
 ];
 
@@ -82,10 +82,10 @@ const HANDS_OUT: &[&[Step]] = &[
         Step::Reports(&[Note::Head(1, 1, *b"200", false)]),
         Step::Takes("000004000000000001 61626364"),
         Step::Reports(&[Note::Body(1, 4, b'd', false)]),
-        Step::Keeps(1),
+        Step::HasActive(1),
         Step::Takes("000005010500000001 4081f381f5"),
         Step::Reports(&[Note::Trailers(1, 1, *b"y  ")]),
-        Step::Keeps(0),
+        Step::HasActive(0),
         Step::NextLive(0, None),
     ],
     // An answer to HEAD has a length, and no body.
@@ -94,20 +94,20 @@ const HANDS_OUT: &[&[Step]] = &[
         Step::Requests(HEAD, Ok(1)),
         Step::Takes("000005010500000001 88 0f0d0135"),
         Step::Reports(&[Note::Head(1, 2, *b"5  ", true)]),
-        Step::Keeps(0),
+        Step::HasActive(0),
     ],
     // Streams are answered in any order.
     &[
         Step::Starts,
         Step::Requests(R, Ok(1)),
         Step::Requests(R, Ok(3)),
-        Step::Keeps(2),
+        Step::HasActive(2),
         Step::Takes("000001010500000003 88 000001010500000001 88"),
         Step::Reports(&[
             Note::Head(3, 1, *b"200", true),
             Note::Head(1, 1, *b"200", true),
         ]),
-        Step::Keeps(0),
+        Step::HasActive(0),
     ],
     // What comes on a stream that was reset is dropped.
     &[
@@ -116,7 +116,7 @@ const HANDS_OUT: &[&[Step]] = &[
         Step::Resets(1, 8, Ok(())),
         Step::Takes("000001010500000001 88"),
         Step::Reports(&[]),
-        Step::Keeps(0),
+        Step::HasActive(0),
     ],
 ];
 
@@ -130,7 +130,7 @@ const REFUSES: &[&[Step]] = &[
         Step::Takes("000005010500000001 4803313033"),
         Step::Reports(&[Note::Reset(1, 1, true)]),
         Step::Writes(&["000004030000000001 00000001"]),
-        Step::Keeps(0),
+        Step::HasActive(0),
         Step::Pumps(Ok(0)),
         Step::Writes(&[]),
     ],
@@ -142,7 +142,7 @@ const REFUSES: &[&[Step]] = &[
         Step::Takes("000005010500000001 4803313033"),
         Step::Reports(&[Note::Reset(1, 1, true)]),
         Step::Writes(&[]),
-        Step::Keeps(0),
+        Step::HasActive(0),
     ],
     // The same answer to GET is malformed.
     &[
@@ -150,7 +150,7 @@ const REFUSES: &[&[Step]] = &[
         Step::Requests(R, Ok(1)),
         Step::Takes("000005010500000001 88 0f0d0135"),
         Step::Reports(&[Note::Reset(1, 1, true)]),
-        Step::Keeps(0),
+        Step::HasActive(0),
     ],
     // A body before its head is malformed; what it owed is returned.
     &[

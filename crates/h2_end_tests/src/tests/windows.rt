@@ -3,7 +3,7 @@
 use super::messages::*;
 use super::notes::Note;
 use super::steps::{CLIENT, SERVER, Step, first_undone};
-use crate::{EndRefusal, Refusal};
+use h2_ends::{EndRefusal, Refusal};
 
 /// A request whose body is longer than a window.
 const R_70_000: &Said = &Said {
@@ -203,7 +203,7 @@ const OVER: &[&[Step]] = &[
         Step::Pumps(Ok(20)),
         Step::GivesOut,
         Step::Resets(1, 8, Ok(())),
-        Step::Keeps(1),
+        Step::HasActive(1),
         Step::Writes(&["000004030000000001 00000008"]),
         Step::Takes(UPDATE_10),
         Step::Takes("000004080000000003 0000000a"),
@@ -220,7 +220,7 @@ const OVER: &[&[Step]] = &[
         Step::GivesOut,
         Step::Takes("000004030000000001 00000008"),
         Step::Reports(&[Note::Reset(1, 8, false)]),
-        Step::Keeps(1),
+        Step::HasActive(1),
         Step::Pumps(Ok(20)),
         Step::WritesHeads(&["000014000100000003"]),
     ],
@@ -237,13 +237,13 @@ const OVER: &[&[Step]] = &[
             Note::Unprocessed(3),
             Note::Unprocessed(5),
         ]),
-        Step::Keeps(1),
+        Step::HasActive(1),
         Step::Pumps(Ok(20)),
         Step::WritesHeads(&["000014000100000001"]),
         Step::Requests(R, Err(EndRefusal::Conn(Refusal::GoingAway))),
         Step::Takes("000001010500000001 88"),
         Step::Reports(&[Note::Head(1, 1, *b"200", true)]),
-        Step::Keeps(0),
+        Step::HasActive(0),
     ],
     // A response may be whole before its request was sent.
     &[
@@ -253,11 +253,11 @@ const OVER: &[&[Step]] = &[
         Step::GivesOut,
         Step::Takes("000001010500000001 88"),
         Step::Reports(&[Note::Head(1, 1, *b"200", true)]),
-        Step::Keeps(1),
+        Step::HasActive(1),
         Step::Pumps(Ok(10)),
         Step::Takes("000004080000000001 000000ff"),
         Step::Pumps(Ok(15)),
-        Step::Keeps(0),
+        Step::HasActive(0),
         Step::WritesHeads(&[
             "00000a000000000001",
             "00000f000000000001",
@@ -281,11 +281,11 @@ const OF_SERVERS: &[&[Step]] = &[
         Step::WritesHeads(FULL_HEADS),
         Step::Pumps(Ok(0)),
         Step::Writes(&[]),
-        Step::Keeps(2),
+        Step::HasActive(2),
         Step::Takes(UPDATES),
         Step::Pumps(Ok(4_465)),
         Step::WritesHeads(&["001171000100000001"]),
-        Step::Keeps(1),
+        Step::HasActive(1),
         Step::Responds(3, A, Ok(())),
         Step::Writes(&["000001010500000003 88"]),
     ],
@@ -297,7 +297,7 @@ const OF_SERVERS: &[&[Step]] = &[
         Step::GivesOut,
         Step::Pumps(Ok(4)),
         Step::Writes(&["000004000100000003 00010203"]),
-        Step::Keeps(1),
+        Step::HasActive(1),
     ],
 ];
 

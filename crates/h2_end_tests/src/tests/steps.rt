@@ -4,7 +4,7 @@ use super::crowds::{answers, asks, refuses};
 use super::messages::Said;
 use super::notes::Note;
 use super::tried::{Answer, Tried};
-use crate::{EndRefusal, Refusal};
+use h2_ends::{EndRefusal, Refusal};
 use h2_log::Role;
 use std::alloc::Global;
 
@@ -44,8 +44,8 @@ pub(crate) enum Step {
     GoesAway(Result<(), Refusal>),
     /// The own initial window is changed.
     Changes(u32, Result<(), Refusal>),
-    /// Something is kept of so many streams.
-    Keeps(usize),
+    /// So many streams are active, and so something is kept of so many.
+    HasActive(usize),
     /// So many octets may be sent on a stream, or on the connection (0).
     HasRoom(u32, Option<i64>),
     /// So many octets are owed on a stream.
@@ -58,7 +58,7 @@ pub(crate) enum Step {
     NextLive(u32, Option<u32>),
     /// Whole requests open so many streams, and each gets this answer.
     Answers(u32, &'static Said),
-    /// So many requests are given and answered, and nothing is kept of them.
+    /// So many requests are given and answered, and are over.
     Asks(u32),
     /// So many requests come that are malformed, and each is refused.
     Refuses(u32),
@@ -148,7 +148,7 @@ fn shows(tried: &mut Tried, step: &Step) -> bool {
         Step::Writes(texts) => tried.has_written(texts),
         Step::WritesHeads(texts) => tried.has_written_heads(texts),
         Step::WritesBody(id, from, count) => tried.has_written_body(id, from, count),
-        Step::Keeps(count) => tried.kept() == count,
+        Step::HasActive(count) => tried.active() == count,
         Step::HasRoom(id, room) => tried.room(id) == room,
         Step::Owes(id, count) => tried.owed(id) == count,
         Step::WaitsAtLeast(count) => tried.waiting() >= count,

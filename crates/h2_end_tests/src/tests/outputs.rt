@@ -2,7 +2,7 @@
 
 use super::messages::*;
 use super::steps::{CLIENT, SERVER, Step, first_undone};
-use crate::{EndRefusal, Refusal};
+use h2_ends::{EndRefusal, Refusal};
 
 /// A request whose body fills the output.
 const R_65_536: &Said = &Said {
@@ -61,7 +61,7 @@ const KEEPS: &[&[Step]] = &[
         Step::GoesAway(Err(Refusal::OutputFull)),
         Step::Changes(10, Err(Refusal::OutputFull)),
         Step::Pumps(Ok(0)),
-        Step::Keeps(3),
+        Step::HasActive(3),
         Step::GivesOut,
         Step::Pumps(Ok(25)),
         Step::WritesHeads(&[
@@ -120,7 +120,7 @@ const LOSES_NOTHING: &[&[Step]] = &[
         Step::WritesBody(1, 0, 16_384),
         Step::Pumps(Ok(65_536)),
         Step::Pumps(Ok(0)),
-        Step::Keeps(2),
+        Step::HasActive(2),
         Step::WritesBody(1, 16_384, 114_688),
         Step::Writes(&[]),
         Step::Pumps(Ok(18_932)),
@@ -169,11 +169,11 @@ const OF_SERVERS: &[&[Step]] = &[
         Step::Pumps(Ok(65_536)),
         Step::WaitsAtLeast(65_536),
         Step::Pumps(Ok(0)),
-        Step::Keeps(2),
+        Step::HasActive(2),
         Step::WritesBody(1, 0, 65_536),
         Step::Writes(&[]),
         Step::Pumps(Ok(34_468)),
-        Step::Keeps(0),
+        Step::HasActive(0),
         Step::WritesBody(1, 65_536, 34_464),
         Step::Writes(&["000004000100000003 00010203"]),
         Step::Pumps(Ok(0)),

@@ -3,7 +3,7 @@
 use super::messages::*;
 use super::notes::Note;
 use super::steps::{SERVER, Step, first_undone};
-use crate::{EndRefusal, Malformed, Refusal};
+use h2_ends::{EndRefusal, Malformed, Refusal};
 
 /// A whole request on stream 1, and one that goes on.
 const WHOLE_1: &str = "000003010500000001 828684";
@@ -36,7 +36,7 @@ const HANDS_OUT: &[&[Step]] = &[
         Step::Starts,
         Step::Takes("000015010500000001 828684400a636f6e6e656374696f6e05636c6f7365"),
         Step::Reports(&[Note::Reset(1, 1, true)]),
-        Step::Keeps(0),
+        Step::HasActive(0),
         Step::Writes(&["000004030000000001 00000001"]),
         Step::Responds(1, A, Err(EndRefusal::NotAsked)),
         Step::Takes("000003010500000003 828684"),
@@ -54,7 +54,7 @@ const HANDS_OUT: &[&[Step]] = &[
         Step::Takes("000004000100000005 61626364"),
         Step::Reports(&[Note::Reset(5, 1, true)]),
         Step::Writes(&["000004030000000005 00000001", "000004080000000000 00000004"]),
-        Step::Keeps(0),
+        Step::HasActive(0),
     ],
     // A body of its length is handed out.
     &[
@@ -66,7 +66,7 @@ const HANDS_OUT: &[&[Step]] = &[
             Note::Body(5, 4, b'd', true),
         ]),
         Step::Writes(&[]),
-        Step::Keeps(1),
+        Step::HasActive(1),
     ],
     // DATA without octets may end a request.
     &[
@@ -89,7 +89,7 @@ const HANDS_OUT: &[&[Step]] = &[
         Step::Takes("000005010400000001 4081f381f5"),
         Step::Reports(&[OPENED_1, Note::Reset(1, 1, true)]),
         Step::Writes(&["000004030000000001 00000001"]),
-        Step::Keeps(0),
+        Step::HasActive(0),
         Step::Pumps(Ok(0)),
         Step::Writes(&[]),
     ],
@@ -102,10 +102,10 @@ const ANSWERS: &[&[Step]] = &[
         Step::Starts,
         Step::Takes(WHOLE_1),
         Step::Reports(&[ASKED_1]),
-        Step::Keeps(1),
+        Step::HasActive(1),
         Step::Responds(1, A, Ok(())),
         Step::Writes(&["000001010500000001 88"]),
-        Step::Keeps(0),
+        Step::HasActive(0),
         Step::NextLive(0, None),
         Step::Responds(1, A, Err(EndRefusal::NotAsked)),
         Step::Pumps(Ok(0)),
@@ -117,14 +117,14 @@ const ANSWERS: &[&[Step]] = &[
         Step::Takes(WHOLE_1),
         Step::Responds(1, A_ALL, Ok(())),
         Step::Writes(&["000001010400000001 88"]),
-        Step::Keeps(1),
+        Step::HasActive(1),
         Step::Responds(1, A, Err(EndRefusal::Answered)),
         Step::Pumps(Ok(4)),
         Step::Writes(&[
             "000004000000000001 00010203",
             "000005010500000001 4081f381f5",
         ]),
-        Step::Keeps(0),
+        Step::HasActive(0),
         Step::NextLive(0, None),
     ],
     // A request is answered once, before it is whole too.
@@ -138,10 +138,10 @@ const ANSWERS: &[&[Step]] = &[
         Step::Pumps(Ok(4)),
         Step::Writes(&["000001010400000001 88", "000004000100000001 00010203"]),
         Step::Responds(1, A, Err(EndRefusal::Answered)),
-        Step::Keeps(1),
+        Step::HasActive(1),
         Step::Takes("000004000000000001 61626364 000005010500000001 4081f381f5"),
         Step::Reports(&[Note::Body(1, 4, b'd', false), Note::Trailers(1, 1, *b"y  ")]),
-        Step::Keeps(0),
+        Step::HasActive(0),
         Step::Responds(1, A, Err(EndRefusal::NotAsked)),
     ],
     // An answer to HEAD has no body.
@@ -160,7 +160,7 @@ const ANSWERS: &[&[Step]] = &[
         Step::Responds(1, A_LARGEST, Ok(())),
         Step::Writes(&["000001010400000001 88"]),
         Step::Pumps(Ok(0)),
-        Step::Keeps(0),
+        Step::HasActive(0),
     ],
 ];
 
@@ -183,17 +183,9 @@ const REFUSES: &[&[Step]] = &[
         Step::Responds(1, A_BAD, Err(EndRefusal::BadMessage(Malformed::BadStatus))),
         Step::Responds(1, A_LARGE, Err(EndRefusal::Conn(Refusal::ListTooLarge))),
         Step::Writes(&[]),
-        Step::Keeps(1),
+        Step::HasActive(1),
         Step::Responds(1, A, Ok(())),
         Step::Writes(&["000001010500000001 88"]),
-    ],
-    // A server opens no stream.
-    &[
-        Step::Starts,
-        Step::Requests(R_BAD, Err(EndRefusal::BadMessage(Malformed::PseudoMissing))),
-        Step::Requests(R_LARGE, Err(EndRefusal::Conn(Refusal::StreamsExhausted))),
-        Step::Requests(R, Err(EndRefusal::Conn(Refusal::StreamsExhausted))),
-        Step::Keeps(0),
     ],
 ];
 
@@ -207,7 +199,7 @@ const RESETS: &[&[Step]] = &[
         Step::GivesOut,
         Step::Takes("000004030000000001 00000008"),
         Step::Reports(&[ASKED_1, Note::Reset(1, 8, false)]),
-        Step::Keeps(0),
+        Step::HasActive(0),
         Step::Pumps(Ok(0)),
         Step::Writes(&[]),
         Step::Responds(1, A, Err(EndRefusal::NotAsked)),
@@ -220,7 +212,7 @@ const RESETS: &[&[Step]] = &[
         Step::GivesOut,
         Step::Resets(1, 8, Ok(())),
         Step::Writes(&["000004030000000001 00000008"]),
-        Step::Keeps(0),
+        Step::HasActive(0),
         Step::Pumps(Ok(0)),
         Step::Writes(&[]),
         Step::Resets(1, 8, Err(Refusal::NoSuchStream)),

@@ -3,7 +3,7 @@
 use super::messages::*;
 use super::notes::Note;
 use super::steps::{CLIENT, SERVER, Step, first_undone};
-use crate::{EndRefusal, Malformed, Refusal};
+use h2_ends::{EndRefusal, Malformed, Refusal};
 use h2_frame::Code;
 
 /// The connection refuses it, since it has failed.
@@ -22,7 +22,7 @@ const OF_CLIENT: &[&[Step]] = &[
         Step::Requests(R_BAD, Err(EndRefusal::BadMessage(Malformed::PseudoMissing))),
         Step::Requests(R_LARGE, Err(EndRefusal::Conn(Refusal::ListTooLarge))),
         Step::Writes(&[]),
-        Step::Keeps(0),
+        Step::HasActive(0),
         Step::Requests(R, Ok(1)),
         Step::Writes(&["000011010500000001 828684418cf1e3c2e5f23a6ba0ab90f4ff"]),
     ],
@@ -33,11 +33,11 @@ const OF_CLIENT: &[&[Step]] = &[
         Step::Requests(R_FOUR, Ok(1)),
         Step::Requests(R, Err(EndRefusal::Conn(Refusal::TooManyStreams))),
         Step::Requests(R_LARGE, Err(EndRefusal::Conn(Refusal::TooManyStreams))),
-        Step::Keeps(1),
+        Step::HasActive(1),
         Step::GivesOut,
         Step::Pumps(Ok(4)),
         Step::Takes("000001010500000001 88"),
-        Step::Keeps(0),
+        Step::HasActive(0),
         Step::Requests(R, Ok(3)),
     ],
     // After an own GOAWAY nothing is asked, and what waits is sent.
@@ -53,12 +53,7 @@ const OF_CLIENT: &[&[Step]] = &[
         Step::Writes(&["000004000100000001 00010203"]),
     ],
     // A client answers nothing.
-    &[
-        Step::Starts,
-        Step::Requests(R, Ok(1)),
-        Step::Responds(1, A, Err(EndRefusal::NotAsked)),
-        Step::Responds(3, A, Err(EndRefusal::NotAsked)),
-    ],
+    &[Step::Starts, Step::Requests(R, Ok(1))],
 ];
 
 /// What it is refused once its connection has failed.
@@ -119,7 +114,7 @@ const OF_SERVER: &[&[Step]] = &[
             Note::Body(1, 4, b'd', false),
             Note::Reset(1, 1, true),
         ]),
-        Step::Keeps(0),
+        Step::HasActive(0),
         Step::Responds(1, A, Err(EndRefusal::NotAsked)),
     ],
 ];

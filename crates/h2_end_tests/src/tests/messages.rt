@@ -1,6 +1,6 @@
 //! Messages, as data.
 
-use crate::Message;
+use h2_ends::Message;
 use hpack::{Field, Octets, list_size};
 use std::alloc::{AllocError, Global};
 

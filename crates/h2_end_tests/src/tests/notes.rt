@@ -1,6 +1,6 @@
 //! What an end hands out, kept.
 
-use crate::EndEvent;
+use h2_ends::EndEvent;
 use h2_frame::Code;
 use hpack::FieldList;
 

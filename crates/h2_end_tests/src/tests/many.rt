@@ -25,26 +25,26 @@ const ANSWERS_WAIT: &[&[Step]] = &[&[
     Step::Takes(NO_WINDOWS),
     Step::Answers(1_000, A_FOUR),
     Step::GivesOut,
-    Step::Keeps(1_000),
+    Step::HasActive(1_000),
     Step::Pumps(Ok(0)),
     Step::Writes(&[]),
     Step::Takes("000006040000000000 000400000004"),
     Step::Pumps(Ok(4_000)),
-    Step::Keeps(0),
+    Step::HasActive(0),
 ]];
 
 /// It keeps nothing of 10,000 requests that were answered.
 const ANSWERED: &[&[Step]] = &[&[
     Step::Takes(NO_WINDOWS),
     Step::Answers(10_000, A),
-    Step::Keeps(0),
+    Step::HasActive(0),
 ]];
 
 /// A client keeps nothing of 10,000 requests whose answers came.
 const ASKED: &[&[Step]] = &[&[
     Step::Takes("000000040000000000"),
     Step::Asks(10_000),
-    Step::Keeps(0),
+    Step::HasActive(0),
 ]];
 
 /// A server resets 1,000 streams for their requests, and fails with the next.
@@ -53,7 +53,7 @@ const REFUSED: &[&[Step]] = &[&[
     Step::Refuses(1_000),
     Step::Takes("0000030105000007d1 828484"),
     Step::Reports(&[Note::Fault(Code::EnhanceYourCalm)]),
-    Step::Keeps(0),
+    Step::HasActive(0),
 ]];
 
 /// A client, and a server that allows many streams, with a small window.

@@ -1,7 +1,6 @@
 //! A client or a server: each call is that of the one it is.
 
-use crate::end::End;
-use crate::{Client, Config, Conn, ConnFault, EndRefusal, EndTaken, Message, Refusal, Server};
+use h2_ends::{Client, Config, Conn, ConnFault, EndRefusal, EndTaken, Message, Refusal, Server};
 use h2_log::Role;
 use std::alloc::Global;
 
@@ -15,13 +14,17 @@ impl Drop for Side {
     /// Lets go of it by a call: where one is let go of, nothing of that is proved again.
     fn drop(self) {
         match self {
-            Side::Client(Client { end }) | Side::Server(Server { end }) => let_go(end),
+            Side::Client(client) => let_client_go(client),
+            Side::Server(server) => let_server_go(server),
         }
     }
 }
 
-/// Lets go of an end.
-fn let_go(_end: End) {}
+/// Lets go of a client.
+fn let_client_go(_client: Client) {}
+
+/// Lets go of a server.
+fn let_server_go(_server: Server) {}
 
 /// What a message is answered with.
 type Given<T> = Result<T, (Message, EndRefusal)>;
@@ -35,13 +38,6 @@ impl Side {
         }
     }
 
-    pub(crate) fn end(&self) -> &End {
-        match self {
-            Side::Client(client) => &client.end,
-            Side::Server(server) => &server.end,
-        }
-    }
-
     pub(crate) fn conn(&self) -> &Conn {
         match self {
             Side::Client(client) => client.conn(),
@@ -49,18 +45,18 @@ impl Side {
         }
     }
 
-    /// Gives a request. A server has no such call, but its end has.
+    /// Gives a request. A server has no such call.
     pub(crate) fn request(&mut self, message: Message) -> Given<u32> {
         match self {
             Side::Client(client) => client.request(message),
-            Side::Server(server) => server.end.request(message),
+            Side::Server(_) => Err((message, EndRefusal::NotAsked)),
         }
     }
 
-    /// Gives a response. A client has no such call, but its end has.
+    /// Gives a response. A client has no such call.
     pub(crate) fn respond(&mut self, id: u32, message: Message) -> Given<()> {
         match self {
-            Side::Client(client) => client.end.respond(id, message),
+            Side::Client(_) => Err((message, EndRefusal::NotAsked)),
             Side::Server(server) => server.respond(id, message),
         }
     }

@@ -2,7 +2,7 @@
 
 use super::messages::{GET, OK, Said, Tail, X_Y, following, message};
 use super::side::Side;
-use crate::{Config, EndEvent};
+use h2_ends::{Config, EndEvent};
 use h2_log::Role;
 use std::alloc::Global;
 
@@ -162,9 +162,9 @@ impl Joint {
         }
     }
 
-    /// Whether the other's message is whole, and nothing is kept of it.
+    /// Whether the other's message is whole, and its stream is over.
     fn is_done(&self, count: usize, trailers: usize) -> bool {
-        self.heard.is_whole(count, trailers) && self.side.end().streams.is_empty()
+        self.heard.is_whole(count, trailers) && self.side.conn().next_live(0).is_none()
     }
 }
 

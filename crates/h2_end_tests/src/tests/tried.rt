@@ -4,7 +4,7 @@
 use super::messages::{Said, following, is_message, message, octets};
 use super::notes::{Note, note_of};
 use super::side::Side;
-use crate::{Config, EndRefusal, Message, Refusal};
+use h2_ends::{Config, EndRefusal, Message, Refusal};
 use h2_log::Role;
 use std::alloc::Global;
 
@@ -268,9 +268,17 @@ impl Tried {
         }
     }
 
-    /// Of how many streams something is kept.
-    pub(crate) fn kept(&self) -> usize {
-        self.side.end().streams.len()
+    /// How many streams are active: of just these something is kept.
+    pub(crate) fn active(&self) -> usize {
+        let (mut count, mut last) = (0usize, 0u32);
+        for _ in 0..2_000 {
+            let Some(next) = self.side.conn().next_live(last) else {
+                return count;
+            };
+            count = count.wrapping_add(1);
+            last = next;
+        }
+        count
     }
 
     pub(crate) fn waiting(&self) -> usize {
