@@ -1,5 +1,5 @@
 -- Calls of an end are acts of two joined ends.
-use Rattle.std.proofs.Common.{◌≡◌, ℕ, Result, refl, sym, subst}
+use Rattle.std.proofs.Common.{◌≡◌, ℕ, Result, false, refl, sym, subst}
 use Rattle.h2_log.specs.Acts.{Act, Answer, IsTypedAct}
 use Rattle.h2_log.specs.LogCalls.{with_call}
 use Rattle.h2_ends.specs.declared.refusal.EndRefusal.{EndRefusal}
@@ -11,22 +11,24 @@ use Rattle.h2_joined.specs.declared.act.Acted.TheVariants as acted
 use Rattle.h2_joined.specs.declared.joined.Joined.{Joined}
 use Rattle.h2_joined.specs.Joints.{Doing, Pumps, ReleasesAll, Calls, acted_by, acted_as, IsCall}
 use Rattle.h2_joined.specs.Joints.{pumps, releases_all, calls}
-use Rattle.h2_joined.specs.Kept.{Acts, made, end_at}
+use Rattle.h2_joined.specs.Kept.{MakesAct, made, end_at}
 use Rattle.h2_joined.proofs.KeptActs.{ChangesEnd, acts_on_end}
 use Rattle.h2_joined.proofs.KeptEnds.{pumped_says, released_says}
 
 -- The answer is this one.
 answered_as : (side : Side) (old new : Joined) (doing : Doing) (one other : Acted) → one ≡ other
-    → Acts old (made side doing other) new → Acts old (made side doing one) new
+    → MakesAct old (made side doing other) new → MakesAct old (made side doing one) new
 answered_as side old new doing one other same acts =
-    subst (λ (answer : Acted). Acts old (made side doing answer) new) (sym same) acts
+    subst (λ (answer : Acted). MakesAct old (made side doing answer) new) (sym same) acts
 
 pub pump_acts : (side : Side) (old new : Joined) (result : Result ℕ EndRefusal) (answer : Acted)
-    → answer ≡ acted_by acted.Count result → ChangesEnd side old new
-    → EndPumps (end_at side old) result (end_at side new) → Acts old (made side Pumps answer) new
-pump_acts side old new result answer same changes does =
+    → answer ≡ acted_by acted.Count result → old.stopped ≡ false → ChangesEnd side old new
+    → EndPumps (end_at side old) result (end_at side new)
+    → MakesAct old (made side Pumps answer) new
+pump_acts side old new result answer same goes changes does =
     answered_as side old new Pumps answer _ same
-    (acts_on_end side old new Pumps (acted_by acted.Count result) changes
+    (acts_on_end side old new Pumps (acted_by acted.Count result) goes
+    (λ stops. let no = stops.1 in cc) changes
     (λ values one other represents.
     let (after, may, now) = does values one.happened represents in
     let says = pumped_says one.happened result after may in
@@ -39,12 +41,13 @@ pump_acts side old new result answer same changes does =
     }))
 
 pub release_acts : (side : Side) (old new : Joined) (result : Result (Unit {0}) EndRefusal)
-    (answer : Acted) → answer ≡ acted_by (λ done. acted.Done) result → ChangesEnd side old new
-    → EndReleases (end_at side old) result (end_at side new)
-    → Acts old (made side ReleasesAll answer) new
-release_acts side old new result answer same changes does =
+    (answer : Acted) → answer ≡ acted_by (λ done. acted.Done) result → old.stopped ≡ false
+    → ChangesEnd side old new → EndReleases (end_at side old) result (end_at side new)
+    → MakesAct old (made side ReleasesAll answer) new
+release_acts side old new result answer same goes changes does =
     answered_as side old new ReleasesAll answer _ same
-    (acts_on_end side old new ReleasesAll (acted_by (λ done. acted.Done) result) changes
+    (acts_on_end side old new ReleasesAll (acted_by (λ done. acted.Done) result) goes
+    (λ stops. let no = stops.1 in cc) changes
     (λ values one other represents.
     let (after, may, now) = does values one.happened represents in
     let says = released_says one.happened result after may in
@@ -57,12 +60,13 @@ release_acts side old new result answer same changes does =
     }))
 
 pub call_acts : (side : Side) (old new : Joined) (act : Act) (answered : Answer) (answer : Acted)
-    → answer ≡ acted_as answered → IsCall act → IsTypedAct act → ChangesEnd side old new
-    → EndAnswers (end_at side old) act answered (end_at side new)
-    → Acts old (made side (Calls act) answer) new
-call_acts side old new act answered answer same is typed changes does =
+    → answer ≡ acted_as answered → IsCall act → IsTypedAct act → old.stopped ≡ false
+    → ChangesEnd side old new → EndAnswers (end_at side old) act answered (end_at side new)
+    → MakesAct old (made side (Calls act) answer) new
+call_acts side old new act answered answer same is typed goes changes does =
     answered_as side old new (Calls act) answer _ same
-    (acts_on_end side old new (Calls act) (acted_as answered) changes
+    (acts_on_end side old new (Calls act) (acted_as answered) goes
+    (λ stops. let no = stops.1 in cc) changes
     (λ values one other represents.
     let (may, now) = does values one.happened represents in
     record {

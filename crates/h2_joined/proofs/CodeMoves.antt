@@ -1,12 +1,11 @@
 -- Octets of an output that are put on a pipe.
-use Rattle.std.proofs.Common.{◌≡◌, ℕ, ◌+◌, ◌<◌, ◌^◌, ◌≤◌, Bool, List, [], ◌++◌, length, take, drop}
+use Rattle.std.proofs.Common.{◌≡◌, ℕ, ◌+◌, ◌<◌, ◌^◌, List, [], ◌++◌, take, drop}
 use Rattle.std.proofs.Common.{Result, Ok, Err, IfOk, refl, sym, ap, ◌∙◌, subst, append_assoc}
-use Rattle.std.proofs.Common.{append-nil}
-use Rattle.std.proofs.Common.{arith}
+use Rattle.std.proofs.Common.{false, append-nil, arith}
 use Rattle.std.specs.Result.{OnErr}
 use Rattle.std.proofs.lemmas.List.{length-take, drop_all}
 use Rattle.h2_log.specs.declared.refusal.Refusal.{Refusal}
-use Rattle.h2_log.specs.Acts.{Values, IsTypedAct, Answer, PutOut, Count, Refused}
+use Rattle.h2_log.specs.Acts.{Values, IsTypedAct, PutOut, Count, Refused}
 use Rattle.h2_log.specs.Log.{Log}
 use Rattle.h2_log.specs.LogCalls.{with_call}
 use Rattle.h2_conn.specs.Conn.{GivesOut, answer_by}
@@ -15,12 +14,12 @@ use Rattle.h2_ends.specs.Ends.{EndLog}
 use Rattle.h2_ends.specs.Represents.{EndAnswers, EndRepresents}
 use Rattle.h2_joined.specs.declared.act.Side.{Side}
 use Rattle.h2_joined.specs.declared.act.Acted.{Acted}
-use Rattle.h2_joined.specs.declared.kept.Kept.{Kept}
 use Rattle.h2_joined.specs.declared.pipe.Pipe.{Pipe}
 use Rattle.h2_joined.specs.declared.joined.Joined.{Joined}
-use Rattle.h2_joined.specs.Joints.{JointEnd, Moves, acted_as, moves, with_answer, with_given}
-use Rattle.h2_joined.specs.Kept.{HoldsOctets, KeepsEnd, Acts, made, end_at, kept_of, other_side}
-use Rattle.h2_joined.proofs.KeptActs.{DoesAt, acts_by, keeps_same, same_kept}
+use Rattle.h2_joined.specs.Joints.{Moves, acted_as, moves, with_answer, with_given}
+use Rattle.h2_joined.specs.Kept.{HoldsOctets, MakesAct, made, end_at, kept_of, other_side}
+use Rattle.h2_joined.proofs.KeptActs.{acts_by, goes_on_after, keeps_same, same_kept}
+use Rattle.h2_joined.proofs.KeptStops.{keeps_also}
 
 -- More octets are on a pipe.
 pub record PipesMore (old new : Pipe) (more : List ℕ) : Type 0 where
@@ -40,8 +39,8 @@ holds_more old new octets more pipes holds =
 -- The call was made at one end, and what it gave out is on the pipe to the other.
 pub record MovesAt (side : Side) (old : Joined) (count : ℕ) (result : Result ℕ Refusal)
     (new : Joined) : Type 0 where
-  pub answers : EndAnswers (end_at side old) (PutOut count) (answer_by (λ given. Count given) result)
-      (end_at side new)
+  pub answers : EndAnswers (end_at side old) (PutOut count)
+      (answer_by (λ given. Count given) result) (end_at side new)
   pub other_end : end_at (other_side side) new ≡ end_at (other_side side) old
   pub kept : kept_of side new ≡ kept_of side old
   pub accepted : (kept_of (other_side side) new).accepted
@@ -74,7 +73,8 @@ moved : (values : Values) (side : Side) (old new : Joined) (count : ℕ) (one : 
     (result : Result ℕ Refusal) → MovesAt side old count result new
     → EndRepresents values (end_at side old) one
     → PipesMore (kept_of (other_side side) old).incoming (kept_of (other_side side) new).incoming
-    (given_since one.log (with_call one.log (PutOut count) (answer_by (λ given. Count given) result)))
+    (given_since one.log
+    (with_call one.log (PutOut count) (answer_by (λ given. Count given) result)))
 moved values side old new count one (Ok given) at represents =
     record {
       items = at.gives values one.log represents.streams.conn
@@ -92,21 +92,22 @@ moved values side old new count one (Err refusal) at represents =
 
 pub moves_acts : (side : Side) (old new : Joined) (count : ℕ) (result : Result ℕ Refusal)
     (answer : Acted) → answer ≡ acted_as (answer_by (λ given. Count given) result)
-    → count < 2 ^ 64 → MovesAt side old count result new
-    → Acts old (made side (Moves count) answer) new
+    → count < 2 ^ 64 → old.stopped ≡ false → MovesAt side old count result new
+    → MakesAct old (made side (Moves count) answer) new
 unfolding IsTypedAct
-moves_acts side old new count result answer same fits at =
+moves_acts side old new count result answer same fits goes at =
     let answered = answer_by (λ given. Count given) result in
-    subst (λ (a : Acted). Acts old (made side (Moves count) a) new) (sym same)
-    (acts_by side old new (Moves count) (acted_as answered) at.other_end
-    (λ some goes_on. at.stopped ∙ goes_on)
+    subst (λ (a : Acted). MakesAct old (made side (Moves count) a) new) (sym same)
+    (acts_by side old new (Moves count) (acted_as answered) at.other_end goes
+    (goes_on_after old new (Moves count) (acted_as answered) goes at.stopped
+    (λ stops. let no = stops.1 in cc))
     (λ values one other represents keeps other_keeps.
     let (may, now) = at.answers values one.happened represents in
     let ours = kept_of side old in
     let theirs = kept_of (other_side side) old in
     let after = kept_of (other_side side) new in
-    let stays = keeps_same old.stopped new.stopped theirs
-    (record after { incoming = theirs.incoming }) other other other_keeps at.stopped
+    let stays = keeps_same theirs (record after { incoming = theirs.incoming }) other other
+    other_keeps
     (record {
       incoming = refl;
       accepted = ap (λ a. a.items) at.accepted;
@@ -117,9 +118,10 @@ moves_acts side old new count result answer same fits at =
       new_other = with_given other one (PutOut count) answered;
       may = moves count answered fits may;
       represents = now;
-      kept = keeps_same old.stopped new.stopped ours (kept_of side new) one
-          (with_answer one (PutOut count) answered) keeps at.stopped
-          (same_kept ours (kept_of side new) at.kept) refl refl refl;
+      kept = keeps_also (kept_of side new) (with_answer one (PutOut count) answered)
+          (λ no. absurd no)
+          (keeps_same ours (kept_of side new) one (with_answer one (PutOut count) answered) keeps
+          (same_kept ours (kept_of side new) at.kept) refl refl refl);
       happened = refl;
       other_kept = record {
         incoming = holds_more theirs.incoming after.incoming other.incoming _

@@ -1,42 +1,45 @@
 -- Octets that are handed to `take` again and again.
-use Rattle.std.proofs.Common.{◌≡◌, ℕ, zero, ◌+◌, ◌≤◌, Bool, false, List, length, drop, refl, sym}
-use Rattle.std.proofs.Common.{ap}
-use Rattle.std.proofs.Common.{◌∙◌, subst, Some, None, inr, arith}
+use Rattle.std.proofs.Common.{◌≡◌, ℕ, suc, ◌+◌, ◌≤◌, ◌<◌, List, length, drop, true, false}
+use Rattle.std.proofs.Common.{refl, sym, ◌∙◌, subst, arith}
 use Rattle.std.proofs.lemmas.List.{drop-drop, length-drop}
 use Rattle.h2_frame.specs.declared.code.Code.{Code}
 use Rattle.h2_log.specs.Acts.{Values}
+use Rattle.h2_ends.specs.declared.end.End.{End}
 use Rattle.h2_ends.specs.Ends.{EndLog}
+use Rattle.h2_ends.specs.Represents.{EndRepresents}
 use Rattle.h2_joined.specs.declared.act.Side.{Side}
 use Rattle.h2_joined.specs.declared.octets.Next.TheVariants as nexts
 use Rattle.h2_joined.specs.declared.octets.Delivered.TheVariants as delivered
+use Rattle.h2_joined.specs.declared.kept.Kept.{Kept}
 use Rattle.h2_joined.specs.declared.joined.Joined.{Joined}
 use Rattle.h2_joined.specs.Joints.{Delivery, IsDelivered, Whole, Fails, Stops, is_whole, goes_on}
-use Rattle.h2_joined.specs.Joints.{fails}
-use Rattle.h2_joined.specs.Joints.{stops}
-use Rattle.h2_joined.specs.Delivering.{ChangesOnly, IsKeptAt, TakesNext, TakesAll}
-use Rattle.h2_joined.proofs.CodeTakes.{both_only}
+use Rattle.h2_joined.specs.Joints.{fails, stops, no_call_is_left, most_calls}
+use Rattle.h2_joined.specs.Kept.{KeepsHanded, kept_of}
+use Rattle.h2_joined.specs.Delivering.{ChangesOnly, IsKeptAt, TakesNext, TakesOctets}
+use Rattle.h2_joined.proofs.KeptStops.{handed_also}
+use Rattle.h2_joined.proofs.CodeTakes.{both_only, stopped_there, only_stops, stops_only}
 
--- So many octets were delivered so far: the rest goes on from there.
-pub record TakesSome (values : Values) (side : Side) (end : EndLog) (octets : List ℕ) (taken : ℕ)
-    (now : Joined) : Type 0 where
+-- So many octets were delivered so far, by so many calls: the rest goes on from there.
+pub record TakesSome (values : Values) (side : Side) (end : EndLog) (octets : List ℕ)
+    (calls taken : ℕ) (now : Joined) : Type 0 where
   pub between : EndLog
   pub kept : IsKeptAt values side now between
   pub accepted : between.accepted ≡ end.accepted
   pub delivers : (delivery : Delivery) (after : EndLog)
-      → IsDelivered between (drop taken octets) delivery after
-      → IsDelivered end octets delivery after
+      → IsDelivered calls between (drop taken octets) delivery after
+      → IsDelivered 0 end octets delivery after
 
 -- The same whatever has happened at the end, with what has changed.
-pub record TakesSoFar (side : Side) (old : Joined) (octets : List ℕ) (taken : ℕ) (now : Joined)
-    : Type 0 where
+pub record TakesSoFar (side : Side) (old : Joined) (octets : List ℕ) (calls taken : ℕ)
+    (now : Joined) : Type 0 where
   pub within : taken ≤ length octets
   pub goes : now.stopped ≡ false
   pub only : ChangesOnly side old now
   pub takes : (values : Values) (end : EndLog) → IsKeptAt values side old end
-      → TakesSome values side end octets taken now
+      → TakesSome values side end octets calls taken now
 
 pub takes_first : (side : Side) (old : Joined) (octets : List ℕ) → old.stopped ≡ false
-    → TakesSoFar side old octets 0 old
+    → TakesSoFar side old octets 0 0 old
 takes_first side old octets goes =
     record {
       within = omega arith;
@@ -51,11 +54,11 @@ takes_first side old octets goes =
           };
     }
 
-module _ (side : Side) (old now new : Joined) (octets : List ℕ) (taken : ℕ)
-    (sofar : TakesSoFar side old octets taken now) where
+module _ (side : Side) (old now new : Joined) (octets : List ℕ) (calls taken : ℕ)
+    (sofar : TakesSoFar side old octets calls taken now) (few : calls < most_calls) where
   pub takes_more : (used : ℕ)
       → TakesNext side now (drop taken octets) (nexts.Again used) new
-      → TakesSoFar side old octets (taken + used) new
+      → TakesSoFar side old octets (suc calls) (taken + used) new
   takes_more used next =
       let rest = drop-drop used taken octets in
       let left = length-drop taken octets in
@@ -72,14 +75,14 @@ module _ (side : Side) (old now new : Joined) (octets : List ℕ) (taken : ℕ)
               kept = more.kept;
               accepted = more.accepted ∙ some.accepted;
               delivers = λ delivery after delivers.
-                  some.delivers delivery after (goes_on (drop taken octets) used handed delivery
-                  may progress (subst (λ (o : List ℕ). IsDelivered more.after o delivery after)
-                  (sym rest) delivers));
+                  some.delivers delivery after (goes_on calls (drop taken octets) used handed
+                  delivery few may progress (subst (λ (o : List ℕ).
+                  IsDelivered (suc calls) more.after o delivery after) (sym rest) delivers));
             };
       }
 
   pub takes_whole : TakesNext side now (drop taken octets) nexts.Whole new
-      → TakesAll side old octets delivered.Whole new
+      → TakesOctets side old octets delivered.Whole new
   takes_whole next =
       record {
         within = tt;
@@ -90,8 +93,8 @@ module _ (side : Side) (old now new : Joined) (octets : List ℕ) (taken : ℕ)
             let more = next.takes values some.between some.kept in
             record {
               after = more.after;
-              delivers = some.delivers Whole more.after (is_whole (drop taken octets)
-                  more.goes_on);
+              delivers = some.delivers Whole more.after (is_whole calls (drop taken octets)
+                  few more.goes_on);
               accepted = more.accepted ∙ some.accepted;
               kept = more.kept;
             };
@@ -99,7 +102,7 @@ module _ (side : Side) (old now new : Joined) (octets : List ℕ) (taken : ℕ)
 
   pub takes_failed : (code : Code)
       → TakesNext side now (drop taken octets) (nexts.Failed code) new
-      → TakesAll side old octets (delivered.Failed code) new
+      → TakesOctets side old octets (delivered.Failed code) new
   takes_failed code next =
       record {
         within = tt;
@@ -110,8 +113,8 @@ module _ (side : Side) (old now new : Joined) (octets : List ℕ) (taken : ℕ)
             let more = next.takes values some.between some.kept in
             record {
               after = more.after;
-              delivers = some.delivers (Fails code) more.after (fails (drop taken octets) code
-                  more.goes_on);
+              delivers = some.delivers (Fails code) more.after (fails calls (drop taken octets)
+                  code few more.goes_on);
               accepted = more.accepted ∙ some.accepted;
               kept = more.kept;
             };
@@ -119,45 +122,52 @@ module _ (side : Side) (old now new : Joined) (octets : List ℕ) (taken : ℕ)
 
   pub takes_stopped : (used : ℕ)
       → TakesNext side now (drop taken octets) (nexts.Stopped used) new
-      → TakesAll side old octets (delivered.Stopped (taken + used)) new
+      → TakesOctets side old octets (delivered.Stopped (taken + used)) new
   takes_stopped used next =
       let rest = drop-drop used taken octets in
       let left = length-drop taken octets in
       record {
         within = omega (arith, sofar.within, next.within, left);
         only = both_only side old now new sofar.only next.only;
-        stops = tt;
+        stops = next.stops;
         takes = λ values end keeps.
             let some = sofar.takes values end keeps in
             let more = next.takes values some.between some.kept in
             let (handed, may) = more.goes_on in
             record {
               after = more.after;
-              delivers = subst (λ (o : List ℕ). IsDelivered end octets (Stops o) more.after) rest
-                  (some.delivers (Stops (drop used (drop taken octets))) more.after
-                  (goes_on (drop taken octets) used (Some handed)
-                  (Stops (drop used (drop taken octets))) may (inr (λ none. cc))
-                  (stops (drop used (drop taken octets)))));
+              delivers = subst (λ (o : List ℕ). IsDelivered 0 end octets (Stops o) more.after)
+                  rest (some.delivers (Stops (drop used (drop taken octets))) more.after
+                  (stops calls (drop taken octets) used handed few may));
               accepted = more.accepted ∙ some.accepted;
               kept = more.kept;
             };
       }
 
--- The rounds are over.
-pub takes_no_more : (side : Side) (old now : Joined) (octets : List ℕ) (taken : ℕ)
-    → TakesSoFar side old octets taken now → TakesAll side old octets (delivered.Stopped taken) now
-takes_no_more side old now octets taken sofar =
+-- No call is left.
+pub takes_no_more : (side : Side) (old now : Joined) (octets : List ℕ) (calls taken : ℕ)
+    → TakesSoFar side old octets calls taken now → calls ≡ most_calls
+    → TakesOctets side old octets (delivered.Stopped taken) (stopped_there now)
+takes_no_more side old now octets calls taken sofar all =
+    let only = only_stops side now in
     record {
       within = sofar.within;
-      only = sofar.only;
-      stops = tt;
+      only = both_only side old now (stopped_there now) sofar.only (stops_only side now);
+      stops = refl;
       takes = λ values end keeps.
           let some = sofar.takes values end keeps in
           record {
             after = some.between;
             delivers = some.delivers (Stops (drop taken octets)) some.between
-                (stops (drop taken octets));
+                (rw all (no_call_is_left (drop taken octets)));
             accepted = some.accepted;
-            kept = some.kept;
+            kept = record {
+              represents = subst (λ (e : End). EndRepresents values e some.between)
+                  (sym only.one_end) some.kept.represents;
+              handed = subst (λ (k : Kept). KeepsHanded (true ≡ true) k.handed.items
+                  some.between.handed) (sym only.kept) (handed_also
+                  (kept_of side now).handed.items some.between.handed (λ stopped. refl)
+                  some.kept.handed);
+            };
           };
     }

@@ -4,13 +4,14 @@ use Rattle.std.proofs.Common.{◌++◌}
 use Rattle.std.proofs.Common.{length, reverse, Option, Some, None, Ok, Err, option_map, refl, sym}
 use Rattle.std.proofs.Common.{ap, ◌∙◌}
 use Rattle.std.proofs.Common.{subst, inl, inr, arith}
+use Rattle.std.proofs.lemmas.Bool.{both_ways}
 use Rattle.h2_frame.specs.declared.code.Code.{Code}
 use Rattle.h2_log.specs.Acts.{Values}
 use Rattle.h2_conn.specs.declared.event.ConnFault.{ConnFault}
 use Rattle.h2_ends.specs.declared.end.End.{End}
 use Rattle.h2_ends.specs.declared.event.EndEvent.{EndEvent}
 use Rattle.h2_ends.specs.declared.event.EndTaken.{EndTaken}
-use Rattle.h2_ends.specs.Ends.{EndLog, Handed, EndAnswer, EndTook, EndFailed}
+use Rattle.h2_ends.specs.Ends.{EndLog, Handed, EndTook, EndFailed}
 use Rattle.h2_ends.specs.EndTakes.{EndMayTake}
 use Rattle.h2_ends.specs.Loans.{event_handed}
 use Rattle.h2_ends.specs.Represents.{EndRepresents, EndTakes}
@@ -22,9 +23,9 @@ use Rattle.h2_joined.specs.declared.octets.Taking.{Taking}
 use Rattle.h2_joined.specs.declared.octets.Taking.TheVariants as takings
 use Rattle.h2_joined.specs.declared.octets.Next.TheVariants as nexts
 use Rattle.h2_joined.specs.declared.joined.Joined.{Joined}
-use Rattle.h2_joined.specs.Kept.{KeepsHanded, event_value, end_at, kept_of, other_side}
-use Rattle.h2_joined.specs.Delivering.{UsesWithin, TakesOnce, IsTaken, ChangesOnly, IsKeptAt}
-use Rattle.h2_joined.specs.Delivering.{GoesOn, TakesNextOf, TakesNext, TookAt, KeepsEvent}
+use Rattle.h2_joined.specs.Kept.{KeepsHanded, event_value, end_at, kept_of}
+use Rattle.h2_joined.specs.Delivering.{TakesOnce, ChangesOnly, IsKeptAt}
+use Rattle.h2_joined.specs.Delivering.{TakesNextOf, TakesNext, TookAt, KeepsEvent}
 use Rattle.h2_joined.proofs.KeptActs.{newest}
 use Rattle.h2_joined.proofs.KeptEnds.{taken_says}
 
@@ -92,41 +93,46 @@ changes_only side old new piece taking took =
 -- What is kept of what was handed out, where nothing more was.
 handed_same : (old new : Joined) (before after : Kept) (handed now : List Handed)
     → new.stopped ≡ old.stopped → after ≡ before → now ≡ handed
-    → KeepsHanded old.stopped before.handed.items handed
-    → KeepsHanded new.stopped after.handed.items now
+    → KeepsHanded (old.stopped ≡ true) before.handed.items handed
+    → KeepsHanded (new.stopped ≡ true) after.handed.items now
 handed_same old new before after handed now stopped same none keeps =
-    subst (λ (b : Bool). KeepsHanded b after.handed.items now) (sym stopped)
-    (subst (λ (k : Kept). KeepsHanded old.stopped k.handed.items now) (sym same)
-    (subst (λ (all : List Handed). KeepsHanded old.stopped before.handed.items all) (sym none)
-    keeps))
+    subst (λ (b : Bool). KeepsHanded (b ≡ true) after.handed.items now) (sym stopped)
+    (subst (λ (k : Kept). KeepsHanded (old.stopped ≡ true) k.handed.items now) (sym same)
+    (subst (λ (all : List Handed). KeepsHanded (old.stopped ≡ true) before.handed.items all)
+    (sym none) keeps))
+
+-- All of it is kept, where the two ends go on.
+all_kept : (stopped : Bool) (kept : List JointEvent) (handed : List Handed) → stopped ≡ false
+    → KeepsHanded (stopped ≡ true) kept handed → handed ≡ reverse (each event_value kept)
+all_kept stopped kept handed goes keeps =
+    keeps.same ∙ ap (λ (lost : List Handed). lost ++ reverse (each event_value kept))
+    (keeps.none_lost (both_ways stopped goes))
 
 -- One more is kept.
 handed_more : (before after : List JointEvent) (event : JointEvent) (handed now : List Handed)
-    (stopped : Bool) → stopped ≡ false → after ≡ before ++ event ∷ []
-    → now ≡ event_value event ∷ handed → KeepsHanded false before handed
-    → KeepsHanded stopped after now
-handed_more before after event handed now stopped goes pushed more keeps =
+    (Stopped : Type 0) → after ≡ before ++ event ∷ [] → now ≡ event_value event ∷ handed
+    → handed ≡ reverse (each event_value before) → KeepsHanded Stopped after now
+handed_more before after event handed now Stopped pushed more all =
     record {
       lost = [];
-      same = more
-          ∙ ap (λ (all : List Handed). event_value event ∷ all) (keeps.same
-          ∙ ap (λ (lost : List Handed). lost ++ reverse (each event_value before))
-          (keeps.none_lost refl)) ∙ sym (newest event_value before event)
+      same = more ∙ ap (λ (all : List Handed). event_value event ∷ all) all
+          ∙ sym (newest event_value before event)
           ∙ ap (λ (events : List JointEvent). reverse (each event_value events)) (sym pushed);
-      none_lost = λ still. refl;
+      one_at_most = omega arith;
+      none_lost = λ never. refl;
     }
 
 -- Or it is lost.
 handed_lost : (before after : List JointEvent) (one : Handed) (handed now : List Handed)
-    → after ≡ before → now ≡ one ∷ handed → KeepsHanded false before handed
-    → KeepsHanded true after now
-handed_lost before after one handed now same more keeps =
+    → after ≡ before → now ≡ one ∷ handed → handed ≡ reverse (each event_value before)
+    → KeepsHanded (true ≡ true) after now
+handed_lost before after one handed now same more all =
     record {
-      lost = one ∷ keeps.lost;
-      same = more ∙ ap (λ (all : List Handed). one ∷ all) (keeps.same
-          ∙ ap (λ (events : List JointEvent). keeps.lost ++ reverse (each event_value events))
-          (sym same));
-      none_lost = λ still. cc;
+      lost = one ∷ [];
+      same = more ∙ ap (λ (all : List Handed). one ∷ all) (all
+          ∙ ap (λ (events : List JointEvent). reverse (each event_value events)) (sym same));
+      one_at_most = omega arith;
+      none_lost = λ never. absurd (never refl);
     }
 
 -- How a delivery goes on, where nothing was handed out: with what is left of the piece.
@@ -169,7 +175,8 @@ next_whole side old new piece used took goes all =
           let whole : used ≡ length piece = omega (arith, took.within, all) in
           let one = subst (λ (handed : Option Handed). EndMayTake end piece (EndTook used handed)
           taken.after) taken.copied taken.may in
-          let may = subst (λ (n : ℕ). EndMayTake end piece (EndTook n None) taken.after) whole one in
+          let may = subst (λ (n : ℕ). EndMayTake end piece (EndTook n None) taken.after) whole
+          one in
           let says = taken_says end piece (EndTook used None) taken.after one in
           record {
             after = taken.after;
@@ -218,26 +225,17 @@ both_only side old mid new first second =
       incoming = second.incoming ∙ first.incoming;
     }
 
--- What was handed out before, where none of it was lost.
-none_lost : (old mid : Joined) (before after : Kept) (handed : List Handed) → old.stopped ≡ false
-    → after ≡ before → KeepsHanded old.stopped before.handed.items handed
-    → KeepsHanded false after.handed.items handed
-none_lost old mid before after handed goes same keeps =
-    subst (λ (b : Bool). KeepsHanded b after.handed.items handed) goes
-    (subst (λ (k : Kept). KeepsHanded old.stopped k.handed.items handed) (sym same) keeps)
-
 -- What was handed out is kept.
 pub next_kept : (side : Side) (old mid new : Joined) (piece : List ℕ) (used : ℕ)
     (event : JointEvent) → TookAt side old piece (takings.Took used (Some event)) mid
     → KeepsEvent side mid event true new → old.stopped ≡ false
     → TakesNext side old piece (nexts.Again used) new
 next_kept side old mid new piece used event took keeping goes =
-    let stays = keeping.stopped ∙ took.stopped ∙ goes in
     record {
       within = took.within;
       only = both_only side old mid new
           (changes_only side old mid piece (takings.Took used (Some event)) took) keeping.only;
-      stops = stays;
+      stops = keeping.stopped ∙ took.stopped ∙ goes;
       takes = λ values end keeps.
           let taken = took.takes values end keeps.represents in
           let may = subst (λ (handed : Option Handed). EndMayTake end piece (EndTook used handed)
@@ -252,9 +250,11 @@ next_kept side old mid new piece used event took keeping goes =
               represents = subst (λ (one : End). EndRepresents values one taken.after)
                   (sym keeping.one_end) taken.represents;
               handed = handed_more (kept_of side mid).handed.items (kept_of side new).handed.items
-                  event end.handed taken.after.handed new.stopped stays keeping.handed says.handed
-                  (none_lost old mid (kept_of side old) (kept_of side mid) end.handed goes
-                  took.kept keeps.handed);
+                  event end.handed taken.after.handed (new.stopped ≡ true) keeping.handed
+                  says.handed (subst (λ (k : Kept). end.handed
+                  ≡ reverse (each event_value k.handed.items)) (sym took.kept)
+                  (all_kept old.stopped (kept_of side old).handed.items end.handed goes
+                  keeps.handed));
             };
           };
     }
@@ -264,15 +264,15 @@ abbrev pub stopped_there : Joined → Joined
 stopped_there joined = record joined { stopped = true }
 
 -- That changes nothing else.
-record OnlyStops (side : Side) (joined : Joined) : Type 0 where
-  one_end : end_at side (stopped_there joined) ≡ end_at side joined
-  kept : kept_of side (stopped_there joined) ≡ kept_of side joined
+pub record OnlyStops (side : Side) (joined : Joined) : Type 0 where
+  pub one_end : end_at side (stopped_there joined) ≡ end_at side joined
+  pub kept : kept_of side (stopped_there joined) ≡ kept_of side joined
 
-only_stops : (side : Side) (joined : Joined) → OnlyStops side joined
+pub only_stops : (side : Side) (joined : Joined) → OnlyStops side joined
 only_stops sides.Client joined = record { one_end = refl; kept = refl }
 only_stops sides.Server joined = record { one_end = refl; kept = refl }
 
-stops_only : (side : Side) (joined : Joined) → ChangesOnly side joined (stopped_there joined)
+pub stops_only : (side : Side) (joined : Joined) → ChangesOnly side joined (stopped_there joined)
 stops_only sides.Client joined =
     record { other_end = refl; other_kept = refl; accepted = refl; incoming = refl }
 stops_only sides.Server joined =
@@ -283,7 +283,7 @@ lost_at : (side : Side) (old last : Joined) (values : Values) (end after : EndLo
     (one : Handed) → old.stopped ≡ false
     → (kept_of side last).handed.items ≡ (kept_of side old).handed.items
     → after.handed ≡ one ∷ end.handed → EndRepresents values (end_at side last) after
-    → KeepsHanded old.stopped (kept_of side old).handed.items end.handed
+    → KeepsHanded (old.stopped ≡ true) (kept_of side old).handed.items end.handed
     → IsKeptAt values side (stopped_there last) after
 lost_at side old last values end after one goes same says represents keeps =
     let stops = only_stops side last in
@@ -293,8 +293,7 @@ lost_at side old last values end after one goes same says represents keeps =
       handed = handed_lost (kept_of side old).handed.items
           (kept_of side (stopped_there last)).handed.items one end.handed after.handed
           (ap (λ (k : Kept). k.handed.items) stops.kept ∙ same) says
-          (subst (λ (b : Bool). KeepsHanded b (kept_of side old).handed.items end.handed) goes
-          keeps);
+          (all_kept old.stopped (kept_of side old).handed.items end.handed goes keeps);
     }
 
 -- Memory was refused to keep it.
@@ -308,7 +307,7 @@ next_stopped side old mid last piece used event took keeping goes =
       only = both_only side old last (stopped_there last) (both_only side old mid last
           (changes_only side old mid piece (takings.Took used (Some event)) took) keeping.only)
           (stops_only side last);
-      stops = tt;
+      stops = refl;
       takes = λ values end keeps.
           let taken = took.takes values end keeps.represents in
           let may = subst (λ (handed : Option Handed). EndMayTake end piece (EndTook used handed)
@@ -335,7 +334,7 @@ next_lost side old mid piece used took goes =
       within = took.within;
       only = both_only side old mid (stopped_there mid)
           (changes_only side old mid piece (takings.Lost used) took) (stops_only side mid);
-      stops = tt;
+      stops = refl;
       takes = λ values end keeps.
           let taken = took.takes values end keeps.represents in
           lost_by values end keeps taken.after taken.handed taken.may taken.copied

@@ -1,6 +1,7 @@
 -- What delivering octets makes of an end: call after call of `take`, until all octets are used and
 -- nothing is handed out, the connection has failed, or what was handed out cannot be kept.
-use Rattle.std.proofs.Common.{◌≡◌, ℕ, List, ◌++◌, drop, length, Option, Some, None, refl, subst}
+use Rattle.std.proofs.Common.{◌≡◌, ℕ, suc, List, ◌++◌, drop, length, Option}
+use Rattle.std.proofs.Common.{Some, None, refl, subst}
 use Rattle.std.proofs.Math.Seq.{drop-length}
 use Rattle.h2_frame.specs.declared.code.Code.{Code}
 use Rattle.h2_log.specs.Log.{Log, next_unprocessed}
@@ -49,19 +50,23 @@ DeliversIn around later (Fails code) after = FallsIn around code after later
 DeliversIn around later (Stops unused) after = HoldsIn around after (unused ++ later)
 
 -- After each call it holds, and so after the delivery.
-pub delivery_leads : (around : Around) (end : EndLog) (octets later : List ℕ)
+pub delivery_leads : (around : Around) (calls : ℕ) (end : EndLog) (octets later : List ℕ)
     (delivery : Delivery) (after : EndLog) → KeepsOrder around.other.happened
-    → HoldsIn around end (octets ++ later) → IsDelivered end octets delivery after
+    → HoldsIn around end (octets ++ later) → IsDelivered calls end octets delivery after
     → DeliversIn around later delivery after
-delivery_leads around end _ later _ after order is (joints.is_whole octets may) = (
+delivery_leads around _ end _ later _ after order is (joints.is_whole calls octets few may) = (
   subst (λ (left : List ℕ). HoldsIn around after (left ++ later)) (drop-length octets)
       (take_leads around end octets later (EndTook (length octets) None) after order is may),
   reports_all end octets (EndTook (length octets) None) after (length octets) may refl,
 )
-delivery_leads around end _ later _ after order is
-    (joints.goes_on {between = between} octets count handed delivery may more delivered) =
-    delivery_leads around between (drop count octets) later delivery after order
+delivery_leads around _ end _ later _ after order is
+    (joints.goes_on {between = between} calls octets count handed delivery few may more
+    delivered) =
+    delivery_leads around (suc calls) between (drop count octets) later delivery after order
     (take_leads around end octets later (EndTook count handed) between order is may) delivered
-delivery_leads around end _ later _ after order is (joints.fails octets code may) =
+delivery_leads around _ end _ later _ after order is (joints.fails calls octets code few may) =
     take_leads around end octets later (EndFailed code) after order is may
-delivery_leads around end _ later _ after order is (joints.stops octets) = is
+delivery_leads around _ end _ later _ after order is
+    (joints.stops calls octets count handed few may) =
+    take_leads around end octets later (EndTook count (Some handed)) after order is may
+delivery_leads around _ end _ later _ after order is (joints.no_call_is_left octets) = is

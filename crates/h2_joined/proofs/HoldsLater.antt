@@ -25,7 +25,7 @@ delivered_at_server count answer = record { side = Server; doing = Delivers coun
 abbrev pub answer_of_delivery : List ℕ → Delivery → Acted
 answer_of_delivery octets Whole = acted.Count (length octets)
 answer_of_delivery octets (Fails code) = acted.Failed code
-answer_of_delivery octets (Stops unused) = acted.OutOfMemory
+answer_of_delivery octets (Stops unused) = acted.Memory
 
 -- what is left on the pipe of the octets that were delivered
 abbrev pub left_of_delivery : Delivery → List ℕ
@@ -142,7 +142,7 @@ client_made client_values server_values made client server count octets later (S
       pair = leads.pair.0;
       client_order = order;
       server_order = holds.server_order;
-      calm = λ had. absurd (had.0.act refl);
+      calm = λ had. absurd (had.0.kept Client count refl);
     }
 
 -- So is one at the server.
@@ -190,14 +190,14 @@ server_made client_values server_values made client server count octets later (S
       pair = leads.pair.0;
       client_order = holds.client_order;
       server_order = order;
-      calm = λ had. absurd (had.0.act refl);
+      calm = λ had. absurd (had.0.kept Server count refl);
     }
 
 -- A delivery at the client keeps what holds.
 pub client_delivered : (client_values server_values : Values) (made : List Made)
     (client server : JointEnd) (count : ℕ) (delivery : Delivery) (after : EndLog)
     → JointHolds client_values server_values made client server
-    → IsDelivered client.happened (take count client.incoming) delivery after
+    → IsDelivered 0 client.happened (take count client.incoming) delivery after
     → KeepsOrder after
     → JointHolds client_values server_values
     (delivered_at_client count (answer_of_delivery (take count client.incoming) delivery) ∷ made)
@@ -210,7 +210,7 @@ client_delivered client_values server_values made client server count delivery a
     order =
     client_made client_values server_values made client server count (take count client.incoming)
     (drop count client.incoming) delivery after holds order
-    (delivery_leads (client_around client_values server_values made server) client.happened
+    (delivery_leads (client_around client_values server_values made server) 0 client.happened
     (take count client.incoming) (drop count client.incoming) delivery after holds.server_order
     (client_starts client_values server_values made client server count holds) delivered)
 
@@ -218,7 +218,7 @@ client_delivered client_values server_values made client server count delivery a
 pub server_delivered : (client_values server_values : Values) (made : List Made)
     (client server : JointEnd) (count : ℕ) (delivery : Delivery) (after : EndLog)
     → JointHolds client_values server_values made client server
-    → IsDelivered server.happened (take count server.incoming) delivery after
+    → IsDelivered 0 server.happened (take count server.incoming) delivery after
     → KeepsOrder after
     → JointHolds client_values server_values
     (delivered_at_server count (answer_of_delivery (take count server.incoming) delivery) ∷ made)
@@ -231,6 +231,6 @@ server_delivered client_values server_values made client server count delivery a
     order =
     server_made client_values server_values made client server count (take count server.incoming)
     (drop count server.incoming) delivery after holds order
-    (delivery_leads (server_around client_values server_values made client) server.happened
+    (delivery_leads (server_around client_values server_values made client) 0 server.happened
     (take count server.incoming) (drop count server.incoming) delivery after holds.client_order
     (server_starts client_values server_values made client server count holds) delivered)

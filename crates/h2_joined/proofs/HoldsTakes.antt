@@ -20,14 +20,14 @@ use Rattle.h2_ends.proofs.EndTokens.{take_calls}
 use Rattle.h2_ends.proofs.TakeRefusing.{memory_fails}
 use Rattle.h2_joined.specs.declared.act.Side.{Side}
 use Rattle.h2_joined.specs.declared.act.Side.TheVariants.{Client, Server}
-use Rattle.h2_joined.specs.Joints.{JointEnd, KeepsOrder, Made, AllHadMemory, half_of}
+use Rattle.h2_joined.specs.Joints.{JointEnd, KeepsOrder, Made, half_of}
 use Rattle.h2_joined.proofs.HoldsNumbers.{part_low_at}
 use Rattle.h2_joined.proofs.HoldsParts.{holds_none, holds_passed, holds_handed}
 use Rattle.h2_joined.proofs.HoldsReads.{AcceptAt, readable_at}
 use Rattle.h2_joined.proofs.HoldsSides.{IsPairAt, has_role_at, up_at}
 use Rattle.h2_joined.proofs.HoldsSteps.{took_at, loses_at, failed_at, refused_at}
 use Rattle.h2_joined.proofs.HoldsSteps.{where_at}
-use Rattle.h2_joined.proofs.JointHolds.{EndHolds}
+use Rattle.h2_joined.proofs.JointHolds.{EndHolds, AllHadMemory}
 
 -- What stays as it is while octets are delivered to an end: its side, both ends' settings at first,
 -- the acts that were made before, and the other end.

@@ -22,8 +22,10 @@ use Rattle.h2_joined.specs.declared.act.Acted.{Acted}
 use Rattle.h2_joined.specs.Joints.{Doing, Calls, JointEnd, with_happened, with_answer, with_given}
 use Rattle.h2_joined.specs.Joints.{acted_as, IsCall, Whole, Fails, Stops, MayDo, requests, responds}
 use Rattle.h2_joined.specs.Joints.{pumps, releases_all, calls, moves, delivers, delivery_fails}
-use Rattle.h2_joined.specs.Joints.{has_failed, delivery_stops, lacks_memory, KeepsOrder, Made}
-use Rattle.h2_joined.specs.Joints.{IsJoint, begins, client_acts, server_acts, half_of}
+use Rattle.h2_joined.specs.Joints.{has_failed, delivery_stops, KeepsOrder, Made}
+use Rattle.h2_joined.specs.Joints.{no_copy_of_a_request, no_copy_of_a_response, stands_still}
+use Rattle.h2_joined.specs.Joints.{IsNextAct, at_client, at_server, continues}
+use Rattle.h2_joined.specs.Joints.{IsJoint, begins, half_of}
 use Rattle.h2_joined.proofs.JointHolds.{JointHolds, EndHolds}
 use Rattle.h2_joined.proofs.HoldsLater.{client_delivered, server_delivered}
 use Rattle.h2_joined.proofs.JointCalls.{JointStays, IsOfAct, ordinary_of_act, ordinary_stays_in}
@@ -295,11 +297,15 @@ client_acted client_values server_values made client server _ _ _ _ holds
     (has_failed count code failed) order =
     nothing_done client_values server_values made _ client server holds
 client_acted client_values server_values made client server _ _ _ _ holds
-    (delivery_stops count unused after delivered) order =
+    (delivery_stops count unused after up delivered) order =
     client_delivered client_values server_values made client server count (Stops unused) after
     holds delivered order
-client_acted client_values server_values made client server _ _ _ _ holds (lacks_memory doing)
-    order = nothing_done client_values server_values made _ client server holds
+client_acted client_values server_values made client server _ _ _ _ holds
+    (no_copy_of_a_request message) order =
+    nothing_done client_values server_values made _ client server holds
+client_acted client_values server_values made client server _ _ _ _ holds
+    (no_copy_of_a_response id message) order =
+    nothing_done client_values server_values made _ client server holds
 
 -- and so does one at the server.
 server_acted : (client_values server_values : Values) (made : List Made)
@@ -359,23 +365,41 @@ server_acted client_values server_values made client server _ _ _ _ holds
     (has_failed count code failed) order =
     nothing_done client_values server_values made _ client server holds
 server_acted client_values server_values made client server _ _ _ _ holds
-    (delivery_stops count unused after delivered) order =
+    (delivery_stops count unused after up delivered) order =
     server_delivered client_values server_values made client server count (Stops unused) after
     holds delivered order
-server_acted client_values server_values made client server _ _ _ _ holds (lacks_memory doing)
-    order = nothing_done client_values server_values made _ client server holds
+server_acted client_values server_values made client server _ _ _ _ holds
+    (no_copy_of_a_request message) order =
+    nothing_done client_values server_values made _ client server holds
+server_acted client_values server_values made client server _ _ _ _ holds
+    (no_copy_of_a_response id message) order =
+    nothing_done client_values server_values made _ client server holds
 
--- So it holds whatever acts were made.
+-- So does one act more,
+next_holds : (client_values server_values : Values) (made : List Made)
+    (client server new_client new_server : JointEnd) (act : Made)
+    → JointHolds client_values server_values made client server
+    → IsNextAct made client server act new_client new_server
+    → JointHolds client_values server_values (act ∷ made) new_client new_server
+next_holds client_values server_values made client server new_client new_server _ holds
+    (at_client goes_on doing answer may order) =
+    client_acted client_values server_values made client server new_client new_server doing answer
+    holds may order
+next_holds client_values server_values made client server new_client new_server _ holds
+    (at_server goes_on doing answer may order) =
+    server_acted client_values server_values made client server new_client new_server doing answer
+    holds may order
+next_holds client_values server_values made client server _ _ _ holds
+    (stands_still stopped side doing) =
+    nothing_done client_values server_values made _ client server holds
+
+-- and whatever acts were made it holds.
 pub joint_holds : (client_values server_values : Values) (made : List Made)
     (client server : JointEnd) → IsJoint client_values server_values made client server
     → JointHolds client_values server_values made client server
 joint_holds client_values server_values _ _ _ (begins client_range server_range) =
     new_ends_hold client_values server_values client_range server_range
 joint_holds client_values server_values _ new_client new_server
-    (client_acts {made = made} {client = client} {server = server} is doing answer may order) =
-    client_acted client_values server_values made client server new_client new_server doing answer
-    (joint_holds client_values server_values made client server is) may order
-joint_holds client_values server_values _ new_client new_server
-    (server_acts {made = made} {client = client} {server = server} is doing answer may order) =
-    server_acted client_values server_values made client server new_client new_server doing answer
-    (joint_holds client_values server_values made client server is) may order
+    (continues {history = made} {client = client} {server = server} is act next) =
+    next_holds client_values server_values made client server new_client new_server act
+    (joint_holds client_values server_values made client server is) next

@@ -22,9 +22,9 @@ use Rattle.h2_pair.proofs.StepUnprocessed.{call_reports_all}
 use Rattle.h2_ends.specs.Ends.{EndLog}
 use Rattle.h2_joined.specs.declared.act.Side.{Side}
 use Rattle.h2_joined.specs.declared.act.Side.TheVariants.{Client, Server}
-use Rattle.h2_joined.specs.Joints.{JointEnd, Made, AllHadMemory, half_of, with_happened, with_given}
+use Rattle.h2_joined.specs.Joints.{JointEnd, Made, half_of, with_happened, with_given}
 use Rattle.h2_joined.specs.Headline.{WasResetAt}
-use Rattle.h2_joined.proofs.JointHolds.{IsCalm, EndHolds, AcceptWell}
+use Rattle.h2_joined.proofs.JointHolds.{IsCalm, EndHolds, AcceptWell, AllHadMemory}
 
 -- What holds between two calls of an act: all but the order, which holds again after the last one.
 pub record JointStays (client_values server_values : Values) (made : List Made)
@@ -85,7 +85,7 @@ unfolding may_lack_memory
 may_lack (Refuse id code) other = absurd (other id code refl)
 may_lack act other = refl
 
-answers_in_memory : (log : Log) (act : Act) (answer : Answer)
+pub answers_in_memory : (log : Log) (act : Act) (answer : Answer)
     → ((id code : ℕ) → act ≢ Refuse id code) → MayAnswer log act answer → answer ≢ OutOfMemory
 answers_in_memory log act answer other (accepts none is) out =
     in_memory (log_view log) act (sym is ∙ out)

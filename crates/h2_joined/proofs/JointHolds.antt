@@ -1,5 +1,6 @@
 -- What holds of two joined ends, whatever acts were made.
-use Rattle.std.specs.Prelude.{◌≡◌, ℕ, List, Some, None}
+use Rattle.std.specs.Prelude.{◌≡◌, ◌≢◌, ℕ, List, Some, None}
+use Rattle.h2_frame.specs.declared.code.Code.TheVariants.{InternalError}
 use Rattle.std.specs.List.{AllByRecursion, Contains}
 use Rattle.h2_log.specs.Acts.{Values}
 use Rattle.h2_log.specs.Events.{Event}
@@ -13,8 +14,18 @@ use Rattle.h2_ends.specs.Ends.{EndLog, Passed, IsNoEmptyPart, message_for, parts
 use Rattle.h2_ends.specs.Ends.{tokens_handed}
 use Rattle.h2_joined.specs.declared.act.Side.{Side}
 use Rattle.h2_joined.specs.declared.act.Side.TheVariants.{Client, Server}
-use Rattle.h2_joined.specs.Joints.{JointEnd, KeepsOrder, Made, AllHadMemory, half_of}
+use Rattle.h2_joined.specs.declared.act.Acted.TheVariants.{Failed}
+use Rattle.h2_joined.specs.Joints.{JointEnd, KeepsOrder, Made, stopping, half_of}
 use Rattle.h2_joined.specs.Headline.{WasResetAt}
+
+-- The act is no delivery that has stopped, and no connection has failed in it since memory was
+-- refused.
+pub record ActHadMemory (made : Made) : Type 0 where
+  pub kept : (side : Side) (count : ℕ) → made ≢ stopping side count
+  pub connection : made.acted ≢ Failed InternalError
+
+abbrev pub AllHadMemory : List Made → Type 0
+AllHadMemory made = AllByRecursion ActHadMemory made
 
 -- What was handed out at an end is what its connection has reported, and each reset that its
 -- connection was asked for is an act.

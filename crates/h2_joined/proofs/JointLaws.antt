@@ -17,9 +17,9 @@ use Rattle.h2_ends.specs.Represents.{SendsInOrder}
 use Rattle.h2_ends.specs.Quiet.{IsQuietEnd}
 use Rattle.h2_joined.specs.declared.act.Side.{Side}
 use Rattle.h2_joined.specs.declared.act.Side.TheVariants.{Client, Server}
-use Rattle.h2_joined.specs.Joints.{JointEnd, Made, AllHadMemory, half_of}
+use Rattle.h2_joined.specs.Joints.{JointEnd, Made, half_of}
 use Rattle.h2_joined.specs.Headline.{AreQuiet, WasResetIn, ReportsNoFault}
-use Rattle.h2_joined.proofs.JointHolds.{JointHolds, EndHolds}
+use Rattle.h2_joined.proofs.JointHolds.{JointHolds, EndHolds, AllHadMemory}
 use Rattle.h2_joined.proofs.JointOrder.{server_hands, client_hands}
 
 -- An end whose connection reports no fault reports none.

@@ -1,17 +1,15 @@
 -- What a call of an end makes of the messages that it has accepted and of what it has handed out.
-use Rattle.std.proofs.Common.{◌≡◌, ℕ, Bool, List, [], ◌∷◌, Option, Some, None, Result, Ok, Err, inl}
+use Rattle.std.proofs.Common.{◌≡◌, ℕ, List, ◌∷◌, Option, Some, None, Result, Ok, Err, inl}
 use Rattle.std.proofs.Common.{inr}
-use Rattle.std.proofs.Common.{refl, sym, ap, ◌∙◌, subst, ◌⊎◌, ⊎_elim}
-use Rattle.hpack.specs.declared.types.field.Field.{Field}
+use Rattle.std.proofs.Common.{refl, sym, ap, ◌∙◌}
 use Rattle.h2_frame.specs.declared.code.Code.{Code}
 use Rattle.h2_log.specs.declared.refusal.Refusal.{Refusal}
 use Rattle.h2_log.specs.declared.refusal.Refusal.TheVariants as reasons
 use Rattle.h2_log.specs.Log.{Log}
-use Rattle.h2_log.specs.LogCalls.{with_call}
 use Rattle.h2_message.specs.Messages.{SentMessage}
 use Rattle.h2_ends.specs.declared.refusal.EndRefusal.{EndRefusal}
 use Rattle.h2_ends.specs.declared.refusal.EndRefusal.TheVariants as refusals
-use Rattle.h2_ends.specs.Ends.{EndLog, Handed, Passed, EndAnswer, EndTook, EndFailed}
+use Rattle.h2_ends.specs.Ends.{EndLog, Handed, EndAnswer, EndTook, EndFailed}
 use Rattle.h2_ends.specs.EndTakes.{EndMayTake, AnswersRefused, fails, hands_nothing, passes}
 use Rattle.h2_ends.specs.EndTakes.{hands_out, refuses, runs_out_of_memory}
 use Rattle.h2_ends.specs.EndCalls.{MayRequest, MayRespond, MayPump, MayReleaseAll, IsUnchanged}
@@ -36,8 +34,8 @@ pump_says : (before : EndLog) (count : ℕ) (refused : Option Refusal) (after : 
     → Pumps before count refused after → SaysNothing before after
 pump_says before count refused after (pumps_no_more end) =
     record { accepted = refl; handed = refl }
-pump_says before count refused after (pumps_data end id sent more octets ends refusal last next typed
-    may rest) =
+pump_says before count refused after (pumps_data end id sent more octets ends refusal last next
+    typed may rest) =
     let says = pump_says _ more refusal last rest in
     record { accepted = says.accepted; handed = says.handed }
 pump_says before count refused after (pumps_trailers end id more list refusal last next typed may
@@ -180,7 +178,8 @@ taken_says before piece answer after (hands_nothing count log takes same now) =
     taken_as before answer _ log _ after same now refl
 taken_says before piece answer after (passes count event log takes none same now) =
     taken_as before answer _ log _ after same now refl
-taken_says before piece answer after (hands_out count event log takes id part is readable same now) =
+taken_says before piece answer after (hands_out count event log takes id part is readable same
+    now) =
     taken_as before answer _ log _ after same now refl
 taken_says before piece answer after (refuses count event log takes id part is broken refused may
     answers) =

@@ -1,10 +1,9 @@
 -- The octets of a pipe, once some were delivered.
-use Rattle.std.proofs.Common.{◌≡◌, ℕ, ◌+◌, ◌-◌, ◌^◌, ◌≤◌, ◌<◌, min, List, [], ◌++◌, length, take}
+use Rattle.std.proofs.Common.{◌≡◌, ℕ, ◌+◌, ◌-◌, ◌^◌, ◌<◌, min, List, [], ◌++◌, length, take}
 use Rattle.std.proofs.Common.{drop}
 use Rattle.std.proofs.Common.{refl, sym, ap, ◌∙◌, arith}
 use Rattle.std.proofs.lemmas.List.{length-append, length-take-le, take-append-drop, drop-drop}
 use Rattle.std.proofs.lemmas.List.{drop_at, drop_min}
-use Rattle.std.specs.Vec.{vec_len}
 use Rattle.h2_joined.specs.declared.pipe.Pipe.{Pipe}
 use Rattle.h2_joined.specs.Kept.{HoldsOctets}
 

@@ -1,6 +1,6 @@
 -- Two joined ends are quiet where both are, and both pipes are empty.
-use Rattle.std.proofs.Common.{◌≡◌, ℕ, ◌≤◌, Bool, true, false, List, [], ◌∷◌, length, refl}
-use Rattle.std.proofs.Common.{arith}
+use Rattle.std.proofs.Common.{◌≡◌, ℕ, ◌≤◌, ◌<◌, Bool, true, false, List, [], ◌∷◌, length, refl}
+use Rattle.std.proofs.Common.{ap, arith}
 use Rattle.std.specs.Prelude.{◌↔◌}
 use Rattle.std.proofs.lemmas.Bool.{both_ways}
 use Rattle.h2_log.specs.Acts.{Values}
@@ -33,6 +33,29 @@ TellsBoth joined quiet = (client_values server_values : Values) (made : List Mad
 no_octets : (octets : List ℕ) → length octets ≡ 0 → octets ≡ []
 no_octets [] none = refl
 no_octets (octet ∷ octets) none = absurd (omega (arith, none))
+
+-- Octets are on the pipe to an end.
+some_octets : (octets : List ℕ) (count : ℕ) → count ≡ length octets → 0 < count
+    → octets ≡ [] → ⊥
+some_octets octets count same some none = omega (arith, same, some, ap length none)
+
+pub waits_for_client : (joined : Joined) (to_client : ℕ)
+    → CountsPipe joined.at_client.incoming to_client → 0 < to_client → TellsBoth joined false
+waits_for_client joined to_client counts some client_values server_values made client server
+    is = (
+      λ never. absurd (both_ways false refl never),
+      λ quiet. absurd (some_octets client.incoming to_client
+          (counts client.incoming is.client_kept.incoming) some quiet.to_client),
+    )
+
+pub waits_for_server : (joined : Joined) (to_server : ℕ)
+    → CountsPipe joined.at_server.incoming to_server → 0 < to_server → TellsBoth joined false
+waits_for_server joined to_server counts some client_values server_values made client server
+    is = (
+      λ never. absurd (both_ways false refl never),
+      λ quiet. absurd (some_octets server.incoming to_server
+          (counts server.incoming is.server_kept.incoming) some quiet.to_server),
+    )
 
 pub busy_client : (joined : Joined) (one : Bool) → TellsQuiet joined.client.end one
     → one ≡ false → TellsBoth joined one

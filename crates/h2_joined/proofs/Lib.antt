@@ -15,10 +15,12 @@ pub mod JointAnswers
 pub mod JointStart
 pub mod JointActs
 pub mod JointLaws
+pub mod JointMemory
 pub mod RunLaws
 pub mod RunHeadline
 pub mod RunActs
 pub mod KeptPipe
+pub mod KeptStops
 pub mod KeptActs
 pub mod KeptEnds
 pub mod KeptQuiet

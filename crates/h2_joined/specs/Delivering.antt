@@ -1,6 +1,7 @@
 -- A delivery under way: what a call of `take` made of an end, and what is kept of it.
-use Rattle.std.specs.Prelude.{◌≡◌, ◌≢◌, ◌≤◌, ℕ, nat_lt, if◌then◌else◌, Bool, List, []}
-use Rattle.std.specs.Prelude.{◌∷◌, ◌++◌, length, drop, ◌<◌, ◌⊎◌, false, Option, Some, None}
+use Rattle.std.specs.Prelude.{◌≡◌, ◌≢◌, ◌≤◌, ℕ, if◌then◌else◌, Bool, List, []}
+use Rattle.std.specs.Prelude.{◌∷◌, ◌++◌, length, drop, ◌<◌, ◌⊎◌, true, false}
+use Rattle.std.specs.Prelude.{Option, Some, None}
 use Rattle.std.specs.Option.{option_map}
 use Rattle.h2_log.specs.Acts.{Values}
 use Rattle.h2_ends.specs.declared.end.End.{End}
@@ -73,16 +74,17 @@ pub record ChangesOnly (side : Side) (old new : Joined) : Type 0 where
 -- What has happened at an end, that is what it represents, and is kept.
 pub record IsKeptAt (values : Values) (side : Side) (joined : Joined) (end : EndLog) : Type 0 where
   pub represents : EndRepresents values (end_at side joined) end
-  pub handed : KeepsHanded joined.stopped (kept_of side joined).handed.items end.handed
+  pub handed : KeepsHanded (joined.stopped ≡ true) (kept_of side joined).handed.items end.handed
 
 -- how a delivery goes on after a call of `take`: not at all, or with the octets after some
-abbrev pub GoesOn : EndLog → List ℕ → Next → EndLog → Type 0
-GoesOn end piece (nexts.Again used) after =
+abbrev pub DeliveryGoesOn : EndLog → List ℕ → Next → EndLog → Type 0
+DeliveryGoesOn end piece (nexts.Again used) after =
     (handed : Option Handed) × EndMayTake end piece (EndTook used handed) after
     × ((used < length piece) ⊎ (handed ≢ None))
-GoesOn end piece nexts.Whole after = EndMayTake end piece (EndTook (length piece) None) after
-GoesOn end piece (nexts.Failed code) after = EndMayTake end piece (EndFailed code) after
-GoesOn end piece (nexts.Stopped used) after =
+DeliveryGoesOn end piece nexts.Whole after =
+    EndMayTake end piece (EndTook (length piece) None) after
+DeliveryGoesOn end piece (nexts.Failed code) after = EndMayTake end piece (EndFailed code) after
+DeliveryGoesOn end piece (nexts.Stopped used) after =
     (handed : Handed) × EndMayTake end piece (EndTook used (Some handed)) after
 
 -- So many octets of the piece were used at most.
@@ -97,13 +99,13 @@ GoesWithin (nexts.Stopped used) size = used ≤ size
 pub record TakesNextOf (values : Values) (side : Side) (end : EndLog) (piece : List ℕ)
     (next : Next) (new : Joined) : Type 0 where
   pub after : EndLog
-  pub goes_on : GoesOn end piece next after
+  pub goes_on : DeliveryGoesOn end piece next after
   pub accepted : after.accepted ≡ end.accepted
   pub kept : IsKeptAt values side new after
 
--- It stops just where something was lost.
+-- The two ends stand still just where it stops.
 abbrev pub StopsSo : Next → Joined → Type 0
-StopsSo (nexts.Stopped used) new = Unit {0}
+StopsSo (nexts.Stopped used) new = new.stopped ≡ true
 StopsSo next new = new.stopped ≡ false
 
 pub record TakesNext (side : Side) (old : Joined) (piece : List ℕ) (next : Next) (new : Joined)
@@ -126,25 +128,25 @@ EndsWithin delivered.Whole size = Unit {0}
 EndsWithin (delivered.Failed code) size = Unit {0}
 EndsWithin (delivered.Stopped used) size = used ≤ size
 
-pub record TakesAllOf (values : Values) (side : Side) (end : EndLog) (octets : List ℕ)
+pub record TakesOctetsOf (values : Values) (side : Side) (end : EndLog) (octets : List ℕ)
     (end_of_it : Delivered) (new : Joined) : Type 0 where
   pub after : EndLog
-  pub delivers : IsDelivered end octets (delivery_of end_of_it octets) after
+  pub delivers : IsDelivered 0 end octets (delivery_of end_of_it octets) after
   pub accepted : after.accepted ≡ end.accepted
   pub kept : IsKeptAt values side new after
 
--- The two ends stand still only after a delivery that stops.
+-- The two ends stand still just after a delivery that stops.
 abbrev pub EndsSo : Delivered → Joined → Type 0
-EndsSo (delivered.Stopped used) new = Unit {0}
+EndsSo (delivered.Stopped used) new = new.stopped ≡ true
 EndsSo end_of_it new = new.stopped ≡ false
 
-pub record TakesAll (side : Side) (old : Joined) (octets : List ℕ) (end_of_it : Delivered)
+pub record TakesOctets (side : Side) (old : Joined) (octets : List ℕ) (end_of_it : Delivered)
     (new : Joined) : Type 0 where
   pub within : EndsWithin end_of_it (length octets)
   pub only : ChangesOnly side old new
   pub stops : EndsSo end_of_it new
   pub takes : (values : Values) (end : EndLog) → IsKeptAt values side old end
-      → TakesAllOf values side end octets end_of_it new
+      → TakesOctetsOf values side end octets end_of_it new
 
 -- The pipe to an end is taken out of the old one.
 pub record TakesPipe (side : Side) (old : Joined) (pipe : Pipe) (new : Joined) : Type 0 where

@@ -22,8 +22,8 @@ abbrev pub WasResetAt : List Made → Side → (id code : ℕ) → Type 0
 WasResetAt made side id code =
     Contains made (record { side = side; doing = Calls (ResetStream id code); acted = Done })
 
--- A Reset of the stream was made at either end, or the client was told that the server does not
--- process it.
+-- A Reset of the stream was made at either end, or the client has reported that the server does
+-- not process it.
 abbrev pub WasResetIn : List Made → (client : JointEnd) → ℕ → Type 0
 WasResetIn made client i =
     ((side : Side) × (code : ℕ) × WasResetAt made side i code)

@@ -1,8 +1,8 @@
 -- A client and a server joined by two pipes: what may be done with them, and what has happened
 -- then (RFC 9113, section 3).
-use Rattle.std.specs.Prelude.{◌≡◌, ◌≢◌, ◌⊎◌, ◌<◌, ◌^◌, ℕ, List, [], ◌∷◌, ◌++◌, length, take, drop}
-use Rattle.std.specs.Prelude.{Option, Some, None, Result, Ok, Err}
-use Rattle.std.specs.List.{AllByRecursion}
+use Rattle.std.specs.Prelude.{◌≡◌, ◌≢◌, ◌⊎◌, ◌<◌, ◌-◌, ◌^◌, ℕ, suc, List, [], ◌∷◌, ◌++◌}
+use Rattle.std.specs.Prelude.{length, take, drop, Option, Some, None, Result, Ok, Err}
+use Rattle.std.specs.List.{Contains}
 use Rattle.hpack.specs.Written.{AreOctets}
 use Rattle.h2_frame.specs.declared.code.Code.{Code}
 use Rattle.h2_frame.specs.declared.code.Code.TheVariants.{InternalError}
@@ -93,24 +93,34 @@ pub data Delivery : Type 0 where
   Whole : Delivery
   -- the connection has failed
   Fails : (code : Code) → Delivery
-  -- memory was refused to keep what was handed out; these octets were not used
+  -- what was handed out could not be kept, or no call is left; these octets were not used
   Stops : (unused : List ℕ) → Delivery
 
+-- how many calls of `take` a delivery makes at most: more than any can need
+abbrev pub most_calls : ℕ
+most_calls = 2 ^ 64 - 1
+
 -- Octets are handed to `take` until they are used and nothing is handed out, or the connection has
--- failed; or it stops, since what was handed out cannot be kept.
-pub data IsDelivered : EndLog → List ℕ → Delivery → EndLog → Type 0 where
-  is_whole : {end after : EndLog} → (octets : List ℕ)
-      → EndMayTake end octets (EndTook (length octets) None) after
-      → IsDelivered end octets Whole after
-  goes_on : {end between after : EndLog} → (octets : List ℕ) (count : ℕ)
+-- failed; or it stops, since what was handed out cannot be kept, or since so many calls were made
+-- that no other is. `calls` is how many were made before.
+pub data IsDelivered : (calls : ℕ) → EndLog → List ℕ → Delivery → EndLog → Type 0 where
+  is_whole : {end after : EndLog} → (calls : ℕ) (octets : List ℕ)
+      → calls < most_calls → EndMayTake end octets (EndTook (length octets) None) after
+      → IsDelivered calls end octets Whole after
+  goes_on : {end between after : EndLog} → (calls : ℕ) (octets : List ℕ) (count : ℕ)
       (handed : Option Handed) (delivery : Delivery)
-      → EndMayTake end octets (EndTook count handed) between
+      → calls < most_calls → EndMayTake end octets (EndTook count handed) between
       → (count < length octets) ⊎ (handed ≢ None)
-      → IsDelivered between (drop count octets) delivery after
-      → IsDelivered end octets delivery after
-  fails : {end after : EndLog} → (octets : List ℕ) (code : Code)
-      → EndMayTake end octets (EndFailed code) after → IsDelivered end octets (Fails code) after
-  stops : {end : EndLog} → (octets : List ℕ) → IsDelivered end octets (Stops octets) end
+      → IsDelivered (suc calls) between (drop count octets) delivery after
+      → IsDelivered calls end octets delivery after
+  fails : {end after : EndLog} → (calls : ℕ) (octets : List ℕ) (code : Code)
+      → calls < most_calls → EndMayTake end octets (EndFailed code) after
+      → IsDelivered calls end octets (Fails code) after
+  stops : {end after : EndLog} → (calls : ℕ) (octets : List ℕ) (count : ℕ) (handed : Handed)
+      → calls < most_calls → EndMayTake end octets (EndTook count (Some handed)) after
+      → IsDelivered calls end octets (Stops (drop count octets)) after
+  no_call_is_left : {end : EndLog} → (octets : List ℕ)
+      → IsDelivered most_calls end octets (Stops octets) end
 
 -- What may be answered where something is done with one end, and what has happened at both then.
 -- It is what the end answers to the call; and where memory was refused to copy a message or to keep
@@ -140,22 +150,26 @@ pub data MayDo (one other : JointEnd) : Doing → Acted → (new_one new_other :
         → MayDo one other (Moves count) (acted_as answer) (with_answer one (PutOut count) answer)
         (with_given other one (PutOut count) answer)
     delivers : (count : ℕ) (after : EndLog) → one.happened.log.failed ≡ None
-        → IsDelivered one.happened (take count one.incoming) Whole after
+        → IsDelivered 0 one.happened (take count one.incoming) Whole after
         → MayDo one other (Delivers count) (acted.Count (length (take count one.incoming)))
         (record { happened = after; incoming = drop count one.incoming }) other
     -- the octets are off the pipe, used or not
     delivery_fails : (count : ℕ) (code : Code) (after : EndLog) → one.happened.log.failed ≡ None
-        → IsDelivered one.happened (take count one.incoming) (Fails code) after
+        → IsDelivered 0 one.happened (take count one.incoming) (Fails code) after
         → MayDo one other (Delivers count) (acted.Failed code)
         (record { happened = after; incoming = drop count one.incoming }) other
     -- none is taken
     has_failed : (count : ℕ) (code : Code) → one.happened.log.failed ≡ Some code
         → MayDo one other (Delivers count) (acted.Failed code) one other
     delivery_stops : (count : ℕ) (unused : List ℕ) (after : EndLog)
-        → IsDelivered one.happened (take count one.incoming) (Stops unused) after
-        → MayDo one other (Delivers count) acted.OutOfMemory
+        → one.happened.log.failed ≡ None
+        → IsDelivered 0 one.happened (take count one.incoming) (Stops unused) after
+        → MayDo one other (Delivers count) acted.Memory
         (record { happened = after; incoming = unused ++ drop count one.incoming }) other
-    lacks_memory : (doing : Doing) → MayDo one other doing acted.OutOfMemory one other
+    no_copy_of_a_request : (message : SentMessage)
+        → MayDo one other (Requests message) acted.Memory one other
+    no_copy_of_a_response : (id : ℕ) (message : SentMessage)
+        → MayDo one other (Responds id message) acted.Memory one other
 
 -- What was sent and handed out at an end on each stream keeps the order.
 pub record KeepsOrder (end : EndLog) : Type 0 where
@@ -168,35 +182,56 @@ pub record Made : Type 0 where
   pub doing : Doing
   pub acted : Acted
 
+-- octets were delivered to the end, and the delivery stopped
+abbrev pub stopping : Side → (count : ℕ) → Made
+stopping side count = record { side = side; doing = Delivers count; acted = acted.Memory }
+
+-- A delivery has stopped.
+abbrev pub HasStopped : List Made → Type 0
+HasStopped made = (side : Side) × (count : ℕ) × Contains made (stopping side count)
+
+-- The delivery that has stopped was to this end; later acts answer so too, and do nothing.
+abbrev pub HasStoppedAt : List Made → Side → Type 0
+HasStoppedAt made side =
+    (count : ℕ) × (newer older : List Made) × (made ≡ newer ++ stopping side count ∷ older)
+    × (HasStopped older → ⊥)
+
+-- One act more at two ends, with its answer, and what has happened at both then. Once a delivery
+-- has stopped the two ends stand still: each act answers so, and nothing happens.
+pub data IsNextAct (history : List Made) (client server : JointEnd)
+    : Made → (new_client new_server : JointEnd) → Type 0 where
+  at_client : {new_client new_server : JointEnd} → (HasStopped history → ⊥)
+      → (doing : Doing) (answer : Acted) → MayDo client server doing answer new_client new_server
+      → KeepsOrder new_client.happened
+      → IsNextAct history client server
+      (record { side = sides.Client; doing = doing; acted = answer }) new_client new_server
+  at_server : {new_client new_server : JointEnd} → (HasStopped history → ⊥)
+      → (doing : Doing) (answer : Acted) → MayDo server client doing answer new_server new_client
+      → KeepsOrder new_server.happened
+      → IsNextAct history client server
+      (record { side = sides.Server; doing = doing; acted = answer }) new_client new_server
+  stands_still : HasStopped history → (side : Side) (doing : Doing)
+      → IsNextAct history client server
+      (record { side = side; doing = doing; acted = acted.Memory }) client server
+
 -- The acts were made, the newest first, on a new client and a new server with these values of their
 -- own settings, and this has happened at them.
-pub data IsJoint (client_values server_values : Values) : List Made
+pub data IsJoint (client_values server_values : Values) : (history : List Made)
     → (client server : JointEnd) → Type 0 where
   begins : AreInRange client_values → AreInRange server_values
       → IsJoint client_values server_values [] (new_joint_end Client client_values)
       (new_joint_end Server server_values)
-  client_acts : {made : List Made} → {client server new_client new_server : JointEnd}
-      → IsJoint client_values server_values made client server
-      → (doing : Doing) (answer : Acted) → MayDo client server doing answer new_client new_server
-      → KeepsOrder new_client.happened
-      → IsJoint client_values server_values
-      (record { side = sides.Client; doing = doing; acted = answer } ∷ made)
-      new_client new_server
-  server_acts : {made : List Made} → {client server new_client new_server : JointEnd}
-      → IsJoint client_values server_values made client server
-      → (doing : Doing) (answer : Acted) → MayDo server client doing answer new_server new_client
-      → KeepsOrder new_server.happened
-      → IsJoint client_values server_values
-      (record { side = sides.Server; doing = doing; acted = answer } ∷ made)
-      new_client new_server
+  continues : {history : List Made} → {client server new_client new_server : JointEnd}
+      → IsJoint client_values server_values history client server → (act : Made)
+      → IsNextAct history client server act new_client new_server
+      → IsJoint client_values server_values (act ∷ history) new_client new_server
 
--- Memory was not refused to an act, nor to a connection that took octets.
-pub record HadMemory (made : Made) : Type 0 where
-  pub act : made.acted ≢ acted.OutOfMemory
-  pub connection : made.acted ≢ acted.Failed InternalError
-
-abbrev pub AllHadMemory : List Made → Type 0
-AllHadMemory made = AllByRecursion HadMemory made
+-- Memory was not refused where it counts: no delivery has stopped, and neither connection has
+-- failed since memory was refused as it took octets.
+pub record MemorySufficed (made : List Made) (client server : JointEnd) : Type 0 where
+  pub kept : HasStopped made → ⊥
+  pub client_went_on : client.happened.log.failed ≢ Some InternalError
+  pub server_went_on : server.happened.log.failed ≢ Some InternalError
 
 -- an end as half of a pair; `lost`: octets that were delivered once it had failed, and not used
 abbrev pub half_of : JointEnd → (lost : List ℕ) → Half

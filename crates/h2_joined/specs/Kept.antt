@@ -1,5 +1,5 @@
--- What is kept of the two ends, and what it stands for.
-use Rattle.std.specs.Prelude.{map as each, ◌≡◌, ℕ, Bool, false, List, [], ◌∷◌, ◌++◌, length}
+-- What is kept of the two ends, and what it represents.
+use Rattle.std.specs.Prelude.{map as each, ◌≡◌, ◌↔◌, ◌≤◌, ℕ, true, List, [], ◌∷◌, ◌++◌, length}
 use Rattle.std.specs.Prelude.{reverse}
 use Rattle.h2_config.specs.ConfigValues.{values_of}
 use Rattle.h2_log.specs.Acts as log
@@ -23,7 +23,8 @@ use Rattle.h2_joined.specs.declared.kept.Kept.{Kept}
 use Rattle.h2_joined.specs.declared.pipe.Pipe.{Pipe}
 use Rattle.h2_joined.specs.declared.joined.Joined.{Joined}
 use Rattle.h2_joined.specs.Joints.{Doing, Requests, Responds, Pumps, ReleasesAll, Calls, Moves}
-use Rattle.h2_joined.specs.Joints.{Delivers, JointEnd, Made, IsJoint, AllHadMemory}
+use Rattle.h2_joined.specs.Joints.{Delivers, JointEnd, Made, IsJoint, IsNextAct, HasStoppedAt}
+use Rattle.h2_joined.specs.Joints.{HasStopped}
 
 -- an event
 abbrev pub event_value : JointEvent → Handed
@@ -80,38 +81,41 @@ pub record HoldsOctets (pipe : Pipe) (octets : List ℕ) : Type 0 where
   pub items : pipe.octets.items ≡ delivered ++ octets
   pub count : pipe.used ≡ length delivered
 
--- What was handed out is kept, in order: all of it, but for what could not be kept, at last.
-pub record KeepsHanded (stopped : Bool) (kept : List JointEvent) (handed : List Handed) : Type 0
+-- What was handed out is kept, in order: all of it; or, where a delivery to the end has stopped,
+-- all but the last one at most.
+pub record KeepsHanded (Stopped : Type 0) (kept : List JointEvent) (handed : List Handed) : Type 0
   where
     pub lost : List Handed
     pub same : handed ≡ lost ++ reverse (each event_value kept)
-    pub none_lost : stopped ≡ false → lost ≡ []
+    pub one_at_most : length lost ≤ 1
+    pub none_lost : (Stopped → ⊥) → lost ≡ []
 
 -- What is kept of an end is what has happened at it, and the pipe to it.
-pub record KeepsEnd (stopped : Bool) (kept : Kept) (one : JointEnd) : Type 0 where
+pub record KeepsEnd (Stopped : Type 0) (kept : Kept) (one : JointEnd) : Type 0 where
   pub incoming : HoldsOctets kept.incoming one.incoming
   pub accepted : one.happened.accepted ≡ reverse (each accepted_value kept.accepted.items)
-  pub handed : KeepsHanded stopped kept.handed.items one.happened.handed
+  pub handed : KeepsHanded Stopped kept.handed.items one.happened.handed
 
 -- The acts were made, the newest first, this has happened at the two ends, and it is what they
--- represent and what is kept of them: all of it where memory was not refused.
+-- represent and what is kept of them. They stand still just where a delivery has stopped.
 pub record JoinedRepresents (client_values server_values : Values) (joined : Joined)
     (made : List Made) (client server : JointEnd) : Type 0 where
   pub joint : IsJoint client_values server_values made client server
   pub client_represents : EndRepresents client_values joined.client.end client.happened
   pub server_represents : EndRepresents server_values joined.server.end server.happened
-  pub client_kept : KeepsEnd joined.stopped joined.at_client client
-  pub server_kept : KeepsEnd joined.stopped joined.at_server server
-  pub not_stopped : AllHadMemory made → joined.stopped ≡ false
+  pub client_kept : KeepsEnd (HasStoppedAt made sides.Client) joined.at_client client
+  pub server_kept : KeepsEnd (HasStoppedAt made sides.Server) joined.at_server server
+  pub stopped : (joined.stopped ≡ true) ↔ HasStopped made
 
--- Whatever acts were made and whatever has happened: the act may have this answer, and the two ends
--- represent what has happened then.
-abbrev pub Acts : (old : Joined) → Made → (new : Joined) → Type 0
-Acts old act new =
-    (client_values server_values : Values) (made : List Made) (client server : JointEnd)
-    → JoinedRepresents client_values server_values old made client server
+-- Whatever acts were made and whatever has happened: the act may have this answer now, and the two
+-- ends represent what has happened then.
+abbrev pub MakesAct : (old : Joined) → Made → (new : Joined) → Type 0
+MakesAct old act new =
+    (client_values server_values : Values) (history : List Made) (client server : JointEnd)
+    → JoinedRepresents client_values server_values old history client server
     → (new_client : JointEnd) × (new_server : JointEnd)
-    × JoinedRepresents client_values server_values new (act ∷ made) new_client new_server
+    × IsNextAct history client server act new_client new_server
+    × JoinedRepresents client_values server_values new (act ∷ history) new_client new_server
 
 -- the end of a side, and what is kept of it
 abbrev pub end_at : Side → Joined → End

@@ -13,13 +13,13 @@ use Rattle.h2_joined.specs.declared.act.Acted.TheVariants as acted
 use Rattle.h2_joined.specs.declared.act.JointAct.{JointAct}
 use Rattle.h2_joined.specs.declared.kept.Kept.{Kept}
 use Rattle.h2_joined.specs.declared.joined.Joined.{Joined}
-use Rattle.h2_joined.specs.Joints.{Doing, JointEnd, Made, AllHadMemory}
+use Rattle.h2_joined.specs.Joints.{Doing, JointEnd, Made, HasStopped, MemorySufficed}
 use Rattle.h2_joined.specs.Headline.{AreQuiet, WasResetIn, ReportsNoFault}
 use Rattle.h2_joined.specs.Kept.{event_value, accepted_value, side_of, doing_of, JoinedRepresents}
 
 -- what is kept of what an end has handed out on a stream, token by token
-abbrev pub tokens_kept : Kept → ℕ → List Token
-tokens_kept kept i = tokens_of_parts (parts_on i (reverse (each event_value kept.handed.items)))
+abbrev pub tokens_recorded : Kept → ℕ → List Token
+tokens_recorded kept i = tokens_of_parts (parts_on i (reverse (each event_value kept.handed.items)))
 
 -- the tokens of the message that is kept as accepted for a stream, or none
 abbrev pub tokens_accepted : Kept → ℕ → List Token
@@ -29,28 +29,28 @@ tokens_accepted kept i =
 -- What an end has handed out on each stream is a prefix of what the other has accepted for it.
 pub record AreInOrder (joined : Joined) : Type 0 where
   pub at_server_in_order : (i : ℕ)
-      → IsPrefixOfTokens (tokens_kept joined.at_server i) (tokens_accepted joined.at_client i)
+      → IsPrefixOfTokens (tokens_recorded joined.at_server i) (tokens_accepted joined.at_client i)
   pub at_client_in_order : (i : ℕ)
-      → IsPrefixOfTokens (tokens_kept joined.at_client i) (tokens_accepted joined.at_server i)
+      → IsPrefixOfTokens (tokens_recorded joined.at_client i) (tokens_accepted joined.at_server i)
 
 -- It is all of it, unless the stream was reset.
 pub record AreWhole (joined : Joined) (made : List Made) (client : JointEnd) : Type 0 where
   pub at_server_whole : (i : ℕ) → (WasResetIn made client i → ⊥)
-      → tokens_kept joined.at_server i ≡ tokens_accepted joined.at_client i
+      → tokens_recorded joined.at_server i ≡ tokens_accepted joined.at_client i
   pub at_client_whole : (i : ℕ) → (WasResetIn made client i → ⊥)
-      → tokens_kept joined.at_client i ≡ tokens_accepted joined.at_server i
+      → tokens_recorded joined.at_client i ≡ tokens_accepted joined.at_server i
 
 -- The headline. What each end has handed out on every stream is a prefix of what the other has
--- accepted for it. Where memory was not refused: neither end reports a fault, and once both are
--- quiet it is all of it, on every stream that was not reset.
+-- accepted for it. Where memory was not refused, neither end reports a fault. Once both are quiet,
+-- and no delivery has stopped, it is all of it, on every stream that was not reset.
 pub record HasHeadline (joined : Joined) (made : List Made) (client server : JointEnd) : Type 0
   where
     pub in_order : AreInOrder joined
-    pub client_without_fault : AllHadMemory made
+    pub client_without_fault : MemorySufficed made client server
         → ReportsNoFault made client.happened sides.Server
-    pub server_without_fault : AllHadMemory made
+    pub server_without_fault : MemorySufficed made client server
         → ReportsNoFault made server.happened sides.Client
-    pub whole : AllHadMemory made → AreQuiet client server → AreWhole joined made client
+    pub whole : (HasStopped made → ⊥) → AreQuiet client server → AreWhole joined made client
 
 -- an act without its answer
 abbrev pub act_made : Made → Side × Doing
@@ -59,15 +59,13 @@ act_made made = (made.side, made.doing)
 abbrev pub act_value : JointAct → Side × Doing
 act_value act = (side_of act, doing_of act)
 
--- Memory was refused neither to an act nor to a call of an end that it made.
-pub record HasMemory (answer : Acted) : Type 0 where
-  pub act : answer ≢ acted.OutOfMemory
+-- The act answered neither `Memory` nor a refusal with C12.
+pub record GotMemory (answer : Acted) : Type 0 where
+  pub act : answer ≢ acted.Memory
   pub call : answer ≢ acted.Refused (Conn Memory)
 
-abbrev pub GotMemory : Made → Type 0
-GotMemory made = HasMemory made.acted
-
--- The acts were made, in order, on a new client and a new server with these values.
+-- The acts were made, in order, on a new client and a new server with these values, and none
+-- answered `Memory`, or was refused with C12. So no delivery has stopped.
 pub record RunsActs (client_values server_values : Values) (acts : List JointAct)
     (joined : Joined) : Type 0 where
   pub made : List Made
@@ -75,9 +73,10 @@ pub record RunsActs (client_values server_values : Values) (acts : List JointAct
   pub server : JointEnd
   pub represents : JoinedRepresents client_values server_values joined made client server
   pub acts_are : each act_made made ≡ reverse (each act_value acts)
-  pub memory : AllByRecursion GotMemory made
+  pub memory : AllByRecursion (λ act. GotMemory act.acted) made
+  pub not_stopped : HasStopped made → ⊥
 
--- So it is, and the headline holds.
+-- The acts were made, and the headline holds of the two ends.
 pub record Runs (client_values server_values : Values) (acts : List JointAct) (joined : Joined)
     : Type 0 where
   pub runs : RunsActs client_values server_values acts joined

@@ -32,7 +32,7 @@ pub enum JointAct {
         /// How many octets, if as many wait.
         count: usize,
     },
-    /// At most so many octets of the pipe to an end are handed to it:
+    /// At most so many octets of the pipe to an end are given to it:
     /// [`Client::take`](h2_ends::Client::take) is called until they are used and nothing is handed
     /// out.
     Deliver {
@@ -41,7 +41,8 @@ pub enum JointAct {
         /// How many octets, if as many are there.
         count: usize,
     },
-    /// An end gives back what is owed: [`Client::release_all`](h2_ends::Client::release_all).
+    /// An end returns the credit that it owes:
+    /// [`Client::release_all`](h2_ends::Client::release_all).
     ReleaseAll(Side),
     /// An end resets a stream: [`Client::reset`](h2_ends::Client::reset).
     Reset {
@@ -74,17 +75,19 @@ pub enum JointAct {
 /// What an act answers.
 #[derive(Clone, Copy, Debug, PartialEq, Eq)]
 pub enum Acted {
-    /// The stream on which a request was sent.
+    /// A Request was sent on this stream.
     Id(u32),
-    /// How many octets of bodies were sent, or of the output put on the pipe, or delivered.
+    /// A Pump sent so many octets of bodies, a Move put so many on the pipe, a Deliver delivered so
+    /// many.
     Count(usize),
-    /// It was done.
+    /// A Respond, ReleaseAll, Reset, Ping, GoAway or ChangeSettings was done.
     Done,
-    /// The end has refused it.
+    /// The end has refused it: any act but a Deliver.
     Refused(EndRefusal),
-    /// The end has failed with this code as octets were delivered to it, or had failed before.
+    /// The end has failed with this code as a Deliver handed it octets, or had failed before.
     Failed(Code),
-    /// Memory was refused to copy a message, or to keep what an end has handed out. After the
-    /// latter nothing more is done: every act answers this.
-    OutOfMemory,
+    /// Memory was refused. Of a Request or Respond: to copy its message; nothing has changed. Of a
+    /// Deliver: to keep what the end has handed out; from then on nothing more is done, and every
+    /// act answers this. A Deliver that called `take` 2^64 - 1 times, as none does, would stop so.
+    Memory,
 }

@@ -9,7 +9,7 @@ ghost use Rattle.h2_joined.specs.declared.act.Side.TheVariants.{Client, Server};
 ghost use Rattle.h2_joined.specs.declared.act.Acted.TheVariants as acted;
 ghost use Rattle.h2_joined.specs.Joints.{Requests, Responds, Pumps, ReleasesAll, Calls, acted_as};
 ghost use Rattle.h2_joined.specs.Joints.{acted_by};
-ghost use Rattle.h2_joined.specs.Kept.{Acts, made};
+ghost use Rattle.h2_joined.specs.Kept.{MakesAct, made};
 
 use crate::act::{Acted, Side};
 use crate::joined::Joined;
@@ -20,14 +20,14 @@ impl Joined {
     /// The client makes a request.
     pub(crate) fn request(&mut self, message: &Message) -> Acted
         requires { self.old.stopped ≡ false }
-        ensures { Acts self.old (made Client (Requests (message_value message.now)) result)
+        ensures { MakesAct self.old (made Client (Requests (message_value message.now)) result)
             self.new }
     {
         let Ok((given, kept)) = copy_twice(self.alloc, message) else {
-            return Acted::OutOfMemory;
+            return Acted::Memory;
         };
         if self.at_client.accepted.reserve(1).is_err() {
-            return Acted::OutOfMemory;
+            return Acted::Memory;
         }
         match self.client.request(given) {
             Ok(id) => {
@@ -41,14 +41,14 @@ impl Joined {
     /// The server gives a response.
     pub(crate) fn respond(&mut self, id: u32, message: &Message) -> Acted
         requires { self.old.stopped ≡ false }
-        ensures { Acts self.old (made Server (Responds id (message_value message.now)) result)
+        ensures { MakesAct self.old (made Server (Responds id (message_value message.now)) result)
             self.new }
     {
         let Ok((given, kept)) = copy_twice(self.alloc, message) else {
-            return Acted::OutOfMemory;
+            return Acted::Memory;
         };
         if self.at_server.accepted.reserve(1).is_err() {
-            return Acted::OutOfMemory;
+            return Acted::Memory;
         }
         match self.server.respond(id, given) {
             Ok(()) => {
@@ -62,7 +62,7 @@ impl Joined {
     /// An end sends what windows let through.
     pub(crate) fn pump(&mut self, side: Side) -> Acted
         requires { self.old.stopped ≡ false }
-        ensures { Acts self.old (made side Pumps result) self.new }
+        ensures { MakesAct self.old (made side Pumps result) self.new }
     {
         counted(match side {
             Side::Client => self.client.pump(),
@@ -70,10 +70,10 @@ impl Joined {
         })
     }
 
-    /// An end gives back what is owed.
+    /// An end returns the credit that it owes.
     pub(crate) fn release_all(&mut self, side: Side) -> Acted
         requires { self.old.stopped ≡ false }
-        ensures { Acts self.old (made side ReleasesAll result) self.new }
+        ensures { MakesAct self.old (made side ReleasesAll result) self.new }
     {
         released(match side {
             Side::Client => self.client.release_all(),
@@ -84,7 +84,7 @@ impl Joined {
     /// An end resets a stream.
     pub(crate) fn reset(&mut self, side: Side, id: u32, code: u32) -> Acted
         requires { self.old.stopped ≡ false }
-        ensures { Acts self.old (made side (Calls (ResetStream id code)) result) self.new }
+        ensures { MakesAct self.old (made side (Calls (ResetStream id code)) result) self.new }
     {
         done(match side {
             Side::Client => self.client.reset(id, code),
@@ -95,7 +95,7 @@ impl Joined {
     /// An end sends PING.
     pub(crate) fn ping(&mut self, side: Side, octets: [u8; 8]) -> Acted
         requires { self.old.stopped ≡ false }
-        ensures { Acts self.old (made side (Calls (SendPing octets)) result) self.new }
+        ensures { MakesAct self.old (made side (Calls (SendPing octets)) result) self.new }
     {
         done(match side {
             Side::Client => self.client.ping(octets),
@@ -106,7 +106,7 @@ impl Joined {
     /// An end sends GOAWAY.
     pub(crate) fn go_away(&mut self, side: Side) -> Acted
         requires { self.old.stopped ≡ false }
-        ensures { Acts self.old (made side (Calls SendGoAway) result) self.new }
+        ensures { MakesAct self.old (made side (Calls SendGoAway) result) self.new }
     {
         done(match side {
             Side::Client => self.client.go_away(),
@@ -117,7 +117,7 @@ impl Joined {
     /// An end changes its settings.
     pub(crate) fn change_settings(&mut self, side: Side, config: Config) -> Acted
         requires { self.old.stopped ≡ false }
-        ensures { Acts self.old (made side (Calls (ChangeSettings (values_of config))) result)
+        ensures { MakesAct self.old (made side (Calls (ChangeSettings (values_of config))) result)
             self.new }
     {
         done(match side {

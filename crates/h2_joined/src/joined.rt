@@ -4,9 +4,10 @@ ghost use Rattle.std.specs.Prelude.{◌≡◌, ◌↔◌, ℕ, List, [], true, f
 ghost use Rattle.h2_config.specs.ConfigValues.{values_of};
 ghost use Rattle.h2_log.specs.Acts.{Values};
 ghost use Rattle.h2_log.specs.declared.role.Role.TheVariants as roles;
+ghost use Rattle.h2_joined.specs.declared.act.Acted.TheVariants.{Memory};
 ghost use Rattle.h2_joined.specs.Headline.{AreQuiet};
 ghost use Rattle.h2_joined.specs.Joints.{JointEnd, Made, new_joint_end};
-ghost use Rattle.h2_joined.specs.Kept.{Acts, HoldsOctets, JoinedRepresents, kept_of, made_of};
+ghost use Rattle.h2_joined.specs.Kept.{MakesAct, HoldsOctets, JoinedRepresents, kept_of, made_of};
 ghost use Rattle.h2_joined.specs.Kept.{other_side};
 
 use crate::act::{Acted, JointAct, Side};
@@ -58,12 +59,14 @@ impl Joined {
     /// was refused.
     ///
     /// Octets that were delivered to an end that fails are off the pipe; to an end that has failed
-    /// none are delivered.
+    /// none are delivered. Once a delivery has answered [`Acted::Memory`] the two ends stand still.
     pub fn act(&mut self, act: &JointAct) -> Acted
-        ensures { Acts self.old (made_of act.now result) self.new }
+        ensures acts { MakesAct self.old (made_of act.now result) self.new }
+        ensures stands_still { self.old.stopped ≡ true
+            → (result ≡ Memory) × (self.new ≡ self.old) }
     {
         if self.stopped {
-            return Acted::OutOfMemory;
+            return Acted::Memory;
         }
         match act {
             JointAct::Request(message) => self.request(message),
@@ -80,7 +83,9 @@ impl Joined {
     }
 
     /// Whether nothing is under way between the two ends, and neither has anything to do: both are
-    /// quiet ([`Client::is_quiet`]) and both pipes empty.
+    /// quiet ([`Client::is_quiet`]) and both pipes empty. An end that has failed is not quiet. Once
+    /// a delivery has answered [`Acted::Memory`], the last event of that end may be missing all the
+    /// same.
     pub fn quiet(&self) -> bool
         ensures { (client_values server_values : Values) (made : List Made)
             (client server : JointEnd)

@@ -1,7 +1,7 @@
 //! What is kept of an end: the messages that it has accepted, what it has handed out, and the pipe
 //! that leads to it.
 
-ghost use Rattle.std.specs.Prelude.{◌≡◌, ◌+◌, ◌≤◌, false, [], ◌∷◌, ◌++◌, IfOk, vec_len};
+ghost use Rattle.std.specs.Prelude.{◌≡◌, ◌+◌, ◌≤◌, [], ◌∷◌, ◌++◌, IfOk, vec_len};
 ghost use Rattle.std.specs.Vec.{vec_capacity};
 ghost use Rattle.h2_log.specs.Acts.{Values};
 ghost use Rattle.h2_log.specs.declared.role.Role.{Role};
@@ -31,7 +31,7 @@ impl Kept {
     /// What is kept of a new end.
     pub(crate) fn new(alloc: Global) -> Kept
         ensures { (role : Role) (values : Values)
-            → KeepsEnd false result (new_joint_end role values) }
+            → KeepsEnd ⊥ result (new_joint_end role values) }
     {
         Kept {
             incoming: Pipe::new(alloc),
@@ -84,7 +84,7 @@ pub enum JointEvent {
         /// The stream.
         id: u32,
         /// The octets; there may be none.
-        octets: Vec<u8>,
+        bytes: Vec<u8>,
         /// Whether the message is whole.
         end: bool,
     },
@@ -146,7 +146,7 @@ impl JointEvent {
             },
             EndEvent::Body { id, bytes, end } => JointEvent::Body {
                 id,
-                octets: Vec::from_slice(alloc, bytes)?,
+                bytes: Vec::from_slice(alloc, bytes)?,
                 end,
             },
             EndEvent::Trailers { id, list } => JointEvent::Trailers {
@@ -210,6 +210,7 @@ pub(crate) fn copy_twice(alloc: Global, message: &Message) -> Result<(Message, M
     ensures kept { IfOk result (λ copies. message_value copies.1 ≡ message_value message.now) }
     ensures typed { AreOctets (message_value message.now).head }
 {
+    // Its contract says that names and values are octets; the sum is not used.
     let _size = list_size(&message.head);
     Ok((copy_message(alloc, message)?, copy_message(alloc, message)?))
 }

@@ -1,14 +1,19 @@
 //! Laws of two joined ends, over whatever acts were made. Each is the contract of a function that
 //! does nothing.
 
-ghost use Rattle.std.specs.Prelude.{◌≡◌, ℕ, List};
+ghost use Rattle.std.specs.Prelude.{◌≡◌, ℕ, List, None};
+ghost use Rattle.h2_block.specs.Grouping.{Item};
 ghost use Rattle.h2_log.specs.Acts.{Values};
 ghost use Rattle.h2_pair.specs.Pairs.{IsPair};
+ghost use Rattle.h2_pair.specs.Directions.{AreUnderWay, BoundsStreams, ConservesConnection};
+ghost use Rattle.h2_pair.specs.Directions.{ConservesStream, IsCarried};
+ghost use Rattle.h2_pair.specs.HeaderTables.{HeaderTablesInStep};
 ghost use Rattle.h2_pair.specs.Tokens.{IsPrefixOfTokens};
 ghost use Rattle.h2_pair.specs.Undisturbed.{IsUndisturbed};
 ghost use Rattle.h2_ends.specs.Ends.{tokens_handed, tokens_said};
 ghost use Rattle.h2_joined.specs.declared.act.Side.TheVariants.{Client, Server};
-ghost use Rattle.h2_joined.specs.Joints.{JointEnd, Made, IsJoint, AllHadMemory, half_of};
+ghost use Rattle.h2_joined.specs.Joints.{JointEnd, Made, IsJoint, HasStopped, half_of};
+ghost use Rattle.h2_joined.specs.Joints.{MemorySufficed};
 ghost use Rattle.h2_joined.specs.Headline.{AreQuiet, WasResetIn, ReportsNoFault};
 
 /// Two joined ends with their pipes are a pair that comes about, and so all laws of pairs hold of
@@ -19,7 +24,7 @@ pub fn joined_ends_are_a_pair()
         (client server : JointEnd) → IsJoint client_values server_values made client server
         → (client_lost : List ℕ) × (server_lost : List ℕ)
         × (pair : IsPair client_values server_values (half_of client client_lost)
-        (half_of server server_lost)) × (AllHadMemory made → IsUndisturbed pair) }
+        (half_of server server_lost)) × (MemorySufficed made client server → IsUndisturbed pair) }
 {}
 
 /// What an end has handed out on a stream is a prefix of the message that the other has accepted
@@ -40,23 +45,82 @@ pub fn handed_out_is_a_prefix()
 pub fn no_fault_is_reported()
     ensures at_client { (client_values server_values : Values) (made : List Made)
         (client server : JointEnd) → IsJoint client_values server_values made client server
-        → AllHadMemory made → ReportsNoFault made client.happened Server }
+        → MemorySufficed made client server → ReportsNoFault made client.happened Server }
     ensures at_server { (client_values server_values : Values) (made : List Made)
         (client server : JointEnd) → IsJoint client_values server_values made client server
-        → AllHadMemory made → ReportsNoFault made server.happened Client }
+        → MemorySufficed made client server → ReportsNoFault made server.happened Client }
 {}
 
 /// Once both are quiet, the message that an end has accepted for a stream was handed out whole at
-/// the other, unless that stream was reset; where memory was not refused.
+/// the other, unless that stream was reset; where no delivery has stopped.
 pub fn quiet_ends_have_all()
     ensures at_server { (client_values server_values : Values) (made : List Made)
         (client server : JointEnd) (i : ℕ)
-        → IsJoint client_values server_values made client server → AllHadMemory made
+        → IsJoint client_values server_values made client server → (HasStopped made → ⊥)
         → AreQuiet client server → (WasResetIn made client i → ⊥)
         → tokens_handed server.happened i ≡ tokens_said client.happened i }
     ensures at_client { (client_values server_values : Values) (made : List Made)
         (client server : JointEnd) (i : ℕ)
-        → IsJoint client_values server_values made client server → AllHadMemory made
+        → IsJoint client_values server_values made client server → (HasStopped made → ⊥)
         → AreQuiet client server → (WasResetIn made client i → ⊥)
         → tokens_handed client.happened i ≡ tokens_said server.happened i }
+{}
+
+/// The header tables are in step, both ways, whatever settings change: after the field blocks under
+/// way the reader's table is the writer's, and each of them decodes at its place to the list that
+/// the writer was given (RFC 9113, section 4.3).
+pub fn header_tables_are_in_step()
+    ensures to_server { (client_values server_values : Values) (made : List Made)
+        (client server : JointEnd) (way : List Item)
+        → IsJoint client_values server_values made client server
+        → AreUnderWay client.happened.log server.happened.log way
+        → HeaderTablesInStep client.happened.log server.happened.log way }
+    ensures to_client { (client_values server_values : Values) (made : List Made)
+        (client server : JointEnd) (way : List Item)
+        → IsJoint client_values server_values made client server
+        → AreUnderWay server.happened.log client.happened.log way
+        → HeaderTablesInStep server.happened.log client.happened.log way }
+{}
+
+/// Nothing of the connection's windows is lost, both ways, as long as the reader has not failed:
+/// what the writer may send, DATA under way, the increments that come back, and what the reader
+/// owes or has not returned, are 65,535 octets (RFC 9113, section 6.9).
+pub fn connection_windows_are_conserved()
+    ensures to_server { (client_values server_values : Values) (made : List Made)
+        (client server : JointEnd) (way back : List Item) (bound : ℕ)
+        → IsJoint client_values server_values made client server
+        → server.happened.log.failed ≡ None
+        → AreUnderWay client.happened.log server.happened.log way
+        → AreUnderWay server.happened.log client.happened.log back
+        → BoundsStreams server.happened.log bound
+        → ConservesConnection client.happened.log server.happened.log way back bound }
+    ensures to_client { (client_values server_values : Values) (made : List Made)
+        (client server : JointEnd) (way back : List Item) (bound : ℕ)
+        → IsJoint client_values server_values made client server
+        → client.happened.log.failed ≡ None
+        → AreUnderWay server.happened.log client.happened.log way
+        → AreUnderWay client.happened.log server.happened.log back
+        → BoundsStreams client.happened.log bound
+        → ConservesConnection server.happened.log client.happened.log way back bound }
+{}
+
+/// Nothing is lost of the window of a stream that is active at the writer, that the reader has not
+/// closed by itself, and whose end it has not read; both ways, whatever settings change. What the
+/// writer may send on it, its DATA under way, the increments that come back, and what the reader
+/// owes, are the initial window that the writer has received last (RFC 9113, section 6.9.2).
+pub fn stream_windows_are_conserved()
+    ensures to_server { (client_values server_values : Values) (made : List Made)
+        (client server : JointEnd) (way back : List Item) (i : ℕ)
+        → IsJoint client_values server_values made client server
+        → AreUnderWay client.happened.log server.happened.log way
+        → AreUnderWay server.happened.log client.happened.log back
+        → IsCarried client.happened.log server.happened.log i
+        → ConservesStream client.happened.log server.happened.log way back i }
+    ensures to_client { (client_values server_values : Values) (made : List Made)
+        (client server : JointEnd) (way back : List Item) (i : ℕ)
+        → IsJoint client_values server_values made client server
+        → AreUnderWay server.happened.log client.happened.log way
+        → AreUnderWay client.happened.log server.happened.log back
+        → IsCarried server.happened.log client.happened.log i
+        → ConservesStream server.happened.log client.happened.log way back i }
 {}

@@ -18,10 +18,14 @@ mod running;
 mod tests;
 
 pub use act::{Acted, JointAct, Side};
-pub use h2_ends::{Client, Code, Config, EndRefusal, Field, Message, Refusal, Server};
+pub use h2_ends::{
+    BadConfig, Client, Code, Config, Conn, EndRefusal, Field, Malformed, Message, Refusal, Server,
+};
 pub use joined::Joined;
 pub use kept::{Accepted, JointEvent};
 pub use laws::{
-    handed_out_is_a_prefix, joined_ends_are_a_pair, no_fault_is_reported, quiet_ends_have_all,
+    connection_windows_are_conserved, handed_out_is_a_prefix, header_tables_are_in_step,
+    joined_ends_are_a_pair, no_fault_is_reported, quiet_ends_have_all,
+    stream_windows_are_conserved,
 };
 pub use running::{headline, run};

@@ -4,9 +4,9 @@ ghost use Rattle.std.specs.Prelude.{◌≡◌, false, length};
 ghost use Rattle.h2_log.specs.Acts as log;
 ghost use Rattle.h2_conn.specs.Conn.{answer_by};
 ghost use Rattle.h2_joined.specs.Joints.{Moves, Delivers, acted_as};
-ghost use Rattle.h2_joined.specs.Kept.{Acts, made};
+ghost use Rattle.h2_joined.specs.Kept.{MakesAct, made};
 ghost use Rattle.h2_joined.specs.Delivering.{UsesWithin, TakesOnce, TookAt, TakesNext};
-ghost use Rattle.h2_joined.specs.Delivering.{TakesAll, TakesPipe, KeepsEvent};
+ghost use Rattle.h2_joined.specs.Delivering.{TakesOctets, TakesPipe, KeepsEvent};
 
 use crate::act::{Acted, Side};
 use crate::joined::Joined;
@@ -62,7 +62,7 @@ impl Joined {
     /// Puts octets of an end's output on the pipe to the other.
     pub(crate) fn put_on_pipe(&mut self, from: Side, count: usize) -> Acted
         requires { self.old.stopped ≡ false }
-        ensures { Acts self.old (made from (Moves count) result) self.new }
+        ensures { MakesAct self.old (made from (Moves count) result) self.new }
     {
         moved(match from {
             Side::Client => {
@@ -79,7 +79,7 @@ impl Joined {
     /// Delivers octets of its pipe to an end.
     pub(crate) fn deliver(&mut self, to: Side, count: usize) -> Acted
         requires { self.old.stopped ≡ false }
-        ensures { Acts self.old (made to (Delivers count) result) self.new }
+        ensures { MakesAct self.old (made to (Delivers count) result) self.new }
     {
         let failed = match to {
             Side::Client => self.client.conn().failed(),
@@ -94,7 +94,7 @@ impl Joined {
         let (used, acted) = match self.take_all(to, octets) {
             Delivered::Whole => (size, Acted::Count(size)),
             Delivered::Failed(code) => (size, Acted::Failed(code)),
-            Delivered::Stopped(used) => (used, Acted::OutOfMemory),
+            Delivered::Stopped(used) => (used, Acted::Memory),
         };
         pipe.deliver(used);
         self.put_pipe(to, pipe);
@@ -126,7 +126,7 @@ impl Joined {
     /// failed, or memory was refused.
     fn take_all(&mut self, to: Side, octets: &[u8]) -> Delivered
         requires { self.old.stopped ≡ false }
-        ensures { TakesAll to self.old octets.now result self.new }
+        ensures { TakesOctets to self.old octets.now result self.new }
     {
         let mut taken = 0usize;
         for _round in 0..u64::MAX {
@@ -137,6 +137,7 @@ impl Joined {
                 Next::Stopped(used) => return Delivered::Stopped(taken + used),
             }
         }
+        self.stopped = true;
         Delivered::Stopped(taken)
     }
 

@@ -1,12 +1,12 @@
 //! Lists of acts.
 
-ghost use Rattle.std.specs.Prelude.{◌≡◌, false, List, IfOk};
+ghost use Rattle.std.specs.Prelude.{◌≡◌, ◌↔◌, false, List, IfOk};
 ghost use Rattle.h2_config.specs.ConfigValues.{values_of};
 ghost use Rattle.h2_log.specs.Acts.{Values};
 ghost use Rattle.h2_joined.specs.declared.joined.Joined as types;
 ghost use Rattle.h2_joined.specs.Joints.{JointEnd, Made};
 ghost use Rattle.h2_joined.specs.Kept.{JoinedRepresents};
-ghost use Rattle.h2_joined.specs.Runs.{Runs, HasHeadline, HasMemory};
+ghost use Rattle.h2_joined.specs.Runs.{Runs, HasHeadline, GotMemory};
 
 use crate::act::{Acted, JointAct};
 use crate::joined::Joined;
@@ -15,8 +15,8 @@ use std::alloc::{AllocError, Global};
 
 /// The headline of this library. What each of two joined ends has handed out on every stream is a
 /// prefix of what the other has accepted for it, whatever acts were made. Where memory was not
-/// refused, neither end reports a fault; and once both are quiet, all of it was handed out, on
-/// every stream that was not reset.
+/// refused, neither end reports a fault. Once both are quiet, and no delivery has stopped, all of
+/// it was handed out, on every stream that was not reset.
 pub fn headline()
     ensures { (client_values server_values : Values) (joined : types.Joined) (made : List Made)
         (client server : JointEnd)
@@ -24,13 +24,15 @@ pub fn headline()
         → HasHeadline joined made client server }
 {}
 
-/// Makes the acts, in order, on a new client and a new server. A refused act is an act like any
-/// other. The headline holds of what it answers.
+/// Makes the acts, in order, on a new client and a new server. An act that is refused is an act
+/// like any other, unless it is with C12. The headline holds of the two ends then. That a
+/// connection has failed with INTERNAL_ERROR, since memory was refused as it took octets, is no
+/// error here: [`Conn::failed`](h2_ends::Conn::failed) says so.
 ///
 /// # Errors
 ///
-/// [`AllocError`] where memory was refused: to the two ends, to an act, or to a call of an end
-/// (C12).
+/// [`AllocError`] where memory was refused to make the two ends, or an act answered
+/// [`Acted::Memory`] or was refused with C12 (Memory).
 pub fn run(
     alloc: Global,
     client: Config,
@@ -48,12 +50,12 @@ pub fn run(
     Ok(joined)
 }
 
-/// Whether memory was refused to an act, or to a call of an end.
+/// Whether an act answered that memory was refused.
 fn was_refused_memory(acted: Acted) -> bool
-    ensures { result ≡ false → HasMemory acted }
+    ensures { (result ≡ false) ↔ GotMemory acted }
 {
     matches!(
         acted,
-        Acted::OutOfMemory | Acted::Refused(EndRefusal::Conn(Refusal::Memory))
+        Acted::Memory | Acted::Refused(EndRefusal::Conn(Refusal::Memory))
     )
 }

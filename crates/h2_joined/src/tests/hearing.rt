@@ -79,9 +79,11 @@ impl Heard {
             JointEvent::Head { id, list, end } if *id == stream => {
                 self.take_head(list, *end, message)
             }
-            JointEvent::Body { id, octets, end } if *id == stream => {
-                self.take_body(octets, *end, message)
-            }
+            JointEvent::Body {
+                id,
+                bytes: octets,
+                end,
+            } if *id == stream => { self.take_body(octets, *end, message) }
             JointEvent::Trailers { id, list } if *id == stream => {
                 self.take_trailers(list, message)
             }

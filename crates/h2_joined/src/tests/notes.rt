@@ -30,7 +30,14 @@ fn is_part(event: &JointEvent, note: Note) -> bool {
         (JointEvent::Head { id, list, end }, Note::Head(stream, pairs, whole)) => {
             *id == stream && *end == whole && are_pairs(list, pairs)
         }
-        (JointEvent::Body { id, octets, end }, Note::Body(stream, place, count, whole)) => {
+        (
+            JointEvent::Body {
+                id,
+                bytes: octets,
+                end,
+            },
+            Note::Body(stream, place, count, whole),
+        ) => {
             *id == stream && *end == whole && octets.len() == count && are_of_body(octets, place)
         }
         (JointEvent::Trailers { id, list }, Note::Trailers(stream, pairs)) => {

@@ -4,7 +4,11 @@ use super::acts::{Act, DEFAULT, Values, config, joint_act};
 use super::messages::{A, A_FOUR, GET, OK, R, R_BAD, Said, is_message};
 use super::notes::{Note, are_notes};
 use crate::Side::{Client, Server};
-use crate::{Accepted, Joined, JointAct, run};
+use crate::{
+    Accepted, Joined, JointAct, connection_windows_are_conserved, handed_out_is_a_prefix,
+    header_tables_are_in_step, headline, joined_ends_are_a_pair, no_fault_is_reported,
+    quiet_ends_have_all, run, stream_windows_are_conserved,
+};
 use std::alloc::Global;
 
 /// A request whose answer is on its way; refused acts stand among them.
@@ -75,4 +79,16 @@ fn no_acts(rt: HostRuntime) {
         None => false,
     };
     assert!(rt; done);
+}
+
+#[test]
+fn laws_are_called() {
+    connection_windows_are_conserved();
+    handed_out_is_a_prefix();
+    header_tables_are_in_step();
+    headline();
+    joined_ends_are_a_pair();
+    no_fault_is_reported();
+    quiet_ends_have_all();
+    stream_windows_are_conserved();
 }

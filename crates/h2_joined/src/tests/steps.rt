@@ -113,7 +113,7 @@ impl Walk {
         let before = Outside::of(&self.tried);
         let same = self.act(act) == answer;
         match answer {
-            Acted::Refused(_) | Acted::OutOfMemory => same && Outside::of(&self.tried) == before,
+            Acted::Refused(_) | Acted::Memory => same && Outside::of(&self.tried) == before,
             _ => same,
         }
     }

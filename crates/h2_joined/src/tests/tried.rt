@@ -40,7 +40,7 @@ impl Tried {
     pub(crate) fn act(&mut self, act: Act) -> Acted {
         match joint_act(self.alloc, act) {
             Some(act) => make(&mut self.joined, act),
-            None => Acted::OutOfMemory,
+            None => Acted::Memory,
         }
     }
 

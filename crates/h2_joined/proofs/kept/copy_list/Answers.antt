@@ -1,5 +1,5 @@
 -- The next field is copied.
-use Rattle.std.proofs.Common.{◌≡◌, Some, ap, ◌∙◌, List, ◌∷◌, [], ◌++◌, take}
+use Rattle.std.proofs.Common.{◌≡◌, Some}
 use Rattle.hpack.specs.declared.types.field.Field.{Field}
 use Rattle.std.specs.List.{slice_get}
 use Rattle.std.proofs.lemmas.List.{take_more}

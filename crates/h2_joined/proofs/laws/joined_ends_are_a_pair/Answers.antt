@@ -1,8 +1,15 @@
 -- By what holds whatever acts were made.
 use Rattle.h2_joined.proofs.JointActs.{joint_holds}
+use Rattle.h2_joined.proofs.JointMemory.{had_memory}
 use Rattle.h2_joined.proofs.laws.joined_ends_are_a_pair.Goals as goal
 
 pub returns : goal.returns
 returns c = λ client_values server_values made client server is.
-    let holds = joint_holds client_values server_values made client server is in
-    (holds.client_lost, holds.server_lost, holds.pair, λ had. (holds.calm had).undisturbed)
+    let holds = joint_holds client_values server_values made client server is in (
+      holds.client_lost,
+      holds.server_lost,
+      holds.pair,
+      λ had.
+          (holds.calm
+          (had_memory client_values server_values made client server is had)).undisturbed,
+    )

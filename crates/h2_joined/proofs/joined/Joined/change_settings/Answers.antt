@@ -1,5 +1,5 @@
 -- By the lemma on a call of the connection.
-use Rattle.std.proofs.Common.{refl, rules}
+use Rattle.std.proofs.Common.{refl}
 use Rattle.h2_config.specs.ConfigValues.{values_of}
 use Rattle.h2_log.specs.Acts.{IsTypedAct, ChangeSettings, Done}
 use Rattle.h2_conn.specs.Conn.{answer_by}
@@ -29,4 +29,6 @@ returns c =
         w.change_settings-in-Server.ensures,
       )
     ] in
-    call_acts c.args.side old new act _ c.done.result c.done.ensures tt c.args.config.in_range does.0 does.1
+    call_acts c.args.side old new act _ c.done.result c.done.ensures tt
+    c.args.config.in_range c.requires
+    does.0 does.1

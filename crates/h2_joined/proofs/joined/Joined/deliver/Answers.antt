@@ -3,7 +3,7 @@ use Rattle.std.proofs.Common.{◌≡◌, ℕ, List, length, drop, Option, sym, a
 use Rattle.h2_frame.specs.declared.code.Code.{Code}
 use Rattle.h2_joined.specs.declared.act.Acted.{Acted}
 use Rattle.h2_joined.specs.Joints.{Delivers}
-use Rattle.h2_joined.specs.Kept.{Acts, HoldsOctets, made, end_at}
+use Rattle.h2_joined.specs.Kept.{MakesAct, HoldsOctets, made}
 use Rattle.h2_joined.proofs.CodeDelivers.{used_by, answered_by, delivers_acts, none_delivered}
 use Rattle.h2_joined.proofs.CodeDelivers.{HasFailed}
 use Rattle.h2_joined.proofs.joined.Joined.deliver.Goals.{in-Client, in-Server}
@@ -18,7 +18,7 @@ returns-in-Some c =
       | in-Server w ↦ rw (w.in-Server.is, w.failed-is, ← w.conn-in-Server.ensures)
           w.failed-failed-in-Server.ensures
     ] in
-    none_delivered c.args.to c.args.self.now c.args.count c.in-Some.code
+    none_delivered c.args.to c.args.self.now c.args.count c.in-Some.code c.requires
     (subst (λ (f : Option Code). HasFailed c.args.to c.args.self.now f) c.in-Some.is failed)
 
 pub returns : goal.returns
@@ -39,7 +39,8 @@ returns c =
       | in-Failed w ↦ rw w.in-Failed.is w.used-is
       | in-Stopped w ↦ rw w.in-Stopped.is w.used-is
     ] in
-    subst (λ (a : Acted). Acts old (made c.args.to (Delivers c.args.count) a) c.put_pipe.new.self)
+    subst (λ (a : Acted). MakesAct old (made c.args.to (Delivers c.args.count) a)
+    c.put_pipe.new.self)
     (sym (ap (λ (p : ℕ × Acted). p.1) is))
     (delivers_acts c.args.to old c.put_pipe.new.self c.args.count octets of c.requires
     (record {

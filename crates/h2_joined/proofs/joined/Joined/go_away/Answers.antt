@@ -1,5 +1,5 @@
 -- By the lemma on a call of the connection.
-use Rattle.std.proofs.Common.{refl, rules}
+use Rattle.std.proofs.Common.{refl}
 use Rattle.h2_log.specs.Acts.{IsTypedAct, SendGoAway, Done}
 use Rattle.h2_conn.specs.Conn.{answer_by}
 use Rattle.h2_ends.specs.Represents.{EndAnswers}
@@ -28,4 +28,5 @@ returns c =
         w.go_away-in-Server.ensures,
       )
     ] in
-    call_acts c.args.side old new act _ c.done.result c.done.ensures tt tt does.0 does.1
+    call_acts c.args.side old new act _ c.done.result c.done.ensures tt tt c.requires
+    does.0 does.1

@@ -29,4 +29,6 @@ returns c =
         w.ping-in-Server.ensures,
       )
     ] in
-    call_acts c.args.side old new act _ c.done.result c.done.ensures tt (search rules, all_octets c.args.octets (λ i. search rules)) does.0 does.1
+    call_acts c.args.side old new act _ c.done.result c.done.ensures tt
+    (search rules, all_octets c.args.octets (λ i. search rules)) c.requires
+    does.0 does.1

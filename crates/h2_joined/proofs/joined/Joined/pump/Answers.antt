@@ -23,4 +23,5 @@ returns c =
         w.pump-in-Server.ensures,
       )
     ] in
-    pump_acts c.args.side old new c.match-side.counted c.counted.result c.counted.ensures does.0 does.1
+    pump_acts c.args.side old new c.match-side.counted c.counted.result c.counted.ensures
+    c.requires does.0 does.1

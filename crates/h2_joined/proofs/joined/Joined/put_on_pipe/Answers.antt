@@ -36,4 +36,4 @@ returns c =
           })
     ] in
     moves_acts c.args.from old new c.args.count c.match-from.moved c.moved.result
-    c.moved.ensures (omega arith) does
+    c.moved.ensures (omega arith) c.requires does

@@ -1,6 +1,15 @@
 -- By the lemma on pipes and ends.
-use Rattle.h2_joined.proofs.KeptQuiet.{both_quiet, busy_client}
+use Rattle.h2_joined.proofs.KeptQuiet.{both_quiet, busy_client, waits_for_client}
+use Rattle.h2_joined.proofs.KeptQuiet.{waits_for_server}
 use Rattle.h2_joined.proofs.joined.Joined.quiet.Goals as goal
+
+pub returns-then-len-gt0 : goal.returns-then-len-gt0
+returns-then-len-gt0 c =
+    waits_for_client c.args.self.now c.len.result c.len.ensures c.if-len-gt0.true
+
+pub returns-then-len-gt0-2 : goal.returns-then-len-gt0-2
+returns-then-len-gt0-2 c =
+    waits_for_server c.args.self.now c.len-2.result c.len-2.ensures c.if-len-gt0-2.true
 
 pub returns-then-is_quiet : goal.returns-then-is_quiet
 returns-then-is_quiet c =

@@ -23,4 +23,5 @@ returns c =
         w.release_all-in-Server.ensures,
       )
     ] in
-    release_acts c.args.side old new c.match-side.released c.released.result c.released.ensures does.0 does.1
+    release_acts c.args.side old new c.match-side.released c.released.result c.released.ensures
+    c.requires does.0 does.1

@@ -1,5 +1,5 @@
 -- By the lemmas on a request.
-use Rattle.std.proofs.Common.{refl, ◌∙◌, ap, sym, Ok, Err, subst, ℕ}
+use Rattle.std.proofs.Common.{refl, ap, Ok, Err, subst}
 use Rattle.std.specs.declared.vec.Vec.{Vec}
 use Rattle.h2_joined.specs.declared.kept.JointEvent.{JointEvent}
 use Rattle.std.specs.declared.alloc.Global.{Global}
@@ -8,20 +8,23 @@ use Rattle.h2_message.specs.Values.{message_value}
 use Rattle.h2_ends.specs.Represents.{EndRequests}
 use Rattle.h2_joined.specs.declared.act.Side.TheVariants.{Client}
 use Rattle.h2_joined.specs.declared.kept.Accepted.{Accepted}
-use Rattle.h2_joined.specs.Joints.{Requests}
-use Rattle.h2_joined.proofs.KeptActs.{same_kept, acts_without_memory}
+use Rattle.h2_joined.specs.Joints.{Requests, no_copy_of_a_request}
+use Rattle.h2_joined.proofs.KeptActs.{same_kept, acts_without_copy}
 use Rattle.h2_joined.proofs.CodeMessages.{request_is_refused, request_is_accepted}
 use Rattle.h2_joined.proofs.joined.Joined.request.Goals as goal
 
 pub returns-in_default : goal.returns-in_default
 returns-in_default c =
-    acts_without_memory Client c.args.self.now c.args.self.now
-    (Requests (message_value c.args.message.now)) refl
+    acts_without_copy Client c.args.self.now c.args.self.now
+    (Requests (message_value c.args.message.now)) c.requires (λ count same. cc)
+    (λ one other. no_copy_of_a_request (message_value c.args.message.now)) refl
     (record { other_end = refl; kept = same_kept _ _ refl; other_kept = refl; stopped = refl })
 
 pub returns-then-is_err : goal.returns-then-is_err
 returns-then-is_err c =
-    acts_without_memory Client c.args.self.now _ (Requests (message_value c.args.message.now)) refl
+    acts_without_copy Client c.args.self.now _ (Requests (message_value c.args.message.now))
+    c.requires (λ count same. cc)
+    (λ one other. no_copy_of_a_request (message_value c.args.message.now)) refl
     (record {
       other_end = refl;
       kept = record { incoming = refl; accepted = c.reserve.ensures.items; handed = refl };
@@ -33,7 +36,7 @@ pub returns-in-Ok-request : goal.returns-in-Ok-request
 returns-in-Ok-request c =
     let one : Accepted = record { id = c.in-Ok-request.id; message = c.in-Ok.kept } in
     request_is_accepted c.args.self.now _ (message_value c.args.message.now) c.in-Ok-request.id one
-    (record {
+    c.requires (record {
       other_end = refl;
       incoming = c.accept.ensures.incoming;
       accepted = rw (← c.reserve.ensures.items) c.accept.ensures.accepted;
@@ -41,14 +44,15 @@ returns-in-Ok-request c =
       other_kept = refl;
       stopped = refl;
     })
-    (ap (λ (m : SentMessage). (c.in-Ok-request.id, m)) c.in-Ok.ensures.kept) c.copy_twice.ensures.typed
+    (ap (λ (m : SentMessage). (c.in-Ok-request.id, m)) c.in-Ok.ensures.kept)
+    c.copy_twice.ensures.typed
     (subst (λ (m : SentMessage). EndRequests c.args.self.now.client.end m (Ok c.in-Ok-request.id)
     c.request.new.self.end) c.in-Ok.ensures.given c.in-Ok-request.ensures)
 
 pub returns-in-Err : goal.returns-in-Err
 returns-in-Err c =
     request_is_refused c.args.self.now _ (message_value c.args.message.now)
-    c.in-Err.field-0-0 c.in-Err.refusal
+    c.in-Err.field-0-0 c.in-Err.refusal c.requires
     (record {
       other_end = refl;
       kept = record { incoming = refl; accepted = c.reserve.ensures.items; handed = refl };

@@ -28,4 +28,5 @@ returns c =
         w.reset-in-Server.ensures,
       )
     ] in
-    call_acts c.args.side old new act _ c.done.result c.done.ensures tt (search rules) does.0 does.1
+    call_acts c.args.side old new act _ c.done.result c.done.ensures tt (search rules) c.requires
+    does.0 does.1

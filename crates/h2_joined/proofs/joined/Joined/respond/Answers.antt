@@ -1,5 +1,5 @@
 -- By the lemmas on a response.
-use Rattle.std.proofs.Common.{refl, ◌∙◌, ap, sym, Ok, Err, subst, ℕ, arith}
+use Rattle.std.proofs.Common.{refl, ap, Ok, Err, subst, arith}
 use Rattle.std.specs.declared.vec.Vec.{Vec}
 use Rattle.h2_joined.specs.declared.kept.JointEvent.{JointEvent}
 use Rattle.std.specs.declared.alloc.Global.{Global}
@@ -8,20 +8,23 @@ use Rattle.h2_message.specs.Values.{message_value}
 use Rattle.h2_ends.specs.Represents.{EndResponds}
 use Rattle.h2_joined.specs.declared.act.Side.TheVariants.{Server}
 use Rattle.h2_joined.specs.declared.kept.Accepted.{Accepted}
-use Rattle.h2_joined.specs.Joints.{Responds}
-use Rattle.h2_joined.proofs.KeptActs.{same_kept, acts_without_memory}
+use Rattle.h2_joined.specs.Joints.{Responds, no_copy_of_a_response}
+use Rattle.h2_joined.proofs.KeptActs.{same_kept, acts_without_copy}
 use Rattle.h2_joined.proofs.CodeMessages.{respond_is_refused, respond_is_accepted}
 use Rattle.h2_joined.proofs.joined.Joined.respond.Goals as goal
 
 pub returns-in_default : goal.returns-in_default
 returns-in_default c =
-    acts_without_memory Server c.args.self.now c.args.self.now
-    (Responds c.args.id (message_value c.args.message.now)) refl
+    acts_without_copy Server c.args.self.now c.args.self.now
+    (Responds c.args.id (message_value c.args.message.now)) c.requires (λ count same. cc)
+    (λ one other. no_copy_of_a_response c.args.id (message_value c.args.message.now)) refl
     (record { other_end = refl; kept = same_kept _ _ refl; other_kept = refl; stopped = refl })
 
 pub returns-then-is_err : goal.returns-then-is_err
 returns-then-is_err c =
-    acts_without_memory Server c.args.self.now _ (Responds c.args.id (message_value c.args.message.now)) refl
+    acts_without_copy Server c.args.self.now _
+    (Responds c.args.id (message_value c.args.message.now)) c.requires (λ count same. cc)
+    (λ one other. no_copy_of_a_response c.args.id (message_value c.args.message.now)) refl
     (record {
       other_end = refl;
       kept = record { incoming = refl; accepted = c.reserve.ensures.items; handed = refl };
@@ -32,8 +35,8 @@ returns-then-is_err c =
 pub returns-in-Ok-respond : goal.returns-in-Ok-respond
 returns-in-Ok-respond c =
     let one : Accepted = record { id = c.args.id; message = c.in-Ok.kept } in
-    respond_is_accepted c.args.self.now _ c.args.id (message_value c.args.message.now) c.in-Ok-respond.field-0 one
-    (record {
+    respond_is_accepted c.args.self.now _ c.args.id (message_value c.args.message.now)
+    c.in-Ok-respond.field-0 one c.requires (record {
       other_end = refl;
       incoming = c.accept.ensures.incoming;
       accepted = rw (← c.reserve.ensures.items) c.accept.ensures.accepted;
@@ -41,14 +44,16 @@ returns-in-Ok-respond c =
       other_kept = refl;
       stopped = refl;
     })
-    (ap (λ (m : SentMessage). (c.args.id, m)) c.in-Ok.ensures.kept) (omega arith) c.copy_twice.ensures.typed
-    (subst (λ (m : SentMessage). EndResponds c.args.self.now.server.end c.args.id m (Ok c.in-Ok-respond.field-0)
-    c.respond.new.self.end) c.in-Ok.ensures.given c.in-Ok-respond.ensures)
+    (ap (λ (m : SentMessage). (c.args.id, m)) c.in-Ok.ensures.kept) (omega arith)
+    c.copy_twice.ensures.typed
+    (subst (λ (m : SentMessage). EndResponds c.args.self.now.server.end c.args.id m
+    (Ok c.in-Ok-respond.field-0) c.respond.new.self.end) c.in-Ok.ensures.given
+    c.in-Ok-respond.ensures)
 
 pub returns-in-Err : goal.returns-in-Err
 returns-in-Err c =
     respond_is_refused c.args.self.now _ c.args.id (message_value c.args.message.now)
-    c.in-Err.field-0-0 c.in-Err.refusal
+    c.in-Err.field-0-0 c.in-Err.refusal c.requires
     (record {
       other_end = refl;
       kept = record { incoming = refl; accepted = c.reserve.ensures.items; handed = refl };

@@ -1,0 +1,340 @@
+-- A connection that has failed stays failed. So where memory was not refused where it counts, it
+-- was not in any act.
+use Rattle.std.proofs.Common.{◌≡◌, ◌≢◌, ℕ, suc, Bool, true, false, if◌then◌else◌, List, ◌∷◌}
+use Rattle.std.proofs.Common.{take, drop}
+use Rattle.std.proofs.Common.{Option, Some, None, Result, Ok, Err, refl, sym, ap, subst, ◌∙◌}
+use Rattle.std.specs.List.{Contains}
+use Rattle.h2_frame.specs.declared.code.Code.{Code}
+use Rattle.h2_frame.specs.declared.code.Code.TheVariants.{InternalError}
+use Rattle.h2_log.specs.Acts.{Values, Act, Answer, IsTypedAct, Number, Count, Done, OutOfMemory}
+use Rattle.h2_log.specs.Acts.{Refused, Open, SendFields, Refuse, PutOut}
+use Rattle.h2_log.specs.Log.{Log}
+use Rattle.h2_log.specs.LogView.{log_view}
+use Rattle.h2_log.specs.CallRules.{returns_before_put_out}
+use Rattle.h2_log.specs.LogSteps.{with_sent, with_credit_returned}
+use Rattle.h2_log.specs.LogCalls.{MayAnswer, with_call, called, with_items, before_put_out}
+use Rattle.h2_end_laws.proofs.Failures.{sent_failed, unreturned_failed}
+use Rattle.h2_end_laws.proofs.TakeAnswers.{log_after_take}
+use Rattle.h2_end_laws.specs.Takes.{Took, Failed}
+use Rattle.h2_log.specs.Events.{FieldsEvent}
+use Rattle.h2_message.specs.Messages.{SentMessage}
+use Rattle.h2_pair.specs.Tokens.{is_head_alone}
+use Rattle.h2_pair.proofs.FaultsInvariant.{first_in, later_in}
+use Rattle.h2_ends.specs.declared.refusal.EndRefusal.{EndRefusal}
+use Rattle.h2_ends.specs.Ends.{EndLog, EndAnswer, EndTook, EndFailed}
+use Rattle.h2_ends.specs.EndTakes.{EndMayTake, AnswersRefused, end_with_log, fails, hands_nothing}
+use Rattle.h2_ends.specs.EndTakes.{passes, hands_out, refuses, runs_out_of_memory}
+use Rattle.h2_ends.specs.EndCalls.{MayRequest, MayRespond}
+use Rattle.h2_ends.proofs.TakeRefusing.{memory_fails}
+use Rattle.h2_joined.specs.declared.act.Side.{Side}
+use Rattle.h2_joined.specs.declared.act.Side.TheVariants.{Client, Server}
+use Rattle.h2_joined.specs.declared.act.Acted.{Acted}
+use Rattle.h2_joined.specs.declared.act.Acted.TheVariants as acted
+use Rattle.h2_joined.specs.Joints as joints
+use Rattle.h2_joined.specs.Joints.{Doing, Delivers, JointEnd, Made, Delivery, Whole, Fails, Stops}
+use Rattle.h2_joined.specs.Joints.{IsDelivered, MayDo, IsCall, IsJoint, IsNextAct, HasStopped}
+use Rattle.h2_joined.specs.Joints.{MemorySufficed}
+use Rattle.h2_joined.specs.Joints.{acted_by, acted_as}
+use Rattle.h2_joined.proofs.JointHolds.{ActHadMemory, AllHadMemory}
+use Rattle.h2_joined.proofs.JointCalls.{IsOrdinary, answers_in_memory}
+use Rattle.h2_joined.proofs.JointChains.{KeptByCalls, holds_by_pump, holds_by_release}
+use Rattle.h2_joined.proofs.JointChains.{holds_by_refused_request, holds_by_refused_response}
+
+-- What a call writes does not make the connection fail,
+items_failed : (log : Log) (act : Act) (answer : Answer)
+    → (with_items log act answer).failed ≡ log.failed
+unfolding with_items
+items_failed log act answer = unreturned_failed _ _ ∙ sent_failed _ _
+
+-- nor what is returned before octets are given out,
+put_out_by : (log : Log) (b : Bool) → (if b then with_credit_returned log else log).failed
+    ≡ log.failed
+unfolding with_sent
+put_out_by log true = refl
+put_out_by log false = refl
+
+put_out_failed : (log : Log) → (before_put_out log).failed ≡ log.failed
+unfolding before_put_out
+put_out_failed log = put_out_by log (returns_before_put_out (log_view log))
+
+-- nor any call but the refusal of a stream.
+call_keeps : (log : Log) (act : Act) (answer : Answer)
+    → ((id code : ℕ) → act ≢ Refuse id code) → answer ≢ OutOfMemory
+    → (with_call log act answer).failed ≡ log.failed
+unfolding with_call
+call_keeps log act (Refused refusal) other out = refl
+call_keeps log act OutOfMemory other out = absurd (out refl)
+call_keeps log (Refuse id code) answer other out = absurd (other id code refl)
+call_keeps log (PutOut count) (Count given) other out =
+    put_out_failed (called log (PutOut count) (Count given))
+call_keeps log act answer other out = items_failed log act answer
+
+call_stays : (log : Log) (act : Act) (answer : Answer) → ((id code : ℕ) → act ≢ Refuse id code)
+    → MayAnswer log act answer → (with_call log act answer).failed ≡ log.failed
+call_stays log act answer other may =
+    call_keeps log act answer other (answers_in_memory log act answer other may)
+
+-- An end has failed with this code.
+abbrev HasFailed : Code → EndLog → Type 0
+HasFailed code end = end.log.failed ≡ Some code
+
+failed_kept : (code : Code) → KeptByCalls (HasFailed code)
+failed_kept code end act answer failed ordinary typed may =
+    call_stays end.log act answer (λ id c is. absurd (subst IsOrdinary is ordinary)) may ∙ failed
+
+request_keeps : (code : Code) (end after : EndLog) (message : SentMessage)
+    (result : Result ℕ EndRefusal) → MayRequest end message result after → HasFailed code end
+    → HasFailed code after
+unfolding MayRequest
+request_keeps code end after message (Ok id) (unbroken, fits, may, same) failed =
+    ap (λ (e : EndLog). e.log.failed) same
+    ∙ (call_stays end.log (Open message.head (is_head_alone message)) (Number id) (λ i c is. cc) may
+    ∙ failed)
+request_keeps code end after message (Err refusal) may failed =
+    holds_by_refused_request (HasFailed code) (failed_kept code) end after message refusal may
+    failed
+
+respond_keeps : (code : Code) (end after : EndLog) (id : ℕ) (message : SentMessage)
+    (result : Result (Unit {0}) EndRefusal) → MayRespond end id message result after
+    → HasFailed code end → HasFailed code after
+unfolding MayRespond
+respond_keeps code end after id message (Ok done) (asked, none, well, fits, may, same) failed =
+    ap (λ (e : EndLog). e.log.failed) same
+    ∙ (call_stays end.log (SendFields id message.head (is_head_alone message)) Done (λ i c is. cc)
+    may ∙ failed)
+respond_keeps code end after id message (Err refusal) may failed =
+    holds_by_refused_response (HasFailed code) (failed_kept code) end after id message refusal may
+    failed
+
+-- Where an act is done with an end that has failed, it stays failed,
+act_keeps : (one other new_one new_other : JointEnd) (doing : Doing) (answer : Acted) (code : Code)
+    → MayDo one other doing answer new_one new_other
+    → ((count : ℕ) → doing ≡ Delivers count → answer ≢ acted.Memory)
+    → HasFailed code one.happened → HasFailed code new_one.happened
+act_keeps one other _ _ _ _ code (joints.requests message result after typed may) goes_on failed =
+    request_keeps code one.happened after message result may failed
+act_keeps one other _ _ _ _ code (joints.responds id message result after small typed may) goes_on
+    failed = respond_keeps code one.happened after id message result may failed
+act_keeps one other _ _ _ _ code (joints.pumps result after may) goes_on failed =
+    holds_by_pump (HasFailed code) (failed_kept code) one.happened after result may failed
+act_keeps one other _ _ _ _ code (joints.releases_all result after may) goes_on failed =
+    holds_by_release (HasFailed code) (failed_kept code) one.happened after result may failed
+act_keeps one other _ _ _ _ code (joints.calls act answer call typed may) goes_on failed =
+    call_stays one.happened.log act answer (λ id c is. absurd (subst IsCall is call)) may ∙ failed
+act_keeps one other _ _ _ _ code (joints.moves count answer typed may) goes_on failed =
+    call_stays one.happened.log (PutOut count) answer (λ id c is. cc) may ∙ failed
+act_keeps one other _ _ _ _ code (joints.delivers count after up delivered) goes_on failed =
+    absurd (cc)
+act_keeps one other _ _ _ _ code (joints.delivery_fails count fault after up delivered) goes_on
+    failed = absurd (cc)
+act_keeps one other _ _ _ _ code (joints.has_failed count fault is) goes_on failed = failed
+act_keeps one other _ _ _ _ code (joints.delivery_stops count unused after up delivered) goes_on
+    failed = absurd (goes_on count refl refl)
+act_keeps one other _ _ _ _ code (joints.no_copy_of_a_request message) goes_on failed = failed
+act_keeps one other _ _ _ _ code (joints.no_copy_of_a_response id message) goes_on failed = failed
+
+-- and at the other nothing happens.
+other_stays : (one other new_one new_other : JointEnd) (doing : Doing) (answer : Acted)
+    → MayDo one other doing answer new_one new_other → new_other.happened ≡ other.happened
+other_stays one other _ _ _ _ (joints.requests message result after typed may) = refl
+other_stays one other _ _ _ _ (joints.responds id message result after small typed may) = refl
+other_stays one other _ _ _ _ (joints.pumps result after may) = refl
+other_stays one other _ _ _ _ (joints.releases_all result after may) = refl
+other_stays one other _ _ _ _ (joints.calls act answer call typed may) = refl
+other_stays one other _ _ _ _ (joints.moves count answer typed may) = refl
+other_stays one other _ _ _ _ (joints.delivers count after up delivered) = refl
+other_stays one other _ _ _ _ (joints.delivery_fails count fault after up delivered) = refl
+other_stays one other _ _ _ _ (joints.has_failed count fault is) = refl
+other_stays one other _ _ _ _ (joints.delivery_stops count unused after up delivered) = refl
+other_stays one other _ _ _ _ (joints.no_copy_of_a_request message) = refl
+other_stays one other _ _ _ _ (joints.no_copy_of_a_response id message) = refl
+
+-- A call of `take` that answers a failure leaves the connection failed so: where a stream was
+-- refused,
+refused_fails : (end after : EndLog) (log : Log) (count id : ℕ) (answer : EndAnswer)
+    (failed : Option Code) (code : Code) → log.failed ≡ failed
+    → AnswersRefused end log count id answer after failed → answer ≡ EndFailed code
+    → HasFailed code after
+unfolding AnswersRefused
+refused_fails end after log count id answer None code is answers so =
+    let one = answers.0 in absurd (cc)
+refused_fails end after log count id answer (Some fault) code is answers so =
+    let one = answers.0 in
+    let same : log.failed ≡ Some code = cc in
+    ap (λ (e : EndLog). e.log.failed) answers.1 ∙ same
+
+-- and else.
+take_fails : (end after : EndLog) (piece : List ℕ) (answer : EndAnswer) (code : Code)
+    → EndMayTake end piece answer after → answer ≡ EndFailed code → HasFailed code after
+take_fails end after piece answer code (fails fault log may answers same) is =
+    let down : log.failed ≡ Some fault =
+    (log_after_take end.log log piece (Failed fault) may).5 in
+    let so : log.failed ≡ Some code = cc in
+    ap (λ (e : EndLog). e.log.failed) same ∙ so
+take_fails end after piece answer code (hands_nothing used log may answers same) is = absurd (cc)
+take_fails end after piece answer code (passes used event log may unread answers same) is =
+    absurd (cc)
+take_fails end after piece answer code
+    (hands_out used event log may id part of readable answers same) is = absurd (cc)
+take_fails end after piece answer code
+    (refuses used event log may id part of stops refused answers leads) is =
+    refused_fails end after (with_call log (Refuse id 1) refused) used id answer _ code refl leads
+    is
+take_fails end after piece answer code
+    (runs_out_of_memory used id list ends log may role first readable refused answers_it answers
+    same) is =
+    let down : (with_call log (Refuse id 2) refused).failed ≡ Some InternalError =
+    memory_fails log id refused
+    (log_after_take end.log log piece (Took used (Some (FieldsEvent id list ends))) may).6
+    answers_it in
+    let so : (with_call log (Refuse id 2) refused).failed ≡ Some code = cc in
+    ap (λ (e : EndLog). e.log.failed) same ∙ so
+
+-- So does a delivery that fails.
+delivery_fails : (calls : ℕ) (end after : EndLog) (octets : List ℕ) (delivery : Delivery)
+    (code : Code) → IsDelivered calls end octets delivery after → delivery ≡ Fails code
+    → HasFailed code after
+delivery_fails _ end after _ _ code (joints.is_whole calls octets few may) is = absurd (cc)
+delivery_fails _ end after _ _ code
+    (joints.goes_on {between = between} calls octets count handed delivery few may more
+    delivered) is =
+    delivery_fails (suc calls) between after (drop count octets) delivery code delivered is
+delivery_fails _ end after _ _ code (joints.fails calls octets fault few may) is =
+    let same : EndFailed fault ≡ EndFailed code = cc in
+    take_fails end after octets (EndFailed fault) code may same
+delivery_fails _ end after _ _ code (joints.stops calls octets count handed few may) is =
+    absurd (cc)
+delivery_fails _ end after _ _ code (joints.no_call_is_left octets) is = absurd (cc)
+
+-- No call answers a failure.
+id_is_none : (result : Result ℕ EndRefusal) (code : Code)
+    → acted_by acted.Id result ≢ acted.Failed code
+id_is_none (Ok id) code is = cc
+id_is_none (Err refusal) code is = cc
+
+count_is_none : (result : Result ℕ EndRefusal) (code : Code)
+    → acted_by acted.Count result ≢ acted.Failed code
+count_is_none (Ok count) code is = cc
+count_is_none (Err refusal) code is = cc
+
+done_is_none : (result : Result (Unit {0}) EndRefusal) (code : Code)
+    → acted_by (λ done. acted.Done) result ≢ acted.Failed code
+done_is_none (Ok done) code is = cc
+done_is_none (Err refusal) code is = cc
+
+answer_is_none : (answer : Answer) (code : Code) → acted_as answer ≢ acted.Failed code
+answer_is_none (Number id) code is = cc
+answer_is_none (Count count) code is = cc
+answer_is_none Done code is = cc
+answer_is_none OutOfMemory code is = cc
+answer_is_none (Refused refusal) code is = cc
+
+-- An act that answers a failure leaves the end failed so.
+act_fails : (one other new_one new_other : JointEnd) (doing : Doing) (answer : Acted) (code : Code)
+    → MayDo one other doing answer new_one new_other → answer ≡ acted.Failed code
+    → HasFailed code new_one.happened
+act_fails one other _ _ _ _ code (joints.requests message result after typed may) is =
+    absurd (id_is_none result code is)
+act_fails one other _ _ _ _ code (joints.responds id message result after small typed may) is =
+    absurd (done_is_none result code is)
+act_fails one other _ _ _ _ code (joints.pumps result after may) is =
+    absurd (count_is_none result code is)
+act_fails one other _ _ _ _ code (joints.releases_all result after may) is =
+    absurd (done_is_none result code is)
+act_fails one other _ _ _ _ code (joints.calls act answer call typed may) is =
+    absurd (answer_is_none answer code is)
+act_fails one other _ _ _ _ code (joints.moves count answer typed may) is =
+    absurd (answer_is_none answer code is)
+act_fails one other _ _ _ _ code (joints.delivers count after up delivered) is = absurd (cc)
+act_fails one other _ _ _ _ code (joints.delivery_fails count fault after up delivered) is =
+    let same : Fails fault ≡ Fails code = cc in
+    delivery_fails 0 one.happened after (take count one.incoming) (Fails fault) code delivered same
+act_fails one other _ _ _ _ code (joints.has_failed count fault failed) is = cc
+act_fails one other _ _ _ _ code (joints.delivery_stops count unused after up delivered) is =
+    absurd (cc)
+act_fails one other _ _ _ _ code (joints.no_copy_of_a_request message) is = absurd (cc)
+act_fails one other _ _ _ _ code (joints.no_copy_of_a_response id message) is = absurd (cc)
+
+-- an act that was made
+abbrev made_so : Side → Doing → Acted → Made
+made_so side doing answer = record { side = side; doing = doing; acted = answer }
+
+-- It is no delivery that has stopped.
+goes_on_by : (side : Side) (doing : Doing) (answer : Acted) (made : List Made)
+    → (HasStopped (made_so side doing answer ∷ made) → ⊥) → (count : ℕ) → doing ≡ Delivers count
+    → answer ≢ acted.Memory
+goes_on_by side doing answer made kept count is memory =
+    kept (
+      side,
+      count,
+      subst (λ (one : Made). Contains (made_so side doing answer ∷ made) one)
+          (ap (λ (d : Doing). made_so side d answer) is
+          ∙ ap (λ (a : Acted). made_so side (Delivers count) a) memory)
+          (first_in (made_so side doing answer) made),
+    )
+
+had_memory_in : (side : Side) (made : List Made) (one other new_one new_other : JointEnd)
+    (doing : Doing) (answer : Acted) → MayDo one other doing answer new_one new_other
+    → (HasStopped (made_so side doing answer ∷ made) → ⊥)
+    → new_one.happened.log.failed ≢ Some InternalError
+    → ActHadMemory (made_so side doing answer)
+had_memory_in side made one other new_one new_other doing answer may kept went_on =
+    record {
+      kept = λ at count is. kept (
+        at,
+        count,
+        subst (λ (act : Made). Contains (made_so side doing answer ∷ made) act) is
+            (first_in (made_so side doing answer) made),
+      );
+      connection = λ is. went_on
+          (act_fails one other new_one new_other doing answer InternalError may is);
+    }
+
+-- So was it before an act, and in the act.
+had_before : (made : List Made) (client server new_client new_server : JointEnd) (act : Made)
+    → IsNextAct made client server act new_client new_server
+    → MemorySufficed (act ∷ made) new_client new_server
+    → ActHadMemory act × MemorySufficed made client server
+had_before made client server new_client new_server _
+    (joints.at_client goes_on doing answer may order) had = (
+      had_memory_in Client made client server new_client new_server doing answer may had.kept
+          had.client_went_on,
+      record {
+        kept = goes_on;
+        client_went_on = λ failed. had.client_went_on (act_keeps client server new_client new_server
+            doing answer InternalError may (goes_on_by Client doing answer made had.kept) failed);
+        server_went_on = λ failed. had.server_went_on
+            (ap (λ (e : EndLog). e.log.failed)
+            (other_stays client server new_client new_server doing answer may) ∙ failed);
+      },
+    )
+had_before made client server new_client new_server _
+    (joints.at_server goes_on doing answer may order) had = (
+      had_memory_in Server made server client new_server new_client doing answer may had.kept
+          had.server_went_on,
+      record {
+        kept = goes_on;
+        client_went_on = λ failed. had.client_went_on
+            (ap (λ (e : EndLog). e.log.failed)
+            (other_stays server client new_server new_client doing answer may) ∙ failed);
+        server_went_on = λ failed. had.server_went_on (act_keeps server client new_server new_client
+            doing answer InternalError may (goes_on_by Server doing answer made had.kept) failed);
+      },
+    )
+had_before made client server _ _ _ (joints.stands_still stopped side doing) had =
+    let (at, count, here) = stopped in
+    absurd (had.kept (
+      at,
+      count,
+      later_in (made_so side doing acted.Memory) made (joints.stopping at count) here,
+    ))
+
+-- So memory was not refused in any act.
+pub had_memory : (client_values server_values : Values) (made : List Made)
+    (client server : JointEnd) → IsJoint client_values server_values made client server
+    → MemorySufficed made client server → AllHadMemory made
+had_memory client_values server_values _ _ _ (joints.begins client_range server_range) had = tt
+had_memory client_values server_values _ new_client new_server
+    (joints.continues {history = made} {client = client} {server = server} is act next) had =
+    let before = had_before made client server new_client new_server act next had in
+    (before.0, had_memory client_values server_values made client server is before.1)

@@ -1,0 +1,24 @@
+-- By the lemma of a pair on either direction.
+use Rattle.h2_pair.proofs.BothWays.{ends_to_server, ends_to_client}
+use Rattle.h2_pair.proofs.ConnectionWindows.{connection_conserved}
+use Rattle.h2_joined.specs.Joints.{half_of}
+use Rattle.h2_joined.proofs.JointActs.{joint_holds}
+use Rattle.h2_joined.proofs.laws.connection_windows_are_conserved.Goals as goal
+
+pub returns-clause-to_server : goal.returns-clause-to_server
+returns-clause-to_server c = λ client_values server_values made client server way back bound is up
+    sent returned below.
+    let holds = joint_holds client_values server_values made client server is in
+    let one = half_of client holds.client_lost in
+    let other = half_of server holds.server_lost in
+    connection_conserved one other way back bound
+    (ends_to_server client_values server_values one other holds.pair) up sent returned below
+
+pub returns-clause-to_client : goal.returns-clause-to_client
+returns-clause-to_client c = λ client_values server_values made client server way back bound is up
+    sent returned below.
+    let holds = joint_holds client_values server_values made client server is in
+    let one = half_of client holds.client_lost in
+    let other = half_of server holds.server_lost in
+    connection_conserved other one way back bound
+    (ends_to_client client_values server_values one other holds.pair) up sent returned below

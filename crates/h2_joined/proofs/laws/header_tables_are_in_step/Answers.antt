@@ -1,0 +1,17 @@
+-- By the lemmas of a pair on either direction.
+use Rattle.h2_pair.proofs.TablesOfPairs.{tables_to_server, tables_to_client}
+use Rattle.h2_joined.specs.Joints.{half_of}
+use Rattle.h2_joined.proofs.JointActs.{joint_holds}
+use Rattle.h2_joined.proofs.laws.header_tables_are_in_step.Goals as goal
+
+pub returns-clause-to_server : goal.returns-clause-to_server
+returns-clause-to_server c = λ client_values server_values made client server way is under_way.
+    let holds = joint_holds client_values server_values made client server is in
+    tables_to_server client_values server_values (half_of client holds.client_lost)
+    (half_of server holds.server_lost) way holds.pair under_way
+
+pub returns-clause-to_client : goal.returns-clause-to_client
+returns-clause-to_client c = λ client_values server_values made client server way is under_way.
+    let holds = joint_holds client_values server_values made client server is in
+    tables_to_client client_values server_values (half_of client holds.client_lost)
+    (half_of server holds.server_lost) way holds.pair under_way
