@@ -1,0 +1,2 @@
+pub mod GivesLemmas
+pub mod TakesLemmas

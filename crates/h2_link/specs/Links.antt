@@ -1,0 +1,40 @@
+-- What the calls of a link say: the octets that it gives and takes, and whether it fails.
+use Rattle.std.specs.Prelude.{◌≡◌, ◌≤◌, ℕ, ◌+◌, List, [], length, take, Option}
+use Rattle.std.specs.Prelude.{Result, Ok, Err}
+use Rattle.std.specs.Io.KnownBytes.{Appends}
+use Rattle.h2_link.specs.declared.link.LinkFault.{LinkFault}
+use Rattle.h2_link.specs.declared.error.LinkError.{LinkError}
+use Rattle.h2_link.specs.declared.error.LinkError.TheVariants as errors
+
+-- how often a link has failed, after a call
+abbrev pub failures_after : {A : Type 0} → ℕ → Result A LinkFault → ℕ
+failures_after failures (Ok value) = failures
+failures_after failures (Err fault) = failures + 1
+
+-- A read gave the first octets of the buffer, at most all of them; one that failed gave none.
+abbrev pub Gives : (before after : Option (List ℕ)) → Result ℕ LinkFault → List ℕ → Type 0
+Gives before after (Ok count) buffer = (count ≤ length buffer) × Appends before after
+    (take count buffer)
+Gives before after (Err fault) buffer = Appends before after []
+
+-- The link took the first octets, so many of them.
+pub record TakesFirst (before after : Option (List ℕ)) (octets : List ℕ) (count : ℕ) : Type 0 where
+  pub within : count ≤ length octets
+  pub took : Appends before after (take count octets)
+
+-- A write took the first octets, as many as it says; one that failed took some first ones, or none.
+abbrev pub Takes : (before after : Option (List ℕ)) → Result ℕ LinkFault → List ℕ → Type 0
+Takes before after (Ok count) octets = TakesFirst before after octets count
+Takes before after (Err fault) octets = (count : ℕ) × TakesFirst before after octets count
+
+-- All octets were taken; or some first ones, or none: the link has failed, or has taken nothing in
+-- a call.
+unfoldable pub WritesAll : (before after : Option (List ℕ)) → (failures failures_now : ℕ)
+    → Result (Unit {0}) LinkError → List ℕ → Type 0
+WritesAll before after failures failures_now (Ok done) octets =
+    Appends before after octets × (failures_now ≡ failures)
+WritesAll before after failures failures_now (Err errors.Device) octets =
+    ((count : ℕ) × TakesFirst before after octets count) × (failures_now ≡ failures + 1)
+WritesAll before after failures failures_now (Err errors.NoProgress) octets =
+    ((count : ℕ) × TakesFirst before after octets count) × (failures_now ≡ failures)
+WritesAll before after failures failures_now (Err other) octets = ⊥

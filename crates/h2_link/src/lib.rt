@@ -1,0 +1,14 @@
+//! Links: what carries the octets of a connection. A link reads and writes, and may fail.
+#![tactic(auto)]
+
+mod error;
+mod link;
+mod memory;
+#[cfg(test)]
+mod tests;
+mod writing;
+
+pub use error::LinkError;
+pub use link::{Link, LinkFault};
+pub use memory::MemoryLink;
+pub use writing::write_all;

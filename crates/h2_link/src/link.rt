@@ -1,0 +1,51 @@
+//! What a link is.
+
+ghost use Rattle.std.specs.Prelude.{◌≡◌, ◌<◌, ◌-◌, ◌^◌, ℕ, List, [], Option, length};
+ghost use Rattle.std.specs.Io.KnownBytes.{Appends};
+ghost use Rattle.h2_link.specs.Links.{failures_after, Gives, Takes};
+
+use thiserror::Error;
+
+/// A call of a link has failed. Nothing more is known of it.
+#[derive(Clone, Copy, Debug, PartialEq, Eq, Error)]
+#[error("a read or a write has failed")]
+pub struct LinkFault;
+
+/// What carries the octets of a connection, both ways. It waits for its peer where it has to.
+pub trait Link {
+    /// All octets that it has given so far, where it tells; a socket doesn't.
+    ghost given: { Self → Option (List ℕ) };
+
+    /// All octets that it has taken so far, where it tells.
+    ghost taken: { Self → Option (List ℕ) };
+
+    /// How many of its calls have failed.
+    ghost faults: { Self → ℕ };
+
+    /// Reads octets to the front of a buffer, and answers how many; 0 is the end of the input.
+    ///
+    /// # Errors
+    ///
+    /// [`LinkFault`] where the read failed: nothing was read.
+    fn read(&mut self, buffer: &mut [u8]) -> Result<usize, LinkFault>
+        requires { faults self.old < 2 ^ 64 - 1 }
+        ensures length { length buffer.new ≡ length buffer.old }
+        ensures gives { Gives (given self.old) (given self.new) result buffer.new }
+        ensures takes_none { Appends (taken self.old) (taken self.new) [] }
+        ensures failures { faults self.new ≡ failures_after (faults self.old) result };
+
+    /// Writes the first of the octets, and answers how many.
+    ///
+    /// # Errors
+    ///
+    /// [`LinkFault`] where the write failed: some first octets may have been written.
+    fn write(&mut self, octets: &[u8]) -> Result<usize, LinkFault>
+        requires { faults self.old < 2 ^ 64 - 1 }
+        ensures takes { Takes (taken self.old) (taken self.new) result octets.now }
+        ensures gives_none { Appends (given self.old) (given self.new) [] }
+        ensures failures { faults self.new ≡ failures_after (faults self.old) result };
+
+    /// How many of its calls have failed: one more after each that does, and after no other.
+    fn failures(&self) -> u64
+        ensures { result ≡ faults self.now };
+}

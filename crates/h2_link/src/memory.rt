@@ -1,0 +1,121 @@
+//! A link in memory.
+
+ghost use Rattle.std.specs.Prelude.{◌≡◌, ◌≤◌, ◌<◌, ◌-◌, ◌^◌, [], take, length, Some};
+
+use crate::link::{Link, LinkFault};
+use std::alloc::Global;
+
+/// A link in memory, for tests: it gives the octets of an input, keeps what it takes, and reads and
+/// writes so many octets a call at most. One of its calls may fail.
+#[derive(Drop)]
+pub struct MemoryLink {
+    input: Vec<u8>,
+    used: usize,
+    output: Vec<u8>,
+    most_read: usize,
+    most_written: usize,
+    fails_in: Option<u64>,
+    failures: u64,
+}
+
+impl MemoryLink {
+    ghost use Rattle.h2_link.specs.Memory.{octets_given, octets_taken};
+
+    /// A link that gives these octets and then the end, whole at a time.
+    pub fn new(alloc: Global, input: Vec<u8>) -> MemoryLink
+        ensures given { octets_given result ≡ [] }
+        ensures taken { octets_taken result ≡ [] }
+    {
+        MemoryLink {
+            input,
+            used: 0,
+            output: Vec::new(alloc),
+            most_read: usize::MAX,
+            most_written: usize::MAX,
+            fails_in: None,
+            failures: 0,
+        }
+    }
+
+    /// The same link, which reads and writes at most so many octets a call. With 0 it is at its
+    /// end, or takes nothing.
+    pub fn with_most(mut self, read: usize, written: usize) -> MemoryLink
+        ensures given { octets_given result ≡ octets_given self }
+        ensures taken { octets_taken result ≡ octets_taken self }
+    {
+        self.most_read = read;
+        self.most_written = written;
+        self
+    }
+
+    /// The same link, whose call after so many more fails: 0 is the next one.
+    pub fn failing_after(mut self, calls: u64) -> MemoryLink
+        ensures given { octets_given result ≡ octets_given self }
+        ensures taken { octets_taken result ≡ octets_taken self }
+    {
+        self.fails_in = Some(calls);
+        self
+    }
+
+    /// What it has taken.
+    pub fn output(&self) -> &[u8]
+        ensures { result.now ≡ octets_taken self.now }
+    {
+        &self.output
+    }
+
+    /// Whether this call fails.
+    fn fails(&mut self) -> bool
+        ensures given { octets_given self.new ≡ octets_given self.old }
+        ensures input { self.new.input ≡ self.old.input }
+        ensures used { self.new.used ≡ self.old.used }
+        ensures taken { octets_taken self.new ≡ octets_taken self.old }
+        ensures failures { self.new.failures ≡ self.old.failures }
+    {
+        let Some(calls) = self.fails_in else {
+            return false;
+        };
+        if calls == 0 {
+            self.fails_in = None;
+            return true;
+        }
+        self.fails_in = Some(calls - 1);
+        false
+    }
+}
+
+impl Link for MemoryLink {
+    ghost given = { λ link. Some (take link.used link.input.items) };
+
+    ghost taken = { λ link. Some link.output.items };
+
+    ghost faults = { λ link. link.failures };
+
+    fn read(&mut self, buffer: &mut [u8]) -> Result<usize, LinkFault> {
+        if self.fails() {
+            self.failures += 1;
+            return Err(LinkFault);
+        }
+        if self.used >= self.input.len() {
+            return Ok(0);
+        }
+        let left = self.input.len() - self.used;
+        let count = left.min(self.most_read).min(buffer.len());
+        buffer[..count].copy_from_slice(&self.input[self.used..self.used + count]);
+        self.used += count;
+        Ok(count)
+    }
+
+    fn write(&mut self, octets: &[u8]) -> Result<usize, LinkFault> {
+        let count = octets.len().min(self.most_written);
+        if self.fails() || self.output.extend_from_slice(&octets[..count]).is_err() {
+            self.failures += 1;
+            return Err(LinkFault);
+        }
+        Ok(count)
+    }
+
+    fn failures(&self) -> u64 {
+        self.failures
+    }
+}

@@ -1,0 +1,33 @@
+//! Writing all octets.
+
+ghost use Rattle.std.specs.Prelude.{◌≡◌, ◌<◌, ◌-◌, ◌^◌, []};
+ghost use Rattle.std.specs.Io.KnownBytes.{Appends};
+ghost use Rattle.h2_link.specs.Links.{WritesAll};
+
+use crate::error::LinkError;
+use crate::link::Link;
+
+/// Writes all octets, in as many calls as it takes.
+///
+/// # Errors
+///
+/// N1 where a write failed, N5 where one took nothing; some first octets were written.
+pub fn write_all<L: Link>(link: &mut L, octets: &[u8]) -> Result<(), LinkError>
+    requires { L.faults link.old < 2 ^ 64 - 1 }
+    ensures writes { WritesAll (L.taken link.old) (L.taken link.new) (L.faults link.old)
+        (L.faults link.new) result octets.now }
+    ensures gives_none { Appends (L.given link.old) (L.given link.new) [] }
+{
+    let mut written = 0usize;
+    for _ in 0..octets.len() {
+        if written == octets.len() {
+            break;
+        }
+        match link.write(&octets[written..]) {
+            Ok(0) => return Err(LinkError::NoProgress),
+            Ok(count) => written += count,
+            Err(_) => return Err(LinkError::Device),
+        }
+    }
+    Ok(())
+}
