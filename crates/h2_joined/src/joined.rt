@@ -6,7 +6,7 @@ ghost use Rattle.h2_log.specs.Acts.{Values};
 ghost use Rattle.h2_log.specs.declared.role.Role.TheVariants as roles;
 ghost use Rattle.h2_joined.specs.declared.act.Acted.TheVariants.{Memory};
 ghost use Rattle.h2_joined.specs.Headline.{AreQuiet};
-ghost use Rattle.h2_joined.specs.Joints.{JointEnd, Made, new_joint_end};
+ghost use Rattle.h2_joined.specs.Joints.{HasStopped, JointEnd, Made, new_joint_end};
 ghost use Rattle.h2_joined.specs.Kept.{MakesAct, HoldsOctets, JoinedRepresents, kept_of, made_of};
 ghost use Rattle.h2_joined.specs.Kept.{other_side};
 
@@ -62,12 +62,22 @@ impl Joined {
     /// none are delivered. Once a delivery has answered [`Acted::Memory`] the two ends stand still.
     pub fn act(&mut self, act: &JointAct) -> Acted
         ensures acts { MakesAct self.old (made_of act.now result) self.new }
-        ensures stands_still { self.old.stopped ≡ true
-            → (result ≡ Memory) × (self.new ≡ self.old) }
+        ensures stands_still { (client_values server_values : Values) (history : List Made)
+            (client server : JointEnd)
+            → JoinedRepresents client_values server_values self.old history client server
+            → HasStopped history → (result ≡ Memory) × (self.new ≡ self.old) }
     {
         if self.stopped {
             return Acted::Memory;
         }
+        self.make(act)
+    }
+
+    /// Makes an act at ends that don't stand still.
+    fn make(&mut self, act: &JointAct) -> Acted
+        requires { self.old.stopped ≡ false }
+        ensures { MakesAct self.old (made_of act.now result) self.new }
+    {
         match act {
             JointAct::Request(message) => self.request(message),
             JointAct::Respond { id, message } => self.respond(*id, message),
