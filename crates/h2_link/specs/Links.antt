@@ -1,5 +1,5 @@
 -- What the calls of a link say: the octets that it gives and takes, and whether it fails.
-use Rattle.std.specs.Prelude.{◌≡◌, ◌≤◌, ℕ, ◌+◌, List, [], length, take, Option}
+use Rattle.std.specs.Prelude.{◌≡◌, ◌≤◌, ℕ, ◌+◌, ◌==◌, Bool, ◌||◌, List, [], length, take, Option}
 use Rattle.std.specs.Prelude.{Result, Ok, Err}
 use Rattle.std.specs.Io.KnownBytes.{Appends}
 use Rattle.h2_link.specs.declared.link.LinkFault.{LinkFault}
@@ -10,6 +10,11 @@ use Rattle.h2_link.specs.declared.error.LinkError.TheVariants as errors
 abbrev pub failures_after : {A : Type 0} → ℕ → Result A LinkFault → ℕ
 failures_after failures (Ok value) = failures
 failures_after failures (Err fault) = failures + 1
+
+-- whether a link has told the end of its input, after a read
+abbrev pub ended_after : Bool → Result ℕ LinkFault → Bool
+ended_after ended (Ok count) = (count == 0) || ended
+ended_after ended (Err fault) = ended
 
 -- A read gave the first octets of the buffer, at most all of them; one that failed gave none.
 abbrev pub Gives : (before after : Option (List ℕ)) → Result ℕ LinkFault → List ℕ → Type 0

@@ -1,8 +1,8 @@
 //! What a link is.
 
-ghost use Rattle.std.specs.Prelude.{◌≡◌, ◌<◌, ◌-◌, ◌^◌, ℕ, List, [], Option, length};
+ghost use Rattle.std.specs.Prelude.{◌≡◌, ◌<◌, ◌-◌, ◌^◌, ℕ, Bool, List, [], Option, length};
 ghost use Rattle.std.specs.Io.KnownBytes.{Appends};
-ghost use Rattle.h2_link.specs.Links.{failures_after, Gives, Takes};
+ghost use Rattle.h2_link.specs.Links.{failures_after, ended_after, Gives, Takes};
 
 use thiserror::Error;
 
@@ -19,6 +19,9 @@ pub trait Link {
     /// All octets that it has taken so far, where it tells.
     ghost taken: { Self → Option (List ℕ) };
 
+    /// Whether it has told the end of its input.
+    ghost ended: { Self → Bool };
+
     /// How many of its calls have failed.
     ghost faults: { Self → ℕ };
 
@@ -32,6 +35,7 @@ pub trait Link {
         ensures length { length buffer.new ≡ length buffer.old }
         ensures gives { Gives (given self.old) (given self.new) result buffer.new }
         ensures takes_none { Appends (taken self.old) (taken self.new) [] }
+        ensures ended { ended self.new ≡ ended_after (ended self.old) result }
         ensures failures { faults self.new ≡ failures_after (faults self.old) result };
 
     /// Writes the first of the octets, and answers how many.
@@ -43,6 +47,7 @@ pub trait Link {
         requires { faults self.old < 2 ^ 64 - 1 }
         ensures takes { Takes (taken self.old) (taken self.new) result octets.now }
         ensures gives_none { Appends (given self.old) (given self.new) [] }
+        ensures ended { ended self.new ≡ ended self.old }
         ensures failures { faults self.new ≡ failures_after (faults self.old) result };
 
     /// How many of its calls have failed: one more after each that does, and after no other.

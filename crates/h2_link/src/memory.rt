@@ -15,6 +15,7 @@ pub struct MemoryLink {
     most_read: usize,
     most_written: usize,
     fails_in: Option<u64>,
+    ended: bool,
     failures: u64,
 }
 
@@ -33,6 +34,7 @@ impl MemoryLink {
             most_read: usize::MAX,
             most_written: usize::MAX,
             fails_in: None,
+            ended: false,
             failures: 0,
         }
     }
@@ -70,6 +72,7 @@ impl MemoryLink {
         ensures input { self.new.input ≡ self.old.input }
         ensures used { self.new.used ≡ self.old.used }
         ensures taken { octets_taken self.new ≡ octets_taken self.old }
+        ensures ended { self.new.ended ≡ self.old.ended }
         ensures failures { self.new.failures ≡ self.old.failures }
     {
         let Some(calls) = self.fails_in else {
@@ -89,6 +92,8 @@ impl Link for MemoryLink {
 
     ghost taken = { λ link. Some link.output.items };
 
+    ghost ended = { λ link. link.ended };
+
     ghost faults = { λ link. link.failures };
 
     fn read(&mut self, buffer: &mut [u8]) -> Result<usize, LinkFault> {
@@ -97,12 +102,14 @@ impl Link for MemoryLink {
             return Err(LinkFault);
         }
         if self.used >= self.input.len() {
+            self.ended = true;
             return Ok(0);
         }
         let left = self.input.len() - self.used;
         let count = left.min(self.most_read).min(buffer.len());
         buffer[..count].copy_from_slice(&self.input[self.used..self.used + count]);
         self.used += count;
+        self.ended = count == 0 || self.ended;
         Ok(count)
     }
 

@@ -17,6 +17,7 @@ pub fn write_all<L: Link>(link: &mut L, octets: &[u8]) -> Result<(), LinkError>
     ensures writes { WritesAll (L.taken link.old) (L.taken link.new) (L.faults link.old)
         (L.faults link.new) result octets.now }
     ensures gives_none { Appends (L.given link.old) (L.given link.new) [] }
+    ensures ended { L.ended link.new ≡ L.ended link.old }
 {
     let mut written = 0usize;
     for _ in 0..octets.len() {

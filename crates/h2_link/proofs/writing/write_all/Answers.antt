@@ -31,6 +31,7 @@ loop-preserved g c =
       counted = omega arith;
       failures = c.in-Ok.ensures.failures ∙ kept.failures;
       taken = took.took;
+      ended = c.in-Ok.ensures.ended ∙ kept.ended;
       given = Appends-trans _ _ _ [] [] kept.given c.in-Ok.ensures.gives_none;
     }
 

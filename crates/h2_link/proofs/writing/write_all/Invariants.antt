@@ -11,5 +11,6 @@ invariant-loop g l =
       failures : g.L.Link.faults l.link ≡ g.L.Link.faults l.initial.link;
       taken : Appends (g.L.Link.taken l.initial.link) (g.L.Link.taken l.link)
           (take l.written l.octets);
+      ended : g.L.Link.ended l.link ≡ g.L.Link.ended l.initial.link;
       given : Appends (g.L.Link.given l.initial.link) (g.L.Link.given l.link) [];
     }

@@ -1,0 +1,331 @@
+-- A fetch over a link, from its start to its end.
+use Rattle.std.proofs.Common.{◌≡◌, ℕ, Bool, true, false, List, [], take, Option, Some, None}
+use Rattle.std.proofs.Common.{Result, Ok, Err, IfOk, IfErr, refl, sym, ap, ◌∙◌, subst, inl}
+use Rattle.std.specs.Io.KnownBytes.{Appends}
+use Rattle.h2_log.specs.Acts.{Values}
+use Rattle.h2_message.specs.Messages.{SentMessage}
+use Rattle.h2_message.specs.Reading.{Part}
+use Rattle.h2_pair.specs.Pairs.{given_out}
+use Rattle.h2_ends.specs.Ends.{EndLog, message_for, parts_on}
+use Rattle.h2_ends.specs.Represents.{EndRepresents}
+use Rattle.h2_link.specs.declared.error.LinkError.{LinkError}
+use Rattle.h2_link.specs.declared.error.LinkError.TheVariants as errors
+use Rattle.h2_engines.specs.declared.fetcher.Coming.{Coming}
+use Rattle.h2_engines.specs.declared.fetcher.Fetched.{Fetched}
+use Rattle.h2_engines.specs.declared.fetcher.Fetcher.{Fetcher}
+use Rattle.h2_engines.specs.Failures.{CutsOffAtEnd, EndsWriting, IsOfCall, failures_told}
+use Rattle.h2_engines.specs.Fetches.{EndsFetchSo, Fetches}
+use Rattle.h2_engines.specs.Fetching.{IsFetching, IsFetched, releases, pumps}
+use Rattle.h2_engines.specs.FetchingSteps.{ClientReceives, ClientWrites, IsFetchedOf}
+use Rattle.h2_engines.specs.FetchingSteps.{IsFetchingOver, IsUnderWay, TakesPieceSo}
+use Rattle.h2_engines.specs.Keeping.{HasCome, IsWhole}
+use Rattle.h2_engines.specs.Linked.{Traffic, HasTakenAll}
+use Rattle.h2_engines.specs.Serving.{PumpsSome, ReleasesSome}
+use Rattle.h2_engines.proofs.FetchingCalls.{StaysUsed, pumped_stays, released_stays}
+use Rattle.h2_engines.proofs.FetchingLinks.{given_more, linked_in_part, linked_stays}
+use Rattle.h2_engines.proofs.FetchingLinks.{linked_written, taken_none}
+use Rattle.h2_engines.proofs.FetchingParts.{come_not_whole}
+use Rattle.h2_engines.proofs.FetchingStops.{unwritten_so}
+
+-- The fetch is under way, and all that was given was used.
+abbrev pub IsUp : Values → SentMessage → (start now : Traffic) → Fetcher → Type 0
+IsUp values message start now fetcher =
+    (end : EndLog) × IsUnderWay values message start now fetcher end []
+
+-- Where it was under way at first, it is now.
+abbrev pub FetchesOn : (before now : Traffic) → (old new : Fetcher) → Type 0
+FetchesOn before now old new =
+    (values : Values) (message : SentMessage) (start : Traffic)
+    → IsUp values message start before old → IsUp values message start now new
+
+-- What has come of the response stays.
+come_as : (old new : Fetcher) (before after : EndLog) → new.id ≡ old.id → new.coming ≡ old.coming
+    → after.handed ≡ before.handed → HasCome old.coming (parts_on old.id before.handed)
+    → HasCome new.coming (parts_on new.id after.handed)
+come_as old new before after id coming handed come =
+    subst (λ (one : Coming). HasCome one (parts_on new.id after.handed)) (sym coming)
+    (subst (HasCome old.coming)
+    (sym (ap (λ (number : ℕ). parts_on number after.handed) id ∙ ap (parts_on old.id) handed)) come)
+
+accepted_as : (old new : Fetcher) (before after : EndLog) (message : SentMessage)
+    → new.id ≡ old.id → after.accepted ≡ before.accepted
+    → message_for old.id before.accepted ≡ Some message
+    → message_for new.id after.accepted ≡ Some message
+accepted_as old new before after message id same accepted =
+    ap (λ (number : ℕ). message_for number after.accepted) id
+    ∙ ap (message_for old.id) same ∙ accepted
+
+-- So a fetch ends whose message was accepted.
+ends_over : (values : Values) (message : SentMessage) (start now : Traffic) (fetcher : Fetcher)
+    (end : EndLog) (unused : List ℕ) (result : Result Fetched LinkError)
+    → IsFetchingOver values message start now fetcher end unused
+    → EndsFetchSo start now end fetcher.id result → Fetches values message start now result
+ends_over values message start now fetcher end unused result over so =
+    record {
+      end = end;
+      fetching = over.fetching;
+      linked = linked_in_part start now end.log unused over.linked;
+      so = inl (record {
+        id = fetcher.id;
+        accepted = over.accepted;
+        sends = over.represents.streams.sent;
+        so = so;
+      });
+    }
+
+-- A call ends it.
+called_so : (start now : Traffic) (end : EndLog) (id : ℕ) (error : LinkError) → IsOfCall error
+    → EndsFetchSo start now end id (Err error)
+called_so start now end id errors.Memory is = tt
+called_so start now end id errors.NoProgress is = tt
+called_so start now end id error is = absurd is
+
+pub ends_called : (values : Values) (message : SentMessage) (start now : Traffic)
+    (fetcher : Fetcher) (error : LinkError) → IsOfCall error
+    → IsUp values message start now fetcher → Fetches values message start now (Err error)
+ends_called values message start now fetcher error is up =
+    ends_over values message start now fetcher up.0 [] (Err error) up.1.over
+    (called_so start now up.0 fetcher.id error is)
+
+-- The input didn't end then, and no call of the link failed.
+pub called_not_cut : (error : LinkError) (ended : Bool) → IsOfCall error
+    → CutsOffAtEnd {A = Fetched} (Err error) ended
+called_not_cut errors.Memory ended is = tt
+called_not_cut errors.NoProgress ended is = tt
+called_not_cut error ended is = absurd is
+
+pub called_told : (error : LinkError) (count : ℕ) → IsOfCall error
+    → failures_told {A = Fetched} count (Err error) ≡ count
+called_told errors.Memory count is = refl
+called_told errors.NoProgress count is = refl
+called_told error count is = absurd is
+
+-- What waits could not be written.
+pub ends_sending : (values : Values) (message : SentMessage) (start before now : Traffic)
+    (old new : Fetcher) (error : LinkError) → EndsWriting error
+    → ClientWrites before now old.client.end new.client.end (Err error)
+    → IsUp values message start before old → Fetches values message start now (Err error)
+ends_sending values message start before now old new error is client up =
+    let over = up.1.over in
+    let wrote = client values message start up.0 [] over.represents over.fetching over.linked in
+    record {
+      end = wrote.after;
+      fetching = wrote.fetching;
+      linked = record { unused = []; given = wrote.given; taken = wrote.taken };
+      so = inl (record {
+        id = old.id;
+        accepted = ap (message_for old.id) wrote.same.accepted ∙ over.accepted;
+        sends = wrote.represents.streams.sent;
+        so = unwritten_so start now wrote.after old.id error is;
+      });
+    }
+
+-- All that waits was written.
+pub record IsSent (values : Values) (message : SentMessage) (start now : Traffic)
+    (fetcher : Fetcher) : Type 0 where
+  pub after : EndLog
+  pub way : IsUnderWay values message start now fetcher after []
+  pub all : HasTakenAll start now after.log
+
+pub sends_all : (values : Values) (message : SentMessage) (start before now : Traffic)
+    (old new : Fetcher) (done : Unit {0}) → new.id ≡ old.id → new.coming ≡ old.coming
+    → ClientWrites before now old.client.end new.client.end (Ok done)
+    → IsUp values message start before old → IsSent values message start now new
+sends_all values message start before now old new done id coming client up =
+    let over = up.1.over in
+    let wrote = client values message start up.0 [] over.represents over.fetching over.linked in
+    record {
+      after = wrote.after;
+      way = record {
+        over = record {
+          fetching = wrote.fetching;
+          represents = wrote.represents;
+          linked = linked_written start now wrote.after.log [] wrote.given wrote.taken;
+          accepted = accepted_as old new up.0 wrote.after message id wrote.same.accepted
+              over.accepted;
+        };
+        up = wrote.same.failed ∙ up.1.up;
+        come = come_as old new up.0 wrote.after id coming wrote.same.handed up.1.come;
+      };
+      all = wrote.taken.taken;
+    }
+
+-- After a read more is to be used,
+read_over : (values : Values) (message : SentMessage) (start before now : Traffic)
+    (fetcher : Fetcher) (end : EndLog) (piece : List ℕ) → Appends before.given now.given piece
+    → Appends before.taken now.taken []
+    → IsFetchingOver values message start before fetcher end []
+    → IsFetchingOver values message start now fetcher end piece
+read_over values message start before now fetcher end piece gives takes over =
+    record {
+      fetching = over.fetching;
+      represents = over.represents;
+      linked = record {
+        given = given_more start before now end.log piece gives over.linked.given;
+        taken = taken_none start before now (given_out end.log) takes over.linked.taken;
+      };
+      accepted = over.accepted;
+    }
+
+pub reads_on : (values : Values) (message : SentMessage) (start before now : Traffic)
+    (fetcher : Fetcher) (count : ℕ) (buffer octets : List ℕ) → octets ≡ buffer
+    → Appends before.given now.given (take count buffer) → Appends before.taken now.taken []
+    → IsSent values message start before fetcher
+    → (end : EndLog) × IsUnderWay values message start now fetcher end (take count octets)
+reads_on values message start before now fetcher count buffer octets same gives takes sent =
+    let piece = take count octets in
+    let read : Appends before.given now.given piece =
+    subst (λ (all : List ℕ). Appends before.given now.given (take count all)) (sym same) gives in (
+      sent.after,
+      record {
+        over = read_over values message start before now fetcher sent.after piece read takes
+            sent.way.over;
+        up = sent.way.up;
+        come = sent.way.come;
+      },
+    )
+
+-- or the input has ended before the response was whole,
+pub ends_cut_off : (values : Values) (message : SentMessage) (start before now : Traffic)
+    (fetcher : Fetcher) (count : ℕ) (buffer : List ℕ) → count ≡ 0
+    → Appends before.given now.given (take count buffer) → Appends before.taken now.taken []
+    → IsSent values message start before fetcher
+    → Fetches values message start now (Err errors.CutOff)
+ends_cut_off values message start before now fetcher count buffer none gives takes sent =
+    let nothing = subst (λ (n : ℕ). Appends before.given now.given (take n buffer)) none gives in
+    let over = read_over values message start before now fetcher sent.after [] nothing takes
+    sent.way.over in
+    ends_over values message start now fetcher sent.after [] (Err errors.CutOff) over (
+      sent.way.up,
+      come_not_whole fetcher.coming (parts_on fetcher.id sent.after.handed) sent.way.come,
+      over.linked.given,
+      taken_none start before now sent.after.log.written takes sent.all,
+    )
+
+-- or the link has failed.
+pub ends_failed : (values : Values) (message : SentMessage) (start before now : Traffic)
+    (fetcher : Fetcher) → Appends before.given now.given [] → Appends before.taken now.taken []
+    → IsSent values message start before fetcher
+    → Fetches values message start now (Err errors.Device)
+ends_failed values message start before now fetcher gives takes sent =
+    ends_over values message start now fetcher sent.after [] (Err errors.Device)
+    (read_over values message start before now fetcher sent.after [] gives takes sent.way.over) tt
+
+-- It ends in a piece,
+pub ends_received : (values : Values) (message : SentMessage) (start before now : Traffic)
+    (old new : Fetcher) (piece : List ℕ) (error : LinkError)
+    → ClientReceives before now old new piece (Err error)
+    → (end : EndLog) × IsUnderWay values message start before old end piece
+    → Fetches values message start now (Err error)
+unfolding TakesPieceSo
+ends_received values message start before now old new piece error client up =
+    let so = client values message start up.0 up.1 in
+    record {
+      end = so.0;
+      fetching = so.1.0;
+      linked = so.1.2;
+      so = inl (record { id = new.id; accepted = so.1.3; sends = so.1.1; so = so.1.4 });
+    }
+
+-- which isn't where the input has ended;
+pub received_not_cut : (values : Values) (message : SentMessage) (start before now : Traffic)
+    (old new : Fetcher) (piece : List ℕ) (error : LinkError) (ended : Bool)
+    → ClientReceives before now old new piece (Err error)
+    → (end : EndLog) × IsUnderWay values message start before old end piece
+    → CutsOffAtEnd {A = Fetched} (Err error) ended
+unfolding TakesPieceSo
+received_not_cut values message start before now old new piece errors.CutOff ended client up =
+    let so = client values message start up.0 up.1 in
+    absurd (so.1.5 refl)
+received_not_cut values message start before now old new piece error ended client up = tt
+
+-- or goes on after it,
+pub receives_more : (values : Values) (message : SentMessage) (start before now : Traffic)
+    (old new : Fetcher) (piece : List ℕ) (is_whole : Bool) → is_whole ≡ false
+    → ClientReceives before now old new piece (Ok is_whole)
+    → (end : EndLog) × IsUnderWay values message start before old end piece
+    → IsUp values message start now new
+unfolding TakesPieceSo
+receives_more values message start before now old new piece is_whole not client up =
+    let so = subst (λ (whole : Bool). ClientReceives before now old new piece (Ok whole)) not
+    client in
+    so values message start up.0 up.1
+
+-- or the response is whole.
+abbrev content_of : {A : Type 0} → A → Option A → A
+content_of other None = other
+content_of other (Some one) = one
+
+fetched_as : (coming : Coming) (parts : List (Part × Bool)) (fetched : Fetched)
+    → IsWhole coming parts → IsFetchedOf coming fetched → IsFetched parts fetched
+fetched_as coming parts fetched whole of =
+    let is = whole.5 in
+    let interims = sym whole.2 ∙ of.interims in
+    let head = ap (content_of whole.0.head) (sym whole.1 ∙ of.head) in
+    let body = sym whole.3 ∙ of.body in
+    let trailers = sym whole.4 ∙ of.trailers in
+    record {
+      data_parts = is.data_parts;
+      whole = rw (← interims, ← head, ← trailers) is.whole;
+      body = rw (← body) is.body;
+    }
+
+pub ends_whole : (values : Values) (message : SentMessage) (start before now : Traffic)
+    (old new : Fetcher) (piece : List ℕ) (is_whole : Bool) (result : Result Fetched LinkError)
+    → is_whole ≡ true → IfOk result (λ fetched. IsFetchedOf new.coming fetched)
+    → IfErr result (λ error. error ≡ errors.NoProgress)
+    → ClientReceives before now old new piece (Ok is_whole)
+    → (end : EndLog) × IsUnderWay values message start before old end piece
+    → Fetches values message start now result
+unfolding TakesPieceSo
+ends_whole values message start before now old new piece is_whole (Ok fetched) whole of none client
+    up =
+    let so = subst (λ (one : Bool). ClientReceives before now old new piece (Ok one)) whole client
+    values message start up.0 up.1 in
+    ends_over values message start now new so.0 so.1.0.0 (Ok fetched) so.1.0.1
+    (fetched_as new.coming (parts_on new.id so.0.handed) fetched so.1.1 of)
+ends_whole values message start before now old new piece is_whole (Err error) whole of none client
+    up =
+    let so = subst (λ (one : Bool). ClientReceives before now old new piece (Ok one)) whole client
+    values message start up.0 up.1 in
+    subst (λ (one : LinkError). Fetches values message start now (Err one)) (sym none)
+    (ends_over values message start now new so.0 so.1.0.0 (Err errors.NoProgress) so.1.0.1 tt)
+
+-- After a release and a pump it is still under way.
+stays_up : (values : Values) (message : SentMessage) (start now : Traffic) (old new : Fetcher)
+    (before after : EndLog) → new.id ≡ old.id → new.coming ≡ old.coming
+    → EndRepresents values new.client.end after → IsFetching values message after
+    → StaysUsed before after → IsUnderWay values message start now old before []
+    → IsUp values message start now new
+stays_up values message start now old new before after id coming represents fetching stays way = (
+  after,
+  record {
+    over = record {
+      fetching = fetching;
+      represents = represents;
+      linked = linked_stays start now before after []
+          way.over.represents.streams.conn.machine.output.given stays way.over.linked;
+      accepted = accepted_as old new before after message id stays.accepted way.over.accepted;
+    };
+    up = stays.failed ∙ way.up;
+    come = come_as old new before after id coming stays.handed way.come;
+  },
+)
+
+pub released_up : (values : Values) (message : SentMessage) (start now : Traffic)
+    (old new : Fetcher) → new.id ≡ old.id → new.coming ≡ old.coming
+    → ReleasesSome old.client.end new.client.end → IsUp values message start now old
+    → IsUp values message start now new
+released_up values message start now old new id coming client up =
+    let one = client.1 values up.0 up.1.over.represents in
+    stays_up values message start now old new up.0 one.0 id coming one.2
+    (releases up.1.over.fetching client.0 one.1) (released_stays up.0 client.0 one.0 one.1) up.1
+
+pub pumped_up : (values : Values) (message : SentMessage) (start now : Traffic)
+    (old new : Fetcher) → new.id ≡ old.id → new.coming ≡ old.coming
+    → PumpsSome old.client.end new.client.end → IsUp values message start now old
+    → IsUp values message start now new
+pumped_up values message start now old new id coming client up =
+    let one = client.1 values up.0 up.1.over.represents in
+    stays_up values message start now old new up.0 one.0 id coming one.2
+    (pumps up.1.over.fetching client.0 one.1) (pumped_stays up.0 client.0 one.0 one.1) up.1

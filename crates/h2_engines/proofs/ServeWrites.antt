@@ -1,0 +1,187 @@
+-- What has happened at an end and over a link since its output began to be written.
+use Rattle.std.proofs.Common.{◌≡◌, ◌<◌, ℕ, ◌^◌, List, [], ◌++◌, take, Result, Ok, Err}
+use Rattle.std.proofs.Common.{sym, subst}
+use Rattle.std.specs.Io.KnownBytes.{Appends}
+use Rattle.h2_log.specs.declared.refusal.Refusal.{Refusal}
+use Rattle.h2_log.specs.Acts.{Values, Answer, PutOut, Count, Refused, IsTypedAct}
+use Rattle.h2_log.specs.LogCalls.{MayAnswer, with_call}
+use Rattle.h2_log.proofs.StreamLemmas.{Keeps-call}
+use Rattle.h2_conn.specs.Conn.{GivesOut}
+use Rattle.h2_link.specs.declared.error.LinkError.{LinkError}
+use Rattle.h2_ends.specs.declared.end.End.{End}
+use Rattle.h2_ends.specs.Ends.{EndLog}
+use Rattle.h2_ends.specs.EndTakes.{end_with_log}
+use Rattle.h2_ends.specs.Represents.{EndRepresents, EndAnswers}
+use Rattle.h2_engines.specs.Linked.{Traffic, HasGiven, IsLinked}
+use Rattle.h2_engines.specs.Serving.{IsSameOfMessages, TookBy}
+use Rattle.h2_engines.proofs.ServeOutput.{put_out_failed, refused_failed, put_out_octets}
+use Rattle.h2_engines.proofs.ServeOutput.{given_more, none_put}
+use Rattle.h2_engines.proofs.ServeEnds.{same_itself, same_twice, same_by_call, given_within}
+use Rattle.h2_engines.proofs.ServeEnds.{gives_as, linked_by, takes_first, given_first}
+use Rattle.h2_engines.proofs.ServeEnds.{refused_first}
+
+-- Where this may have happened at an end, it may also have put output out.
+abbrev pub MayPutOut : (EndLog → Type 0) → Type 0
+MayPutOut P =
+    (end : EndLog) (count : ℕ) (answer : Answer) → P end → IsTypedAct (PutOut count)
+    → MayAnswer end.log (PutOut count) answer
+    → P (end_with_log end (with_call end.log (PutOut count) answer))
+
+-- The link took all that the end has given out, and nothing has happened to messages since.
+pub record WritesOn (P : EndLog → Type 0) (values : Values) (start now : Traffic)
+    (before : EndLog) (new : End) (unused : List ℕ) : Type 0 where
+  pub after : EndLog
+  pub happened : P after
+  pub represents : EndRepresents values new after
+  pub same : IsSameOfMessages before after
+  pub linked : IsLinked start now after.log unused
+
+-- The end was written out, or as far as it went.
+pub record WritesOut (P : EndLog → Type 0) (values : Values) (start now : Traffic)
+    (before : EndLog) (new : End) (unused : List ℕ) (result : Result (Unit {0}) LinkError) : Type 0
+  where
+    pub after : EndLog
+    pub happened : P after
+    pub represents : EndRepresents values new after
+    pub same : IsSameOfMessages before after
+    pub given : HasGiven start now after.log unused
+    pub taken : TookBy start now after.log result
+
+-- Nothing was written yet.
+pub writes_nothing : (P : EndLog → Type 0) (values : Values) (start now : Traffic)
+    (end : EndLog) (server : End) (unused : List ℕ) → EndRepresents values server end → P end
+    → IsLinked start now end.log unused → WritesOn P values start now end server unused
+writes_nothing P values start now end server unused represents happened linked =
+    record {
+      after = end;
+      happened = happened;
+      represents = represents;
+      same = same_itself end;
+      linked = linked;
+    }
+
+-- The next octets are put out, and the link takes all of them.
+pub writes_more : (P : EndLog → Type 0) → MayPutOut P → (values : Values)
+    (start middle now : Traffic) (before : EndLog) (old new : End) (unused : List ℕ)
+    (count given : ℕ) (octets : List ℕ) → count < 2 ^ 64
+    → EndAnswers old (PutOut count) (Count given) new
+    → GivesOut old.conn count given [] octets → Appends middle.given now.given []
+    → Appends middle.taken now.taken octets
+    → WritesOn P values start middle before old unused
+    → WritesOn P values start now before new unused
+unfolding IsTypedAct
+writes_more P may values start middle now before old new unused count given octets typed answers
+    gives none took so =
+    let end = so.after in
+    let after = with_call end.log (PutOut count) (Count given) in
+    let put = answers values end so.represents in
+    let within = given_within values old end so.represents in
+    let same : octets ≡ put_out_octets end.log count given =
+    gives values end.log so.represents.streams.conn in
+    record {
+      after = end_with_log end after;
+      happened = may end count (Count given) so.happened typed put.0;
+      represents = put.1;
+      same = same_twice before end _ so.same
+          (same_by_call end _ _ (put_out_failed end.log count given));
+      linked = linked_by start middle now end.log after (put_out_octets end.log count given) unused
+          (Keeps-call end.log _ _).input (given_more end.log count given within) none
+          (subst (Appends middle.taken now.taken) same took) so.linked;
+    }
+
+-- Or only some of them.
+pub writes_first : (P : EndLog → Type 0) → MayPutOut P → (values : Values)
+    (start middle now : Traffic) (before : EndLog) (old new : End) (unused : List ℕ)
+    (count given : ℕ) (octets : List ℕ) (some : ℕ) (error : LinkError) → count < 2 ^ 64
+    → EndAnswers old (PutOut count) (Count given) new
+    → GivesOut old.conn count given [] octets → Appends middle.given now.given []
+    → Appends middle.taken now.taken (take some octets)
+    → WritesOn P values start middle before old unused
+    → WritesOut P values start now before new unused (Err error)
+unfolding IsTypedAct
+writes_first P may values start middle now before old new unused count given octets some error typed
+    answers gives none took so =
+    let end = so.after in
+    let after = with_call end.log (PutOut count) (Count given) in
+    let put = answers values end so.represents in
+    let within = given_within values old end so.represents in
+    let same : octets ≡ put_out_octets end.log count given =
+    gives values end.log so.represents.streams.conn in
+    record {
+      after = end_with_log end after;
+      happened = may end count (Count given) so.happened typed put.0;
+      represents = put.1;
+      same = same_twice before end _ so.same
+          (same_by_call end _ _ (put_out_failed end.log count given));
+      given = gives_as start middle now end.log after unused (Keeps-call end.log _ _).input none
+          so.linked.given;
+      taken = takes_first start middle now end.log after (put_out_octets end.log count given) some
+          (given_more end.log count given within)
+          (subst (λ (one : List ℕ). Appends middle.taken now.taken (take some one)) same took)
+          so.linked.taken;
+    }
+
+-- Where no octets are put out, all of the output was written.
+pub writes_all : (P : EndLog → Type 0) → MayPutOut P → (values : Values) (start now : Traffic)
+    (before : EndLog) (old new : End) (unused : List ℕ) (count : ℕ) (done : Unit {0})
+    → count < 2 ^ 64 → 0 < count → EndAnswers old (PutOut count) (Count 0) new
+    → WritesOn P values start now before old unused
+    → WritesOut P values start now before new unused (Ok done)
+unfolding IsTypedAct
+writes_all P may values start now before old new unused count done typed some answers so =
+    let end = so.after in
+    let after = with_call end.log (PutOut count) (Count 0) in
+    let put = answers values end so.represents in
+    let within = given_within values old end so.represents in
+    let none = none_put end.log count some within put.0 in
+    record {
+      after = end_with_log end after;
+      happened = may end count (Count 0) so.happened typed put.0;
+      represents = put.1;
+      same = same_twice before end _ so.same
+          (same_by_call end _ _ (put_out_failed end.log count 0));
+      given = subst (λ (input : List ℕ). Appends start.given now.given (input ++ unused))
+          (sym (Keeps-call end.log _ _).input) so.linked.given;
+      taken = record {
+        all = none.all;
+        taken = subst (Appends start.taken now.taken) (sym none.same) so.linked.taken;
+      };
+    }
+
+-- Where that is refused, what was given out was written.
+pub writes_refused : (P : EndLog → Type 0) → MayPutOut P → (values : Values) (start now : Traffic)
+    (before : EndLog) (old new : End) (unused : List ℕ) (count : ℕ) (refusal : Refusal)
+    (error : LinkError) → count < 2 ^ 64 → EndAnswers old (PutOut count) (Refused refusal) new
+    → WritesOn P values start now before old unused
+    → WritesOut P values start now before new unused (Err error)
+unfolding IsTypedAct
+writes_refused P may values start now before old new unused count refusal error typed answers so =
+    let end = so.after in
+    let after = with_call end.log (PutOut count) (Refused refusal) in
+    let put = answers values end so.represents in
+    let within = given_within values old end so.represents in
+    record {
+      after = end_with_log end after;
+      happened = may end count (Refused refusal) so.happened typed put.0;
+      represents = put.1;
+      same = same_twice before end _ so.same
+          (same_by_call end _ _ (refused_failed end.log (PutOut count) refusal));
+      given = subst (λ (input : List ℕ). Appends start.given now.given (input ++ unused))
+          (sym (Keeps-call end.log _ _).input) so.linked.given;
+      taken = refused_first start now end.log (PutOut count) refusal so.linked.taken;
+    }
+
+-- So it is where nothing more is tried.
+pub writes_no_more : (P : EndLog → Type 0) (values : Values) (start now : Traffic)
+    (before : EndLog) (new : End) (unused : List ℕ) (error : LinkError)
+    → WritesOn P values start now before new unused
+    → WritesOut P values start now before new unused (Err error)
+writes_no_more P values start now before new unused error so =
+    record {
+      after = so.after;
+      happened = so.happened;
+      represents = so.represents;
+      same = so.same;
+      given = so.linked.given;
+      taken = given_first start now so.after.log so.linked.taken;
+    }

@@ -1,0 +1,360 @@
+-- What each round of a server over a link makes of it: what waits is written, octets are read and
+-- served, and credit is returned.
+use Rattle.std.proofs.Common.{◌≡◌, ◌≢◌, ℕ, List, [], ◌++◌, length, take, Option, None, Result, Ok}
+use Rattle.std.proofs.Common.{Err, refl, sym, ap, ◌∙◌, subst, append-nil}
+use Rattle.std.proofs.Math.Seq.{take-append_seam}
+use Rattle.std.specs.Prelude.{IfErr}
+use Rattle.std.specs.Io.KnownBytes.{Appends}
+use Rattle.std.proofs.KnownBytes.{Appends-nil, Appends-trans}
+use Rattle.h2_log.specs.declared.role.Role.TheVariants.{Server}
+use Rattle.h2_log.specs.Acts.{Values, AreInRange}
+use Rattle.h2_log.specs.Log.{Log}
+use Rattle.h2_log.specs.LogCalls.{opened}
+use Rattle.h2_log.specs.LogSteps.{with_sent}
+use Rattle.h2_pair.specs.Pairs.{given_out}
+use Rattle.h2_pair.specs.Tokens.{Token, tokens_sent}
+use Rattle.h2_ends.specs.Ends.{EndLog, message_for, tokens_given}
+use Rattle.h2_ends.specs.Represents.{EndRepresents, new_end}
+use Rattle.h2_link.specs.declared.error.LinkError.{LinkError}
+use Rattle.h2_link.specs.declared.error.LinkError.TheVariants as errors
+use Rattle.h2_engines.specs.declared.request.Next.TheVariants as nexts
+use Rattle.h2_engines.specs.declared.request.Requests.{Requests}
+use Rattle.h2_engines.specs.declared.responder.Responder.{Responder}
+use Rattle.h2_engines.specs.Failures.{EndsServing, EndsWriting, failures_told}
+use Rattle.h2_engines.specs.Keeping.{KeepsNext, KeepsRequests}
+use Rattle.h2_engines.specs.Linked.{Traffic, IsLinked}
+use Rattle.h2_engines.specs.Responding.{IsResponding, begins, releases, pumps}
+use Rattle.h2_engines.specs.Serves.{Serves, SendsAll, EndsServingSo}
+use Rattle.h2_engines.specs.Serving.{IsServing, IsWrittenOut, ServerWrites, ServerFinishes}
+use Rattle.h2_engines.specs.Serving.{FinishedSo, ReceivesSo, ServerReceives, ReleasesSome}
+use Rattle.h2_engines.specs.Serving.{PumpsSome}
+use Rattle.h2_engines.proofs.KeptAnswers.{kept_all, kept_none}
+use Rattle.h2_engines.proofs.KeptSame.{kept_same}
+use Rattle.h2_engines.proofs.ServingEnds.{ends_early, ends_unwritten, linked_in_part, all_in_part}
+use Rattle.h2_engines.proofs.ServingEnds.{sends_all}
+use Rattle.h2_engines.proofs.ServingSteps.{IsServingNext, serves_again, writes_on, goes_links}
+use Rattle.h2_engines.proofs.ServingSteps.{given_fits}
+use Rattle.h2_engines.proofs.ServingPumps.{StaysOn, released_stays, pumped_stays, stays_same}
+
+-- A connection is served over a link: this much has happened, and these octets weren't used yet.
+abbrev pub IsServedOn : Values → (start now : Traffic) → Responder → (unused : List ℕ) → Type 0
+IsServedOn values start now responder unused =
+    (end : EndLog) × IsServing values start now responder end unused
+
+-- The same, where nothing waits.
+abbrev pub IsWrittenOn : Values → (start now : Traffic) → Responder → (unused : List ℕ) → Type 0
+IsWrittenOn values start now responder unused =
+    (end : EndLog) × IsServing values start now responder end unused
+    × IsWrittenOut start now end.log
+
+-- A new server.
+new_links : (values : Values) (start : Traffic)
+    → IsLinked start start (new_end Server values).log []
+unfolding opened with_sent
+new_links values start =
+    record { given = Appends-nil start.given; taken = Appends-nil start.taken }
+
+new_up : (values : Values) → (opened Server values).failed ≡ None
+unfolding opened with_sent
+new_up values = refl
+
+pub new_serves : (values : Values) (start : Traffic) (responder : Responder) → AreInRange values
+    → EndRepresents values responder.server.end (new_end Server values)
+    → responder.requests.kept.entries ≡ [] → responder.answered ≡ 0
+    → IsServedOn values start start responder []
+new_serves values start responder range represents none zero = (
+  new_end Server values,
+  record {
+    responding = begins range;
+    represents = represents;
+    linked = new_links values start;
+    up = new_up values;
+    keeps = kept_none responder.requests none values;
+    count = zero;
+  },
+)
+
+-- There is no memory for one.
+new_calls : (values : Values) → (opened Server values).calls ≡ []
+unfolding opened with_sent
+new_calls values = refl
+
+none_accepted : (i : ℕ) → message_for i [] ≡ None
+unfolding message_for
+none_accepted i = refl
+
+none_sent : (i : ℕ) → tokens_sent i [] ≡ []
+unfolding tokens_sent
+none_sent i = refl
+
+new_sends : (values : Values) → SendsAll (new_end Server values)
+unfolding tokens_given
+new_sends values i =
+    let none = ap (tokens_sent i) (new_calls values) ∙ none_sent i in
+    record {
+      waiting = [];
+      prefix = ap tokens_given (none_accepted i)
+          ∙ ap (λ (tokens : List Token). tokens ++ []) (sym none);
+      begun = λ given. absurd (given (none_accepted i));
+    }
+
+pub none_serves : (values : Values) (start : Traffic) (error : LinkError) → AreInRange values
+    → error ≡ errors.Memory → Serves values start start (Err error)
+none_serves values start error range memory =
+    record {
+      end = new_end Server values;
+      responding = begins range;
+      sends = new_sends values;
+      linked = linked_in_part start start (new_end Server values).log []
+          (new_links values start);
+      so = subst (λ (one : LinkError).
+          EndsServingSo start start (new_end Server values) (Err one)) (sym memory) tt;
+    }
+
+-- It ends early.
+pub serves_by : (values : Values) (start now : Traffic) (responder : Responder) (after : EndLog)
+    (error : LinkError) → ReceivesSo values start now responder after (Err error)
+    → Serves values start now (Err error)
+unfolding ReceivesSo
+serves_by values start now responder after error so =
+    record { end = after; responding = so.0; sends = so.1; linked = so.2; so = so.3 }
+
+pub serves_early : (values : Values) (start now : Traffic) (responder : Responder)
+    (unused : List ℕ) (error : LinkError) → IsServedOn values start now responder unused
+    → EndsWriting error → Serves values start now (Err error)
+serves_early values start now responder unused error on why =
+    serves_by values start now responder on.0 error
+    (ends_early values start now responder on.0 unused error on.1.responding on.1.represents
+    on.1.linked why)
+
+-- What waits is written.
+next_of : (values : Values) (start now : Traffic) (responder : Responder) (end : EndLog)
+    (unused : List ℕ) → IsServing values start now responder end unused
+    → IsServingNext values start now responder end unused nexts.Again
+unfolding KeepsNext
+next_of values start now responder end unused is =
+    record {
+      responding = is.responding;
+      represents = is.represents;
+      linked = is.linked;
+      up = is.up;
+      keeps = is.keeps;
+      count = is.count;
+    }
+
+pub sent_on : (values : Values) (start before now : Traffic) (old new : Responder)
+    (unused : List ℕ) (done : Unit {0}) → IsServedOn values start before old unused
+    → new.answered ≡ old.answered → new.requests ≡ old.requests
+    → ServerWrites before now old.server.end new.server.end (Ok done)
+    → IsWrittenOn values start now new unused
+sent_on values start before now old new unused done on same requests writes =
+    let wrote = writes_on values start before now old new on.0 unused nexts.Again done
+    (next_of values start before old on.0 unused on.1) same requests writes in
+    (wrote.0, serves_again values start now new wrote.0 unused wrote.1, wrote.2)
+
+pub sent_last : (values : Values) (start before now : Traffic) (old new : Responder)
+    (unused : List ℕ) (error : LinkError) → IsServedOn values start before old unused
+    → ServerWrites before now old.server.end new.server.end (Err error) → EndsWriting error
+    → Serves values start now (Err error)
+sent_last values start before now old new unused error on writes why =
+    let after = ends_unwritten values start before now old new on.0 unused error on.1.represents
+    on.1.responding on.1.linked writes why in
+    serves_by values start now new after.0 error after.1
+
+-- The link gives octets, and takes none.
+appends_as : (one two : Option (List ℕ)) (octets is : List ℕ) → octets ≡ is
+    → Appends one two octets → Appends one two is
+appends_as one two octets is same appends = subst (Appends one two) same appends
+
+read_links : (start before now : Traffic) (log : Log) (octets : List ℕ)
+    → IsLinked start before log [] → Appends before.given now.given octets
+    → Appends before.taken now.taken [] → IsLinked start now log octets
+read_links start before now log octets linked gives takes =
+    record {
+      given = appends_as start.given now.given ((log.input ++ []) ++ octets) (log.input ++ octets)
+          (ap (λ (input : List ℕ). input ++ octets) (append-nil log.input))
+          (Appends-trans start.given before.given now.given (log.input ++ []) octets
+          linked.given gives);
+      taken = appends_as start.taken now.taken (given_out log ++ []) (given_out log)
+          (append-nil (given_out log))
+          (Appends-trans start.taken before.taken now.taken (given_out log) [] linked.taken
+          takes);
+    }
+
+read_serves : (values : Values) (start before now : Traffic) (responder : Responder)
+    (end : EndLog) (octets : List ℕ) → IsServing values start before responder end []
+    → Appends before.given now.given octets → Appends before.taken now.taken []
+    → IsServing values start now responder end octets
+read_serves values start before now responder end octets is gives takes =
+    record {
+      responding = is.responding;
+      represents = is.represents;
+      linked = read_links start before now end.log octets is.linked gives takes;
+      up = is.up;
+      keeps = is.keeps;
+      count = is.count;
+    }
+
+pub read_on : (values : Values) (start before now : Traffic) (responder : Responder)
+    (octets : List ℕ) → IsWrittenOn values start before responder []
+    → Appends before.given now.given octets → Appends before.taken now.taken []
+    → IsServedOn values start now responder octets
+read_on values start before now responder octets on gives takes =
+    (on.0, read_serves values start before now responder on.0 octets on.1 gives takes)
+
+-- Nothing was read, and nothing waits still.
+pub ended_on : (values : Values) (start before now : Traffic) (responder : Responder)
+    → IsWrittenOn values start before responder [] → Appends before.given now.given []
+    → Appends before.taken now.taken [] → IsWrittenOn values start now responder []
+ended_on values start before now responder on gives takes = (
+  on.0,
+  read_serves values start before now responder on.0 [] on.1 gives takes,
+  record {
+    all = on.2.all;
+    taken = appends_as start.taken now.taken (on.0.log.written ++ []) on.0.log.written
+        (append-nil on.0.log.written)
+        (Appends-trans start.taken before.taken now.taken on.0.log.written [] on.2.taken takes);
+  },
+)
+
+-- The input has ended.
+finished_so : (values : Values) (start now : Traffic) (responder : Responder) (end : EndLog)
+    (result : Result ℕ LinkError) → IsServing values start now responder end []
+    → IsWrittenOut start now end.log → FinishedSo end responder.answered result
+    → EndsServingSo start now end result
+unfolding FinishedSo
+finished_so values start now responder end (Ok count) is written so =
+    record {
+      rests = so.1 is.up;
+      given = is.linked.given;
+      taken = written.taken;
+      answers = kept_all values responder.requests end is.responding is.keeps;
+      counted = so.0 ∙ is.count;
+    }
+finished_so values start now responder end (Err error) is written so =
+    subst (λ (one : LinkError). EndsServingSo start now end (Err one)) (sym so.0)
+    (so.1 is.up, is.linked.given, written.taken)
+
+pub finished_serves : (values : Values) (start now : Traffic) (responder : Responder)
+    (result : Result ℕ LinkError) → IsWrittenOn values start now responder []
+    → ServerFinishes responder.server.end responder.answered result
+    → Serves values start now result
+finished_serves values start now responder result on finishes =
+    record {
+      end = on.0;
+      responding = on.1.responding;
+      sends = sends_all values responder.server.end on.0 on.1.represents;
+      linked = all_in_part start now on.0.log [] on.1.linked.given on.2.taken;
+      so = finished_so values start now responder on.0 result on.1 on.2
+          (finishes values on.0 on.1.represents);
+    }
+
+-- No call of the link fails then.
+told_none : (failures : ℕ) (end : EndLog) (answered : ℕ) (result : Result ℕ LinkError)
+    → FinishedSo end answered result → failures_told failures result ≡ failures
+unfolding FinishedSo
+told_none failures end answered (Ok count) so = refl
+told_none failures end answered (Err error) so =
+    ap (λ (one : LinkError). failures_told {A = ℕ} failures (Err one)) so.0
+
+finished_err : (end : EndLog) (answered : ℕ) (result : Result ℕ LinkError)
+    → FinishedSo end answered result → IfErr result EndsServing
+unfolding FinishedSo
+finished_err end answered (Ok count) so = tt
+finished_err end answered (Err error) so = subst EndsServing (sym so.0) tt
+
+pub finished_fails : (values : Values) (start now : Traffic) (responder : Responder)
+    (result : Result ℕ LinkError) (failures before : ℕ)
+    → IsWrittenOn values start now responder []
+    → ServerFinishes responder.server.end responder.answered result → failures ≡ before
+    → failures ≡ failures_told before result
+finished_fails values start now responder result failures before on finishes same =
+    same ∙ sym (told_none before on.0 responder.answered result
+    (finishes values on.0 on.1.represents))
+
+pub finished_ends : (values : Values) (start now : Traffic) (responder : Responder)
+    (result : Result ℕ LinkError) → IsWrittenOn values start now responder []
+    → ServerFinishes responder.server.end responder.answered result
+    → IfErr result EndsServing
+finished_ends values start now responder result on finishes =
+    finished_err on.0 responder.answered result (finishes values on.0 on.1.represents)
+
+-- A piece was served.
+pub received_on : (values : Values) (start before now : Traffic) (old new : Responder)
+    (piece : List ℕ) (done : Unit {0}) → IsServedOn values start before old piece
+    → ServerReceives before now old new piece (Ok done) → IsServedOn values start now new []
+unfolding ReceivesSo
+received_on values start before now old new piece done on receives =
+    let after = receives values start on.0 on.1 in (after.0, after.1)
+
+pub received_last : (values : Values) (start before now : Traffic) (old new : Responder)
+    (piece : List ℕ) (error : LinkError) → IsServedOn values start before old piece
+    → ServerReceives before now old new piece (Err error)
+    → Serves values start now (Err error)
+received_last values start before now old new piece error on receives =
+    let after = receives values start on.0 on.1 in
+    serves_by values start now new after.0 error after.1
+
+pub received_goes : (values : Values) (start before now : Traffic) (old new : Responder)
+    (piece : List ℕ) (error : LinkError) → IsServedOn values start before old piece
+    → ServerReceives before now old new piece (Err error) → error ≢ errors.CutOff
+unfolding ReceivesSo
+received_goes values start before now old new piece error on receives =
+    let after = receives values start on.0 on.1 in after.1.4
+
+-- Credit was returned, or what waits of answers was sent.
+stays_serving : (values : Values) (start now : Traffic) (old new : Responder) (end after : EndLog)
+    (unused : List ℕ) → IsServing values start now old end unused → new.answered ≡ old.answered
+    → new.requests ≡ old.requests → StaysOn end after → IsResponding values after
+    → EndRepresents values new.server.end after → IsServing values start now new after unused
+stays_serving values start now old new end after unused is same requests stays responding
+    represents =
+    record {
+      responding = responding;
+      represents = represents;
+      linked = goes_links start now end.log after.log unused
+          (given_fits values old.server.end end is.represents) stays.goes is.linked;
+      up = stays.goes.failed ∙ is.up;
+      keeps = subst (λ (kept : Requests). KeepsRequests kept after) (sym requests)
+          (kept_same old.requests end after (stays_same end after stays) is.keeps);
+      count = same ∙ is.count ∙ ap length (sym stays.accepted);
+    }
+
+pub released_on : (values : Values) (start now : Traffic) (old new : Responder)
+    (unused : List ℕ) → IsServedOn values start now old unused → new.answered ≡ old.answered
+    → new.requests ≡ old.requests → ReleasesSome old.server.end new.server.end
+    → IsServedOn values start now new unused
+released_on values start now old new unused on same requests released =
+    let after = released.1 values on.0 on.1.represents in (
+      after.0,
+      stays_serving values start now old new on.0 after.0 unused on.1 same requests
+          (released_stays on.0 released.0 after.0 after.1)
+          (releases on.1.responding released.0 after.1) after.2,
+    )
+
+pub pumped_on : (values : Values) (start now : Traffic) (old new : Responder) (unused : List ℕ)
+    → IsServedOn values start now old unused → new.answered ≡ old.answered
+    → new.requests ≡ old.requests → PumpsSome old.server.end new.server.end
+    → IsServedOn values start now new unused
+pumped_on values start now old new unused on same requests pumped =
+    let after = pumped.1 values on.0 on.1.represents in (
+      after.0,
+      stays_serving values start now old new on.0 after.0 unused on.1 same requests
+          (pumped_stays on.0 pumped.0 after.0 after.1)
+          (pumps on.1.responding pumped.0 after.1) after.2,
+    )
+
+-- What the link gave of a buffer: nothing,
+pub gives_none : (one two : Option (List ℕ)) (buffer : List ℕ) (count : ℕ) → count ≡ 0
+    → Appends one two (take count buffer) → Appends one two []
+gives_none one two buffer count none gives =
+    subst (λ (n : ℕ). Appends one two (take n buffer)) none gives
+
+-- or the first octets of what was lent to it.
+pub gives_piece : (one two : Option (List ℕ)) (count size : ℕ) (buffer others octets : List ℕ)
+    → octets ≡ take size (buffer ++ others) → length buffer ≡ size
+    → Appends one two (take count buffer) → Appends one two (take count octets)
+gives_piece one two count size buffer others octets is all gives =
+    let same : octets ≡ buffer =
+    is ∙ ap (λ (n : ℕ). take n (buffer ++ others)) (sym all) ∙ take-append_seam buffer others in
+    subst (λ (list : List ℕ). Appends one two (take count list)) (sym same) gives

@@ -1,0 +1,327 @@
+-- What each step of a server over a link, as it is served a piece, makes of it.
+use Rattle.std.proofs.Common.{◌≡◌, ◌≤◌, ◌<◌, ℕ, ◌+◌, ◌^◌, List, ◌∷◌, ◌++◌, length, drop, None, Ok}
+use Rattle.std.proofs.Common.{Err, sym, ap, ◌∙◌, subst, inl, inr, arith}
+use Rattle.std.specs.Io.KnownBytes.{Appends}
+use Rattle.h2_log.specs.Acts.{Values, Answer, SendFields, ResetStream, Done, IsTypedAct}
+use Rattle.h2_log.specs.Log.{Log}
+use Rattle.h2_log.specs.LogCalls.{with_call}
+use Rattle.h2_pair.specs.Tokens.{is_head_alone}
+use Rattle.h2_message.specs.Messages.{SentMessage}
+use Rattle.h2_ends.specs.declared.end.End.{End}
+use Rattle.h2_ends.specs.declared.refusal.EndRefusal.{EndRefusal}
+use Rattle.h2_ends.specs.declared.refusal.EndRefusal.TheVariants as refusals
+use Rattle.h2_ends.specs.Ends.{EndLog, EndAnswer, EndTook, EndFailed}
+use Rattle.h2_ends.specs.EndTakes.{EndMayTake, end_with_log}
+use Rattle.h2_ends.specs.EndCalls.{MayRespond, IsUnchanged}
+use Rattle.h2_ends.specs.Represents.{EndRepresents}
+use Rattle.h2_link.specs.declared.error.LinkError.{LinkError}
+use Rattle.h2_engines.specs.declared.request.Next.{Next}
+use Rattle.h2_engines.specs.declared.request.Next.TheVariants as nexts
+use Rattle.h2_engines.specs.declared.request.Request.{Request}
+use Rattle.h2_engines.specs.declared.request.Requests.{Requests}
+use Rattle.h2_engines.specs.declared.responder.Heard.{Heard}
+use Rattle.h2_engines.specs.declared.responder.Responder.{Responder}
+use Rattle.h2_engines.specs.Answers.{answer_with}
+use Rattle.h2_engines.specs.Failures.{IsOfCall}
+use Rattle.h2_engines.specs.Keeping.{KeepsNext, KeepsRequests}
+use Rattle.h2_engines.specs.Linked.{Traffic, IsLinked}
+use Rattle.h2_engines.specs.Responding.{IsResponding, takes, answers, resets, calm}
+use Rattle.h2_engines.specs.Serving.{IsServing, IsWrittenOut, WritesFor, ServerWrites, ServerHears}
+use Rattle.h2_engines.specs.Serving.{HeardSo, ErrsServing, ServerAnswers, AnsweredSo, ServerResets}
+use Rattle.h2_engines.specs.Serving.{ResetSo, counted_answer, ReceivesSo}
+use Rattle.h2_engines.proofs.KeptAnswers.{kept_to_answer, kept_answered, kept_reset}
+use Rattle.h2_engines.proofs.KeptNotes.{kept_noted}
+use Rattle.h2_engines.proofs.KeptRole.{kept_role}
+use Rattle.h2_engines.proofs.KeptSame.{kept_same_next}
+use Rattle.h2_engines.proofs.KeptTaken.{taken_says, kept_failed}
+use Rattle.h2_engines.proofs.ServingLogs.{GoesOn, goes_none, call_goes, refused_goes, writes_given}
+use Rattle.h2_engines.proofs.ServingTakes.{takes_first, took_links, links_first}
+use Rattle.h2_engines.proofs.ServingEnds.{HasFailedSo, ends_early, writing_of_call}
+
+-- A server over a link, at which this is to be done next.
+pub record IsServingNext (values : Values) (start now : Traffic) (responder : Responder)
+    (end : EndLog) (unused : List ℕ) (next : Next) : Type 0 where
+  pub responding : IsResponding values end
+  pub represents : EndRepresents values responder.server.end end
+  pub linked : IsLinked start now end.log unused
+  pub up : end.log.failed ≡ None
+  pub keeps : KeepsNext responder.requests end next
+  pub count : responder.answered ≡ length end.accepted
+
+-- Nothing is to be done.
+serves_as : (values : Values) (start now : Traffic) (responder : Responder) (end : EndLog)
+    (unused : List ℕ) (next : Next) → IsServingNext values start now responder end unused next
+    → KeepsRequests responder.requests end → IsServing values start now responder end unused
+serves_as values start now responder end unused next is keeps =
+    record {
+      responding = is.responding;
+      represents = is.represents;
+      linked = is.linked;
+      up = is.up;
+      keeps = keeps;
+      count = is.count;
+    }
+
+pub serves_again : (values : Values) (start now : Traffic) (responder : Responder) (end : EndLog)
+    (unused : List ℕ) → IsServingNext values start now responder end unused nexts.Again
+    → IsServing values start now responder end unused
+unfolding KeepsNext
+serves_again values start now responder end unused is =
+    serves_as values start now responder end unused nexts.Again is is.keeps
+
+pub serves_done : (values : Values) (start now : Traffic) (responder : Responder) (end : EndLog)
+    (unused : List ℕ) → IsServingNext values start now responder end unused nexts.Done
+    → IsServing values start now responder end unused
+unfolding KeepsNext
+serves_done values start now responder end unused is =
+    serves_as values start now responder end unused nexts.Done is is.keeps
+
+-- As much as was written is given out at most.
+pub given_fits : (values : Values) (server : End) (end : EndLog) → EndRepresents values server end
+    → end.log.given ≤ length end.log.written
+given_fits values server end represents = represents.streams.conn.machine.output.given
+
+-- The end goes on over the link.
+pub goes_links : (start now : Traffic) (before after : Log) (unused : List ℕ)
+    → before.given ≤ length before.written → GoesOn before after
+    → IsLinked start now before unused → IsLinked start now after unused
+goes_links start now before after unused within goes linked =
+    record {
+      given = subst (λ (input : List ℕ). Appends start.given now.given (input ++ unused))
+          (sym goes.input) linked.given;
+      taken = subst (Appends start.taken now.taken)
+          (sym (writes_given before after within goes.writes)) linked.taken;
+    }
+
+-- It hears of a piece.
+pub hears_on : (values : Values) (start now : Traffic) (old new : Responder) (end : EndLog)
+    (piece : List ℕ) (heard : Heard) → IsServing values start now old end piece
+    → new.answered ≡ old.answered
+    → ServerHears old.server.end new.server.end old.requests new.requests piece (Ok heard)
+    → (after : EndLog)
+    × IsServingNext values start now new after (drop heard.used piece) heard.next
+    × (heard.next ≡ nexts.Done → heard.used ≡ length piece)
+unfolding HeardSo
+hears_on values start now old new end piece heard is same hears =
+    let now_is = hears values end is.represents in
+    let says = now_is.2 in
+    let answer = EndTook heard.used says.0 in
+    let first = takes_first end piece answer now_is.0 says.1 in
+    let taken = taken_says end piece answer now_is.0 says.1 in (
+      now_is.0,
+      record {
+        responding = takes is.responding piece answer says.1;
+        represents = now_is.1;
+        linked = took_links start now end.log now_is.0.log piece heard.used
+            (given_fits values old.server.end end is.represents) is.linked first.uses first.says.0;
+        up = first.says.1;
+        keeps = kept_noted end now_is.0 piece heard.used says.0 old.requests new.requests heard.next
+            (kept_role values end is.responding) is.keeps says.1 says.2;
+        count = same ∙ is.count ∙ ap length (sym taken.accepted);
+      },
+      says.3,
+    )
+
+-- It hears of a piece with which the connection fails, or for which there is no memory.
+pub record HasHeardLast (values : Values) (start now : Traffic) (responder : Responder)
+    (end : EndLog) (error : LinkError) : Type 0 where
+  pub responding : IsResponding values end
+  pub represents : EndRepresents values responder.server.end end
+  pub unused : List ℕ
+  pub linked : IsLinked start now end.log unused
+  pub failed : HasFailedSo end.log error
+
+errs_so : (end : EndLog) (piece : List ℕ) (answer : EndAnswer) (after : EndLog)
+    (error : LinkError) → EndMayTake end piece answer after → ErrsServing answer error
+    → HasFailedSo after.log error
+unfolding ErrsServing
+errs_so end piece (EndTook count handed) after error may errs = inl errs
+errs_so end piece (EndFailed code) after error may errs =
+    inr (code, kept_failed end piece code after may, errs)
+
+pub hears_last : (values : Values) (start now : Traffic) (old new : Responder) (end : EndLog)
+    (piece : List ℕ) (error : LinkError) → IsServing values start now old end piece
+    → ServerHears old.server.end new.server.end old.requests new.requests piece (Err error)
+    → (after : EndLog) × HasHeardLast values start now new after error
+unfolding HeardSo
+hears_last values start now old new end piece error is hears =
+    let now_is = hears values end is.represents in
+    let says = now_is.2 in
+    let first = takes_first end piece says.0 now_is.0 says.1 in (
+      now_is.0,
+      record {
+        responding = takes is.responding piece says.0 says.1;
+        represents = now_is.1;
+        unused = first.uses.unused;
+        linked = links_first start now end.log now_is.0.log piece
+            (given_fits values old.server.end end is.represents) is.linked first.uses;
+        failed = errs_so end piece says.0 now_is.0 error says.1 says.2;
+      },
+    )
+
+-- All that waited was written.
+written_links : (start now : Traffic) (log : Log) (unused : List ℕ)
+    → Appends start.given now.given (log.input ++ unused) → IsWrittenOut start now log
+    → IsLinked start now log unused
+written_links start now log unused given written =
+    record {
+      given = given;
+      taken = subst (Appends start.taken now.taken) (sym written.all) written.taken;
+    }
+
+pub writes_on : (values : Values) (start before now : Traffic) (old new : Responder)
+    (end : EndLog) (unused : List ℕ) (next : Next) (done : Unit {0})
+    → IsServingNext values start before old end unused next → new.answered ≡ old.answered
+    → new.requests ≡ old.requests
+    → ServerWrites before now old.server.end new.server.end (Ok done)
+    → (after : EndLog) × IsServingNext values start now new after unused next
+    × IsWrittenOut start now after.log
+writes_on values start before now old new end unused next done is same requests writes =
+    let wrote : WritesFor values start now end new.server.end unused (Ok done) =
+    writes values start end unused is.represents is.responding is.linked in
+    let taken : IsWrittenOut start now wrote.after.log = wrote.taken in (
+      wrote.after,
+      record {
+        responding = wrote.responding;
+        represents = wrote.represents;
+        linked = written_links start now wrote.after.log unused wrote.given taken;
+        up = wrote.same.failed ∙ is.up;
+        keeps = subst (λ (kept : Requests). KeepsNext kept wrote.after next) (sym requests)
+            (kept_same_next old.requests end wrote.after next wrote.same is.keeps);
+        count = same ∙ is.count ∙ ap length (sym wrote.same.accepted);
+      },
+      taken,
+    )
+
+-- A request was answered: its head was sent.
+responded_goes : (end : EndLog) (id : ℕ) (message : SentMessage) (done : Unit {0})
+    (after : EndLog) → MayRespond end id message (Ok done) after → GoesOn end.log after.log
+unfolding MayRespond
+responded_goes end id message done after may =
+    subst (λ (one : EndLog). GoesOn end.log one.log) (sym may.5)
+    (call_goes end.log (SendFields id message.head (is_head_alone message)) Done
+    (λ count same. cc) (λ i code same. cc) (λ same. cc))
+
+responded_counts : (end : EndLog) (id : ℕ) (message : SentMessage) (done : Unit {0})
+    (after : EndLog) → MayRespond end id message (Ok done) after
+    → length after.accepted ≡ length end.accepted + 1
+unfolding MayRespond
+responded_counts end id message done after may =
+    let all = ap (λ (one : EndLog). length one.accepted) may.5 in
+    let more : length ((id, message) ∷ end.accepted) ≡ length end.accepted + 1 = omega arith in
+    all ∙ more
+
+pub answers_on : (values : Values) (start now : Traffic) (old new : Responder) (end : EndLog)
+    (unused : List ℕ) (id : ℕ) (request : Request) (done : Unit {0})
+    → IsServingNext values start now old end unused (nexts.Answer id request)
+    → new.answered ≡ counted_answer old.answered (Ok done) → new.requests ≡ old.requests
+    → ServerAnswers old.server.end new.server.end id
+    (answer_with request.text.items request.to_head) (Ok done)
+    → (after : EndLog) × IsServing values start now new after unused
+unfolding KeepsNext AnsweredSo counted_answer
+answers_on values start now old new end unused id request done is counted requests answered =
+    let message = answer_with request.text.items request.to_head in
+    let now_is = answered values end is.represents in
+    let may : MayRespond end id message (Ok done) now_is.0 = now_is.2 in
+    let to_answer = is.keeps.1 in
+    let goes = responded_goes end id message done now_is.0 may in (
+      now_is.0,
+      record {
+        responding = answers is.responding id message (Ok done) to_answer.whole to_answer.fits
+            (kept_to_answer end id request to_answer) may;
+        represents = now_is.1;
+        linked = goes_links start now end.log now_is.0.log unused
+            (given_fits values old.server.end end is.represents) goes is.linked;
+        up = goes.failed ∙ is.up;
+        keeps = subst (λ (kept : Requests). KeepsRequests kept now_is.0) (sym requests)
+            (kept_answered old.requests end now_is.0 id request done is.keeps.0 to_answer may);
+        count = counted ∙ ap (λ (n : ℕ). n + 1) is.count
+            ∙ sym (responded_counts end id message done now_is.0 may);
+      },
+    )
+
+-- A request can't be answered: nothing has happened, or the connection has refused a call.
+unchanged_goes : (before after : EndLog) → IsUnchanged before after → GoesOn before.log after.log
+unfolding IsUnchanged
+unchanged_goes before after (inl same) =
+    subst (λ (one : EndLog). GoesOn before.log one.log) (sym same) (goes_none before.log)
+unchanged_goes before after (inr called) =
+    subst (λ (one : EndLog). GoesOn before.log one.log) (sym called.5)
+    (refused_goes before.log called.0 called.1)
+
+same_goes : (before after : EndLog) → after ≡ before → GoesOn before.log after.log
+same_goes before after same =
+    subst (λ (one : EndLog). GoesOn before.log one.log) (sym same) (goes_none before.log)
+
+unanswered_goes : (end : EndLog) (id : ℕ) (message : SentMessage) (refusal : EndRefusal)
+    (after : EndLog) → MayRespond end id message (Err refusal) after → GoesOn end.log after.log
+unfolding MayRespond
+unanswered_goes end id message refusals.NotAsked after may = same_goes end after may.1
+unanswered_goes end id message refusals.Answered after may = same_goes end after may.2
+unanswered_goes end id message (refusals.BadMessage rule) after may = same_goes end after may.3
+unanswered_goes end id message (refusals.Conn refusal) after may =
+    unchanged_goes end after may.4
+
+pub answers_last : (values : Values) (start now : Traffic) (old new : Responder) (end : EndLog)
+    (unused : List ℕ) (id : ℕ) (request : Request) (error : LinkError)
+    → IsServingNext values start now old end unused (nexts.Answer id request) → IsOfCall error
+    → ServerAnswers old.server.end new.server.end id
+    (answer_with request.text.items request.to_head) (Err error)
+    → (after : EndLog) × ReceivesSo values start now new after (Err error)
+unfolding KeepsNext AnsweredSo
+answers_last values start now old new end unused id request error is of_call answered =
+    let message = answer_with request.text.items request.to_head in
+    let now_is = answered values end is.represents in
+    let to_answer = is.keeps.1 in
+    let within = given_fits values old.server.end end is.represents in
+    let early : IsResponding values now_is.0 → GoesOn end.log now_is.0.log
+    → ReceivesSo values start now new now_is.0 (Err error) =
+    λ responding goes. ends_early values start now new now_is.0 unused error responding now_is.1
+    (goes_links start now end.log now_is.0.log unused within goes is.linked)
+    (writing_of_call error of_call) in (
+      now_is.0,
+      elim now_is.2 [
+        | inl same ↦ early
+            (subst (λ (one : EndLog). IsResponding values one) (sym same) is.responding)
+            (same_goes end now_is.0 same)
+        | inr refused ↦ early
+            (answers is.responding id message (Err refused.0) to_answer.whole to_answer.fits
+            (kept_to_answer end id request to_answer) refused.1)
+            (unanswered_goes end id message refused.0 now_is.0 refused.1)
+      ],
+    )
+
+-- A stream was reset.
+pub reset_typed : (id : ℕ) → id < 2 ^ 32 → IsTypedAct (ResetStream id calm)
+unfolding IsTypedAct
+reset_typed id fits = (fits, omega arith)
+
+pub resets_on : (values : Values) (start now : Traffic) (old new : Responder) (end : EndLog)
+    (unused : List ℕ) (id : ℕ) (done : Unit {0}) → id < 2 ^ 32
+    → IsServingNext values start now old end unused (nexts.Reset id)
+    → new.answered ≡ old.answered → new.requests ≡ old.requests
+    → ServerResets old.server.end new.server.end id (Ok done)
+    → (after : EndLog) × IsServing values start now new after unused
+unfolding KeepsNext ResetSo
+resets_on values start now old new end unused id done fits is same requests reset =
+    let now_is = reset values end is.represents in
+    let answer = now_is.0 in
+    let was : answer ≡ Done = now_is.3 in
+    let log = with_call end.log (ResetStream id calm) answer in
+    let goes = call_goes end.log (ResetStream id calm) answer (λ count wrong. cc)
+    (λ i code wrong. cc) (λ wrong. cc) in (
+      end_with_log end log,
+      record {
+        responding = resets is.responding id answer is.keeps.1 (reset_typed id fits) now_is.1;
+        represents = now_is.2;
+        linked = goes_links start now end.log log unused
+            (given_fits values old.server.end end is.represents) goes is.linked;
+        up = goes.failed ∙ is.up;
+        keeps = subst (λ (kept : Requests). KeepsRequests kept (end_with_log end log))
+            (sym requests)
+            (subst (λ (one : Answer). KeepsRequests old.requests
+            (end_with_log end (with_call end.log (ResetStream id calm) one))) (sym was)
+            (kept_reset old.requests end id is.keeps.0 is.keeps.1));
+        count = same ∙ is.count;
+      },
+    )

@@ -1,0 +1,32 @@
+-- By the lemmas on a new client's request.
+use Rattle.std.proofs.Common.{refl}
+use Rattle.h2_config.specs.ConfigValues.{values_of}
+use Rattle.h2_message.specs.Values.{message_value}
+use Rattle.h2_engines.proofs.FetchStart.{has_requested, refused_as_broken, refused_as_large}
+use Rattle.h2_engines.proofs.fetcher.Fetcher.new.Goals as goal
+
+pub returns-in-Ok-request-clause-ok : goal.returns-in-Ok-request-clause-ok
+returns-in-Ok-request-clause-ok c =
+    has_requested (values_of c.args.config) (message_value c.args.message) c.in-Ok.client.end _
+    c.in-Ok.ensures.ok c.in-Ok-request.ensures refl c.new-in-Ok-request-2.ensures.items
+    c.new-in-Ok-request.ensures.items refl
+
+pub returns-in-Err-default-BadMessage-clause-refused :
+    goal.returns-in-Err-default-BadMessage-clause-refused
+returns-in-Err-default-BadMessage-clause-refused c =
+    refused_as_broken (values_of c.args.config) (message_value c.args.message)
+    c.in-Ok.client.end c.request.new.self.end c.in-Err-default-BadMessage.field-0-0
+    c.in-Err-default-BadMessage.field-0-1 c.in-Err-default-BadMessage.field-0-1-0
+    c.in-Ok.ensures.ok c.in-Err-default-BadMessage.field-0-1-is
+    c.in-Err-default-BadMessage.ensures
+
+pub returns-in-Err-default-Conn-ListTooLarge-clause-refused :
+    goal.returns-in-Err-default-Conn-ListTooLarge-clause-refused
+returns-in-Err-default-Conn-ListTooLarge-clause-refused c =
+    refused_as_large (values_of c.args.config) (message_value c.args.message)
+    c.in-Ok.client.end c.request.new.self.end c.in-Err-default-Conn-ListTooLarge.field-0-0
+    c.in-Err-default-Conn-ListTooLarge.field-0-1 c.in-Err-default-Conn-ListTooLarge.field-0-1-0
+    c.in-Ok.ensures.ok c.in-Err-default-Conn-ListTooLarge.field-0-1-is
+    (rw c.in-Err-default-Conn-ListTooLarge.field-0-1-is
+    at c.in-Err-default-Conn-ListTooLarge.field-0-1-0-is)
+    c.in-Err-default-Conn-ListTooLarge.ensures

@@ -1,0 +1,21 @@
+-- The first field that has the name.
+use Rattle.std.proofs.Common.{sym, ◌∙◌, arith}
+use Rattle.h2_engines.proofs.KeptValues.{value_here, value_later, value_none}
+use Rattle.h2_engines.proofs.request.value_or_nothing.Goals as goal
+
+pub returns-then-eq : goal.returns-then-eq
+returns-then-eq c =
+    sym (value_here c.args.name.now c.args.fields.now c.loop-place.place _ c.in-Some.ensures
+    (sym c.if-eq.ensures))
+    ∙ c.loop-place.invariant
+
+pub loop-place-preserved : goal.loop-place-preserved
+loop-place-preserved c =
+    sym (value_later c.args.name.now c.args.fields.now c.loop-place.place _ c.in-Some.ensures
+    (sym c.if-eq.ensures))
+    ∙ c.loop-place.invariant
+
+pub returns : goal.returns
+returns c =
+    sym (value_none c.args.name.now c.args.fields.now c.loop-place.place (omega arith))
+    ∙ c.loop-place.invariant

@@ -1,0 +1,8 @@
+-- The fields so far have another name.
+use Rattle.std.proofs.Common.{◌≡◌, drop}
+use Rattle.h2_message.specs.Fields.{value_or_nothing}
+use Rattle.h2_engines.proofs.request.value_or_nothing.Given as goal
+
+abbrev pub invariant-loop-place : goal.invariant-loop-place
+invariant-loop-place l =
+    value_or_nothing l.name (drop l.place l.fields) ≡ value_or_nothing l.name l.fields

@@ -1,0 +1,44 @@
+-- By the lemmas on an answer.
+use Rattle.std.proofs.Common.{refl, arith}
+use Rattle.h2_engines.specs.Serving.{counted_answer}
+use Rattle.h2_engines.proofs.ServeCalls.{answers_none, answers_done, answers_refused}
+use Rattle.h2_engines.proofs.responder.Responder.answer.Goals as goal
+use Rattle.h2_engines.proofs.responder.Responder.answer.Goals.{in-Ok-respond, in-Err}
+
+pub returns-in_default-clause-answers : goal.returns-in_default-clause-answers
+returns-in_default-clause-answers c =
+    answers_none c.args.self.now.server.end c.args.id _ _
+
+pub returns-in_default-clause-count : goal.returns-in_default-clause-count
+unfolding counted_answer
+returns-in_default-clause-count c = refl
+
+pub returns-in_default-into_answer-clause-answers :
+    goal.returns-in_default-into_answer-clause-answers
+returns-in_default-into_answer-clause-answers c =
+    answers_none c.args.self.now.server.end c.args.id _ _
+
+pub returns-in_default-into_answer-clause-count :
+    goal.returns-in_default-into_answer-clause-count
+unfolding counted_answer
+returns-in_default-into_answer-clause-count c = refl
+
+pub returns-clause-answers : goal.returns-clause-answers
+returns-clause-answers c =
+    elim c.match-respond.branch [
+      | in-Ok-respond w ↦ rw (w.self-is, w.result-is)
+          (answers_done c.args.self.now.server.end c.respond.new.self.end c.args.id _ _ _
+          c.in-Ok.ensures w.in-Ok-respond.ensures)
+      | in-Err w ↦ rw (w.self-is, w.result-is)
+          (answers_refused c.args.self.now.server.end c.respond.new.self.end c.args.id _ _
+          (w.in-Err.field-0-0, w.in-Err.refusal) _ c.in-Ok.ensures w.in-Err.ensures)
+    ]
+
+pub returns-clause-count : goal.returns-clause-count
+unfolding counted_answer
+returns-clause-count c =
+    elim c.match-respond.branch [
+      | in-Ok-respond w ↦ rw (w.self-is, w.result-is)
+          (omega (arith, c.in-Some.ensures))
+      | in-Err w ↦ rw (w.self-is, w.result-is) refl
+    ]

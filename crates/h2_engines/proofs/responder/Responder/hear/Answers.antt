@@ -1,0 +1,39 @@
+-- By the lemmas on a call of `take`.
+use Rattle.std.proofs.Common.{inl, inr, arith}
+use Rattle.h2_engines.proofs.ServeHears.{hears_nothing, hears_event, hears_lost, hears_fault}
+use Rattle.h2_engines.proofs.responder.Responder.hear.Goals as goal
+use Rattle.h2_engines.proofs.responder.Responder.hear.Goals.{then-used-piece, else-used-piece}
+
+pub returns-after-used-piece-clause-hears : goal.returns-after-used-piece-clause-hears
+returns-after-used-piece-clause-hears c =
+    hears_nothing c.args.self.now.server.end c.take.follows.lender-at-none.end
+    c.args.self.now.requests c.args.piece.now c.in-Ok.taken c.if-used-piece.next c.in-None.is
+    (elim c.if-used-piece.branch [
+      | then-used-piece w ↦ inl w.next-is
+      | else-used-piece w ↦ inr w.next-is
+    ])
+    (λ done. elim c.if-used-piece.branch [
+      | then-used-piece w ↦ let same = w.next-is in cc
+      | else-used-piece w ↦ omega (arith, c.in-Ok.ensures.used, w.if-used-piece.false)
+    ])
+    (rw c.in-Ok.is at c.take.follows.holds-at-none)
+
+pub returns-in-Ok-note-clause-hears : goal.returns-in-Ok-note-clause-hears
+returns-in-Ok-note-clause-hears c =
+    hears_event c.args.self.now.server.end c.take.follows.lender-at-none.end
+    c.args.self.now.requests c.note.new.self c.args.piece.now c.in-Ok.taken c.in-Some.event
+    c.in-Ok-note.next c.in-Some.is c.in-Ok-note.ensures
+    (rw c.in-Ok.is at c.take.follows.holds-at-none)
+
+pub returns-in-Err-note-clause-hears : goal.returns-in-Err-note-clause-hears
+returns-in-Err-note-clause-hears c =
+    hears_lost c.args.self.now.server.end c.take.follows.lender-at-none.end
+    c.args.self.now.requests c.note.new.self c.args.piece.now c.in-Ok.taken
+    (rw c.in-Ok.is at c.take.follows.holds-at-none)
+
+pub returns-in-Err-clause-hears : goal.returns-in-Err-clause-hears
+returns-in-Err-clause-hears c =
+    rw c.error_of_code.ensures.error
+    (hears_fault c.args.self.now.server.end c.take.follows.lender-at-none.end
+    c.args.self.now.requests c.args.self.now.requests c.args.piece.now c.in-Err.fault
+    (rw c.in-Err.is at c.take.follows.holds-at-none))

@@ -1,0 +1,17 @@
+-- So many octets of the piece were used and no call of the link has failed; and the server that it
+-- was at first, is one over the link now.
+use Rattle.std.proofs.Common.{◌≡◌, ◌≤◌, length, drop}
+use Rattle.h2_engines.specs.Linked.{traffic}
+use Rattle.h2_engines.proofs.ServingEnds.{ServesOn}
+use Rattle.h2_engines.proofs.responder.Responder.receive.Given as goal
+
+abbrev pub invariant-loop : goal.invariant-loop
+invariant-loop g l =
+    record {
+      within : l.used ≤ length l.piece;
+      failures : g.L.Link.faults l.link ≡ g.L.Link.faults l.initial.link;
+      serves : ServesOn
+          (traffic (g.L.Link.given l.initial.link) (g.L.Link.taken l.initial.link))
+          (traffic (g.L.Link.given l.link) (g.L.Link.taken l.link)) l.initial.self l.self l.piece
+          (drop l.used l.piece);
+    }

@@ -1,0 +1,25 @@
+-- By the lemmas on a reset.
+use Rattle.std.proofs.Common.{refl}
+use Rattle.h2_engines.proofs.ServeCalls.{resets_done, resets_no_more, resets_refused}
+use Rattle.h2_engines.proofs.ServeFaults.{call_ends_server}
+use Rattle.h2_engines.proofs.responder.Responder.reset.Goals as goal
+
+pub returns-in-Ok-clause-resets : goal.returns-in-Ok-clause-resets
+returns-in-Ok-clause-resets c =
+    resets_done c.args.self.now.server.end c.reset.new.self.end c.args.id _ c.in-Ok.ensures
+
+pub returns-in-Err-TooManyResets-clause-resets : goal.returns-in-Err-TooManyResets-clause-resets
+returns-in-Err-TooManyResets-clause-resets c =
+    resets_no_more c.args.self.now.server.end c.reset.new.self.end c.args.id
+    (rw c.in-Err-TooManyResets.field-0-is at c.in-Err-TooManyResets.ensures)
+
+pub returns-in-Err : goal.returns-in-Err
+returns-in-Err c =
+    record {
+      resets = resets_refused c.args.self.now.server.end c.reset.new.self.end c.args.id
+          c.in-Err.refusal c.error_of_refusal.result c.error_of_refusal.ensures c.in-Err.ensures;
+      fits = c.ranges.id.fits;
+      answered = refl;
+      requests = refl;
+      err = call_ends_server c.error_of_refusal.result c.error_of_refusal.ensures;
+    }

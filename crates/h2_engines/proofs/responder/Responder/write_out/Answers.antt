@@ -1,0 +1,89 @@
+-- By the lemmas on output that is written.
+use Rattle.std.proofs.Common.{ℕ, refl, ◌∙◌, subst, arith}
+use Rattle.std.proofs.lemmas.Result.{err_from_is_err_and}
+use Rattle.h2_log.specs.Acts.{PutOut, Count}
+use Rattle.h2_link.specs.Links.{WritesAll}
+use Rattle.h2_ends.specs.Represents.{EndAnswers}
+use Rattle.h2_engines.specs.Responding.{IsResponding}
+use Rattle.h2_engines.proofs.ServeFaults.{written_some, written_told, written_ends}
+use Rattle.h2_engines.proofs.ServeServer.{server_puts_out, server_writes}
+use Rattle.h2_engines.proofs.ServeWrites.{writes_more, writes_first, writes_all, writes_refused}
+use Rattle.h2_engines.proofs.ServeWrites.{writes_no_more, writes_nothing}
+use Rattle.h2_engines.proofs.responder.Responder.write_out.Goals as goal
+
+pub loop-init : goal.loop-init
+loop-init g c = record {
+  failures = refl;
+  answered = refl;
+  requests = refl;
+  writes = λ values start end unused is was linked.
+      writes_nothing (IsResponding values) values start _ end _ unused is was linked;
+}
+
+pub returns-in-Ok-eq0-clause-writes : goal.returns-in-Ok-eq0-clause-writes
+returns-in-Ok-eq0-clause-writes g c values start end unused is was linked =
+    let none = subst (λ (n : ℕ). EndAnswers c.loop.self.server.end (PutOut 18446744073709551615)
+    (Count n) c.put_out.new.self.end) c.in-Ok-eq0.field-0-test c.in-Ok-eq0.ensures.answers in
+    server_writes values start _ end _ unused _
+    (writes_all (IsResponding values) (server_puts_out values) values start _ end
+    c.loop.self.server.end c.put_out.new.self.end unused 18446744073709551615 tt (omega arith)
+    (omega arith) none
+    (c.loop.invariant.writes values start end unused is was linked))
+
+pub returns-in_err-write_all-in-Ok-clause-writes :
+    goal.returns-in_err-write_all-in-Ok-clause-writes
+returns-in_err-write_all-in-Ok-clause-writes g c values start end unused is was linked =
+    let answer = err_from_is_err_and c.from_residual.result c.from_residual.ensures.1 in
+    let written = rw c.deref.ensures.value at c.in_err-write_all-in-Ok.ensures.writes in
+    let some = written_some _ _ _ _ _ _ written in
+    let gives = rw c.clear.ensures.items at c.in-Ok.ensures.ok in
+    rw answer.1
+    (server_writes values start _ end _ unused _
+    (writes_first (IsResponding values) (server_puts_out values) values start _ _ end
+    c.loop.self.server.end c.put_out.new.self.end unused 18446744073709551615 c.in-Ok.field-0
+    c.put_out.new.out.items some.0 answer.0 (omega arith) c.in-Ok.ensures.answers gives
+    c.in_err-write_all-in-Ok.ensures.gives_none some.1.took
+    (c.loop.invariant.writes values start end unused is was linked)))
+
+pub returns-in_err-write_all-in-Ok-clause-failures :
+    goal.returns-in_err-write_all-in-Ok-clause-failures
+returns-in_err-write_all-in-Ok-clause-failures g c =
+    let answer = err_from_is_err_and c.from_residual.result c.from_residual.ensures.1 in
+    rw (answer.1, answer.2) (written_told (Unit {0}) _ _ _ _ _ _ _ c.loop.invariant.failures
+    c.in_err-write_all-in-Ok.ensures.writes)
+
+pub returns-in_err-write_all-in-Ok-clause-err : goal.returns-in_err-write_all-in-Ok-clause-err
+returns-in_err-write_all-in-Ok-clause-err g c =
+    let answer = err_from_is_err_and c.from_residual.result c.from_residual.ensures.1 in
+    rw (answer.1, answer.2) (written_ends _ _ _ _ _ _ c.in_err-write_all-in-Ok.ensures.writes)
+
+pub returns-in-Err-clause-writes : goal.returns-in-Err-clause-writes
+returns-in-Err-clause-writes g c values start end unused is was linked =
+    server_writes values start _ end _ unused _
+    (writes_refused (IsResponding values) (server_puts_out values) values start _ end
+    c.loop.self.server.end c.put_out.new.self.end unused 18446744073709551615 c.in-Err.refusal
+    c.error_of_refusal.result (omega arith) c.in-Err.ensures.answers
+    (c.loop.invariant.writes values start end unused is was linked))
+
+pub loop-preserved : goal.loop-preserved
+unfolding WritesAll
+loop-preserved g c =
+    let written = rw c.deref.ensures.value at c.in_ok-write_all-in-Ok.ensures.writes in
+    let gives = rw c.clear.ensures.items at c.in-Ok.ensures.ok in
+    record {
+      failures = written.1 ∙ c.loop.invariant.failures;
+      answered = c.loop.invariant.answered;
+      requests = c.loop.invariant.requests;
+      writes = λ values start end unused is was linked.
+          writes_more (IsResponding values) (server_puts_out values) values start _ _ end
+          c.loop.self.server.end c.put_out.new.self.end unused 18446744073709551615
+          c.in-Ok.field-0 c.put_out.new.out.items (omega arith) c.in-Ok.ensures.answers gives
+          c.in_ok-write_all-in-Ok.ensures.gives_none written.0
+          (c.loop.invariant.writes values start end unused is was linked);
+    }
+
+pub returns-clause-writes : goal.returns-clause-writes
+returns-clause-writes g c values start end unused is was linked =
+    server_writes values start _ end _ unused _
+    (writes_no_more (IsResponding values) values start _ end c.loop.self.server.end unused _
+    (c.loop.invariant.writes values start end unused is was linked))

@@ -1,0 +1,17 @@
+-- No call of the link has failed, and it took all that the server has given out.
+use Rattle.std.proofs.Common.{◌≡◌}
+use Rattle.h2_engines.specs.Linked.{traffic}
+use Rattle.h2_engines.proofs.ServeServer.{ServerWritesOn}
+use Rattle.h2_engines.proofs.responder.Responder.write_out.Given as goal
+
+abbrev pub invariant-loop : goal.invariant-loop
+invariant-loop g l =
+    record {
+      failures : g.L.Link.faults l.link ≡ g.L.Link.faults l.initial.link;
+      answered : l.self.answered ≡ l.initial.self.answered;
+      requests : l.self.requests ≡ l.initial.self.requests;
+      writes : ServerWritesOn
+          (traffic (g.L.Link.given l.initial.link) (g.L.Link.taken l.initial.link))
+          (traffic (g.L.Link.given l.link) (g.L.Link.taken l.link))
+          l.initial.self.server.end l.self.server.end;
+    }

@@ -1,0 +1,15 @@
+-- No call of the link has failed, and the server is one over the link that has used all octets.
+use Rattle.std.proofs.Common.{◌≡◌, []}
+use Rattle.h2_config.specs.ConfigValues.{values_of}
+use Rattle.h2_engines.specs.Linked.{traffic}
+use Rattle.h2_engines.proofs.ServingRounds.{IsServedOn}
+use Rattle.h2_engines.proofs.serve.serve_link.Given as goal
+
+abbrev pub invariant-loop : goal.invariant-loop
+invariant-loop g l =
+    record {
+      failures : g.L.Link.faults l.link ≡ g.L.Link.faults l.fn.link;
+      serves : IsServedOn (values_of l.fn.config)
+          (traffic (g.L.Link.given l.fn.link) (g.L.Link.taken l.fn.link))
+          (traffic (g.L.Link.given l.link) (g.L.Link.taken l.link)) l.responder [];
+    }

@@ -1,0 +1,45 @@
+-- How a connection over a link may end early, and how often the link has failed then.
+use Rattle.std.specs.Prelude.{◌≡◌, ℕ, ◌+◌, Bool, true, Result, Err}
+use Rattle.h2_link.specs.declared.error.LinkError.{LinkError}
+use Rattle.h2_link.specs.declared.error.LinkError.TheVariants as errors
+
+-- N1 is answered exactly where the link has failed, once, in the call.
+abbrev pub failures_told : {A : Type 0} → ℕ → Result A LinkError → ℕ
+failures_told failures (Err errors.Device) = failures + 1
+failures_told failures result = failures
+
+-- N4 is answered only where the link has told the end of its input.
+abbrev pub CutsOffAtEnd : {A : Type 0} → Result A LinkError → (ended : Bool) → Type 0
+CutsOffAtEnd (Err errors.CutOff) ended = ended ≡ true
+CutsOffAtEnd result ended = Unit {0}
+
+-- A connection that is served may end so: not with N6 and N7, which are of a request.
+abbrev pub EndsServing : LinkError → Type 0
+EndsServing (errors.Reset code) = ⊥
+EndsServing errors.Refused = ⊥
+EndsServing error = Unit {0}
+
+-- It ends so by itself, whatever the link does: not with N1 either.
+abbrev pub IsOfServer : LinkError → Type 0
+IsOfServer errors.Device = ⊥
+IsOfServer (errors.Reset code) = ⊥
+IsOfServer errors.Refused = ⊥
+IsOfServer error = Unit {0}
+
+-- A fetch ends so by itself.
+abbrev pub IsOfClient : LinkError → Type 0
+IsOfClient errors.Device = ⊥
+IsOfClient error = Unit {0}
+
+-- A call of an end ends a connection so alone: memory was refused, or nothing goes on.
+abbrev pub IsOfCall : LinkError → Type 0
+IsOfCall errors.Memory = Unit {0}
+IsOfCall errors.NoProgress = Unit {0}
+IsOfCall error = ⊥
+
+-- What writes to a link ends it so alone: as a call, or since the link has failed.
+abbrev pub EndsWriting : LinkError → Type 0
+EndsWriting errors.Device = Unit {0}
+EndsWriting errors.Memory = Unit {0}
+EndsWriting errors.NoProgress = Unit {0}
+EndsWriting error = ⊥

@@ -1,0 +1,74 @@
+-- How a fetch over a link ends.
+use Rattle.std.specs.Prelude.{◌≡◌, ◌≢◌, ◌⊎◌, ℕ, Bool, false, [], Some, None, Result, Ok, Err}
+use Rattle.std.specs.List.{Contains}
+use Rattle.h2_log.specs.declared.refusal.Refusal.TheVariants.{ListTooLarge}
+use Rattle.h2_log.specs.declared.role.Role.TheVariants.{Client}
+use Rattle.h2_log.specs.Acts.{Values, Open}
+use Rattle.h2_log.specs.Events.{ResetEvent, UnprocessedEvent}
+use Rattle.h2_log.specs.LogCalls.{opened}
+use Rattle.h2_message.specs.Messages.{SentMessage, broken_by_request}
+use Rattle.h2_message.specs.Phases.{ends}
+use Rattle.h2_pair.specs.Tokens.{is_head_alone}
+use Rattle.h2_ends.specs.Ends.{EndLog, Passed, message_for, parts_on}
+use Rattle.h2_ends.specs.EndCalls.{refusal_of_message}
+use Rattle.h2_link.specs.declared.error.LinkError.{LinkError}
+use Rattle.h2_link.specs.declared.error.LinkError.TheVariants as errors
+use Rattle.h2_engines.specs.declared.fetcher.Fetched.{Fetched}
+use Rattle.h2_engines.specs.Linked.{Traffic, HasGiven, IsLinkedInPart, HasTakenAll}
+use Rattle.h2_engines.specs.Serves.{HasFailedWith, SendsAll}
+use Rattle.h2_engines.specs.Fetching.{IsFetching, IsFetched}
+
+-- REFUSED_STREAM (RFC 9113, section 7): what is said of a request that was not processed
+abbrev pub refused_stream : ℕ
+refused_stream = 7
+
+-- The stream was reset with this code, by either end, or it was not processed (section 6.8).
+abbrev pub WasDropped : EndLog → (id number : ℕ) → Type 0
+WasDropped end id number =
+    ((ours : Bool) × Contains end.handed (Passed (ResetEvent id number ours)))
+    ⊎ ((number ≡ refused_stream) × Contains end.handed (Passed (UnprocessedEvent id)))
+
+-- The message breaks a rule, or its fields are too many.
+abbrev pub IsRefusedMessage : Values → SentMessage → Type 0
+IsRefusedMessage values message =
+    (broken_by_request message ≢ None)
+    ⊎ (refusal_of_message (opened Client values) (Open message.head (is_head_alone message)) message
+    ≡ Some ListTooLarge)
+
+-- what is said of each end, where the message was accepted for this stream
+abbrev pub EndsFetchSo : (start now : Traffic) → EndLog → (id : ℕ) → Result Fetched LinkError
+    → Type 0
+EndsFetchSo start now end id (Ok fetched) = IsFetched (parts_on id end.handed) fetched
+EndsFetchSo start now end id (Err (errors.Stream number)) =
+    HasFailedWith start now end.log number
+EndsFetchSo start now end id (Err (errors.Reset number)) = WasDropped end id number
+EndsFetchSo start now end id (Err errors.CutOff) =
+    (end.log.failed ≡ None) × (ends (parts_on id end.handed) ≡ false)
+    × HasGiven start now end.log [] × HasTakenAll start now end.log
+EndsFetchSo start now end id (Err errors.Refused) = ⊥
+EndsFetchSo start now end id (Err other) = Unit {0}
+
+-- The message was accepted for a stream, what was sent there is a prefix of it, and so the fetch
+-- has ended.
+pub record EndsFetch (start now : Traffic) (message : SentMessage) (end : EndLog)
+    (result : Result Fetched LinkError) : Type 0 where
+  pub id : ℕ
+  pub accepted : message_for id end.accepted ≡ Some message
+  pub sends : SendsAll end
+  pub so : EndsFetchSo start now end id result
+
+-- how a fetch ends whose message was not accepted
+abbrev pub IsNotAccepted : Values → SentMessage → Result Fetched LinkError → Type 0
+IsNotAccepted values message (Err errors.Refused) = IsRefusedMessage values message
+IsNotAccepted values message (Err errors.Memory) = Unit {0}
+IsNotAccepted values message (Err errors.NoProgress) = Unit {0}
+IsNotAccepted values message result = ⊥
+
+-- However it ends: this has happened at the client; what the link gave since the connection began,
+-- is what it used, and more; and what the link took is the beginning of its output.
+pub record Fetches (values : Values) (message : SentMessage) (start now : Traffic)
+    (result : Result Fetched LinkError) : Type 0 where
+  pub end : EndLog
+  pub fetching : IsFetching values message end
+  pub linked : IsLinkedInPart start now end.log
+  pub so : EndsFetch start now message end result ⊎ IsNotAccepted values message result

@@ -1,0 +1,47 @@
+-- What may happen at a client that makes one request, and what it answers of the response.
+use Rattle.std.specs.Prelude.{◌≡◌, ℕ, Bool, List, map as each, option_map}
+use Rattle.std.specs.Prelude.{Result}
+use Rattle.std.specs.List.{concat}
+use Rattle.h2_log.specs.declared.role.Role.TheVariants.{Client}
+use Rattle.h2_log.specs.Acts.{Values, AreInRange, Answer, IsTypedAct, PutOut}
+use Rattle.h2_log.specs.LogCalls.{MayAnswer, with_call}
+use Rattle.h2_message.specs.Messages.{SentMessage}
+use Rattle.h2_message.specs.Reading.{Part, ReadMessage, message_parts}
+use Rattle.h2_ends.specs.declared.refusal.EndRefusal.{EndRefusal}
+use Rattle.h2_ends.specs.Ends.{EndLog, EndAnswer}
+use Rattle.h2_ends.specs.EndTakes.{EndMayTake, end_with_log}
+use Rattle.h2_ends.specs.EndCalls.{MayRequest, MayPump, MayReleaseAll}
+use Rattle.h2_ends.specs.Represents.{new_end}
+use Rattle.h2_engines.specs.declared.fetcher.Fetched.{Fetched}
+
+-- What has happened at a client since it was new: it made one request, with this message; it took
+-- octets, released, pumped and gave out.
+pub data IsFetching (values : Values) (message : SentMessage) : EndLog → Type 0 where
+  begins : AreInRange values → IsFetching values message (new_end Client values)
+  requests : {after : EndLog} → AreInRange values → (result : Result ℕ EndRefusal)
+      → MayRequest (new_end Client values) message result after → IsFetching values message after
+  takes : {end after : EndLog} → IsFetching values message end → (piece : List ℕ)
+      (answer : EndAnswer) → EndMayTake end piece answer after → IsFetching values message after
+  releases : {end after : EndLog} → IsFetching values message end
+      → (result : Result (Unit {0}) EndRefusal) → MayReleaseAll end result after
+      → IsFetching values message after
+  pumps : {end after : EndLog} → IsFetching values message end → (result : Result ℕ EndRefusal)
+      → MayPump end result after → IsFetching values message after
+  gives_out : {end : EndLog} → IsFetching values message end → (count : ℕ) (answer : Answer)
+      → IsTypedAct (PutOut count) → MayAnswer end.log (PutOut count) answer
+      → IsFetching values message (end_with_log end (with_call end.log (PutOut count) answer))
+
+-- the response as it was read, its body in these parts
+abbrev pub response_read : Fetched → (data_parts : List (List ℕ)) → ReadMessage
+response_read fetched data_parts = record {
+  interims = each (λ list. list.items) fetched.interims.items;
+  head = fetched.head.items;
+  data_parts = data_parts;
+  trailers = option_map (λ list. list.items) fetched.trailers;
+}
+
+-- The response is the whole message that these parts are, the first one first.
+pub record IsFetched (parts : List (Part × Bool)) (fetched : Fetched) : Type 0 where
+  pub data_parts : List (List ℕ)
+  pub whole : parts ≡ message_parts (response_read fetched data_parts)
+  pub body : fetched.body.items ≡ concat data_parts

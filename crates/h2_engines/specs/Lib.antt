@@ -1,0 +1,10 @@
+pub mod Answers
+pub mod Failures
+pub mod Fetches
+pub mod Fetching
+pub mod FetchingSteps
+pub mod Keeping
+pub mod Linked
+pub mod Responding
+pub mod Serves
+pub mod Serving

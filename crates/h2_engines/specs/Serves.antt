@@ -1,0 +1,82 @@
+-- How a connection that is served over a link ends.
+use Rattle.std.specs.Prelude.{◌≡◌, ◌≢◌, ◌⊎◌, ◌≤◌, ℕ, true, false, [], length, Some, None}
+use Rattle.std.specs.Prelude.{Result, Ok, Err}
+use Rattle.std.specs.List.{Contains}
+use Rattle.h2_frame.specs.declared.code.Code.{Code}
+use Rattle.h2_frame.specs.declared.code.Code.TheVariants.{InternalError}
+use Rattle.h2_frame.specs.Codes.{code_number}
+use Rattle.h2_log.specs.declared.refusal.Refusal.TheVariants.{TooManyResets}
+use Rattle.h2_log.specs.Acts.{Values, ResetStream, Refused}
+use Rattle.h2_log.specs.Limits.{max_resets}
+use Rattle.h2_log.specs.Log.{Log, active, resets_written}
+use Rattle.h2_ends.specs.Ends.{EndLog, parts_on}
+use Rattle.h2_ends.specs.Represents.{SendsInOrder}
+use Rattle.h2_link.specs.declared.error.LinkError.{LinkError}
+use Rattle.h2_link.specs.declared.error.LinkError.TheVariants as errors
+use Rattle.h2_engines.specs.Answers.{is_too_large_body}
+use Rattle.h2_engines.specs.Linked.{Traffic, HasGiven, IsLinkedInPart, HasTakenAll}
+use Rattle.h2_engines.specs.Responding.{IsResponding, AnswersAll, calm}
+
+-- The input has ended where it may: no part of the preface or a frame is held, and no stream is
+-- active.
+pub record IsAtRest (log : Log) : Type 0 where
+  pub up : log.failed ≡ None
+  pub nothing_held : log.unparsed ≡ []
+  pub none_active : (id : ℕ) → active log id ≡ false
+
+-- All octets that the link gave were used, it took the whole output, and so many requests were
+-- answered: all that were whole.
+pub record IsServed (start now : Traffic) (end : EndLog) (count : ℕ) : Type 0 where
+  pub rests : IsAtRest end.log
+  pub given : HasGiven start now end.log []
+  pub taken : HasTakenAll start now end.log
+  pub answers : AnswersAll end
+  pub counted : count ≡ length end.accepted
+
+-- The connection has failed with this code, and the link took its GOAWAY, which ends the output.
+-- Its own want of memory is told as such.
+pub record HasFailedWith (start now : Traffic) (log : Log) (number : ℕ) : Type 0 where
+  pub code : Code
+  pub failed : log.failed ≡ Some code
+  pub other : code ≢ InternalError
+  pub number_is : number ≡ code_number code
+  pub taken : HasTakenAll start now log
+
+-- A request is too large, and its stream can't be reset any more.
+pub record CannotReset (end : EndLog) (number : ℕ) : Type 0 where
+  pub id : ℕ
+  pub too_large : is_too_large_body (parts_on id end.handed) ≡ true
+  pub refused : Contains end.log.calls (ResetStream id calm, Refused TooManyResets)
+  pub none_left : max_resets ≤ resets_written end.log
+  pub number_is : number ≡ calm
+
+-- The connection is up, and the input has ended where it may not.
+abbrev pub IsCutOff : Log → Type 0
+IsCutOff log =
+    (log.failed ≡ None) × ((log.unparsed ≢ []) ⊎ ((id : ℕ) × (active log id ≡ true)))
+
+-- What was sent on each stream is a prefix of what was to be said there.
+abbrev pub SendsAll : EndLog → Type 0
+SendsAll end = (id : ℕ) → SendsInOrder end id
+
+-- what is said of each end
+abbrev pub EndsServingSo : (start now : Traffic) → EndLog → Result ℕ LinkError → Type 0
+EndsServingSo start now end (Ok count) = IsServed start now end count
+EndsServingSo start now end (Err (errors.Stream number)) =
+    HasFailedWith start now end.log number ⊎ CannotReset end number
+EndsServingSo start now end (Err errors.CutOff) =
+    IsCutOff end.log × HasGiven start now end.log [] × HasTakenAll start now end.log
+EndsServingSo start now end (Err (errors.Reset number)) = ⊥
+EndsServingSo start now end (Err errors.Refused) = ⊥
+EndsServingSo start now end (Err other) = Unit {0}
+
+-- However it ends: this has happened at the server; what it has sent on each stream is a prefix of
+-- its answer; what the link gave since the connection began, is what it used, and more; and what
+-- the link took is the beginning of its output.
+pub record Serves (values : Values) (start now : Traffic) (result : Result ℕ LinkError) : Type 0
+  where
+    pub end : EndLog
+    pub responding : IsResponding values end
+    pub sends : SendsAll end
+    pub linked : IsLinkedInPart start now end.log
+    pub so : EndsServingSo start now end result

@@ -1,0 +1,34 @@
+//! Copies of what is lent, and room for input.
+
+ghost use Rattle.std.specs.Prelude.{◌≡◌, IfOk, IfErr};
+
+use h2_ends::{Field, FieldList};
+use h2_link::LinkError;
+use std::alloc::{AllocError, Global};
+
+/// A copy of a list of fields.
+pub(crate) fn copy_list(alloc: Global, list: &FieldList) -> Result<Vec<Field>, AllocError>
+    ensures { IfOk result (λ copy. copy.items ≡ list.now) }
+{
+    let mut copy = Vec::new(alloc);
+    for place in 0..list.len() {
+        let Some(field) = list.get(place) else {
+            unreachable!()
+        };
+        copy.push(Field::copy_of(alloc, field.name, field.value, field.sensitive)?)?;
+    }
+    Ok(copy)
+}
+
+/// How many octets are read at a time, at most.
+const PIECE: usize = 16_384;
+
+/// Room for what is read.
+pub(crate) fn room_for_input(alloc: Global) -> Result<Vec<u8>, LinkError>
+    ensures { IfErr result (λ error. error ≡ LinkError.Memory) }
+{
+    match vec![in alloc; 0u8; PIECE] {
+        Ok(room) => Ok(room),
+        Err(_) => Err(LinkError::Memory),
+    }
+}

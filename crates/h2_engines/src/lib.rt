@@ -1,0 +1,22 @@
+//! A whole HTTP/2 connection over any link (RFC 9113): a server that answers each request with what
+//! it asked, and a client that fetches one response.
+//!
+//! [`serve_link`] and [`fetch_link`] read and write a [`Link`]. [`Responder`] and [`Fetcher`] are
+//! their ends without a link, for whoever carries the octets in turns of so many.
+#![tactic(auto)]
+
+mod copies;
+mod errors;
+mod fetch;
+mod fetcher;
+mod request;
+mod responder;
+mod serve;
+mod turns;
+
+pub use fetch::fetch_link;
+pub use fetcher::{Fetched, Fetcher};
+pub use h2_ends::{Config, Field, Message};
+pub use h2_link::{Link, LinkError, LinkFault, MemoryLink};
+pub use responder::Responder;
+pub use serve::serve_link;

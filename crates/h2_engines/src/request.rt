@@ -1,0 +1,176 @@
+//! Requests, as far as they have come.
+
+ghost use Rattle.std.specs.Prelude.{◌≡◌, [], IfOk};
+ghost use Rattle.h2_message.specs.Fields.{value_or_nothing};
+ghost use Rattle.h2_message.specs.Values.{message_value};
+ghost use Rattle.h2_ends.specs.Loans.{event_handed};
+ghost use Rattle.h2_engines.specs.Answers.{IsRequest, answer_with};
+ghost use Rattle.h2_engines.specs.Keeping.{AddsOctets, EndsKept, NotesHanded, request_at};
+
+use h2_ends::{EndEvent, Field, FieldList, Message};
+use std::alloc::{AllocError, Global};
+use std::collections::BTreeMap;
+
+/// The most octets of a request's body (own).
+pub(crate) const GREATEST_BODY: usize = 1_048_576;
+
+/// A request, as far as it has come.
+#[derive(Drop)]
+pub(crate) struct Request {
+    /// What it asks, and its body: what it is answered with.
+    pub(crate) text: Vec<u8>,
+    /// Where its body begins.
+    pub(crate) start: usize,
+    /// Whether it asks with HEAD.
+    pub(crate) to_head: bool,
+}
+
+/// What is to be done once something was handed out.
+#[derive(Drop)]
+pub(crate) enum Next {
+    /// More may be handed out.
+    Again,
+    /// All octets were used, and nothing is handed out.
+    Done,
+    /// A request is whole: it is to be answered.
+    Answer { id: u32, request: Request },
+    /// A request is too large: its stream is to be reset.
+    Reset { id: u32 },
+}
+
+/// The requests that aren't whole, by their streams.
+#[derive(Drop)]
+pub(crate) struct Requests {
+    pub(crate) alloc: Global,
+    pub(crate) kept: BTreeMap<u32, Request>,
+}
+
+impl Request {
+    /// A request of which the head has come.
+    fn begin(alloc: Global, head: &FieldList) -> Result<Request, AllocError>
+        ensures { IfOk result (λ request. IsRequest head.now [] request) }
+    {
+        let method = value_or_nothing(head, b":method");
+        let mut text = Vec::from_slice(alloc, method)?;
+        text.push(b' ')?;
+        text.extend_from_slice(value_or_nothing(head, b":path"))?;
+        text.push(b'\n')?;
+        Ok(Request {
+            start: text.len(),
+            text,
+            to_head: method == b"HEAD".as_slice(),
+        })
+    }
+
+    /// What it is answered with.
+    ///
+    /// # Errors
+    ///
+    /// [`AllocError`] where an allocation was refused.
+    pub(crate) fn into_answer(self, alloc: Global) -> Result<Message, AllocError>
+        ensures { IfOk result (λ message. message_value message
+            ≡ answer_with self.text.items self.to_head) }
+    {
+        let mut head = Vec::new(alloc);
+        head.push(Field::copy_of(alloc, b":status", b"200", false)?)?;
+        if self.to_head {
+            return Ok(Message {
+                head,
+                body: Vec::new(alloc),
+                trailers: None,
+            });
+        }
+        let length = self.text.len().to_string(alloc)?;
+        head.push(Field::copy_of(alloc, b"content-length", length.as_bytes(), false)?)?;
+        Ok(Message {
+            head,
+            body: self.text,
+            trailers: None,
+        })
+    }
+}
+
+impl Requests {
+    /// No requests.
+    pub(crate) fn new(alloc: Global) -> Requests
+        ensures { result.kept.entries ≡ [] }
+    {
+        Requests {
+            alloc,
+            kept: BTreeMap::new(alloc),
+        }
+    }
+
+    /// Keeps what was handed out of a request, and says what is to be done.
+    ///
+    /// # Errors
+    ///
+    /// [`AllocError`] where an allocation was refused.
+    pub(crate) fn note(&mut self, event: EndEvent<'_>) -> Result<Next, AllocError>
+        ensures { IfOk result (λ next. NotesHanded self.old self.new (event_handed event.entry)
+            next) }
+    {
+        match event {
+            EndEvent::Head { id, list, end } => {
+                let request = Request::begin(self.alloc, list)?;
+                if end {
+                    self.kept.remove(&id);
+                    return Ok(Next::Answer { id, request });
+                }
+                self.kept.insert(id, request)?;
+            }
+            EndEvent::Body { id, bytes, end } => return self.add(id, bytes, end),
+            EndEvent::Trailers { id, .. } => return Ok(self.end(id)),
+            EndEvent::Reset { id, .. } => {
+                self.kept.remove(&id);
+            }
+            _ => {}
+        }
+        Ok(Next::Again)
+    }
+
+    /// Adds octets to the body of a request.
+    fn add(&mut self, id: u32, bytes: &[u8], end: bool) -> Result<Next, AllocError>
+        ensures { IfOk result (λ next. AddsOctets self.old self.new id bytes.now end
+            (request_at id self.old) next) }
+    {
+        let Some(request) = self.kept.get_mut(&id) else {
+            return Ok(Next::Again);
+        };
+        let body = request.text.len().saturating_sub(request.start);
+        if bytes.len() > GREATEST_BODY.saturating_sub(body) {
+            self.kept.remove(&id);
+            return Ok(Next::Reset { id });
+        }
+        request.text.extend_from_slice(bytes)?;
+        if end {
+            return Ok(self.end(id));
+        }
+        Ok(Next::Again)
+    }
+
+    /// Takes out a request that is whole.
+    fn end(&mut self, id: u32) -> Next
+        ensures { EndsKept self.old self.new id (request_at id self.old) result }
+    {
+        match self.kept.remove(&id) {
+            Some(request) => Next::Answer { id, request },
+            None => Next::Again,
+        }
+    }
+}
+
+/// The value of the first field with this name; nothing where there is none.
+fn value_or_nothing<'a>(fields: &'a FieldList, name: &[u8]) -> &'a [u8]
+    ensures { result.now ≡ value_or_nothing name.now fields.now }
+{
+    for place in 0..fields.len() {
+        let Some(field) = fields.get(place) else {
+            unreachable!()
+        };
+        if field.name == name {
+            return field.value;
+        }
+    }
+    &[]
+}

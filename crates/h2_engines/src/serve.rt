@@ -1,0 +1,88 @@
+//! Serving a connection over a link.
+
+ghost use Rattle.std.specs.Prelude.{◌≡◌, ◌<◌, ◌-◌, ◌^◌, IfErr, OnOk, true};
+ghost use Rattle.h2_config.specs.ConfigValues.{values_of};
+ghost use Rattle.h2_engines.specs.Failures.{CutsOffAtEnd, EndsServing, failures_told};
+ghost use Rattle.h2_engines.specs.Linked.{traffic};
+ghost use Rattle.h2_engines.specs.Serves.{Serves};
+ghost use Rattle.h2_engines.specs.Serving.{ServerReceives};
+
+use crate::copies::room_for_input;
+use crate::request::Next;
+use crate::responder::Responder;
+use h2_ends::Config;
+use h2_link::{Link, LinkError};
+use std::alloc::Global;
+
+/// Serves a connection until its input ends: answers each whole request with its method, a space,
+/// its path, a line end and its body, and answers how many requests were answered. An answer to
+/// HEAD has neither body nor `content-length`. A stream whose request has a body of more than
+/// 1,048,576 octets is reset with ENHANCE_YOUR_CALM.
+///
+/// # Errors
+///
+/// N1 where the link failed; N2 where the connection failed, once its GOAWAY was written, or where
+/// no stream can be reset any more, with 11; N3 where an allocation was refused; N4 where the input
+/// ended inside the preface or a frame, or while a stream was active; N5 where a write took
+/// nothing.
+pub fn serve_link<L: Link>(alloc: Global, link: &mut L, config: Config) -> Result<u32, LinkError>
+    requires { L.faults link.old < 2 ^ 64 - 1 }
+    ensures serves { Serves (values_of config) (traffic (L.given link.old) (L.taken link.old))
+        (traffic (L.given link.new) (L.taken link.new)) result }
+    ensures ended { OnOk result (L.ended link.new ≡ true) }
+    ensures cut_off { CutsOffAtEnd result (L.ended link.new) }
+    ensures failures { L.faults link.new ≡ failures_told (L.faults link.old) result }
+    ensures err { IfErr result EndsServing }
+{
+    let mut responder = Responder::new(alloc, config)?;
+    let mut input = room_for_input(alloc)?;
+    for _ in 0..u64::MAX {
+        responder.send(link)?;
+        match link.read(&mut input) {
+            Ok(0) => return responder.finish(),
+            Ok(count) => responder.receive(link, &input[..count])?,
+            Err(_) => return Err(LinkError::Device),
+        }
+        responder.release()?;
+        responder.pump()?;
+    }
+    Err(LinkError::NoProgress)
+}
+
+impl Responder {
+    /// Takes octets, and answers the requests that are whole. All that waits is written before each
+    /// answer and each reset, and where the octets end the connection: its GOAWAY goes last.
+    fn receive<L: Link>(&mut self, link: &mut L, piece: &[u8]) -> Result<(), LinkError>
+        requires { L.faults link.old < 2 ^ 64 - 1 }
+        ensures receives { ServerReceives (traffic (L.given link.old) (L.taken link.old))
+            (traffic (L.given link.new) (L.taken link.new)) self.old self.new piece.now result }
+        ensures failures { L.faults link.new ≡ failures_told (L.faults link.old) result }
+        ensures err { IfErr result EndsServing }
+    {
+        let mut used = 0usize;
+        for _ in 0..u64::MAX {
+            match self.hear(&piece[used..]) {
+                Ok(heard) => {
+                    used += heard.used;
+                    match heard.next {
+                        Next::Again => {}
+                        Next::Done => return Ok(()),
+                        Next::Answer { id, request } => {
+                            self.write_out(link)?;
+                            self.answer(id, request)?;
+                        }
+                        Next::Reset { id } => {
+                            self.write_out(link)?;
+                            self.reset(id)?;
+                        }
+                    }
+                }
+                Err(error) => {
+                    self.write_out(link)?;
+                    return Err(error);
+                }
+            }
+        }
+        Err(LinkError::NoProgress)
+    }
+}
