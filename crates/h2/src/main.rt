@@ -7,6 +7,7 @@ use std::{env, io};
 fn main(rt: HostRuntime) -> ExitCode {
     let status = match words(&rt) {
         Ok(words) => h2_tool::run(
+            &rt,
             rt.alloc(),
             words.as_slice(),
             &mut rt.stdin(),

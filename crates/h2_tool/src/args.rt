@@ -8,6 +8,11 @@ use h2_events::{ReplayOptions, Role};
 use h2_show::{ShowOptions, Side};
 use std::alloc::{AllocError, Global};
 
+mod sockets;
+
+use sockets::{get_command, loop_command, serve_command};
+pub use sockets::{ServeOptions, get_args, loop_args, serve_args};
+
 /// Reads the words after `show`.
 ///
 /// # Errors
@@ -79,13 +84,16 @@ fn replay_options_of(matches: &ArgMatches<'_>) -> ReplayOptions
 pub(crate) fn no_command(alloc: Global, words: &[String]) -> Result<(), Error> {
     let command = Command::new(alloc, "h2")
         .bin_name("h2")?
-        .about("Shows and replays streams of HTTP/2 over cleartext")
+        .about("Shows, replays, serves and fetches HTTP/2 over cleartext")
         .version("0.1.0")
         .no_binary_name(true)
         .subcommand_required(true)
         .arg_required_else_help(true)
         .subcommand(show_command(alloc)?)?
-        .subcommand(replay_command(alloc)?)?;
+        .subcommand(replay_command(alloc)?)?
+        .subcommand(serve_command(alloc)?)?
+        .subcommand(get_command(alloc)?)?
+        .subcommand(loop_command(alloc)?)?;
     command.try_get_matches_from(words)?;
     Ok(())
 }

@@ -1,17 +1,20 @@
 //! The commands of the program `h2`.
 //!
 //! [`run`] takes the words of a command line and answers the status that the program ends with. A
-//! command reads from a reader and prints to two writers, so tests run it in memory.
+//! command reads from a reader and prints to two writers, so tests run it in memory; one over
+//! sockets opens them by the network that it is given.
 #![tactic(auto)]
 
 mod args;
 mod program;
 mod replay;
 mod show;
+mod sockets;
 #[cfg(test)]
 mod tests;
 
-pub use args::{replay_args, show_args};
+pub use args::{ServeOptions, get_args, loop_args, replay_args, serve_args, show_args};
 pub use program::{no_words, run};
 pub use replay::cmd_replay;
 pub use show::cmd_show;
+pub use sockets::{cmd_get, cmd_loop, cmd_serve};

@@ -1,38 +1,44 @@
 //! The program as a whole.
 
-ghost use Rattle.std.specs.Prelude.{◌≡◌, ◌≢◌, ◌⊎◌, IfSome};
+ghost use Rattle.std.specs.Prelude.{◌≡◌, ◌≢◌, ◌⊎◌, IfSome, map, string_bytes};
 ghost use Rattle.h2_show.specs.Status.{failure_status};
-ghost use Rattle.h2_tool.specs.Commands.{CommandReports};
+ghost use Rattle.h2_tool.specs.Commands.{CommandReports, ReadsInput};
 
 use crate::args::no_command;
 use crate::replay::cmd_replay;
 use crate::show::cmd_show;
+use crate::sockets::{cmd_get, cmd_loop, cmd_serve};
 use clap::Error;
 use clap::error::ErrorKind;
 use h2_show::{Failure, Hint, Status};
 use std::alloc::Global;
 use std::io::{self, Read, Write};
+use std::net::Net;
 
 /// Runs the program with the words after its name, and answers the status that it ends with: that
 /// of the command, or for words without one [`Status::Good`] where they ask for help or the version
-/// and [`Status::Usage`] where they are wrong.
-pub fn run<R: Read, W: Write, E: Write>(
+/// and [`Status::Usage`] where they are wrong. Sockets are opened by the network alone.
+pub fn run<N: Net, R: Read, W: Write, E: Write>(
+    net: &N,
     alloc: Global,
     words: &[String],
     input: &mut R,
     out: &mut W,
     err: &mut E,
 ) -> Status
-    ensures fault { result ≡ Status.Fault → IfSome (R.remaining input.old)
-        (λ given. CommandReports given result) }
-    ensures good { result ≡ Status.Good → IfSome (R.remaining input.old)
-        (λ given. CommandReports given result
+    ensures fault { ReadsInput (map string_bytes words.now) → result ≡ Status.Fault
+        → IfSome (R.remaining input.old) (λ given. CommandReports given result) }
+    ensures good { ReadsInput (map string_bytes words.now) → result ≡ Status.Good
+        → IfSome (R.remaining input.old) (λ given. CommandReports given result
         ⊎ (R.remaining input.new ≡ R.remaining input.old)) }
 {
     if let Some((name, others)) = words.split_first() {
         match name.as_str() {
             "show" => return cmd_show(alloc, others, input, out, err),
             "replay" => return cmd_replay(alloc, others, input, out, err),
+            "serve" => return cmd_serve(net, alloc, others, out, err),
+            "get" => return cmd_get(net, alloc, others, out, err),
+            "loop" => return cmd_loop(net, alloc, others, out, err),
             _ => {}
         }
     }

@@ -4,6 +4,7 @@ mod cases;
 mod devices;
 mod examples;
 mod replay;
+mod sockets;
 
 use crate::{cmd_show, no_words, run};
 use devices::Failing;
@@ -35,7 +36,7 @@ fn words_are_checked_first(rt: HostRuntime) -> Result<(), Fail> {
         ("help show", show, "", Status::Good),
         (
             "--help",
-            "Shows and replays streams of HTTP/2 over cleartext\n",
+            "Shows, replays, serves and fetches HTTP/2 over cleartext\n",
             "",
             Status::Good,
         ),
@@ -46,11 +47,32 @@ fn words_are_checked_first(rt: HostRuntime) -> Result<(), Fail> {
             "",
             Status::Good,
         ),
+        (
+            "serve --help",
+            "Answers requests at a port, each with what it asked\n\n\
+        Usage: h2 serve PORT COUNT\n",
+            "",
+            Status::Good,
+        ),
+        (
+            "help get",
+            "Fetches a URL, and prints the status and the body\n\n\
+        Usage: h2 get URL\n",
+            "",
+            Status::Good,
+        ),
+        (
+            "loop -h",
+            "Posts octets from a client to a server in one process\n\n\
+        Usage: h2 loop N\n",
+            "",
+            Status::Good,
+        ),
         ("--version", "h2 0.1.0\n", "", Status::Good),
         (
             "",
             "",
-            "Shows and replays streams of HTTP/2 over cleartext\n",
+            "Shows, replays, serves and fetches HTTP/2 over cleartext\n",
             Status::Usage,
         ),
         (
@@ -84,6 +106,54 @@ fn words_are_checked_first(rt: HostRuntime) -> Result<(), Fail> {
             Status::Usage,
         ),
         (
+            "serve 9001",
+            "",
+            "error: the following required arguments were not provided:\n  <COUNT>\n",
+            Status::Usage,
+        ),
+        (
+            "serve 0 1",
+            "",
+            "error: invalid value '0' for '<PORT>': 0 is not in 1..=65535\n",
+            Status::Usage,
+        ),
+        (
+            "serve 1 65536",
+            "",
+            "error: invalid value '65536' for '<COUNT>': 65536 is not in 1..=65535\n",
+            Status::Usage,
+        ),
+        (
+            "get https://127.0.0.1:9001/",
+            "",
+            "error: the URL's scheme isn't http\n",
+            Status::Usage,
+        ),
+        (
+            "get http://127.0.0.1/",
+            "",
+            "error: the URL has no port of 1 to 65535\n",
+            Status::Usage,
+        ),
+        (
+            "get",
+            "",
+            "error: the following required arguments were not provided:\n  <URL>\n",
+            Status::Usage,
+        ),
+        (
+            "loop 1048577",
+            "",
+            "error: invalid value '1048577' for '<N>': 1048577 is not in 0..=1048576\n",
+            Status::Usage,
+        ),
+        (
+            "loop x",
+            "",
+            "error: invalid value 'x' for '<N>': invalid digit found in string\n",
+            Status::Usage,
+        ),
+        (
             "show --hex --hex",
             "",
             "error: the argument '--hex' cannot be used multiple times\n",
@@ -95,6 +165,7 @@ fn words_are_checked_first(rt: HostRuntime) -> Result<(), Fail> {
         let mut out = Vec::new(rt.alloc());
         let mut err = Vec::new(rt.alloc());
         let ended = run(
+            &rt,
             rt.alloc(),
             words.as_slice(),
             &mut Failing,
@@ -117,11 +188,19 @@ fn words_are_checked_first(rt: HostRuntime) -> Result<(), Fail> {
 // Each line of the help fits 80 columns, and has what the lines mean.
 #[test]
 fn help_fits_80_columns(rt: HostRuntime) -> Result<(), Fail> {
-    for line in ["show --help", "replay --help", "--help"] {
+    for line in [
+        "show --help",
+        "replay --help",
+        "serve --help",
+        "get --help",
+        "loop --help",
+        "--help",
+    ] {
         let words = words_of(rt.alloc(), line)?;
         let mut out = Vec::new(rt.alloc());
         let mut err = Vec::new(rt.alloc());
         run(
+            &rt,
             rt.alloc(),
             words.as_slice(),
             &mut Failing,
@@ -149,14 +228,31 @@ fn help_fits_80_columns(rt: HostRuntime) -> Result<(), Fail> {
                 "acked",
                 "nc -l",
             ],
-            _ => [
-                "Usage:",
-                "Commands:",
-                "show",
-                "replay",
-                "--help",
-                "--version",
+            "serve --help" => [
+                "N2 Stream",
+                "N4 CutOff",
+                "N1 Device",
+                "N3 Memory",
+                "Example:",
+                "one connection at a time",
             ],
+            "get --help" => [
+                "N6 Reset",
+                "N4 CutOff",
+                "N7 Refused",
+                "N3 Memory",
+                "Example",
+                "200 OK",
+            ],
+            "loop --help" => [
+                "N4 CutOff",
+                "N1 Device",
+                "N3 Memory",
+                "Example:",
+                "251",
+                "4096",
+            ],
+            _ => ["Commands:", "show", "replay", "serve", "get", "loop"],
         };
         for part in &parts {
             assert!(rt; help.contains(*part), "{part}");
@@ -178,6 +274,7 @@ fn texts_that_cannot_be_written(rt: HostRuntime) -> Result<(), Fail> {
     ] {
         let words = words_of(rt.alloc(), line)?;
         let ended = run(
+            &rt,
             rt.alloc(),
             words.as_slice(),
             &mut Failing,
@@ -242,7 +339,14 @@ fn shown_texts(rt: HostRuntime) -> Result<(), Fail> {
         let mut out = Vec::new(rt.alloc());
         let mut err = Vec::new(rt.alloc());
         let mut input = text.as_bytes();
-        let ended = run(rt.alloc(), words.as_slice(), &mut input, &mut out, &mut err);
+        let ended = run(
+            &rt,
+            rt.alloc(),
+            words.as_slice(),
+            &mut input,
+            &mut out,
+            &mut err,
+        );
         assert_eq!(rt; out.as_slice(), lines.as_bytes());
         assert_eq!(rt; err.as_slice(), error.as_bytes());
         assert_eq!(rt; ended, *status);
@@ -250,6 +354,7 @@ fn shown_texts(rt: HostRuntime) -> Result<(), Fail> {
         let mut out = Vec::new(rt.alloc());
         let mut input = text.as_bytes();
         let ended = run(
+            &rt,
             rt.alloc(),
             words.as_slice(),
             &mut input,

@@ -85,7 +85,14 @@ fn replayed_texts(rt: HostRuntime) -> Result<(), Fail> {
         let mut out = Vec::new(rt.alloc());
         let mut err = Vec::new(rt.alloc());
         let mut input = Pieces::new(text.as_bytes(), usize::MAX, usize::MAX);
-        let ended = run(rt.alloc(), words.as_slice(), &mut input, &mut out, &mut err);
+        let ended = run(
+            &rt,
+            rt.alloc(),
+            words.as_slice(),
+            &mut input,
+            &mut out,
+            &mut err,
+        );
         assert_eq!(rt; err.as_slice(), error.as_bytes());
         assert_eq!(rt; ended, *status);
         let first = if *status == Status::Fault {

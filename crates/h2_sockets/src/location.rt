@@ -1,0 +1,123 @@
+//! URLs that can be fetched.
+
+ghost use Rattle.std.specs.Prelude.{◌<◌, IfOk, IfSome};
+
+use http_uri::{Uri, UriError};
+use std::alloc::{AllocError, Global};
+use thiserror::Error;
+
+/// What a URL of the scheme `http` names (RFC 9110, section 4.2.1).
+#[derive(Debug, Drop)]
+pub struct Location {
+    /// The host: a name or an IP address, this one without brackets.
+    pub host: String,
+    /// The port, from 1 to 65,535.
+    pub port: u16,
+    /// The host and the port as in the URL: what `:authority` says.
+    pub authority: String,
+    /// The path, which is `/` where the URL has none, and the query: what `:path` says.
+    pub path: String,
+}
+
+/// Why a URL can't be fetched. Its text is for the user.
+#[derive(Clone, Copy, Debug, PartialEq, Eq, Error)]
+pub enum TargetFault {
+    /// It is no URL.
+    #[error("the URL can't be read")]
+    Unread,
+    /// Its scheme isn't `http`.
+    #[error("the URL's scheme isn't http")]
+    OtherScheme,
+    /// It has no host.
+    #[error("the URL has no host")]
+    NoHost,
+    /// It has no port, or one that isn't from 1 to 65,535.
+    #[error("the URL has no port of 1 to 65535")]
+    NoPort,
+    /// It has a userinfo, which is not to be sent (RFC 9113, section 8.3.1).
+    #[error("the URL has a user's name")]
+    UserInfo,
+    /// Out of memory.
+    #[error("N3 Memory")]
+    Memory,
+}
+
+impl From<AllocError> for TargetFault {
+    fn from(_error: AllocError) -> TargetFault {
+        TargetFault::Memory
+    }
+}
+
+/// Reads a URL. Its fragment is dropped (RFC 9110, section 7.1).
+///
+/// # Errors
+///
+/// [`TargetFault`] names the first reason for which it can't be fetched, in the order in which they
+/// stand there.
+pub fn target(alloc: Global, url: &[u8]) -> Result<Location, TargetFault>
+    ensures { IfOk result (λ target. 0 < target.port) }
+{
+    let Ok(url) = str::from_utf8(url) else {
+        return Err(TargetFault::Unread);
+    };
+    let uri = match Uri::from_str(alloc, url) {
+        Ok(uri) => uri,
+        Err(UriError::Invalid(_)) => return Err(TargetFault::Unread),
+        Err(UriError::OutOfMemory) => return Err(TargetFault::Memory),
+    };
+    if uri.scheme_str() != Some("http") {
+        return Err(TargetFault::OtherScheme);
+    }
+    let Some(authority) = uri.authority() else {
+        return Err(TargetFault::NoHost);
+    };
+    let host = without_brackets(authority.host());
+    if host.is_empty() {
+        return Err(TargetFault::NoHost);
+    }
+    let Some(port) = port_of(&uri) else {
+        return Err(TargetFault::NoPort);
+    };
+    if authority.as_str().contains('@') {
+        return Err(TargetFault::UserInfo);
+    }
+    Ok(Location {
+        host: String::from_str(alloc, host)?,
+        port,
+        authority: String::from_str(alloc, authority.as_str())?,
+        path: path_of(alloc, &uri)?,
+    })
+}
+
+/// An IPv6 address without its brackets, and any other host as it is.
+fn without_brackets(host: &str) -> &str {
+    match host.strip_prefix('[') {
+        Some(inner) => inner.strip_suffix(']').unwrap_or(host),
+        None => host,
+    }
+}
+
+/// The port of a URL, if it is one of 1 to 65,535 in digits alone.
+fn port_of(uri: &Uri) -> Option<u16>
+    ensures { IfSome result (λ port. 0 < port) }
+{
+    let port = uri.port()?;
+    let is_decimal = port.as_str().bytes().all(|octet| octet.is_ascii_digit());
+    if is_decimal && port.as_u16() > 0 {
+        Some(port.as_u16())
+    } else {
+        None
+    }
+}
+
+/// The path of a URL, or `/` where it has none, with the query.
+fn path_of(alloc: Global, uri: &Uri) -> Result<String, AllocError> {
+    let path = match uri.path() {
+        "" => "/",
+        path => path,
+    };
+    match uri.query() {
+        Some(query) => format!(in alloc; "{path}?{query}"),
+        None => String::from_str(alloc, path),
+    }
+}

@@ -1,0 +1,224 @@
+//! Both ends in one process, over one connection.
+
+ghost use Rattle.std.specs.Prelude.{◌≡◌, ◌≤◌, ◌<◌, ◌-◌, ◌^◌, length, IfOk, OnOk};
+ghost use Rattle.h2_engines.specs.Failures.{failures_told};
+ghost use Rattle.h2_sockets.specs.Loopback.{NoneHasFailed};
+
+use crate::get::status_value;
+use crate::stream_link::StreamLink;
+use h2_engines::{Config, Fetched, Fetcher, Field, Link, LinkError, Message, Responder};
+use h2_link::write_all;
+use std::alloc::{AllocError, Global};
+use std::io::{Read, Write};
+use std::net::{Ipv4Addr, Net, OpenListener, OpenStream, SocketAddr, TcpListener, TcpStream};
+
+/// The most octets that are posted.
+pub const MOST_POSTED: u32 = 1_048_576;
+
+/// So many octets an end writes in its turn, at most.
+const TURN: usize = 4_096;
+
+/// Where the octets of a body begin again.
+const PERIOD: u32 = 251;
+
+/// The two ends, and the two streams of their connection.
+#[derive(Drop)]
+struct Ends<S> {
+    client: Fetcher,
+    server: Responder,
+    client_link: StreamLink<S>,
+    server_link: StreamLink<S>,
+}
+
+/// What is carried in a turn.
+#[derive(Drop)]
+struct Carried {
+    /// What an end writes.
+    written: Vec<u8>,
+    /// Room for what the other reads: [`TURN`] octets.
+    read: Vec<u8>,
+}
+
+/// Posts so many octets, of which octet k is k mod 251, to `/` of a server in this process, over
+/// one TCP connection of 127.0.0.1, and answers the response. Each end in turn writes at most 4,096
+/// octets, which the other then reads; it ends with a round in which neither writes.
+///
+/// # Errors
+///
+/// N1 where the connection failed or can't be made; N3 where an allocation was refused; N4 where
+/// the response isn't whole at the end. N2, N5, N6 and N7 would be faults of the ends.
+pub fn exchange<N: Net>(net: &N, alloc: Global, count: u32) -> Result<Fetched, LinkError> {
+    let Ok(message) = post_of(alloc, count) else {
+        return Err(LinkError::Memory);
+    };
+    let (client_link, server_link) = joined(net, alloc)?;
+    let mut ends = Ends {
+        client: Fetcher::new(alloc, Config::default(), message)?,
+        server: Responder::new(alloc, Config::default())?,
+        client_link,
+        server_link,
+    };
+    let mut carried = Carried {
+        written: Vec::new(alloc),
+        read: room_for_turn(alloc)?,
+    };
+    let mut is_whole = false;
+    for _ in 0..u64::MAX {
+        let sent = client_turn(&mut ends, &mut carried)?;
+        let (returned, has_ended) = server_turn(&mut ends, &mut carried)?;
+        is_whole = is_whole || has_ended;
+        if sent == 0 && returned == 0 {
+            break;
+        }
+    }
+    if is_whole {
+        ends.client.into_fetched()
+    } else {
+        Err(LinkError::CutOff)
+    }
+}
+
+/// Prints how many octets were posted, how many the response's body has, and its status.
+///
+/// # Errors
+///
+/// N1 where a write failed.
+pub fn print_exchange<W: Write>(
+    count: u32,
+    fetched: &Fetched,
+    out: &mut W,
+) -> Result<(), LinkError> {
+    let status = str::from_utf8(status_value(&fetched.head)).unwrap_or("none");
+    let length = fetched.body.len();
+    let written = writeln!(out, "sent {count} got {length} status {status}");
+    match written.and_then(|()| out.flush()) {
+        Ok(()) => Ok(()),
+        Err(_) => Err(LinkError::Device),
+    }
+}
+
+/// The request that posts so many octets.
+fn post_of(alloc: Global, count: u32) -> Result<Message, AllocError> {
+    let fields: [(&[u8], &[u8]); 4] = [
+        (b":method", b"POST"),
+        (b":scheme", b"http"),
+        (b":path", b"/"),
+        (b":authority", b"127.0.0.1"),
+    ];
+    let mut head = Vec::new(alloc);
+    for (name, value) in fields {
+        head.push(Field::copy_of(alloc, name, value, false)?)?;
+    }
+    let mut body = Vec::new(alloc);
+    for place in 0..count {
+        body.push((place % PERIOD) as u8)?;
+    }
+    Ok(Message {
+        head,
+        body,
+        trailers: None,
+    })
+}
+
+/// Room for what is read in a turn.
+fn room_for_turn(alloc: Global) -> Result<Vec<u8>, LinkError> {
+    match vec![in alloc; 0u8; TURN] {
+        Ok(room) => Ok(room),
+        Err(_) => Err(LinkError::Memory),
+    }
+}
+
+/// The two sides of a new connection of 127.0.0.1: the one that connects, and the one that accepts.
+fn joined<N: Net>(
+    net: &N,
+    alloc: Global,
+) -> Result<(StreamLink<N::Stream>, StreamLink<N::Stream>), LinkError>
+    ensures { IfOk result (λ links. (links.0.failures ≡ 0) × (links.1.failures ≡ 0)) }
+{
+    let Ok(listener) = TcpListener::bind(net, SocketAddr::from((Ipv4Addr::LOCALHOST, 0))) else {
+        return Err(LinkError::Device);
+    };
+    let Ok(address) = listener.local_addr() else {
+        return Err(LinkError::Device);
+    };
+    let Ok(client) = TcpStream::connect(net, address) else {
+        return Err(LinkError::Device);
+    };
+    let Ok((server, _)) = listener.accept() else {
+        return Err(LinkError::Device);
+    };
+    Ok((
+        StreamLink::new(alloc, client)?,
+        StreamLink::new(alloc, server)?,
+    ))
+}
+
+/// The client writes, and the server takes that. Answers how many octets it was.
+fn client_turn<S: Read + Write + OpenStream>(
+    ends: &mut Ends<S>,
+    carried: &mut Carried,
+) -> Result<usize, LinkError>
+    requires { NoneHasFailed ends.old }
+    ensures { OnOk result (NoneHasFailed ends.new) }
+{
+    carried.written.clear();
+    ends.client.put_out(TURN, &mut carried.written)?;
+    let count = carry(&mut ends.client_link, &mut ends.server_link, carried)?;
+    ends.server.take_in(&carried.read[..count])?;
+    Ok(count)
+}
+
+/// The server writes, and the client takes that. Answers how many octets it was, and whether the
+/// response has become whole.
+fn server_turn<S: Read + Write + OpenStream>(
+    ends: &mut Ends<S>,
+    carried: &mut Carried,
+) -> Result<(usize, bool), LinkError>
+    requires { NoneHasFailed ends.old }
+    ensures { OnOk result (NoneHasFailed ends.new) }
+{
+    carried.written.clear();
+    ends.server.put_out(TURN, &mut carried.written)?;
+    let count = carry(&mut ends.server_link, &mut ends.client_link, carried)?;
+    let is_whole = ends.client.take_in(&carried.read[..count])?;
+    Ok((count, is_whole))
+}
+
+/// Writes octets at one side of a connection, and reads as many at the other. Answers how many.
+fn carry<S: Read + Write + OpenStream>(
+    from: &mut StreamLink<S>,
+    to: &mut StreamLink<S>,
+    carried: &mut Carried,
+) -> Result<usize, LinkError>
+    requires { (from.old.failures ≡ 0) × (to.old.failures ≡ 0) }
+    ensures failures { OnOk result ((from.new.failures ≡ 0) × (to.new.failures ≡ 0)) }
+    ensures within { IfOk result (λ count. count ≤ length carried.new.read.items) }
+{
+    let count = carried.written.len().min(carried.read.len());
+    write_all(from, &carried.written[..count])?;
+    let Ok(()) = from.flush() else {
+        return Err(LinkError::Device);
+    };
+    read_all(to, &mut carried.read[..count])?;
+    Ok(count)
+}
+
+/// Reads as many octets as there is room for.
+fn read_all<L: Link>(link: &mut L, room: &mut [u8]) -> Result<(), LinkError>
+    requires { L.faults link.old < 2 ^ 64 - 1 }
+    ensures length { length room.new ≡ length room.old }
+    ensures failures { L.faults link.new ≡ failures_told (L.faults link.old) result }
+{
+    let mut filled = 0usize;
+    for _ in 0..room.len() {
+        if filled == room.len() {
+            break;
+        }
+        match link.read(&mut room[filled..]) {
+            Ok(0) => return Err(LinkError::CutOff),
+            Ok(count) => filled += count,
+            Err(_) => return Err(LinkError::Device),
+        }
+    }
+    Ok(())
+}

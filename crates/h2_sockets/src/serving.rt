@@ -1,0 +1,88 @@
+//! Serving connections to a port.
+
+ghost use Rattle.std.specs.Prelude.{◌≡◌};
+
+use crate::ending::report;
+use crate::stream_link::StreamLink;
+use h2_engines::{Config, LinkError, serve_link};
+use h2_show::Status;
+use std::alloc::Global;
+use std::io::{Read, Write};
+use std::net::{Ipv4Addr, Net, OpenListener, OpenStream, SocketAddr, TcpListener};
+
+/// Serves so many connections to a port of 127.0.0.1, one after another, as [`serve_link`] does
+/// with the default [`Config`], and answers the status of the first that ended early, or
+/// [`Status::Good`].
+///
+/// A connection that ends early has a line on standard error, and the next one is served. Where the
+/// port can't be had no connection is served: that is N1.
+pub fn serve_port<N: Net, E: Write>(
+    net: &N,
+    alloc: Global,
+    port: u16,
+    count: u16,
+    err: &mut E,
+) -> Status {
+    match TcpListener::bind(net, SocketAddr::from((Ipv4Addr::LOCALHOST, port))) {
+        Ok(listener) => serve_connections(alloc, &listener, count, err),
+        Err(_) => report(LinkError::Device, err),
+    }
+}
+
+/// Serves so many connections that a listener accepts, as [`serve_port`] does. One that can't be
+/// accepted counts as one that ended with N1.
+pub fn serve_connections<L: OpenListener, E: Write>(
+    alloc: Global,
+    listener: &L,
+    count: u16,
+    err: &mut E,
+) -> Status
+where
+    L::Stream: Read + Write + OpenStream,
+{
+    let mut status = Status::Good;
+    for _ in 0..count {
+        if let Err(error) = serve_next(alloc, listener) {
+            let of_error = report(error, err);
+            if status == Status::Good {
+                status = of_error;
+            }
+        }
+    }
+    status
+}
+
+/// Serves the next connection that a listener accepts.
+fn serve_next<L: OpenListener>(alloc: Global, listener: &L) -> Result<(), LinkError>
+where
+    L::Stream: Read + Write + OpenStream,
+{
+    let Ok((stream, _)) = listener.accept() else {
+        return Err(LinkError::Device);
+    };
+    let mut link = StreamLink::new(alloc, stream)?;
+    serve_stream(alloc, &mut link)
+}
+
+/// Serves one connection, and sends all that is held for it. After N2 and N3 the peer has the time
+/// to read the GOAWAY.
+fn serve_stream<S: Read + Write + OpenStream>(
+    alloc: Global,
+    link: &mut StreamLink<S>,
+) -> Result<(), LinkError>
+    requires { link.old.failures ≡ 0 }
+{
+    let served = serve_link(alloc, link, Config::default());
+    if link.flush().is_err() {
+        return Err(LinkError::Device);
+    }
+    match served {
+        Ok(_) => Ok(()),
+        Err(error) => {
+            if matches!(&error, LinkError::Stream(_) | LinkError::Memory) {
+                link.drain();
+            }
+            Err(error)
+        }
+    }
+}

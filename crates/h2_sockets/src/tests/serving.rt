@@ -1,0 +1,93 @@
+//! Connections that have written all that they write before they are served.
+
+use crate::serve_connections;
+use h2_show::Status;
+use std::alloc::Global;
+use std::io::{Read, Write};
+use std::net::{
+    Ipv4Addr, Net, OpenListener, OpenStream, Shutdown, SocketAddr, TcpListener, TcpStream,
+};
+use std::process::Abort;
+use std::test::Fail;
+
+// The preface, empty SETTINGS, and GET of `/` at www.example.com (RFC 7541, appendix C.4.1).
+const REQUEST: &[u8] = b"PRI * HTTP/2.0\r\n\r\nSM\r\n\r\n\
+    \x00\x00\x00\x04\x00\x00\x00\x00\x00\
+    \x00\x00\x11\x01\x05\x00\x00\x00\x01\x82\x86\x84\
+    \x41\x8c\xf1\xe3\xc2\xe5\xf2\x3a\x6b\xa0\xab\x90\xf4\xff";
+
+// The octets of the answer's DATA.
+const ANSWER: &[u8] = b"\x00\x00\x06\x00\x01\x00\x00\x00\x01GET /\n";
+
+// GOAWAY with PROTOCOL_ERROR, after which no stream is processed.
+const GOAWAY: &[u8] = b"\x00\x00\x08\x07\x00\x00\x00\x00\x00\x00\x00\x00\x00\x00\x00\x00\x01";
+
+// What is served: the octets that each client writes, the last that it then reads, the lines on
+// standard error, and the status.
+#[derive(Drop)]
+struct Case<'a> {
+    clients: &'a [(&'a [u8], &'a [u8])],
+    lines: &'a str,
+    status: Status,
+}
+
+// A client that has written these octets, and no more.
+fn new_client<R: Net>(rt: &R, address: SocketAddr, octets: &[u8]) -> Result<R::Stream, Fail> {
+    let mut stream = TcpStream::connect(rt, address)?;
+    stream.write_all(octets)?;
+    stream.shutdown(Shutdown::Write)?;
+    Ok(stream)
+}
+
+fn check_case<R: Abort + Net>(rt: &R, alloc: Global, case: &Case<'_>) -> Result<(), Fail> {
+    let listener = TcpListener::bind(rt, SocketAddr::from((Ipv4Addr::LOCALHOST, 0)))?;
+    let address = listener.local_addr()?;
+    let mut streams = Vec::new(alloc);
+    for (octets, _) in case.clients {
+        streams.push(new_client(rt, address, octets)?)?;
+    }
+    let mut err = Vec::new(alloc);
+    let count = u16::try_from(case.clients.len()).unwrap_or(u16::MAX);
+    let status = serve_connections(alloc, &listener, count, &mut err);
+    assert_eq!(rt; err.as_slice(), case.lines.as_bytes());
+    assert_eq!(rt; status, case.status);
+    for (stream, (_, last)) in streams.iter_mut().zip(case.clients) {
+        let mut read = Vec::new(alloc);
+        stream.read_to_end(&mut read)?;
+        assert!(rt; read.ends_with(*last), "{}", case.lines);
+    }
+    Ok(())
+}
+
+#[test]
+fn connections_one_after_another(rt: HostRuntime) -> Result<(), Fail> {
+    let whole = (REQUEST, ANSWER);
+    let bad: (&[u8], &[u8]) = (b"GET / HTTP/1.1\r\n\r\n", GOAWAY);
+    let cut: (&[u8], &[u8]) = (&REQUEST[..30], b"");
+    let cases = [
+        Case {
+            clients: &[whole],
+            lines: "",
+            status: Status::Good,
+        },
+        Case {
+            clients: &[whole, whole, whole],
+            lines: "",
+            status: Status::Good,
+        },
+        Case {
+            clients: &[whole, bad, whole],
+            lines: "N2 Stream 1\n",
+            status: Status::Fault,
+        },
+        Case {
+            clients: &[cut, whole, bad],
+            lines: "N4 CutOff\nN2 Stream 1\n",
+            status: Status::Fault,
+        },
+    ];
+    for case in &cases {
+        check_case(&rt, rt.alloc(), case)?;
+    }
+    Ok(())
+}
