@@ -1,7 +1,7 @@
 -- What a pump and a release of an end keep: what was used, given out, accepted and handed out, and
--- whether its connection is up.
-use Rattle.std.proofs.Common.{◌≡◌, ℕ, Bool, true, List, Option, Result, Ok, Err, refl, ap, ◌∙◌}
-use Rattle.std.proofs.Common.{inl, inr}
+-- whether its connection is up; and what a release is refused for.
+use Rattle.std.proofs.Common.{◌≡◌, ℕ, Bool, true, List, Option, None, Result, Ok, Err, refl, ap}
+use Rattle.std.proofs.Common.{◌∙◌, inl, inr}
 use Rattle.h2_log.specs.declared.refusal.Refusal.{Refusal}
 use Rattle.h2_log.specs.declared.refusal.Refusal.TheVariants as reasons
 use Rattle.hpack.specs.declared.types.field.Field.{Field}
@@ -22,6 +22,9 @@ use Rattle.h2_ends.specs.EndCalls.{MayPump, MayReleaseAll}
 use Rattle.h2_ends.specs.EndCalls.{Pumps, pumps_no_more, pumps_data, pumps_trailers}
 use Rattle.h2_ends.specs.EndCalls.{data_refused, trailers_refused}
 use Rattle.h2_ends.specs.EndCalls.{Releases, releases_no_more, releases_one, releases_refused}
+use Rattle.h2_link.specs.declared.error.LinkError.{LinkError}
+use Rattle.h2_link.specs.declared.error.LinkError.TheVariants as errors
+use Rattle.h2_engines.specs.Serving.{EndsAfter, EndsRelease}
 use Rattle.h2_engines.proofs.FetchingTakes.{WritesMore, writes_none, writes_twice, call_writes}
 
 -- Nothing that these calls write makes the connection fail.
@@ -148,3 +151,16 @@ released_stays before (Err (refusals.Conn reasons.OutputFull)) after may =
 released_stays before (Err (refusals.Conn reasons.Memory)) after may =
     release_stays before _ after may.1
 released_stays before (Err other) after may = absurd may
+
+-- While the connection is up, a release ends it only for want of memory.
+pub released_memory : (before after : EndLog) (answer : Result (Unit {0}) EndRefusal)
+    (error : LinkError) → before.log.failed ≡ None → MayReleaseAll before answer after
+    → EndsRelease answer (Err error) → error ≡ errors.Memory
+unfolding MayReleaseAll EndsRelease EndsAfter
+released_memory before after (Ok done) error up may ends = absurd ends
+released_memory before after (Err (refusals.Conn reasons.Closed)) error up may ends =
+    absurd (may.0 up)
+released_memory before after (Err (refusals.Conn reasons.OutputFull)) error up may ends =
+    absurd ends
+released_memory before after (Err (refusals.Conn reasons.Memory)) error up may ends = ends
+released_memory before after (Err other) error up may ends = absurd may

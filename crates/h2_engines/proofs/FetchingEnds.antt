@@ -1,6 +1,8 @@
 -- A fetch over a link, from its start to its end.
-use Rattle.std.proofs.Common.{◌≡◌, ℕ, Bool, true, false, List, [], take, Option, Some, None}
-use Rattle.std.proofs.Common.{Result, Ok, Err, IfOk, IfErr, refl, sym, ap, ◌∙◌, subst, inl}
+use Rattle.std.proofs.Common.{◌≡◌, ◌≤◌, ◌<◌, ◌⊎◌, ℕ, ◌+◌, ◌-◌, ◌^◌, Bool, true, false, List, []}
+use Rattle.std.proofs.Common.{length, take, Option, Some, None, Result, Ok, Err, IfOk, refl, sym}
+use Rattle.std.proofs.Common.{ap, ◌∙◌, subst, inl, inr, arith}
+use Rattle.std.specs.Prelude.{OnErr}
 use Rattle.std.specs.Io.KnownBytes.{Appends}
 use Rattle.h2_log.specs.Acts.{Values}
 use Rattle.h2_message.specs.Messages.{SentMessage}
@@ -16,27 +18,42 @@ use Rattle.h2_engines.specs.declared.fetcher.Fetcher.{Fetcher}
 use Rattle.h2_engines.specs.Failures.{CutsOffAtEnd, EndsWriting, IsOfCall, failures_told}
 use Rattle.h2_engines.specs.Fetches.{EndsFetchSo, Fetches}
 use Rattle.h2_engines.specs.Fetching.{IsFetching, IsFetched, releases, pumps}
-use Rattle.h2_engines.specs.FetchingSteps.{ClientReceives, ClientWrites, IsFetchedOf}
+use Rattle.h2_engines.specs.FetchingSteps.{ClientReceives, ClientSends, IsFetchedOf}
 use Rattle.h2_engines.specs.FetchingSteps.{IsFetchingOver, IsUnderWay, TakesPieceSo}
 use Rattle.h2_engines.specs.Keeping.{HasCome, IsWhole}
 use Rattle.h2_engines.specs.Linked.{Traffic, HasTakenAll}
 use Rattle.h2_engines.specs.Serving.{PumpsSome, ReleasesSome}
 use Rattle.h2_engines.proofs.FetchingCalls.{StaysUsed, pumped_stays, released_stays}
+use Rattle.h2_engines.proofs.FetchingCalls.{released_memory}
 use Rattle.h2_engines.proofs.FetchingLinks.{given_more, linked_in_part, linked_stays}
 use Rattle.h2_engines.proofs.FetchingLinks.{linked_written, taken_none}
 use Rattle.h2_engines.proofs.FetchingParts.{come_not_whole}
 use Rattle.h2_engines.proofs.FetchingStops.{unwritten_so}
+use Rattle.h2_engines.proofs.ServeStalls.{pump_ends}
+use Rattle.h2_engines.proofs.TurnsPassed.{turns_of_pump, turns_of_release}
 
--- The fetch is under way, and all that was given was used.
-abbrev pub IsUp : Values → SentMessage → (start now : Traffic) → Fetcher → Type 0
-IsUp values message start now fetcher =
-    (end : EndLog) × IsUnderWay values message start now fetcher end []
+-- The fetch is under way, this was not used of what was given, and so many turns have passed at
+-- least.
+abbrev pub IsUpWith : Values → SentMessage → (start now : Traffic) → Fetcher → List ℕ
+    → (rounds : ℕ) → Type 0
+IsUpWith values message start now fetcher unused rounds =
+    (end : EndLog) × IsUnderWay values message start now fetcher end unused
+    × (rounds ≤ length end.log.turns)
 
--- Where it was under way at first, it is now.
-abbrev pub FetchesOn : (before now : Traffic) → (old new : Fetcher) → Type 0
-FetchesOn before now old new =
+-- All that was given was used.
+abbrev pub IsUp : Values → SentMessage → (start now : Traffic) → Fetcher → (rounds : ℕ) → Type 0
+IsUp values message start now fetcher rounds =
+    IsUpWith values message start now fetcher [] rounds
+
+-- Where it was under way at first, it is now, with a turn at least in each round.
+abbrev pub FetchesOn : (before now : Traffic) → (old new : Fetcher) → (rounds : ℕ) → Type 0
+FetchesOn before now old new rounds =
     (values : Values) (message : SentMessage) (start : Traffic)
-    → IsUp values message start before old → IsUp values message start now new
+    → IsUp values message start before old 0 → IsUp values message start now new rounds
+
+-- Turns that have passed are not undone.
+as_many : (rounds before after : ℕ) → rounds ≤ before → before ≤ after → rounds ≤ after
+as_many rounds before after few more = omega arith
 
 -- What has come of the response stays.
 come_as : (old new : Fetcher) (before after : EndLog) → new.id ≡ old.id → new.coming ≡ old.coming
@@ -73,19 +90,23 @@ ends_over values message start now fetcher end unused result over so =
       });
     }
 
--- A call ends it.
-called_so : (start now : Traffic) (end : EndLog) (id : ℕ) (error : LinkError) → IsOfCall error
-    → EndsFetchSo start now end id (Err error)
-called_so start now end id errors.Memory is = tt
-called_so start now end id errors.NoProgress is = tt
-called_so start now end id error is = absurd is
+-- It ends for want of memory,
+pub ends_for_memory : (values : Values) (message : SentMessage) (start now : Traffic)
+    (fetcher : Fetcher) (rounds : ℕ) (error : LinkError) → error ≡ errors.Memory
+    → IsUp values message start now fetcher rounds
+    → Fetches values message start now (Err error)
+ends_for_memory values message start now fetcher rounds error is up =
+    subst (λ (one : LinkError). Fetches values message start now (Err one)) (sym is)
+    (ends_over values message start now fetcher up.0 [] (Err errors.Memory) up.1.over tt)
 
-pub ends_called : (values : Values) (message : SentMessage) (start now : Traffic)
-    (fetcher : Fetcher) (error : LinkError) → IsOfCall error
-    → IsUp values message start now fetcher → Fetches values message start now (Err error)
-ends_called values message start now fetcher error is up =
-    ends_over values message start now fetcher up.0 [] (Err error) up.1.over
-    (called_so start now up.0 fetcher.id error is)
+-- or since no round is left.
+pub ends_out_of_rounds : (values : Values) (message : SentMessage) (start now : Traffic)
+    (fetcher : Fetcher) (rounds : ℕ) → 2 ^ 64 - 1 ≤ rounds
+    → IsUp values message start now fetcher rounds
+    → Fetches values message start now (Err errors.NoProgress)
+ends_out_of_rounds values message start now fetcher rounds out up =
+    ends_over values message start now fetcher up.0 [] (Err errors.NoProgress) up.1.over
+    (inr (as_many (2 ^ 64 - 1) rounds (length up.0.log.turns) out up.2))
 
 -- The input didn't end then, and no call of the link failed.
 pub called_not_cut : (error : LinkError) (ended : Bool) → IsOfCall error
@@ -102,12 +123,13 @@ called_told error count is = absurd is
 
 -- What waits could not be written.
 pub ends_sending : (values : Values) (message : SentMessage) (start before now : Traffic)
-    (old new : Fetcher) (error : LinkError) → EndsWriting error
-    → ClientWrites before now old.client.end new.client.end (Err error)
-    → IsUp values message start before old → Fetches values message start now (Err error)
-ends_sending values message start before now old new error is client up =
+    (old new : Fetcher) (rounds : ℕ) (error : LinkError) → EndsWriting error
+    → ClientSends before now old.client.end new.client.end (Err error)
+    → IsUp values message start before old rounds → Fetches values message start now (Err error)
+ends_sending values message start before now old new rounds error is client up =
     let over = up.1.over in
-    let wrote = client values message start up.0 [] over.represents over.fetching over.linked in
+    let wrote = client values message start up.0 [] over.represents over.fetching up.1.up
+    over.linked in
     record {
       end = wrote.after;
       fetching = wrote.fetching;
@@ -116,24 +138,30 @@ ends_sending values message start before now old new error is client up =
         id = old.id;
         accepted = ap (message_for old.id) wrote.same.accepted ∙ over.accepted;
         sends = wrote.represents.streams.sent;
-        so = unwritten_so start now wrote.after old.id error is;
+        so = unwritten_so start now wrote.after old.id error is wrote.stalls;
       });
     }
 
--- All that waits was written.
+-- All that waits was written, in a turn at least.
 pub record IsSent (values : Values) (message : SentMessage) (start now : Traffic)
-    (fetcher : Fetcher) : Type 0 where
+    (fetcher : Fetcher) (rounds : ℕ) : Type 0 where
   pub after : EndLog
   pub way : IsUnderWay values message start now fetcher after []
   pub all : HasTakenAll start now after.log
+  pub turns : rounds ≤ length after.log.turns
+
+one_more : (rounds before after : ℕ) → rounds ≤ before → before < after → rounds + 1 ≤ after
+one_more rounds before after few more = omega arith
 
 pub sends_all : (values : Values) (message : SentMessage) (start before now : Traffic)
-    (old new : Fetcher) (done : Unit {0}) → new.id ≡ old.id → new.coming ≡ old.coming
-    → ClientWrites before now old.client.end new.client.end (Ok done)
-    → IsUp values message start before old → IsSent values message start now new
-sends_all values message start before now old new done id coming client up =
+    (old new : Fetcher) (rounds : ℕ) (done : Unit {0}) → new.id ≡ old.id
+    → new.coming ≡ old.coming → ClientSends before now old.client.end new.client.end (Ok done)
+    → IsUp values message start before old rounds
+    → IsSent values message start now new (rounds + 1)
+sends_all values message start before now old new rounds done id coming client up =
     let over = up.1.over in
-    let wrote = client values message start up.0 [] over.represents over.fetching over.linked in
+    let wrote = client values message start up.0 [] over.represents over.fetching up.1.up
+    over.linked in
     record {
       after = wrote.after;
       way = record {
@@ -148,6 +176,8 @@ sends_all values message start before now old new done id coming client up =
         come = come_as old new up.0 wrote.after id coming wrote.same.handed up.1.come;
       };
       all = wrote.taken.taken;
+      turns = one_more rounds (length up.0.log.turns) (length wrote.after.log.turns) up.2
+          wrote.turns;
     }
 
 -- After a read more is to be used,
@@ -168,11 +198,11 @@ read_over values message start before now fetcher end piece gives takes over =
     }
 
 pub reads_on : (values : Values) (message : SentMessage) (start before now : Traffic)
-    (fetcher : Fetcher) (count : ℕ) (buffer octets : List ℕ) → octets ≡ buffer
+    (fetcher : Fetcher) (rounds count : ℕ) (buffer octets : List ℕ) → octets ≡ buffer
     → Appends before.given now.given (take count buffer) → Appends before.taken now.taken []
-    → IsSent values message start before fetcher
-    → (end : EndLog) × IsUnderWay values message start now fetcher end (take count octets)
-reads_on values message start before now fetcher count buffer octets same gives takes sent =
+    → IsSent values message start before fetcher rounds
+    → IsUpWith values message start now fetcher (take count octets) rounds
+reads_on values message start before now fetcher rounds count buffer octets same gives takes sent =
     let piece = take count octets in
     let read : Appends before.given now.given piece =
     subst (λ (all : List ℕ). Appends before.given now.given (take count all)) (sym same) gives in (
@@ -183,15 +213,16 @@ reads_on values message start before now fetcher count buffer octets same gives 
         up = sent.way.up;
         come = sent.way.come;
       },
+      sent.turns,
     )
 
 -- or the input has ended before the response was whole,
 pub ends_cut_off : (values : Values) (message : SentMessage) (start before now : Traffic)
-    (fetcher : Fetcher) (count : ℕ) (buffer : List ℕ) → count ≡ 0
+    (fetcher : Fetcher) (rounds count : ℕ) (buffer : List ℕ) → count ≡ 0
     → Appends before.given now.given (take count buffer) → Appends before.taken now.taken []
-    → IsSent values message start before fetcher
+    → IsSent values message start before fetcher rounds
     → Fetches values message start now (Err errors.CutOff)
-ends_cut_off values message start before now fetcher count buffer none gives takes sent =
+ends_cut_off values message start before now fetcher rounds count buffer none gives takes sent =
     let nothing = subst (λ (n : ℕ). Appends before.given now.given (take n buffer)) none gives in
     let over = read_over values message start before now fetcher sent.after [] nothing takes
     sent.way.over in
@@ -204,52 +235,53 @@ ends_cut_off values message start before now fetcher count buffer none gives tak
 
 -- or the link has failed.
 pub ends_failed : (values : Values) (message : SentMessage) (start before now : Traffic)
-    (fetcher : Fetcher) → Appends before.given now.given [] → Appends before.taken now.taken []
-    → IsSent values message start before fetcher
+    (fetcher : Fetcher) (rounds : ℕ) → Appends before.given now.given []
+    → Appends before.taken now.taken [] → IsSent values message start before fetcher rounds
     → Fetches values message start now (Err errors.Device)
-ends_failed values message start before now fetcher gives takes sent =
+ends_failed values message start before now fetcher rounds gives takes sent =
     ends_over values message start now fetcher sent.after [] (Err errors.Device)
     (read_over values message start before now fetcher sent.after [] gives takes sent.way.over) tt
 
 -- It ends in a piece,
 pub ends_received : (values : Values) (message : SentMessage) (start before now : Traffic)
-    (old new : Fetcher) (piece : List ℕ) (error : LinkError)
+    (old new : Fetcher) (piece : List ℕ) (rounds : ℕ) (error : LinkError)
     → ClientReceives before now old new piece (Err error)
-    → (end : EndLog) × IsUnderWay values message start before old end piece
+    → IsUpWith values message start before old piece rounds
     → Fetches values message start now (Err error)
 unfolding TakesPieceSo
-ends_received values message start before now old new piece error client up =
+ends_received values message start before now old new piece rounds error client up =
     let so = client values message start up.0 up.1 in
     record {
       end = so.0;
-      fetching = so.1.0;
-      linked = so.1.2;
-      so = inl (record { id = new.id; accepted = so.1.3; sends = so.1.1; so = so.1.4 });
+      fetching = so.2.0;
+      linked = so.2.2;
+      so = inl (record { id = new.id; accepted = so.2.3; sends = so.2.1; so = so.2.4 });
     }
 
 -- which isn't where the input has ended;
 pub received_not_cut : (values : Values) (message : SentMessage) (start before now : Traffic)
-    (old new : Fetcher) (piece : List ℕ) (error : LinkError) (ended : Bool)
+    (old new : Fetcher) (piece : List ℕ) (rounds : ℕ) (error : LinkError) (ended : Bool)
     → ClientReceives before now old new piece (Err error)
-    → (end : EndLog) × IsUnderWay values message start before old end piece
+    → IsUpWith values message start before old piece rounds
     → CutsOffAtEnd {A = Fetched} (Err error) ended
 unfolding TakesPieceSo
-received_not_cut values message start before now old new piece errors.CutOff ended client up =
+received_not_cut values message start before now old new piece rounds errors.CutOff ended client
+    up =
     let so = client values message start up.0 up.1 in
-    absurd (so.1.5 refl)
-received_not_cut values message start before now old new piece error ended client up = tt
+    absurd (so.2.5 refl)
+received_not_cut values message start before now old new piece rounds error ended client up = tt
 
 -- or goes on after it,
 pub receives_more : (values : Values) (message : SentMessage) (start before now : Traffic)
-    (old new : Fetcher) (piece : List ℕ) (is_whole : Bool) → is_whole ≡ false
+    (old new : Fetcher) (piece : List ℕ) (rounds : ℕ) (is_whole : Bool) → is_whole ≡ false
     → ClientReceives before now old new piece (Ok is_whole)
-    → (end : EndLog) × IsUnderWay values message start before old end piece
-    → IsUp values message start now new
+    → IsUpWith values message start before old piece rounds
+    → IsUp values message start now new rounds
 unfolding TakesPieceSo
-receives_more values message start before now old new piece is_whole not client up =
+receives_more values message start before now old new piece rounds is_whole not client up =
     let so = subst (λ (whole : Bool). ClientReceives before now old new piece (Ok whole)) not
-    client in
-    so values message start up.0 up.1
+    client values message start up.0 up.1 in
+    (so.0, so.2, as_many rounds (length up.0.log.turns) (length so.0.log.turns) up.2 so.1)
 
 -- or the response is whole.
 abbrev content_of : {A : Type 0} → A → Option A → A
@@ -270,62 +302,92 @@ fetched_as coming parts fetched whole of =
       body = rw (← body) is.body;
     }
 
+-- A whole response is there.
+not_missing : (fetcher : Fetcher) (parts : List (Part × Bool)) → IsWhole fetcher.coming parts
+    → fetcher.whole ≡ true → (fetcher.whole ≡ false) ⊎ (fetcher.coming.head ≡ None) → ⊥
+not_missing fetcher parts is whole (inl none) = cc
+not_missing fetcher parts is whole (inr none) = let head = is.1 in cc
+
 pub ends_whole : (values : Values) (message : SentMessage) (start before now : Traffic)
-    (old new : Fetcher) (piece : List ℕ) (is_whole : Bool) (result : Result Fetched LinkError)
-    → is_whole ≡ true → IfOk result (λ fetched. IsFetchedOf new.coming fetched)
-    → IfErr result (λ error. error ≡ errors.NoProgress)
+    (old new : Fetcher) (piece : List ℕ) (rounds : ℕ) (is_whole : Bool)
+    (result : Result Fetched LinkError) → is_whole ≡ true
+    → IfOk result (λ fetched. IsFetchedOf new.coming fetched)
+    → OnErr result ((new.whole ≡ false) ⊎ (new.coming.head ≡ None))
     → ClientReceives before now old new piece (Ok is_whole)
-    → (end : EndLog) × IsUnderWay values message start before old end piece
+    → IsUpWith values message start before old piece rounds
     → Fetches values message start now result
 unfolding TakesPieceSo
-ends_whole values message start before now old new piece is_whole (Ok fetched) whole of none client
-    up =
+ends_whole values message start before now old new piece rounds is_whole (Ok fetched) whole of none
+    client up =
     let so = subst (λ (one : Bool). ClientReceives before now old new piece (Ok one)) whole client
     values message start up.0 up.1 in
-    ends_over values message start now new so.0 so.1.0.0 (Ok fetched) so.1.0.1
-    (fetched_as new.coming (parts_on new.id so.0.handed) fetched so.1.1 of)
-ends_whole values message start before now old new piece is_whole (Err error) whole of none client
-    up =
+    ends_over values message start now new so.0 so.2.0.0 (Ok fetched) so.2.0.1
+    (fetched_as new.coming (parts_on new.id so.0.handed) fetched so.2.1 of)
+ends_whole values message start before now old new piece rounds is_whole (Err error) whole of none
+    client up =
     let so = subst (λ (one : Bool). ClientReceives before now old new piece (Ok one)) whole client
     values message start up.0 up.1 in
-    subst (λ (one : LinkError). Fetches values message start now (Err one)) (sym none)
-    (ends_over values message start now new so.0 so.1.0.0 (Err errors.NoProgress) so.1.0.1 tt)
+    absurd (not_missing new (parts_on new.id so.0.handed) so.2.1 so.2.2 none)
 
 -- After a release and a pump it is still under way.
 stays_up : (values : Values) (message : SentMessage) (start now : Traffic) (old new : Fetcher)
-    (before after : EndLog) → new.id ≡ old.id → new.coming ≡ old.coming
+    (before after : EndLog) (rounds : ℕ) → new.id ≡ old.id → new.coming ≡ old.coming
     → EndRepresents values new.client.end after → IsFetching values message after
-    → StaysUsed before after → IsUnderWay values message start now old before []
-    → IsUp values message start now new
-stays_up values message start now old new before after id coming represents fetching stays way = (
-  after,
-  record {
-    over = record {
-      fetching = fetching;
-      represents = represents;
-      linked = linked_stays start now before after []
-          way.over.represents.streams.conn.machine.output.given stays way.over.linked;
-      accepted = accepted_as old new before after message id stays.accepted way.over.accepted;
-    };
-    up = stays.failed ∙ way.up;
-    come = come_as old new before after id coming stays.handed way.come;
-  },
-)
+    → StaysUsed before after → length before.log.turns ≤ length after.log.turns
+    → IsUnderWay values message start now old before [] → rounds ≤ length before.log.turns
+    → IsUp values message start now new rounds
+stays_up values message start now old new before after rounds id coming represents fetching stays
+    more way few = (
+      after,
+      record {
+        over = record {
+          fetching = fetching;
+          represents = represents;
+          linked = linked_stays start now before after []
+              way.over.represents.streams.conn.machine.output.given stays way.over.linked;
+          accepted = accepted_as old new before after message id stays.accepted way.over.accepted;
+        };
+        up = stays.failed ∙ way.up;
+        come = come_as old new before after id coming stays.handed way.come;
+      },
+      as_many rounds (length before.log.turns) (length after.log.turns) few more,
+    )
 
 pub released_up : (values : Values) (message : SentMessage) (start now : Traffic)
-    (old new : Fetcher) → new.id ≡ old.id → new.coming ≡ old.coming
-    → ReleasesSome old.client.end new.client.end → IsUp values message start now old
-    → IsUp values message start now new
-released_up values message start now old new id coming client up =
+    (old new : Fetcher) (rounds : ℕ) (result : Result (Unit {0}) LinkError) → new.id ≡ old.id
+    → new.coming ≡ old.coming → ReleasesSome old.client.end new.client.end result
+    → IsUp values message start now old rounds → IsUp values message start now new rounds
+released_up values message start now old new rounds result id coming client up =
     let one = client.1 values up.0 up.1.over.represents in
-    stays_up values message start now old new up.0 one.0 id coming one.2
-    (releases up.1.over.fetching client.0 one.1) (released_stays up.0 client.0 one.0 one.1) up.1
+    stays_up values message start now old new up.0 one.0 rounds id coming one.2
+    (releases up.1.over.fetching client.0 one.1) (released_stays up.0 client.0 one.0 one.1)
+    (turns_of_release up.0 one.0 client.0 one.1) up.1 up.2
 
 pub pumped_up : (values : Values) (message : SentMessage) (start now : Traffic)
-    (old new : Fetcher) → new.id ≡ old.id → new.coming ≡ old.coming
-    → PumpsSome old.client.end new.client.end → IsUp values message start now old
-    → IsUp values message start now new
-pumped_up values message start now old new id coming client up =
+    (old new : Fetcher) (rounds : ℕ) (result : Result (Unit {0}) LinkError) → new.id ≡ old.id
+    → new.coming ≡ old.coming → PumpsSome old.client.end new.client.end result
+    → IsUp values message start now old rounds → IsUp values message start now new rounds
+pumped_up values message start now old new rounds result id coming client up =
     let one = client.1 values up.0 up.1.over.represents in
-    stays_up values message start now old new up.0 one.0 id coming one.2
-    (pumps up.1.over.fetching client.0 one.1) (pumped_stays up.0 client.0 one.0 one.1) up.1
+    stays_up values message start now old new up.0 one.0 rounds id coming one.2
+    (pumps up.1.over.fetching client.0 one.1) (pumped_stays up.0 client.0 one.0 one.1)
+    (turns_of_pump up.0 one.0 client.0 one.1) up.1 up.2
+
+-- They end it only for want of memory.
+pub ends_releasing : (values : Values) (message : SentMessage) (start now : Traffic)
+    (old new : Fetcher) (rounds : ℕ) (error : LinkError)
+    → ReleasesSome old.client.end new.client.end (Err error)
+    → IsUp values message start now old rounds → Fetches values message start now (Err error)
+ends_releasing values message start now old new rounds error client up =
+    let one = client.1 values up.0 up.1.over.represents in
+    ends_for_memory values message start now old rounds error
+    (released_memory up.0 one.0 client.0 error up.1.up one.1 client.2) up
+
+pub ends_pumping : (values : Values) (message : SentMessage) (start now : Traffic)
+    (old new : Fetcher) (rounds : ℕ) (error : LinkError)
+    → PumpsSome old.client.end new.client.end (Err error)
+    → IsUp values message start now old rounds → Fetches values message start now (Err error)
+ends_pumping values message start now old new rounds error client up =
+    let one = client.1 values up.0 up.1.over.represents in
+    ends_for_memory values message start now old rounds error
+    (pump_ends up.0 one.0 client.0 error up.1.up one.1 client.2) up

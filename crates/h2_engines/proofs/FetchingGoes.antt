@@ -1,7 +1,7 @@
 -- A fetch that goes on from where a piece began, and how it ends.
-use Rattle.std.proofs.Common.{◌≡◌, ◌≤◌, ℕ, ◌+◌, ◌-◌, true, false, List, length, take, drop}
-use Rattle.std.proofs.Common.{Option, Some, None, is_some, Ok, Err, refl, sym, ap, ◌∙◌, subst}
-use Rattle.std.proofs.Common.{arith, drop-drop}
+use Rattle.std.proofs.Common.{◌≡◌, ◌≤◌, ◌<◌, ℕ, ◌+◌, ◌-◌, ◌^◌, true, false, List, length, take}
+use Rattle.std.proofs.Common.{drop, Option, Some, None, is_some, Ok, Err, refl, sym, ap, ◌∙◌}
+use Rattle.std.proofs.Common.{subst, arith, drop-drop}
 use Rattle.std.proofs.lemmas.List.{length-drop}
 use Rattle.std.proofs.Math.Seq.{take-length}
 use Rattle.h2_frame.specs.declared.code.Code.{Code}
@@ -23,12 +23,25 @@ use Rattle.h2_engines.proofs.FetchingHears.{HasHeard, hears, hears_again, hears_
 use Rattle.h2_engines.proofs.FetchingStops.{HasStopped, stops, stops_up, stops_written}
 use Rattle.h2_engines.proofs.FetchingStops.{stops_unwritten, stops_under_way}
 
--- Where it was under way before a piece, it is now, and this is left.
-abbrev pub GoesOn : (before now : Traffic) → (old new : Fetcher) → (piece rest : List ℕ) → Type 0
-GoesOn before now old new piece rest =
+-- Where it was under way before a piece, it is now, and this is left; in each round a turn has
+-- passed at least.
+abbrev pub GoesOn : (before now : Traffic) → (old new : Fetcher) → (piece rest : List ℕ)
+    → (rounds : ℕ) → Type 0
+GoesOn before now old new piece rest rounds =
     (values : Values) (message : SentMessage) (start : Traffic) (end : EndLog)
     → IsUnderWay values message start before old end piece
     → (after : EndLog) × IsUnderWay values message start now new after rest
+    × (rounds + length end.log.turns ≤ length after.log.turns)
+
+-- A round more is a turn more, and no turn is undone.
+one_more : (rounds turns now : ℕ) → rounds + turns < now → (rounds + 1) + turns ≤ now
+one_more rounds turns now more = omega arith
+
+no_fewer : (rounds turns now : ℕ) → rounds + turns < now → turns ≤ now
+no_fewer rounds turns now more = omega arith
+
+as_many : (rounds turns now : ℕ) → rounds + turns ≤ now → turns ≤ now
+as_many rounds turns now more = omega arith
 
 -- what is left of a piece, as a slice
 abbrev pub left_of : List ℕ → ℕ → List ℕ
@@ -48,86 +61,97 @@ left_within piece used count within few =
 
 -- At first it goes on with the whole piece.
 pub goes_at_first : (before : Traffic) (old : Fetcher) (piece : List ℕ)
-    → GoesOn before before old old piece piece
-goes_at_first before old piece values message start end way = (end, way)
+    → GoesOn before before old old piece piece 0
+goes_at_first before old piece values message start end way = (end, way, omega arith)
 
 -- The client has heard of what was left.
-heard_on : (before now : Traffic) (old middle new : Fetcher) (piece : List ℕ) (used : ℕ)
+heard_on : (before now : Traffic) (old middle new : Fetcher) (piece : List ℕ) (used rounds : ℕ)
     (heard : Heard) → new.id ≡ middle.id
     → ClientHears middle.client.end new.client.end middle.id middle.coming new.coming
     (left_of piece used) (Ok heard)
-    → GoesOn before now old middle piece (drop used piece)
+    → GoesOn before now old middle piece (drop used piece) rounds
     → (values : Values) (message : SentMessage) (start : Traffic) (end : EndLog)
     → IsUnderWay values message start before old end piece
     → HasHeard values message start now new (drop used piece) heard
-heard_on before now old middle new piece used heard same client on values message start end way =
+    (rounds + length end.log.turns)
+heard_on before now old middle new piece used rounds heard same client on values message start end
+    way =
     let so = on values message start end way in
-    hears values message start now middle new so.0 (drop used piece) heard same
+    hears values message start now middle new so.0 (drop used piece) heard
+    (rounds + length end.log.turns) same
     (subst (λ (rest : List ℕ). ClientHears middle.client.end new.client.end middle.id
-    middle.coming new.coming rest (Ok heard)) (left_is piece used) client) so.1
+    middle.coming new.coming rest (Ok heard)) (left_is piece used) client) so.1 so.2
 
 -- It goes on;
-pub goes_again : (before now : Traffic) (old middle new : Fetcher) (piece : List ℕ) (used : ℕ)
-    (heard : Heard) → heard.next ≡ goes.Again → new.id ≡ middle.id
+pub goes_again : (before now : Traffic) (old middle new : Fetcher) (piece : List ℕ)
+    (used rounds : ℕ) (heard : Heard) → heard.next ≡ goes.Again → new.id ≡ middle.id
     → ClientHears middle.client.end new.client.end middle.id middle.coming new.coming
     (left_of piece used) (Ok heard)
-    → GoesOn before now old middle piece (drop used piece)
-    → GoesOn before now old new piece (drop (used + heard.used) piece)
-goes_again before now old middle new piece used heard again same client on values message start end
-    way =
-    let so = hears_again values message start now new (drop used piece) heard again
-    (heard_on before now old middle new piece used heard same client on values message start end
-    way) in (
+    → GoesOn before now old middle piece (drop used piece) rounds
+    → GoesOn before now old new piece (drop (used + heard.used) piece) (rounds + 1)
+goes_again before now old middle new piece used rounds heard again same client on values message
+    start end way =
+    let so = hears_again values message start now new (drop used piece) heard
+    (rounds + length end.log.turns) again
+    (heard_on before now old middle new piece used rounds heard same client on values message start
+    end way) in (
       so.0,
       subst (λ (rest : List ℕ). IsUnderWay values message start now new so.0 rest)
           (drop-drop heard.used used piece) so.1,
+      one_more rounds (length end.log.turns) (length so.0.log.turns) so.2,
     )
 
 -- nothing is left of the piece;
-pub goes_done : (before now : Traffic) (old middle new : Fetcher) (piece : List ℕ) (used : ℕ)
-    (heard : Heard) → heard.next ≡ goes.Done → new.id ≡ middle.id
+pub goes_done : (before now : Traffic) (old middle new : Fetcher) (piece : List ℕ)
+    (used rounds : ℕ) (heard : Heard) → heard.next ≡ goes.Done → new.id ≡ middle.id
     → ClientHears middle.client.end new.client.end middle.id middle.coming new.coming
     (left_of piece used) (Ok heard)
-    → GoesOn before now old middle piece (drop used piece)
+    → GoesOn before now old middle piece (drop used piece) rounds
     → ClientReceives before now old new piece (Ok false)
-goes_done before now old middle new piece used heard done same client on values message start end
-    way =
-    hears_done values message start now new (drop used piece) heard done
-    (heard_on before now old middle new piece used heard same client on values message start end
-    way)
+goes_done before now old middle new piece used rounds heard done same client on values message start
+    end way =
+    let so = hears_done values message start now new (drop used piece) heard
+    (rounds + length end.log.turns) done
+    (heard_on before now old middle new piece used rounds heard same client on values message start
+    end way) in
+    (so.0, no_fewer rounds (length end.log.turns) (length so.0.log.turns) so.1, so.2)
 
 -- or the response is whole.
-pub goes_whole : (before now : Traffic) (old middle new : Fetcher) (piece : List ℕ) (used : ℕ)
-    (heard : Heard) → heard.next ≡ goes.Whole → new.whole ≡ true → new.id ≡ middle.id
+pub goes_whole : (before now : Traffic) (old middle new : Fetcher) (piece : List ℕ)
+    (used rounds : ℕ) (heard : Heard) → heard.next ≡ goes.Whole → new.whole ≡ true → new.id ≡ middle.id
     → ClientHears middle.client.end new.client.end middle.id middle.coming new.coming
     (left_of piece used) (Ok heard)
-    → GoesOn before now old middle piece (drop used piece)
+    → GoesOn before now old middle piece (drop used piece) rounds
     → ClientReceives before now old new piece (Ok true)
-goes_whole before now old middle new piece used heard whole noted same client on values message
-    start end way =
-    hears_whole values message start now new (drop used piece) heard whole noted
-    (heard_on before now old middle new piece used heard same client on values message start end
-    way)
+goes_whole before now old middle new piece used rounds heard whole noted same client on values
+    message start end way =
+    let so = hears_whole values message start now new (drop used piece) heard
+    (rounds + length end.log.turns) whole noted
+    (heard_on before now old middle new piece used rounds heard same client on values message start
+    end way) in
+    (so.0, no_fewer rounds (length end.log.turns) (length so.0.log.turns) so.1, so.2)
 
 -- The client can't hear on.
 abbrev pub StopsOn : (before now : Traffic) → (old new : Fetcher) → List ℕ → LinkError → Type 0
 StopsOn before now old new piece error =
     (values : Values) (message : SentMessage) (start : Traffic) (end : EndLog)
     → IsUnderWay values message start before old end piece
-    → HasStopped values message start now new error
+    → HasStopped values message start now new error (length end.log.turns)
 
-pub goes_stopped : (before now : Traffic) (old middle new : Fetcher) (piece : List ℕ) (used : ℕ)
-    (error : LinkError) → new.id ≡ middle.id
+pub goes_stopped : (before now : Traffic) (old middle new : Fetcher) (piece : List ℕ)
+    (used rounds : ℕ) (error : LinkError) → new.id ≡ middle.id
     → ClientHears middle.client.end new.client.end middle.id middle.coming new.coming
     (left_of piece used) (Err error)
-    → GoesOn before now old middle piece (drop used piece)
+    → GoesOn before now old middle piece (drop used piece) rounds
     → StopsOn before now old new piece error
-goes_stopped before now old middle new piece used error same client on values message start end
-    way =
+goes_stopped before now old middle new piece used rounds error same client on values message start
+    end way =
     let so = on values message start end way in
-    stops values message start now middle new so.0 (drop used piece) error same
+    stops values message start now middle new so.0 (drop used piece) error
+    (length end.log.turns) same
     (subst (λ (rest : List ℕ). ClientHears middle.client.end new.client.end middle.id
     middle.coming new.coming rest (Err error)) (left_is piece used) client) so.1
+    (as_many rounds (length end.log.turns) (length so.0.log.turns) so.2)
 
 -- What `failed` answers of any log that the connection represents.
 abbrev pub ReadsFailed : Conn → Option Code → Type 0
@@ -145,7 +169,7 @@ pub goes_ended : (before now : Traffic) (old new : Fetcher) (piece : List ℕ) (
     → ClientReceives before now old new piece (Err error)
 goes_ended before now old new piece error failed reads up on values message start end way =
     let has = on values message start end way in
-    stops_up values message start now new error has
+    stops_up values message start now new error (length end.log.turns) has
     (sym (reads values has.after.log has.over.represents.streams.conn) ∙ none_failed failed up)
 
 -- It has failed, and what waits was written;
@@ -156,7 +180,8 @@ pub goes_written : (before now later : Traffic) (old middle new : Fetcher) (piec
     → ClientReceives before later old new piece (Err error)
 goes_written before now later old middle new piece error done same client on values message start
     end way =
-    stops_written values message start now later middle new error done same client
+    stops_written values message start now later middle new error (length end.log.turns) done same
+    client
     (on values message start end way)
 
 -- or could not be.
@@ -167,13 +192,20 @@ pub goes_unwritten : (before now later : Traffic) (old middle new : Fetcher) (pi
     → ClientReceives before later old new piece (Err error)
 goes_unwritten before now later old middle new piece stopped error same is client on values message
     start end way =
-    stops_unwritten values message start now later middle new stopped error same is client
+    stops_unwritten values message start now later middle new stopped error
+    (length end.log.turns) same is client
     (on values message start end way)
 
--- Nothing goes on.
-pub goes_nowhere : (before now : Traffic) (old new : Fetcher) (piece rest : List ℕ)
-    → GoesOn before now old new piece rest
+-- No round is left.
+out_of_rounds : (rounds turns now : ℕ) → 2 ^ 64 - 1 ≤ rounds → rounds + turns ≤ now
+    → 2 ^ 64 - 1 ≤ now
+out_of_rounds rounds turns now out more = omega arith
+
+pub goes_nowhere : (before now : Traffic) (old new : Fetcher) (piece rest : List ℕ) (rounds : ℕ)
+    → 2 ^ 64 - 1 ≤ rounds → GoesOn before now old new piece rest rounds
     → ClientReceives before now old new piece (Err errors.NoProgress)
-goes_nowhere before now old new piece rest on values message start end way =
+goes_nowhere before now old new piece rest rounds out on values message start end way =
     let so = on values message start end way in
-    stops_under_way values message start now new so.0 rest so.1
+    stops_under_way values message start now new so.0 rest (length end.log.turns)
+    (as_many rounds (length end.log.turns) (length so.0.log.turns) so.2)
+    (out_of_rounds rounds (length end.log.turns) (length so.0.log.turns) out so.2) so.1

@@ -1,6 +1,6 @@
 -- A fetch over a link, at its start.
 use Rattle.std.proofs.Common.{◌≡◌, ℕ, Bool, List, [], ◌∷◌, ◌++◌, map as each, take, Some}
-use Rattle.std.proofs.Common.{None, Ok, Err, if◌then◌else◌, refl, sym, ap, ◌∙◌, subst, inr}
+use Rattle.std.proofs.Common.{None, Ok, Err, if◌then◌else◌, refl, sym, ap, ◌∙◌, subst, inr, arith}
 use Rattle.std.proofs.lemmas.Bool.{eq-eqb}
 use Rattle.std.proofs.KnownBytes.{Appends-nil}
 use Rattle.std.specs.Io.KnownBytes.{Appends}
@@ -94,7 +94,7 @@ no_parts id = refl
 -- The message was accepted: the fetch is under way.
 pub begins_up : (values : Values) (message : SentMessage) (start : Traffic) (fetcher : Fetcher)
     → AreInRange values → HasRequested values message fetcher
-    → IsUp values message start start fetcher
+    → IsUp values message start start fetcher 0
 unfolding MayRequest
 begins_up values message start fetcher range has =
     let new = opened Client values in
@@ -123,11 +123,12 @@ begins_up values message start fetcher range has =
         come = subst (HasCome fetcher.coming) (sym parts)
             (come_none fetcher.coming has.none_come has.no_body has.no_interims has.no_trailers);
       },
+      omega arith,
     )
 
 -- It is under way still, where it has gone on.
 pub up_now : (values : Values) (message : SentMessage) (start now : Traffic) (old new : Fetcher)
-    → AreInRange values → HasRequested values message old → FetchesOn start now old new
-    → IsUp values message start now new
-up_now values message start now old new range has on =
+    (rounds : ℕ) → AreInRange values → HasRequested values message old
+    → FetchesOn start now old new rounds → IsUp values message start now new rounds
+up_now values message start now old new rounds range has on =
     on values message start (begins_up values message start old range has)

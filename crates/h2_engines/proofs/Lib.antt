@@ -34,7 +34,9 @@ pub mod ServeFinishes
 pub mod ServeHears
 pub mod ServeOutput
 pub mod ServePumps
+pub mod ServeRefusals
 pub mod ServeServer
+pub mod ServeStalls
 pub mod ServeWrites
 pub mod ServingEnds
 pub mod ServingExits
@@ -45,3 +47,5 @@ pub mod ServingRests
 pub mod ServingRounds
 pub mod ServingSteps
 pub mod ServingTakes
+pub mod TurnsOfFrames
+pub mod TurnsPassed

@@ -1,8 +1,8 @@
 -- What the calls of a server that answer, reset and end say of it, by what its end has answered.
-use Rattle.std.proofs.Common.{◌≡◌, ℕ}
-use Rattle.std.proofs.Common.{Ok, Err, refl, sym, inl, inr}
+use Rattle.std.proofs.Common.{◌≡◌, ◌≢◌, ◌≤◌, ℕ, ◌-◌, ◌^◌}
+use Rattle.std.proofs.Common.{Ok, Err, refl, sym, subst}
 use Rattle.h2_log.specs.declared.refusal.Refusal.{Refusal}
-use Rattle.h2_log.specs.declared.refusal.Refusal.TheVariants.{TooManyResets}
+use Rattle.h2_log.specs.declared.refusal.Refusal.TheVariants.{TooManyResets, Memory}
 use Rattle.h2_log.specs.Acts.{ResetStream, Done, Refused}
 use Rattle.h2_link.specs.declared.error.LinkError.{LinkError}
 use Rattle.h2_link.specs.declared.error.LinkError.TheVariants as errors
@@ -10,41 +10,54 @@ use Rattle.h2_message.specs.declared.message.Message.{Message}
 use Rattle.h2_message.specs.Messages.{SentMessage}
 use Rattle.h2_ends.specs.declared.end.End.{End}
 use Rattle.h2_ends.specs.declared.refusal.EndRefusal.{EndRefusal}
+use Rattle.h2_ends.specs.declared.refusal.EndRefusal.TheVariants.{Conn}
 use Rattle.h2_ends.specs.Represents.{EndResponds, EndAnswers}
-use Rattle.h2_engines.specs.Failures.{IsOfCall}
+use Rattle.h2_engines.specs.Failures.{error_after}
 use Rattle.h2_engines.specs.Responding.{calm}
-use Rattle.h2_engines.specs.Serving.{ServerAnswers, AnsweredSo, ServerResets, ResetSo}
+use Rattle.h2_engines.specs.Serving.{ServerAnswers, AnsweredSo, ServerResets, ResetSo, no_memory}
+use Rattle.h2_engines.specs.Serving.{counts_no_more, is_refused}
 
--- Nothing was called.
-pub answers_none : (end : End) (id : ℕ) (message : SentMessage) (error : LinkError)
-    → ServerAnswers end end id message (Err error)
+-- Nothing was called, since there was no memory.
+pub answers_none : (end : End) (id : ℕ) (message : SentMessage) (count : ℕ)
+    → ServerAnswers end end id message count (Err errors.Memory)
 unfolding AnsweredSo
-answers_none end id message error values happened represents = (happened, represents, inl refl)
+answers_none end id message count values happened represents =
+    (happened, represents, no_memory refl refl)
 
--- The answer is taken, or refused.
-pub answers_done : (old new : End) (id : ℕ) (message is : SentMessage) (done : Unit {0})
-    → message ≡ is → EndResponds old id message (Ok done) new
-    → ServerAnswers old new id is (Ok done)
+-- Nothing was called, since no more answers can be counted.
+pub answers_no_more : (end : End) (id : ℕ) (message : SentMessage) (count : ℕ)
+    → 2 ^ 32 - 1 ≤ count → ServerAnswers end end id message count (Err errors.NoProgress)
 unfolding AnsweredSo
-answers_done old new id message is done same responds values end represents =
+answers_no_more end id message count all values happened represents =
+    (happened, represents, counts_no_more all refl)
+
+-- The answer is taken.
+pub answers_done : (old new : End) (id : ℕ) (message is : SentMessage) (count : ℕ)
+    (done : Unit {0}) → message ≡ is → EndResponds old id message (Ok done) new
+    → ServerAnswers old new id is count (Ok done)
+unfolding AnsweredSo
+answers_done old new id message is count done same responds values end represents =
     let (after, may, now) = responds.1 values end represents in
     (after, now, rw (sym same) may)
 
-pub answers_refused : (old new : End) (id : ℕ) (message is : SentMessage)
+-- The answer is refused.
+pub answers_refused : (old new : End) (id : ℕ) (message is : SentMessage) (count : ℕ)
     (back : Message × EndRefusal) (error : LinkError) → message ≡ is
-    → EndResponds old id message (Err back) new → ServerAnswers old new id is (Err error)
+    → error ≡ error_after back.1 → EndResponds old id message (Err back) new
+    → ServerAnswers old new id is count (Err error)
 unfolding AnsweredSo
-answers_refused old new id message is back error same responds values end represents =
+answers_refused old new id message is count back error same ends responds values end represents =
     let (after, may, now) = responds.1 values end represents in
-    (after, now, inr (back.1, rw (sym same) may))
+    (after, now, is_refused back.1 (rw (sym same) may) ends)
 
--- A stream was reset, or no stream can be reset any more, or that was refused otherwise.
+-- A stream was reset.
 pub resets_done : (old new : End) (id : ℕ) (done : Unit {0})
     → EndAnswers old (ResetStream id calm) Done new → ServerResets old new id (Ok done)
 unfolding ResetSo
 resets_done old new id done answers values end represents =
     let (may, now) = answers values end represents in (Done, may, now, refl)
 
+-- No stream can be reset any more.
 pub resets_no_more : (old new : End) (id : ℕ)
     → EndAnswers old (ResetStream id calm) (Refused TooManyResets) new
     → ServerResets old new id (Err (errors.Stream calm))
@@ -53,16 +66,23 @@ resets_no_more old new id answers values end represents =
     let (may, now) = answers values end represents in
     (Refused TooManyResets, may, now, (refl, refl))
 
-reset_so : (refusal : Refusal) (error : LinkError) → IsOfCall error
-    → ResetSo (Refused refusal) (Err error)
+-- A reset that was refused otherwise ends as the refusal says.
+reset_after : (refusal : Refusal) → refusal ≢ TooManyResets
+    → ResetSo (Refused refusal) (Err (error_after (Conn refusal)))
 unfolding ResetSo
-reset_so refusal errors.Memory is = (refusal, refl)
-reset_so refusal errors.NoProgress is = (refusal, refl)
-reset_so refusal error is = absurd is
+reset_after Memory other = (Memory, refl)
+reset_after refusal other = (refusal, refl, other, refl)
 
+-- So the reset was refused otherwise.
 pub resets_refused : (old new : End) (id : ℕ) (refusal : Refusal) (error : LinkError)
-    → IsOfCall error → EndAnswers old (ResetStream id calm) (Refused refusal) new
+    → refusal ≢ TooManyResets → error ≡ error_after (Conn refusal)
+    → EndAnswers old (ResetStream id calm) (Refused refusal) new
     → ServerResets old new id (Err error)
-resets_refused old new id refusal error is answers values end represents =
+resets_refused old new id refusal error other is answers values end represents =
     let (may, now) = answers values end represents in
-    (Refused refusal, may, now, reset_so refusal error is)
+    let so = reset_after refusal other in (
+      Refused refusal,
+      may,
+      now,
+      subst (λ (one : LinkError). ResetSo (Refused refusal) (Err one)) (sym is) so,
+    )

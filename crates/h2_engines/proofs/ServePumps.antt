@@ -2,7 +2,8 @@
 -- else.
 use Rattle.std.proofs.Common.{◌≡◌, ◌≤◌, ℕ, ◌+◌, Bool, true, false}
 use Rattle.std.proofs.Common.{if◌then◌else◌, List, [], ◌∷◌, ◌++◌, length, take, Option, Result, Ok}
-use Rattle.std.proofs.Common.{Err, inl, inr, refl, sym, ap, ◌∙◌, subst, append_assoc, append-nil}
+use Rattle.std.proofs.Common.{Err, None, inl, inr, refl, sym, ap, ◌∙◌, subst, append_assoc}
+use Rattle.std.proofs.Common.{append-nil, arith}
 use Rattle.std.proofs.lemmas.List.{take-append-le}
 use Rattle.std.specs.Io.KnownBytes.{Appends}
 use Rattle.h2_block.specs.Grouping.{Item}
@@ -24,10 +25,14 @@ use Rattle.h2_ends.specs.EndTakes.{end_with_log}
 use Rattle.h2_ends.specs.EndCalls.{MayPump, Pumps, pumps_no_more, pumps_data, pumps_trailers}
 use Rattle.h2_ends.specs.EndCalls.{data_refused, trailers_refused}
 use Rattle.h2_ends.specs.Represents.{EndPumps}
+use Rattle.h2_link.specs.declared.error.LinkError.{LinkError}
 use Rattle.h2_engines.specs.Linked.{Traffic, IsLinked}
-use Rattle.h2_engines.specs.Serving.{IsSameOfMessages}
+use Rattle.h2_engines.specs.Serving.{EndsAfter, IsSameOfMessages}
 use Rattle.h2_engines.proofs.ServeEnds.{same_itself, same_twice, same_by_call, given_within}
+use Rattle.h2_engines.proofs.ServeEnds.{given_first}
+use Rattle.h2_engines.proofs.ServeStalls.{pump_ends, stalls_no_more}
 use Rattle.h2_engines.proofs.ServeWrites.{WritesOn, WritesOut}
+use Rattle.h2_engines.proofs.TurnsPassed.{turns_of_pump}
 
 -- As much was given out, and the connection is as up as before.
 record IsAsUp (old new : Log) : Type 0 where
@@ -168,24 +173,58 @@ MayPumpOn P =
     (end after : EndLog) (result : Result ℕ EndRefusal) → P end → MayPump end result after
     → P after
 
+-- The link has taken all of an end that was written out.
+written_out : (P : EndLog → Type 0) (values : Values) (start now : Traffic) (before : EndLog)
+    (new : End) (unused : List ℕ) (done : Unit {0})
+    → (so : WritesOut P values start now before new unused (Ok done))
+    → IsLinked start now so.after.log unused
+written_out P values start now before new unused done so =
+    record {
+      given = so.given;
+      taken = subst (Appends start.taken now.taken) (sym so.taken.all) so.taken.taken;
+    }
+
 -- An end that was written out pumps.
 pub pumps_on : (P : EndLog → Type 0) → MayPumpOn P → (values : Values) (start now : Traffic)
     (before : EndLog) (old new : End) (unused : List ℕ) (result : Result ℕ EndRefusal)
     (done : Unit {0}) → EndPumps old result new
     → WritesOut P values start now before old unused (Ok done)
-    → WritesOn P values start now before new unused
+    → WritesOn P values start now before new unused 1
 pumps_on P may values start now before old new unused result done pumps so =
     let (after, pumped, represents) = pumps values so.after so.represents in
     let adds = pumped_adds so.after result after pumped in
-    let linked : IsLinked start now so.after.log unused = record {
-      given = so.given;
-      taken = subst (Appends start.taken now.taken) (sym so.taken.all) so.taken.taken;
-    } in
     record {
       after = after;
       happened = may so.after after result so.happened pumped;
       represents = represents;
       same = same_twice before so.after after so.same adds.same;
       linked = linked_adds start now so.after after unused
-          (given_within values old so.after so.represents) adds linked;
+          (given_within values old so.after so.represents) adds
+          (written_out P values start now before old unused done so);
+      turns = omega (arith, so.turns, turns_of_pump so.after after result pumped);
+    }
+
+-- Where that is refused while the connection is up, memory is wanted.
+pub pumps_refused : (P : EndLog → Type 0) → MayPumpOn P → (values : Values)
+    (start now : Traffic) (before : EndLog) (old new : End) (unused : List ℕ)
+    (result : Result ℕ EndRefusal) (done : Unit {0}) (error : LinkError)
+    → before.log.failed ≡ None → EndPumps old result new → EndsAfter result (Err error)
+    → WritesOut P values start now before old unused (Ok done)
+    → WritesOut P values start now before new unused (Err error)
+pumps_refused P may values start now before old new unused result done error up pumps ends so =
+    let (after, pumped, represents) = pumps values so.after so.represents in
+    let adds = pumped_adds so.after result after pumped in
+    let linked = linked_adds start now so.after after unused
+    (given_within values old so.after so.represents) adds
+    (written_out P values start now before old unused done so) in
+    record {
+      after = after;
+      happened = may so.after after result so.happened pumped;
+      represents = represents;
+      same = same_twice before so.after after so.same adds.same;
+      given = linked.given;
+      taken = given_first start now after.log linked.taken;
+      turns = omega (arith, so.turns, turns_of_pump so.after after result pumped);
+      stalls = stalls_no_more now after error
+          (pump_ends so.after after result error (so.same.failed ∙ up) pumped ends);
     }

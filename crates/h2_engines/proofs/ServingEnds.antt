@@ -1,6 +1,6 @@
 -- How the serving of a connection over a link ends early.
-use Rattle.std.proofs.Common.{◌≡◌, ◌≢◌, ◌⊎◌, ℕ, List, [], drop, Some, Ok, Err, refl, sym, ◌∙◌}
-use Rattle.std.proofs.Common.{subst, inl, inr, append-nil}
+use Rattle.std.proofs.Common.{◌≡◌, ◌≢◌, ◌⊎◌, ◌≤◌, ℕ, ◌+◌, List, [], length, drop, Some, Ok}
+use Rattle.std.proofs.Common.{Err, refl, sym, ◌∙◌, subst, inl, inr, append-nil}
 use Rattle.std.proofs.lemmas.List.{take-append-drop}
 use Rattle.std.specs.Io.KnownBytes.{Appends}
 use Rattle.h2_frame.specs.declared.code.Code.{Code}
@@ -16,11 +16,10 @@ use Rattle.h2_link.specs.declared.error.LinkError.TheVariants as errors
 use Rattle.h2_engines.specs.declared.responder.Responder.{Responder}
 use Rattle.h2_engines.specs.Failures.{EndsWriting, IsOfCall}
 use Rattle.h2_engines.specs.Linked.{Traffic, HasGiven, IsLinked, IsLinkedInPart, HasTakenAll}
-use Rattle.h2_engines.specs.Linked.{HasTakenFirst}
+use Rattle.h2_engines.specs.Linked.{HasTakenFirst, StallsWriting}
 use Rattle.h2_engines.specs.Responding.{IsResponding}
-use Rattle.h2_engines.specs.Serves.{EndsServingSo, SendsAll}
-use Rattle.h2_engines.specs.Serving.{error_with, IsWrittenOut, WritesFor, ServerWrites, ReceivesSo}
-use Rattle.h2_engines.specs.Serving.{IsServing}
+use Rattle.h2_engines.specs.Serves.{EndsServingSo, SendsAll, StopsServing, stalls}
+use Rattle.h2_engines.specs.Serving.{error_with, IsWrittenOut, WritesFor, ReceivesSo, IsServing}
 
 -- What was sent on each stream of an end that is represented is a prefix of what was to be said.
 pub sends_all : (values : Values) (server : End) (end : EndLog) → EndRepresents values server end
@@ -62,16 +61,32 @@ all_in_part start now log unused given taken =
       };
     }
 
--- Nothing more is said where memory was refused, nothing goes on or the link has failed.
+-- Where no progress is told, a server makes none.
+abbrev pub StallsServing : (now : Traffic) → EndLog → LinkError → Type 0
+StallsServing now end errors.NoProgress = StopsServing now end
+StallsServing now end error = Unit {0}
+
+-- What is written tells none only where it has stalled.
+pub stalls_by_writing : (now : Traffic) (end : EndLog) (error : LinkError)
+    → StallsWriting {A = Unit {0}} now end (Err error) → StallsServing now end error
+stalls_by_writing now end errors.NoProgress why = stalls why
+stalls_by_writing now end error why = tt
+
+-- Nor does a want of memory.
+pub stalls_by_memory : (now : Traffic) (end : EndLog) (error : LinkError)
+    → error ≡ errors.Memory → StallsServing now end error
+stalls_by_memory now end error memory = subst (StallsServing now end) (sym memory) tt
+
+-- Nothing more is said where memory was refused or the link has failed.
 pub ends_writing : (start now : Traffic) (end : EndLog) (error : LinkError) → EndsWriting error
-    → EndsServingSo start now end (Err error)
-ends_writing start now end errors.Device is = tt
-ends_writing start now end errors.Memory is = tt
-ends_writing start now end errors.NoProgress is = tt
-ends_writing start now end (errors.Stream number) is = absurd is
-ends_writing start now end errors.CutOff is = absurd is
-ends_writing start now end (errors.Reset number) is = absurd is
-ends_writing start now end errors.Refused is = absurd is
+    → StallsServing now end error → EndsServingSo start now end (Err error)
+ends_writing start now end errors.Device is why = tt
+ends_writing start now end errors.Memory is why = tt
+ends_writing start now end errors.NoProgress is why = why
+ends_writing start now end (errors.Stream number) is why = absurd is
+ends_writing start now end errors.CutOff is why = absurd is
+ends_writing start now end (errors.Reset number) is why = absurd is
+ends_writing start now end errors.Refused is why = absurd is
 
 pub writing_goes : (error : LinkError) → EndsWriting error → error ≢ errors.CutOff
 writing_goes errors.CutOff is same = is
@@ -95,37 +110,31 @@ writing_of_call errors.Refused is = is
 pub ends_early : (values : Values) (start now : Traffic) (responder : Responder) (end : EndLog)
     (unused : List ℕ) (error : LinkError) → IsResponding values end
     → EndRepresents values responder.server.end end → IsLinked start now end.log unused
-    → EndsWriting error → ReceivesSo values start now responder end (Err error)
+    → EndsWriting error → StallsServing now end error
+    → ReceivesSo values start now responder end (Err error)
 unfolding ReceivesSo
-ends_early values start now responder end unused error responding represents linked is = (
+ends_early values start now responder end unused error responding represents linked is why = (
   responding,
   sends_all values responder.server.end end represents,
   linked_in_part start now end.log unused linked,
-  ends_writing start now end error is,
+  ends_writing start now end error is why,
   writing_goes error is,
 )
 
 -- Where not all could be written, the link took the first octets of the output.
-pub ends_unwritten : (values : Values) (start before now : Traffic) (old new : Responder)
-    (end : EndLog) (unused : List ℕ) (error : LinkError)
-    → EndRepresents values old.server.end end → IsResponding values end
-    → IsLinked start before end.log unused
-    → ServerWrites before now old.server.end new.server.end (Err error) → EndsWriting error
-    → (after : EndLog) × ReceivesSo values start now new after (Err error)
+pub ends_unwritten : (values : Values) (start now : Traffic) (new : Responder) (end : EndLog)
+    (unused : List ℕ) (error : LinkError)
+    → (wrote : WritesFor values start now end new.server.end unused (Err error))
+    → EndsWriting error → ReceivesSo values start now new wrote.after (Err error)
 unfolding ReceivesSo
-ends_unwritten values start before now old new end unused error represents responding linked
-    writes is =
-    let wrote : WritesFor values start now end new.server.end unused (Err error) =
-    writes values start end unused represents responding linked in (
-      wrote.after,
-      (
-        wrote.responding,
-        sends_all values new.server.end wrote.after wrote.represents,
-        record { unused = unused; given = wrote.given; taken = wrote.taken },
-        ends_writing start now wrote.after error is,
-        writing_goes error is,
-      ),
-    )
+ends_unwritten values start now new end unused error wrote is = (
+  wrote.responding,
+  sends_all values new.server.end wrote.after wrote.represents,
+  record { unused = unused; given = wrote.given; taken = wrote.taken },
+  ends_writing start now wrote.after error is
+      (stalls_by_writing now wrote.after error wrote.stalls),
+  writing_goes error is,
+)
 
 -- The connection has failed with a code, or there was no memory to keep what was handed out.
 abbrev pub HasFailedSo : Log → LinkError → Type 0
@@ -170,34 +179,26 @@ failed_as before after error same (inl memory) = inl memory
 failed_as before after error same (inr failed) = inr (failed.0, same ∙ failed.1, failed.2)
 
 -- A connection has failed, and all that waited was written.
-pub ends_written : (values : Values) (start before now : Traffic) (old new : Responder)
-    (end : EndLog) (unused : List ℕ) (error : LinkError)
-    → EndRepresents values old.server.end end → IsResponding values end
-    → IsLinked start before end.log unused → (done : Unit {0})
-    → ServerWrites before now old.server.end new.server.end (Ok done)
-    → HasFailedSo end.log error
-    → (after : EndLog) × ReceivesSo values start now new after (Err error)
+pub ends_written : (values : Values) (start now : Traffic) (new : Responder) (end : EndLog)
+    (unused : List ℕ) (error : LinkError) (done : Unit {0})
+    → (wrote : WritesFor values start now end new.server.end unused (Ok done))
+    → HasFailedSo end.log error → ReceivesSo values start now new wrote.after (Err error)
 unfolding ReceivesSo
-ends_written values start before now old new end unused error represents responding linked done
-    writes is =
-    let wrote : WritesFor values start now end new.server.end unused (Ok done) =
-    writes values start end unused represents responding linked in
+ends_written values start now new end unused error done wrote is =
     let failed = failed_as end.log wrote.after.log error wrote.same.failed is in
     let taken : IsWrittenOut start now wrote.after.log = wrote.taken in (
-      wrote.after,
-      (
-        wrote.responding,
-        sends_all values new.server.end wrote.after wrote.represents,
-        all_in_part start now wrote.after.log unused wrote.given taken.taken,
-        ends_failed start now wrote.after error failed taken.taken,
-        failed_goes wrote.after.log error failed,
-      ),
+      wrote.responding,
+      sends_all values new.server.end wrote.after wrote.represents,
+      all_in_part start now wrote.after.log unused wrote.given taken.taken,
+      ends_failed start now wrote.after error failed taken.taken,
+      failed_goes wrote.after.log error failed,
     )
 
 -- Whatever has happened at a server over a link, where these octets of what the link gave weren't
--- used: more has happened now, and these aren't used.
-abbrev pub ServesOn : (before now : Traffic) → (old new : Responder) → (piece unused : List ℕ)
-    → Type 0
-ServesOn before now old new piece unused =
+-- used: more has happened now, a turn at least in each round, and these aren't used.
+abbrev pub ServesOn : (rounds : ℕ) → (before now : Traffic) → (old new : Responder)
+    → (piece unused : List ℕ) → Type 0
+ServesOn rounds before now old new piece unused =
     (values : Values) (start : Traffic) (end : EndLog) → IsServing values start before old end piece
-    → (after : EndLog) × IsServing values start now new after unused
+    → (after : EndLog) × (rounds + length end.log.turns ≤ length after.log.turns)
+    × IsServing values start now new after unused

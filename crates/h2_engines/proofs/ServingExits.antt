@@ -1,9 +1,10 @@
 -- What is said of each return of a server over a link, by the error that it answers.
-use Rattle.std.proofs.Common.{◌≡◌, ◌≢◌, ℕ, Bool, Result, Err, sym, ap, ◌∙◌, subst, refl}
-use Rattle.std.specs.Prelude.{IfErr}
+use Rattle.std.proofs.Common.{◌≡◌, ◌≢◌, ℕ, Bool, true, Result, Ok, Err, sym, ap, ◌∙◌, subst, refl}
+use Rattle.std.specs.Prelude.{IfErr, OnOk}
 use Rattle.h2_log.specs.Acts.{Values}
 use Rattle.h2_link.specs.declared.error.LinkError.{LinkError}
 use Rattle.h2_link.specs.declared.error.LinkError.TheVariants as errors
+use Rattle.h2_link.specs.Links.{ended_after}
 use Rattle.h2_engines.specs.Failures.{CutsOffAtEnd, EndsServing, IsOfCall, failures_told}
 use Rattle.h2_engines.specs.Linked.{Traffic}
 use Rattle.h2_engines.specs.Serves.{Serves}
@@ -69,6 +70,25 @@ pub cuts_of_call : (result : Result ℕ LinkError) (error : LinkError) (ended : 
     → AnswersError result error → IsOfCall error → CutsOffAtEnd result ended
 cuts_of_call result error ended answer is =
     cuts_as result error ended answer (writing_goes error (writing_of_call error is))
+
+-- A read with room that gives nothing has met the end of the input,
+pub meets_end : (before now : Bool) (room count : ℕ) → now ≡ ended_after before room (Ok count)
+    → count ≡ 0 → room ≡ 16384 → now ≡ true
+meets_end before now room count is none all =
+    is ∙ ap (λ (n : ℕ). ended_after before n (Ok count)) all
+    ∙ ap (λ (n : ℕ). ended_after before 16384 (Ok n)) none
+
+-- and then either answer tells it.
+pub ends_at_end : (result : Result ℕ LinkError) (ended : Bool) → ended ≡ true
+    → OnOk result (ended ≡ true)
+ends_at_end (Ok count) ended is = is
+ends_at_end (Err error) ended is = tt
+
+pub cuts_at_end : (result : Result ℕ LinkError) (ended : Bool) → ended ≡ true
+    → CutsOffAtEnd result ended
+cuts_at_end (Ok count) ended is = tt
+cuts_at_end (Err errors.CutOff) ended is = is
+cuts_at_end (Err error) ended is = tt
 
 -- A connection that is served may end so.
 pub errs_as : (result : Result ℕ LinkError) (error : LinkError) → AnswersError result error

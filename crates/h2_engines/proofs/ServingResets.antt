@@ -1,6 +1,6 @@
 -- A stream whose request is too large can't be reset.
-use Rattle.std.proofs.Common.{◌≡◌, ◌≢◌, ◌≤◌, ◌<◌, ℕ, ◌^◌, Bool, true, false, List, Some, None, Err}
-use Rattle.std.proofs.Common.{if◌then◌else◌, refl, sym, subst, inr}
+use Rattle.std.proofs.Common.{◌≡◌, ◌≢◌, ◌≤◌, ◌<◌, ℕ, ◌^◌, Bool, true, false, List, length, Some}
+use Rattle.std.proofs.Common.{None, Err, if◌then◌else◌, refl, sym, subst, inr}
 use Rattle.std.proofs.lemmas.Bool.{leb-true}
 use Rattle.h2_log.specs.declared.refusal.Refusal.{Refusal}
 use Rattle.h2_log.specs.declared.refusal.Refusal.TheVariants as reasons
@@ -12,6 +12,7 @@ use Rattle.h2_log.specs.Log.{Log, resets_written}
 use Rattle.h2_log.specs.LogView.{log_view}
 use Rattle.h2_log.specs.LogCalls.{MayAnswer, accepts, refuses, lacks, fails, with_call}
 use Rattle.h2_pair.proofs.FaultsInvariant.{first_in}
+use Rattle.h2_ends.specs.declared.refusal.EndRefusal.TheVariants as refusals
 use Rattle.h2_ends.specs.Ends.{EndLog, parts_on}
 use Rattle.h2_ends.specs.EndTakes.{end_with_log}
 use Rattle.h2_link.specs.declared.error.LinkError.{LinkError}
@@ -19,14 +20,17 @@ use Rattle.h2_link.specs.declared.error.LinkError.TheVariants as errors
 use Rattle.h2_engines.specs.declared.request.Next.TheVariants as nexts
 use Rattle.h2_engines.specs.declared.responder.Responder.{Responder}
 use Rattle.h2_engines.specs.Answers.{is_too_large_body}
+use Rattle.h2_engines.specs.Failures.{error_after}
 use Rattle.h2_engines.specs.Keeping.{KeepsNext}
 use Rattle.h2_engines.specs.Linked.{Traffic}
 use Rattle.h2_engines.specs.Responding.{resets, calm}
-use Rattle.h2_engines.specs.Serves.{CannotReset, EndsServingSo}
+use Rattle.h2_engines.specs.Serves as stops
+use Rattle.h2_engines.specs.Serves.{CannotReset, EndsServingSo, StopsServing}
 use Rattle.h2_engines.specs.Serving.{ServerResets, ResetSo, ReceivesSo}
 use Rattle.h2_engines.proofs.ServingLogs.{GoesOn, refused_goes}
 use Rattle.h2_engines.proofs.ServingEnds.{linked_in_part, sends_all}
 use Rattle.h2_engines.proofs.ServingSteps.{IsServingNext, given_fits, goes_links, reset_typed}
+use Rattle.h2_engines.proofs.TurnsPassed.{turns_of_call}
 
 -- The last of four conditions holds, where a call is refused for it.
 last_of_four : (a b c d : Bool)
@@ -61,11 +65,14 @@ none_left log id code answer said (lacks none may is) =
     let wrong : reasons.Memory ≡ reasons.TooManyResets = cc in cc
 none_left log id code answer said (fails none may is) = cc
 
+-- the end once this was answered
+abbrev reset_with : EndLog → ℕ → Answer → EndLog
+reset_with end id answer = end_with_log end (with_call end.log (ResetStream id calm) answer)
+
 cannot_reset : (end : EndLog) (id number : ℕ)
     → is_too_large_body (parts_on id end.handed) ≡ true
     → max_resets ≤ resets_written end.log → number ≡ calm
-    → CannotReset (end_with_log end
-    (with_call end.log (ResetStream id calm) (Refused reasons.TooManyResets))) number
+    → CannotReset (reset_with end id (Refused reasons.TooManyResets)) number
 unfolding with_call
 cannot_reset end id number large left is =
     record {
@@ -76,9 +83,16 @@ cannot_reset end id number large left is =
       number_is = is;
     }
 
--- the end once this was answered
-abbrev reset_with : EndLog → ℕ → Answer → EndLog
-reset_with end id answer = end_with_log end (with_call end.log (ResetStream id calm) answer)
+-- It is refused for something else, though memory was there.
+reset_stalls : (now : Traffic) (end : EndLog) (id : ℕ) (answer : Answer) (refusal : Refusal)
+    → is_too_large_body (parts_on id end.handed) ≡ true → answer ≡ Refused refusal
+    → refusal ≢ reasons.TooManyResets → error_after (refusals.Conn refusal) ≡ errors.NoProgress
+    → StopsServing now (reset_with end id answer)
+unfolding with_call
+reset_stalls now end id answer refusal large said other is =
+    subst (λ (one : Answer). StopsServing now (reset_with end id one)) (sym said)
+    (stops.reset_refused id refusal large
+    (first_in (ResetStream id calm, Refused refusal) end.log.calls) other is)
 
 reset_ends : (start now : Traffic) (end : EndLog) (id : ℕ) (answer : Answer) (error : LinkError)
     → is_too_large_body (parts_on id end.handed) ≡ true
@@ -91,7 +105,8 @@ reset_ends start now end id answer (errors.Stream number) large may so = (
   λ same. cc,
 )
 reset_ends start now end id answer errors.Memory large may so = (tt, λ same. cc)
-reset_ends start now end id answer errors.NoProgress large may so = (tt, λ same. cc)
+reset_ends start now end id answer errors.NoProgress large may so =
+    (reset_stalls now end id answer so.0 large so.1 so.2 so.3, λ same. cc)
 reset_ends start now end id answer errors.Device large may so = absurd so
 reset_ends start now end id answer errors.CutOff large may so = absurd so
 reset_ends start now end id answer (errors.Reset number) large may so = absurd so
@@ -102,7 +117,7 @@ reset_refused : (answer : Answer) (error : LinkError) → ResetSo answer (Err er
 unfolding ResetSo
 reset_refused answer (errors.Stream number) so = (reasons.TooManyResets, so.1)
 reset_refused answer errors.Memory so = so
-reset_refused answer errors.NoProgress so = so
+reset_refused answer errors.NoProgress so = (so.0, so.1)
 reset_refused answer errors.Device so = absurd so
 reset_refused answer errors.CutOff so = absurd so
 reset_refused answer (errors.Reset number) so = absurd so
@@ -118,7 +133,8 @@ pub resets_last : (values : Values) (start now : Traffic) (old new : Responder) 
     (unused : List ℕ) (id : ℕ) (error : LinkError) → id < 2 ^ 32
     → IsServingNext values start now old end unused (nexts.Reset id)
     → ServerResets old.server.end new.server.end id (Err error)
-    → (after : EndLog) × ReceivesSo values start now new after (Err error)
+    → (after : EndLog) × (length end.log.turns < length after.log.turns)
+    × ReceivesSo values start now new after (Err error)
 unfolding KeepsNext ReceivesSo
 resets_last values start now old new end unused id error fits is reset =
     let now_is = reset values end is.represents in
@@ -128,6 +144,7 @@ resets_last values start now old new end unused id error fits is reset =
     let ends = reset_ends start now end id answer error is.keeps.1 now_is.1 now_is.3 in
     let log = with_call end.log (ResetStream id calm) answer in (
       end_with_log end log,
+      turns_of_call end.log (ResetStream id calm) answer,
       (
         resets is.responding id answer is.keeps.1 (reset_typed id fits) now_is.1,
         sends_all values new.server.end (end_with_log end log) now_is.2,

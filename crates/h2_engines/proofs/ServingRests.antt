@@ -1,6 +1,6 @@
 -- How a server over a link is served a piece, octets after octets.
 use Rattle.std.proofs.Common.{◌≡◌, ◌≤◌, ◌<◌, ℕ, ◌+◌, ◌-◌, ◌^◌, Bool, List, length, take, drop}
-use Rattle.std.proofs.Common.{Result, Ok, Err, sym, ap, ◌∙◌, subst, arith}
+use Rattle.std.proofs.Common.{Result, Ok, Err, sym, ap, ◌∙◌, subst, inr, arith}
 use Rattle.std.proofs.lemmas.List.{length-drop, length-take, take_all, drop_all, drop-drop}
 use Rattle.h2_log.specs.Acts.{Values}
 use Rattle.h2_ends.specs.Ends.{EndLog}
@@ -14,7 +14,8 @@ use Rattle.h2_engines.specs.declared.responder.Responder.{Responder}
 use Rattle.h2_engines.specs.Answers.{answer_with}
 use Rattle.h2_engines.specs.Failures.{EndsWriting, IsOfCall}
 use Rattle.h2_engines.specs.Linked.{Traffic}
-use Rattle.h2_engines.specs.Serving.{IsServing, ServerWrites, ServerHears, ServerAnswers}
+use Rattle.h2_engines.specs.Serves.{stalls}
+use Rattle.h2_engines.specs.Serving.{IsServing, WritesFor, ServerWrites, ServerHears, ServerAnswers}
 use Rattle.h2_engines.specs.Serving.{ServerResets, counted_answer, ReceivesSo, ServerReceives}
 use Rattle.h2_engines.proofs.ServingEnds.{ServesOn, ends_early, ends_unwritten, ends_written}
 use Rattle.h2_engines.proofs.ServingSteps.{IsServingNext, HasHeardLast, serves_again, serves_done}
@@ -29,19 +30,21 @@ pub exits_with : (P : Result (Unit {0}) LinkError → Type 0) (result : Result (
 exits_with P result error answer is =
     subst P (sym (answer.1 ∙ ap (λ (one : LinkError). Err one) answer.2)) is
 
--- More has happened at the server, and this is to be done next.
-abbrev pub NextOn : (before now : Traffic) → (old new : Responder) → (piece unused : List ℕ)
-    → Next → Type 0
-NextOn before now old new piece unused next =
+-- More has happened at the server, a turn at least in each round, and this is to be done next.
+abbrev pub NextOn : (rounds : ℕ) → (before now : Traffic) → (old new : Responder)
+    → (piece unused : List ℕ) → Next → Type 0
+NextOn rounds before now old new piece unused next =
     (values : Values) (start : Traffic) (end : EndLog) → IsServing values start before old end piece
-    → (after : EndLog) × IsServingNext values start now new after unused next
+    → (after : EndLog) × (rounds + length end.log.turns ≤ length after.log.turns)
+    × IsServingNext values start now new after unused next
 
 -- The connection has failed, or there was no memory.
 abbrev pub LastOn : (before now : Traffic) → (old new : Responder) → (piece : List ℕ) → LinkError
     → Type 0
 LastOn before now old new piece error =
     (values : Values) (start : Traffic) (end : EndLog) → IsServing values start before old end piece
-    → (after : EndLog) × HasHeardLast values start now new after error
+    → (after : EndLog) × (length end.log.turns ≤ length after.log.turns)
+    × HasHeardLast values start now new after error
 
 -- what is left of a piece
 rest_is : (piece : List ℕ) (used : ℕ)
@@ -54,98 +57,115 @@ rest_after : (piece : List ℕ) (used count : ℕ)
 rest_after piece used count = drop-drop count used piece
 
 -- The rest of a piece was heard of.
-pub heard_rest : (before now : Traffic) (old self new : Responder) (piece : List ℕ) (used : ℕ)
-    (heard : Heard) → ServesOn before now old self piece (drop used piece)
+pub heard_rest : (rounds : ℕ) (before now : Traffic) (old self new : Responder) (piece : List ℕ)
+    (used : ℕ) (heard : Heard) → ServesOn rounds before now old self piece (drop used piece)
     → new.answered ≡ self.answered
     → ServerHears self.server.end new.server.end self.requests new.requests
     (take (length piece - used) (drop used piece)) (Ok heard)
-    → NextOn before now old new piece (drop (used + heard.used) piece) heard.next
-heard_rest before now old self new piece used heard serves same hears values start end is =
+    → NextOn (rounds + 1) before now old new piece (drop (used + heard.used) piece) heard.next
+heard_rest rounds before now old self new piece used heard serves same hears values start end is =
     let on = serves values start end is in
     let rest = drop used piece in
-    let next = hears_on values start now self new on.0 rest heard on.1 same
+    let next = hears_on values start now self new on.0 rest heard on.2 same
     (subst (λ (octets : List ℕ).
     ServerHears self.server.end new.server.end self.requests new.requests octets (Ok heard))
     (rest_is piece used) hears) in (
       next.0,
+      omega (arith, on.1, next.1),
       subst (λ (unused : List ℕ). IsServingNext values start now new next.0 unused heard.next)
-          (rest_after piece used heard.used) next.1,
+          (rest_after piece used heard.used) next.2,
     )
 
 -- It was heard of it, and all is done.
-pub done_rest : (before now : Traffic) (old self new : Responder) (piece : List ℕ) (used : ℕ)
-    (heard : Heard) → ServesOn before now old self piece (drop used piece)
+pub done_rest : (rounds : ℕ) (before now : Traffic) (old self new : Responder) (piece : List ℕ)
+    (used : ℕ) (heard : Heard) → ServesOn rounds before now old self piece (drop used piece)
     → new.answered ≡ self.answered
     → ServerHears self.server.end new.server.end self.requests new.requests
     (take (length piece - used) (drop used piece)) (Ok heard) → heard.next ≡ nexts.Done
     → ServerReceives before now old new piece (Ok tt)
 unfolding ReceivesSo
-done_rest before now old self new piece used heard serves same hears done values start end is =
+done_rest rounds before now old self new piece used heard serves same hears done values start end
+    is =
     let on = serves values start end is in
     let rest = drop used piece in
-    let next = hears_on values start now self new on.0 rest heard on.1 same
+    let next = hears_on values start now self new on.0 rest heard on.2 same
     (subst (λ (octets : List ℕ).
     ServerHears self.server.end new.server.end self.requests new.requests octets (Ok heard))
     (rest_is piece used) hears) in
-    let all : length rest ≤ heard.used = omega (arith, next.2 done) in (
+    let all : length rest ≤ heard.used = omega (arith, next.3 done) in (
       next.0,
+      omega (arith, on.1, next.1),
       subst (λ (unused : List ℕ). IsServing values start now new next.0 unused)
           (drop_all heard.used rest all)
           (serves_done values start now new next.0 (drop heard.used rest)
           (subst (λ (one : Next).
-          IsServingNext values start now new next.0 (drop heard.used rest) one) done next.1)),
+          IsServingNext values start now new next.0 (drop heard.used rest) one) done next.2)),
     )
 
 -- Nothing is to be done.
-pub again_rest : (before now : Traffic) (old new : Responder) (piece unused : List ℕ) (next : Next)
-    → NextOn before now old new piece unused next → next ≡ nexts.Again
-    → ServesOn before now old new piece unused
-again_rest before now old new piece unused next on again values start end is =
+pub again_rest : (rounds : ℕ) (before now : Traffic) (old new : Responder)
+    (piece unused : List ℕ) (next : Next) → NextOn rounds before now old new piece unused next
+    → next ≡ nexts.Again → ServesOn rounds before now old new piece unused
+again_rest rounds before now old new piece unused next on again values start end is =
     let now_is = on values start end is in (
       now_is.0,
+      now_is.1,
       serves_again values start now new now_is.0 unused
           (subst (λ (one : Next). IsServingNext values start now new now_is.0 unused one) again
-          now_is.1),
+          now_is.2),
     )
 
 -- What waits was written.
-pub written_rest : (before middle now : Traffic) (old self new : Responder)
+pub written_rest : (rounds : ℕ) (before middle now : Traffic) (old self new : Responder)
     (piece unused : List ℕ) (next : Next) (done : Unit {0})
-    → NextOn before middle old self piece unused next → new.answered ≡ self.answered
+    → NextOn rounds before middle old self piece unused next → new.answered ≡ self.answered
     → new.requests ≡ self.requests
     → ServerWrites middle now self.server.end new.server.end (Ok done)
-    → NextOn before now old new piece unused next
-written_rest before middle now old self new piece unused next done on same requests writes values
-    start end is =
+    → NextOn rounds before now old new piece unused next
+written_rest rounds before middle now old self new piece unused next done on same requests writes
+    values start end is =
     let was = on values start end is in
-    let wrote = writes_on values start middle now self new was.0 unused next done was.1 same
-    requests writes in
-    (wrote.0, wrote.1)
+    let wrote : WritesFor values start now was.0 new.server.end unused (Ok done) =
+    writes values start was.0 unused was.2.represents was.2.responding was.2.linked in
+    let says = writes_on values start now self new was.0 unused next done was.2.count was.2.up
+    was.2.keeps same requests wrote in (
+      wrote.after,
+      omega (arith, was.1, wrote.turns),
+      says.0,
+    )
 
 -- It can't be written.
-pub unwritten_rest : (before middle now : Traffic) (old self new : Responder)
+pub unwritten_rest : (rounds : ℕ) (before middle now : Traffic) (old self new : Responder)
     (piece unused : List ℕ) (next : Next) (error : LinkError)
-    → NextOn before middle old self piece unused next
+    → NextOn rounds before middle old self piece unused next
     → ServerWrites middle now self.server.end new.server.end (Err error) → EndsWriting error
     → ServerReceives before now old new piece (Err error)
-unwritten_rest before middle now old self new piece unused next error on writes why values start
-    end is =
+unwritten_rest rounds before middle now old self new piece unused next error on writes why values
+    start end is =
     let was = on values start end is in
-    ends_unwritten values start middle now self new was.0 unused error was.1.represents
-    was.1.responding was.1.linked writes why
+    let wrote : WritesFor values start now was.0 new.server.end unused (Err error) =
+    writes values start was.0 unused was.2.represents was.2.responding was.2.linked in (
+      wrote.after,
+      omega (arith, was.1, wrote.turns),
+      ends_unwritten values start now new was.0 unused error wrote why,
+    )
 
 -- The same once the connection has failed.
-pub last_rest : (before now : Traffic) (old self new : Responder) (piece : List ℕ) (used : ℕ)
-    (error : LinkError) → ServesOn before now old self piece (drop used piece)
+pub last_rest : (rounds : ℕ) (before now : Traffic) (old self new : Responder) (piece : List ℕ)
+    (used : ℕ) (error : LinkError) → ServesOn rounds before now old self piece (drop used piece)
     → ServerHears self.server.end new.server.end self.requests new.requests
     (take (length piece - used) (drop used piece)) (Err error)
     → LastOn before now old new piece error
-last_rest before now old self new piece used error serves hears values start end is =
+last_rest rounds before now old self new piece used error serves hears values start end is =
     let on = serves values start end is in
-    hears_last values start now self new on.0 (drop used piece) error on.1
+    let last = hears_last values start now self new on.0 (drop used piece) error on.2
     (subst (λ (octets : List ℕ).
     ServerHears self.server.end new.server.end self.requests new.requests octets (Err error))
-    (rest_is piece used) hears)
+    (rest_is piece used) hears) in (
+      last.0,
+      omega (arith, on.1, last.1),
+      last.2,
+    )
 
 pub last_written : (before middle now : Traffic) (old self new : Responder) (piece : List ℕ)
     (error : LinkError) (done : Unit {0}) → LastOn before middle old self piece error
@@ -153,8 +173,12 @@ pub last_written : (before middle now : Traffic) (old self new : Responder) (pie
     → ServerReceives before now old new piece (Err error)
 last_written before middle now old self new piece error done on writes values start end is =
     let was = on values start end is in
-    ends_written values start middle now self new was.0 was.1.unused error was.1.represents
-    was.1.responding was.1.linked done writes was.1.failed
+    let wrote : WritesFor values start now was.0 new.server.end was.2.unused (Ok done) =
+    writes values start was.0 was.2.unused was.2.represents was.2.responding was.2.linked in (
+      wrote.after,
+      omega (arith, was.1, wrote.turns),
+      ends_written values start now new was.0 was.2.unused error done wrote was.2.failed,
+    )
 
 pub last_unwritten : (before middle now : Traffic) (old self new : Responder) (piece : List ℕ)
     (error other : LinkError) → LastOn before middle old self piece error
@@ -162,62 +186,90 @@ pub last_unwritten : (before middle now : Traffic) (old self new : Responder) (p
     → ServerReceives before now old new piece (Err other)
 last_unwritten before middle now old self new piece error other on writes why values start end is =
     let was = on values start end is in
-    ends_unwritten values start middle now self new was.0 was.1.unused other was.1.represents
-    was.1.responding was.1.linked writes why
+    let wrote : WritesFor values start now was.0 new.server.end was.2.unused (Err other) =
+    writes values start was.0 was.2.unused was.2.represents was.2.responding was.2.linked in (
+      wrote.after,
+      omega (arith, was.1, wrote.turns),
+      ends_unwritten values start now new was.0 was.2.unused other wrote why,
+    )
 
 -- A request was answered, or it can't be.
-pub answered_rest : (before now : Traffic) (old self new : Responder) (piece unused : List ℕ)
-    (id : ℕ) (request : Request) (done : Unit {0})
-    → NextOn before now old self piece unused (nexts.Answer id request)
+pub answered_rest : (rounds : ℕ) (before now : Traffic) (old self new : Responder)
+    (piece unused : List ℕ) (id : ℕ) (request : Request) (done : Unit {0})
+    → NextOn rounds before now old self piece unused (nexts.Answer id request)
     → new.answered ≡ counted_answer self.answered (Ok done) → new.requests ≡ self.requests
     → ServerAnswers self.server.end new.server.end id
-    (answer_with request.text.items request.to_head) (Ok done)
-    → ServesOn before now old new piece unused
-answered_rest before now old self new piece unused id request done on counted requests answered
-    values start end is =
+    (answer_with request.text.items request.to_head) self.answered (Ok done)
+    → ServesOn rounds before now old new piece unused
+answered_rest rounds before now old self new piece unused id request done on counted requests
+    answered values start end is =
     let was = on values start end is in
-    answers_on values start now self new was.0 unused id request done was.1 counted requests
-    answered
+    let next = answers_on values start now self new was.0 unused id request done was.2 counted
+    requests answered in (
+      next.0,
+      omega (arith, was.1, next.1),
+      next.2,
+    )
 
-pub unanswered_rest : (before now : Traffic) (old self new : Responder) (piece unused : List ℕ)
-    (id : ℕ) (request : Request) (error : LinkError)
-    → NextOn before now old self piece unused (nexts.Answer id request) → IsOfCall error
+pub unanswered_rest : (rounds : ℕ) (before now : Traffic) (old self new : Responder)
+    (piece unused : List ℕ) (id : ℕ) (request : Request) (error : LinkError)
+    → NextOn rounds before now old self piece unused (nexts.Answer id request) → IsOfCall error
     → ServerAnswers self.server.end new.server.end id
-    (answer_with request.text.items request.to_head) (Err error)
+    (answer_with request.text.items request.to_head) self.answered (Err error)
     → ServerReceives before now old new piece (Err error)
-unanswered_rest before now old self new piece unused id request error on why answered values start
-    end is =
+unanswered_rest rounds before now old self new piece unused id request error on why answered values
+    start end is =
     let was = on values start end is in
-    answers_last values start now self new was.0 unused id request error was.1 why answered
+    let last = answers_last values start now self new was.0 unused id request error was.2 why
+    answered in (
+      last.0,
+      omega (arith, was.1, last.1),
+      last.2,
+    )
 
 -- A stream was reset, or it can't be.
-pub reset_rest : (before now : Traffic) (old self new : Responder) (piece unused : List ℕ)
-    (id : ℕ) (done : Unit {0}) → NextOn before now old self piece unused (nexts.Reset id)
+pub reset_rest : (rounds : ℕ) (before now : Traffic) (old self new : Responder)
+    (piece unused : List ℕ) (id : ℕ) (done : Unit {0})
+    → NextOn rounds before now old self piece unused (nexts.Reset id)
     → id < 2 ^ 32 → new.answered ≡ self.answered → new.requests ≡ self.requests
     → ServerResets self.server.end new.server.end id (Ok done)
-    → ServesOn before now old new piece unused
-reset_rest before now old self new piece unused id done on fits same requests reset values start
-    end is =
+    → ServesOn rounds before now old new piece unused
+reset_rest rounds before now old self new piece unused id done on fits same requests reset values
+    start end is =
     let was = on values start end is in
-    resets_on values start now self new was.0 unused id done fits was.1 same requests reset
+    let next = resets_on values start now self new was.0 unused id done fits was.2 same requests
+    reset in (
+      next.0,
+      omega (arith, was.1, next.1),
+      next.2,
+    )
 
-pub not_reset_rest : (before now : Traffic) (old self new : Responder) (piece unused : List ℕ)
-    (id : ℕ) (error : LinkError) → NextOn before now old self piece unused (nexts.Reset id)
+pub not_reset_rest : (rounds : ℕ) (before now : Traffic) (old self new : Responder)
+    (piece unused : List ℕ) (id : ℕ) (error : LinkError)
+    → NextOn rounds before now old self piece unused (nexts.Reset id)
     → id < 2 ^ 32 → ServerResets self.server.end new.server.end id (Err error)
     → ServerReceives before now old new piece (Err error)
-not_reset_rest before now old self new piece unused id error on fits reset values start end is =
+not_reset_rest rounds before now old self new piece unused id error on fits reset values start end
+    is =
     let was = on values start end is in
-    resets_last values start now self new was.0 unused id error fits was.1 reset
+    let last = resets_last values start now self new was.0 unused id error fits was.2 reset in (
+      last.0,
+      omega (arith, was.1, last.1),
+      last.2,
+    )
 
 -- No further round is made.
-pub no_round_rest : (before now : Traffic) (old new : Responder) (piece unused : List ℕ)
-    → ServesOn before now old new piece unused
+pub no_round_rest : (rounds : ℕ) (before now : Traffic) (old new : Responder)
+    (piece unused : List ℕ) → 2 ^ 64 - 1 ≤ rounds
+    → ServesOn rounds before now old new piece unused
     → ServerReceives before now old new piece (Err errors.NoProgress)
-no_round_rest before now old new piece unused serves values start end is =
-    let on = serves values start end is in (
+no_round_rest rounds before now old new piece unused all serves values start end is =
+    let on = serves values start end is in
+    let out : 2 ^ 64 - 1 ≤ length on.0.log.turns = omega (arith, all, on.1) in (
       on.0,
-      ends_early values start now new on.0 unused errors.NoProgress on.1.responding
-          on.1.represents on.1.linked tt,
+      omega (arith, on.1),
+      ends_early values start now new on.0 unused errors.NoProgress on.2.responding
+          on.2.represents on.2.linked tt (stalls (inr out)),
     )
 
 -- Where branches of the code join, a server and a link are those of a branch.
@@ -238,24 +290,24 @@ receives_as before now old new piece result error answer receives =
     result error answer receives
 
 -- The same is to be done.
-pub next_as : (before now : Traffic) (old new : Responder) (piece unused : List ℕ) (next is : Next)
-    → next ≡ is → NextOn before now old new piece unused next
-    → NextOn before now old new piece unused is
-next_as before now old new piece unused next is same on =
-    subst (λ (one : Next). NextOn before now old new piece unused one) same on
+pub next_as : (rounds : ℕ) (before now : Traffic) (old new : Responder) (piece unused : List ℕ)
+    (next is : Next) → next ≡ is → NextOn rounds before now old new piece unused next
+    → NextOn rounds before now old new piece unused is
+next_as rounds before now old new piece unused next is same on =
+    subst (λ (one : Next). NextOn rounds before now old new piece unused one) same on
 
 -- The same request was answered.
 pub answers_as : (old new : Responder) (id : ℕ) (text : List ℕ) (to_head : Bool)
-    (request : Request) (result : Result (Unit {0}) LinkError)
-    → ServerAnswers old.server.end new.server.end id (answer_with text to_head) result
+    (request : Request) (count : ℕ) (result : Result (Unit {0}) LinkError)
+    → ServerAnswers old.server.end new.server.end id (answer_with text to_head) count result
     → text ≡ request.text.items → to_head ≡ request.to_head
     → ServerAnswers old.server.end new.server.end id
-    (answer_with request.text.items request.to_head) result
-answers_as old new id text to_head request result answered text_is to_head_is =
+    (answer_with request.text.items request.to_head) count result
+answers_as old new id text to_head request count result answered text_is to_head_is =
     subst (λ (octets : List ℕ). ServerAnswers old.server.end new.server.end id
-    (answer_with octets request.to_head) result) text_is
+    (answer_with octets request.to_head) count result) text_is
     (subst (λ (is : Bool). ServerAnswers old.server.end new.server.end id
-    (answer_with text is) result) to_head_is answered)
+    (answer_with text is) count result) to_head_is answered)
 
 -- Octets of a piece that were heard of, are within it.
 pub within_rest : (piece : List ℕ) (used count : ℕ) → used ≤ length piece

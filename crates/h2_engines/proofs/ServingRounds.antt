@@ -1,11 +1,13 @@
 -- What each round of a server over a link makes of it: what waits is written, octets are read and
 -- served, and credit is returned.
-use Rattle.std.proofs.Common.{◌≡◌, ◌≢◌, ℕ, List, [], ◌++◌, length, take, Option, None, Result, Ok}
-use Rattle.std.proofs.Common.{Err, refl, sym, ap, ◌∙◌, subst, append-nil}
+use Rattle.std.proofs.Common.{◌≡◌, ◌≢◌, ◌≤◌, ℕ, ◌+◌, ◌-◌, ◌^◌, List, [], ◌++◌, length, take}
+use Rattle.std.proofs.Common.{Option, None, Result, Ok, Err, refl, sym, ap, ◌∙◌, subst, append-nil}
+use Rattle.std.proofs.Common.{inr, arith}
 use Rattle.std.proofs.Math.Seq.{take-append_seam}
 use Rattle.std.specs.Prelude.{IfErr}
 use Rattle.std.specs.Io.KnownBytes.{Appends}
 use Rattle.std.proofs.KnownBytes.{Appends-nil, Appends-trans}
+use Rattle.h2_log.specs.declared.refusal.Refusal.TheVariants as reasons
 use Rattle.h2_log.specs.declared.role.Role.TheVariants.{Server}
 use Rattle.h2_log.specs.Acts.{Values, AreInRange}
 use Rattle.h2_log.specs.Log.{Log}
@@ -13,7 +15,10 @@ use Rattle.h2_log.specs.LogCalls.{opened}
 use Rattle.h2_log.specs.LogSteps.{with_sent}
 use Rattle.h2_pair.specs.Pairs.{given_out}
 use Rattle.h2_pair.specs.Tokens.{Token, tokens_sent}
+use Rattle.h2_ends.specs.declared.refusal.EndRefusal.{EndRefusal}
+use Rattle.h2_ends.specs.declared.refusal.EndRefusal.TheVariants as refusals
 use Rattle.h2_ends.specs.Ends.{EndLog, message_for, tokens_given}
+use Rattle.h2_ends.specs.EndCalls.{MayPump, MayReleaseAll}
 use Rattle.h2_ends.specs.Represents.{EndRepresents, new_end}
 use Rattle.h2_link.specs.declared.error.LinkError.{LinkError}
 use Rattle.h2_link.specs.declared.error.LinkError.TheVariants as errors
@@ -24,28 +29,32 @@ use Rattle.h2_engines.specs.Failures.{EndsServing, EndsWriting, failures_told}
 use Rattle.h2_engines.specs.Keeping.{KeepsNext, KeepsRequests}
 use Rattle.h2_engines.specs.Linked.{Traffic, IsLinked}
 use Rattle.h2_engines.specs.Responding.{IsResponding, begins, releases, pumps}
-use Rattle.h2_engines.specs.Serves.{Serves, SendsAll, EndsServingSo}
-use Rattle.h2_engines.specs.Serving.{IsServing, IsWrittenOut, ServerWrites, ServerFinishes}
-use Rattle.h2_engines.specs.Serving.{FinishedSo, ReceivesSo, ServerReceives, ReleasesSome}
-use Rattle.h2_engines.specs.Serving.{PumpsSome}
+use Rattle.h2_engines.specs.Serves.{Serves, SendsAll, EndsServingSo, stalls}
+use Rattle.h2_engines.specs.Serving.{IsServing, IsWrittenOut, WritesFor, ServerSends}
+use Rattle.h2_engines.specs.Serving.{ServerFinishes, FinishedSo, ReceivesSo, ServerReceives}
+use Rattle.h2_engines.specs.Serving.{ReleasesSome, PumpsSome, EndsAfter, EndsRelease}
 use Rattle.h2_engines.proofs.KeptAnswers.{kept_all, kept_none}
 use Rattle.h2_engines.proofs.KeptSame.{kept_same}
 use Rattle.h2_engines.proofs.ServingEnds.{ends_early, ends_unwritten, linked_in_part, all_in_part}
-use Rattle.h2_engines.proofs.ServingEnds.{sends_all}
-use Rattle.h2_engines.proofs.ServingSteps.{IsServingNext, serves_again, writes_on, goes_links}
-use Rattle.h2_engines.proofs.ServingSteps.{given_fits}
+use Rattle.h2_engines.proofs.ServingEnds.{sends_all, StallsServing, stalls_by_memory}
+use Rattle.h2_engines.proofs.ServingSteps.{serves_again, writes_on, goes_links, given_fits}
 use Rattle.h2_engines.proofs.ServingPumps.{StaysOn, released_stays, pumped_stays, stays_same}
+use Rattle.h2_engines.proofs.TurnsPassed.{turns_of_pump, turns_of_release}
 
--- A connection is served over a link: this much has happened, and these octets weren't used yet.
-abbrev pub IsServedOn : Values → (start now : Traffic) → Responder → (unused : List ℕ) → Type 0
-IsServedOn values start now responder unused =
-    (end : EndLog) × IsServing values start now responder end unused
+-- A connection is served over a link: this much has happened, a turn at least in each round, and
+-- these octets weren't used yet.
+abbrev pub IsServedOn : (rounds : ℕ) → Values → (start now : Traffic) → Responder
+    → (unused : List ℕ) → Type 0
+IsServedOn rounds values start now responder unused =
+    (end : EndLog) × (rounds ≤ length end.log.turns)
+    × IsServing values start now responder end unused
 
 -- The same, where nothing waits.
-abbrev pub IsWrittenOn : Values → (start now : Traffic) → Responder → (unused : List ℕ) → Type 0
-IsWrittenOn values start now responder unused =
-    (end : EndLog) × IsServing values start now responder end unused
-    × IsWrittenOut start now end.log
+abbrev pub IsWrittenOn : (rounds : ℕ) → Values → (start now : Traffic) → Responder
+    → (unused : List ℕ) → Type 0
+IsWrittenOn rounds values start now responder unused =
+    (end : EndLog) × (rounds ≤ length end.log.turns)
+    × IsServing values start now responder end unused × IsWrittenOut start now end.log
 
 -- A new server.
 new_links : (values : Values) (start : Traffic)
@@ -61,9 +70,10 @@ new_up values = refl
 pub new_serves : (values : Values) (start : Traffic) (responder : Responder) → AreInRange values
     → EndRepresents values responder.server.end (new_end Server values)
     → responder.requests.kept.entries ≡ [] → responder.answered ≡ 0
-    → IsServedOn values start start responder []
+    → IsServedOn 0 values start start responder []
 new_serves values start responder range represents none zero = (
   new_end Server values,
+  omega arith,
   record {
     responding = begins range;
     represents = represents;
@@ -119,47 +129,52 @@ unfolding ReceivesSo
 serves_by values start now responder after error so =
     record { end = after; responding = so.0; sends = so.1; linked = so.2; so = so.3 }
 
-pub serves_early : (values : Values) (start now : Traffic) (responder : Responder)
-    (unused : List ℕ) (error : LinkError) → IsServedOn values start now responder unused
-    → EndsWriting error → Serves values start now (Err error)
-serves_early values start now responder unused error on why =
+pub serves_early : (rounds : ℕ) (values : Values) (start now : Traffic) (responder : Responder)
+    (unused : List ℕ) (error : LinkError)
+    → (on : IsServedOn rounds values start now responder unused) → EndsWriting error
+    → StallsServing now on.0 error → Serves values start now (Err error)
+serves_early rounds values start now responder unused error on is why =
     serves_by values start now responder on.0 error
-    (ends_early values start now responder on.0 unused error on.1.responding on.1.represents
-    on.1.linked why)
+    (ends_early values start now responder on.0 unused error on.2.responding on.2.represents
+    on.2.linked is why)
 
--- What waits is written.
-next_of : (values : Values) (start now : Traffic) (responder : Responder) (end : EndLog)
-    (unused : List ℕ) → IsServing values start now responder end unused
-    → IsServingNext values start now responder end unused nexts.Again
-unfolding KeepsNext
-next_of values start now responder end unused is =
-    record {
-      responding = is.responding;
-      represents = is.represents;
-      linked = is.linked;
-      up = is.up;
-      keeps = is.keeps;
-      count = is.count;
-    }
+-- No further round is made.
+pub serves_no_round : (rounds : ℕ) (values : Values) (start now : Traffic) (responder : Responder)
+    (unused : List ℕ) → 2 ^ 64 - 1 ≤ rounds
+    → IsServedOn rounds values start now responder unused
+    → Serves values start now (Err errors.NoProgress)
+serves_no_round rounds values start now responder unused all on =
+    let out : 2 ^ 64 - 1 ≤ length on.0.log.turns = omega (arith, all, on.1) in
+    serves_early rounds values start now responder unused errors.NoProgress on tt
+    (stalls (inr out))
 
-pub sent_on : (values : Values) (start before now : Traffic) (old new : Responder)
-    (unused : List ℕ) (done : Unit {0}) → IsServedOn values start before old unused
+-- What waits is written, while the connection is up.
+pub sent_on : (rounds : ℕ) (values : Values) (start before now : Traffic) (old new : Responder)
+    (unused : List ℕ) (done : Unit {0}) → IsServedOn rounds values start before old unused
     → new.answered ≡ old.answered → new.requests ≡ old.requests
-    → ServerWrites before now old.server.end new.server.end (Ok done)
-    → IsWrittenOn values start now new unused
-sent_on values start before now old new unused done on same requests writes =
-    let wrote = writes_on values start before now old new on.0 unused nexts.Again done
-    (next_of values start before old on.0 unused on.1) same requests writes in
-    (wrote.0, serves_again values start now new wrote.0 unused wrote.1, wrote.2)
+    → ServerSends before now old.server.end new.server.end (Ok done)
+    → IsWrittenOn (rounds + 1) values start now new unused
+unfolding KeepsNext
+sent_on rounds values start before now old new unused done on same requests sends =
+    let wrote : WritesFor values start now on.0 new.server.end unused (Ok done) =
+    sends values start on.0 unused on.2.represents on.2.responding on.2.up on.2.linked in
+    let says = writes_on values start now old new on.0 unused nexts.Again done on.2.count on.2.up
+    on.2.keeps same requests wrote in (
+      wrote.after,
+      omega (arith, on.1, wrote.turns),
+      serves_again values start now new wrote.after unused says.0,
+      says.1,
+    )
 
-pub sent_last : (values : Values) (start before now : Traffic) (old new : Responder)
-    (unused : List ℕ) (error : LinkError) → IsServedOn values start before old unused
-    → ServerWrites before now old.server.end new.server.end (Err error) → EndsWriting error
+pub sent_last : (rounds : ℕ) (values : Values) (start before now : Traffic) (old new : Responder)
+    (unused : List ℕ) (error : LinkError) → IsServedOn rounds values start before old unused
+    → ServerSends before now old.server.end new.server.end (Err error) → EndsWriting error
     → Serves values start now (Err error)
-sent_last values start before now old new unused error on writes why =
-    let after = ends_unwritten values start before now old new on.0 unused error on.1.represents
-    on.1.responding on.1.linked writes why in
-    serves_by values start now new after.0 error after.1
+sent_last rounds values start before now old new unused error on sends why =
+    let wrote : WritesFor values start now on.0 new.server.end unused (Err error) =
+    sends values start on.0 unused on.2.represents on.2.responding on.2.up on.2.linked in
+    serves_by values start now new wrote.after error
+    (ends_unwritten values start now new on.0 unused error wrote why)
 
 -- The link gives octets, and takes none.
 appends_as : (one two : Option (List ℕ)) (octets is : List ℕ) → octets ≡ is
@@ -195,25 +210,29 @@ read_serves values start before now responder end octets is gives takes =
       count = is.count;
     }
 
-pub read_on : (values : Values) (start before now : Traffic) (responder : Responder)
-    (octets : List ℕ) → IsWrittenOn values start before responder []
+pub read_on : (rounds : ℕ) (values : Values) (start before now : Traffic) (responder : Responder)
+    (octets : List ℕ) → IsWrittenOn rounds values start before responder []
     → Appends before.given now.given octets → Appends before.taken now.taken []
-    → IsServedOn values start now responder octets
-read_on values start before now responder octets on gives takes =
-    (on.0, read_serves values start before now responder on.0 octets on.1 gives takes)
+    → IsServedOn rounds values start now responder octets
+read_on rounds values start before now responder octets on gives takes = (
+  on.0,
+  on.1,
+  read_serves values start before now responder on.0 octets on.2 gives takes,
+)
 
 -- Nothing was read, and nothing waits still.
-pub ended_on : (values : Values) (start before now : Traffic) (responder : Responder)
-    → IsWrittenOn values start before responder [] → Appends before.given now.given []
-    → Appends before.taken now.taken [] → IsWrittenOn values start now responder []
-ended_on values start before now responder on gives takes = (
+pub ended_on : (rounds : ℕ) (values : Values) (start before now : Traffic) (responder : Responder)
+    → IsWrittenOn rounds values start before responder [] → Appends before.given now.given []
+    → Appends before.taken now.taken [] → IsWrittenOn rounds values start now responder []
+ended_on rounds values start before now responder on gives takes = (
   on.0,
-  read_serves values start before now responder on.0 [] on.1 gives takes,
+  on.1,
+  read_serves values start before now responder on.0 [] on.2 gives takes,
   record {
-    all = on.2.all;
+    all = on.3.all;
     taken = appends_as start.taken now.taken (on.0.log.written ++ []) on.0.log.written
         (append-nil on.0.log.written)
-        (Appends-trans start.taken before.taken now.taken on.0.log.written [] on.2.taken takes);
+        (Appends-trans start.taken before.taken now.taken on.0.log.written [] on.3.taken takes);
   },
 )
 
@@ -235,18 +254,19 @@ finished_so values start now responder end (Err error) is written so =
     subst (λ (one : LinkError). EndsServingSo start now end (Err one)) (sym so.0)
     (so.1 is.up, is.linked.given, written.taken)
 
-pub finished_serves : (values : Values) (start now : Traffic) (responder : Responder)
-    (result : Result ℕ LinkError) → IsWrittenOn values start now responder []
+pub finished_serves : (rounds : ℕ) (values : Values) (start now : Traffic)
+    (responder : Responder) (result : Result ℕ LinkError)
+    → IsWrittenOn rounds values start now responder []
     → ServerFinishes responder.server.end responder.answered result
     → Serves values start now result
-finished_serves values start now responder result on finishes =
+finished_serves rounds values start now responder result on finishes =
     record {
       end = on.0;
-      responding = on.1.responding;
-      sends = sends_all values responder.server.end on.0 on.1.represents;
-      linked = all_in_part start now on.0.log [] on.1.linked.given on.2.taken;
-      so = finished_so values start now responder on.0 result on.1 on.2
-          (finishes values on.0 on.1.represents);
+      responding = on.2.responding;
+      sends = sends_all values responder.server.end on.0 on.2.represents;
+      linked = all_in_part start now on.0.log [] on.2.linked.given on.3.taken;
+      so = finished_so values start now responder on.0 result on.2 on.3
+          (finishes values on.0 on.2.represents);
     }
 
 -- No call of the link fails then.
@@ -263,44 +283,52 @@ unfolding FinishedSo
 finished_err end answered (Ok count) so = tt
 finished_err end answered (Err error) so = subst EndsServing (sym so.0) tt
 
-pub finished_fails : (values : Values) (start now : Traffic) (responder : Responder)
-    (result : Result ℕ LinkError) (failures before : ℕ)
-    → IsWrittenOn values start now responder []
+pub finished_fails : (rounds : ℕ) (values : Values) (start now : Traffic)
+    (responder : Responder) (result : Result ℕ LinkError) (failures before : ℕ)
+    → IsWrittenOn rounds values start now responder []
     → ServerFinishes responder.server.end responder.answered result → failures ≡ before
     → failures ≡ failures_told before result
-finished_fails values start now responder result failures before on finishes same =
+finished_fails rounds values start now responder result failures before on finishes same =
     same ∙ sym (told_none before on.0 responder.answered result
-    (finishes values on.0 on.1.represents))
+    (finishes values on.0 on.2.represents))
 
-pub finished_ends : (values : Values) (start now : Traffic) (responder : Responder)
-    (result : Result ℕ LinkError) → IsWrittenOn values start now responder []
+pub finished_ends : (rounds : ℕ) (values : Values) (start now : Traffic) (responder : Responder)
+    (result : Result ℕ LinkError) → IsWrittenOn rounds values start now responder []
     → ServerFinishes responder.server.end responder.answered result
     → IfErr result EndsServing
-finished_ends values start now responder result on finishes =
-    finished_err on.0 responder.answered result (finishes values on.0 on.1.represents)
+finished_ends rounds values start now responder result on finishes =
+    finished_err on.0 responder.answered result (finishes values on.0 on.2.represents)
 
 -- A piece was served.
-pub received_on : (values : Values) (start before now : Traffic) (old new : Responder)
-    (piece : List ℕ) (done : Unit {0}) → IsServedOn values start before old piece
-    → ServerReceives before now old new piece (Ok done) → IsServedOn values start now new []
+pub received_on : (rounds : ℕ) (values : Values) (start before now : Traffic)
+    (old new : Responder) (piece : List ℕ) (done : Unit {0})
+    → IsServedOn rounds values start before old piece
+    → ServerReceives before now old new piece (Ok done)
+    → IsServedOn rounds values start now new []
 unfolding ReceivesSo
-received_on values start before now old new piece done on receives =
-    let after = receives values start on.0 on.1 in (after.0, after.1)
+received_on rounds values start before now old new piece done on receives =
+    let after = receives values start on.0 on.2 in (
+      after.0,
+      omega (arith, on.1, after.1),
+      after.2,
+    )
 
-pub received_last : (values : Values) (start before now : Traffic) (old new : Responder)
-    (piece : List ℕ) (error : LinkError) → IsServedOn values start before old piece
+pub received_last : (rounds : ℕ) (values : Values) (start before now : Traffic)
+    (old new : Responder) (piece : List ℕ) (error : LinkError)
+    → IsServedOn rounds values start before old piece
     → ServerReceives before now old new piece (Err error)
     → Serves values start now (Err error)
-received_last values start before now old new piece error on receives =
-    let after = receives values start on.0 on.1 in
-    serves_by values start now new after.0 error after.1
+received_last rounds values start before now old new piece error on receives =
+    let after = receives values start on.0 on.2 in
+    serves_by values start now new after.0 error after.2
 
-pub received_goes : (values : Values) (start before now : Traffic) (old new : Responder)
-    (piece : List ℕ) (error : LinkError) → IsServedOn values start before old piece
+pub received_goes : (rounds : ℕ) (values : Values) (start before now : Traffic)
+    (old new : Responder) (piece : List ℕ) (error : LinkError)
+    → IsServedOn rounds values start before old piece
     → ServerReceives before now old new piece (Err error) → error ≢ errors.CutOff
 unfolding ReceivesSo
-received_goes values start before now old new piece error on receives =
-    let after = receives values start on.0 on.1 in after.1.4
+received_goes rounds values start before now old new piece error on receives =
+    let after = receives values start on.0 on.2 in after.2.4
 
 -- Credit was returned, or what waits of answers was sent.
 stays_serving : (values : Values) (start now : Traffic) (old new : Responder) (end after : EndLog)
@@ -320,29 +348,74 @@ stays_serving values start now old new end after unused is same requests stays r
       count = same ∙ is.count ∙ ap length (sym stays.accepted);
     }
 
-pub released_on : (values : Values) (start now : Traffic) (old new : Responder)
-    (unused : List ℕ) → IsServedOn values start now old unused → new.answered ≡ old.answered
-    → new.requests ≡ old.requests → ReleasesSome old.server.end new.server.end
-    → IsServedOn values start now new unused
-released_on values start now old new unused on same requests released =
-    let after = released.1 values on.0 on.1.represents in (
+pub released_on : (rounds : ℕ) (values : Values) (start now : Traffic) (old new : Responder)
+    (unused : List ℕ) (result : Result (Unit {0}) LinkError)
+    → IsServedOn rounds values start now old unused → new.answered ≡ old.answered
+    → new.requests ≡ old.requests → ReleasesSome old.server.end new.server.end result
+    → IsServedOn rounds values start now new unused
+released_on rounds values start now old new unused result on same requests released =
+    let after = released.1 values on.0 on.2.represents in (
       after.0,
-      stays_serving values start now old new on.0 after.0 unused on.1 same requests
+      omega (arith, on.1, turns_of_release on.0 after.0 released.0 after.1),
+      stays_serving values start now old new on.0 after.0 unused on.2 same requests
           (released_stays on.0 released.0 after.0 after.1)
-          (releases on.1.responding released.0 after.1) after.2,
+          (releases on.2.responding released.0 after.1) after.2,
     )
 
-pub pumped_on : (values : Values) (start now : Traffic) (old new : Responder) (unused : List ℕ)
-    → IsServedOn values start now old unused → new.answered ≡ old.answered
-    → new.requests ≡ old.requests → PumpsSome old.server.end new.server.end
-    → IsServedOn values start now new unused
-pumped_on values start now old new unused on same requests pumped =
-    let after = pumped.1 values on.0 on.1.represents in (
+pub pumped_on : (rounds : ℕ) (values : Values) (start now : Traffic) (old new : Responder)
+    (unused : List ℕ) (result : Result (Unit {0}) LinkError)
+    → IsServedOn rounds values start now old unused → new.answered ≡ old.answered
+    → new.requests ≡ old.requests → PumpsSome old.server.end new.server.end result
+    → IsServedOn rounds values start now new unused
+pumped_on rounds values start now old new unused result on same requests pumped =
+    let after = pumped.1 values on.0 on.2.represents in (
       after.0,
-      stays_serving values start now old new on.0 after.0 unused on.1 same requests
+      omega (arith, on.1, turns_of_pump on.0 after.0 pumped.0 after.1),
+      stays_serving values start now old new on.0 after.0 unused on.2 same requests
           (pumped_stays on.0 pumped.0 after.0 after.1)
-          (pumps on.1.responding pumped.0 after.1) after.2,
+          (pumps on.2.responding pumped.0 after.1) after.2,
     )
+
+-- While the connection is up, these calls are refused only for want of memory.
+release_memory : (end : EndLog) (answer : Result (Unit {0}) EndRefusal) (after : EndLog)
+    (error : LinkError) → end.log.failed ≡ None → MayReleaseAll end answer after
+    → EndsRelease answer (Err error) → error ≡ errors.Memory
+unfolding MayReleaseAll EndsRelease EndsAfter
+release_memory end (Ok done) after error up may ends = absurd ends
+release_memory end (Err (refusals.Conn reasons.Closed)) after error up may ends =
+    absurd (may.0 up)
+release_memory end (Err (refusals.Conn reasons.OutputFull)) after error up may ends = absurd ends
+release_memory end (Err (refusals.Conn reasons.Memory)) after error up may ends = ends
+release_memory end (Err other) after error up may ends = absurd may
+
+pump_memory : (end : EndLog) (answer : Result ℕ EndRefusal) (after : EndLog)
+    (error : LinkError) → end.log.failed ≡ None → MayPump end answer after
+    → EndsAfter answer (Err error) → error ≡ errors.Memory
+unfolding MayPump EndsAfter
+pump_memory end (Ok count) after error up may ends = absurd ends
+pump_memory end (Err (refusals.Conn reasons.Closed)) after error up may ends = absurd (may.0 up)
+pump_memory end (Err (refusals.Conn reasons.Memory)) after error up may ends = ends
+pump_memory end (Err other) after error up may ends = absurd may
+
+pub released_last : (rounds : ℕ) (values : Values) (start now : Traffic) (old new : Responder)
+    (unused : List ℕ) (error : LinkError) → IsServedOn rounds values start now old unused
+    → ReleasesSome old.server.end new.server.end (Err error) → EndsWriting error
+    → Serves values start now (Err error)
+released_last rounds values start now old new unused error on released is =
+    let after = released.1 values on.0 on.2.represents in
+    serves_early rounds values start now old unused error on is
+    (stalls_by_memory now on.0 error
+    (release_memory on.0 released.0 after.0 error on.2.up after.1 released.2))
+
+pub pumped_last : (rounds : ℕ) (values : Values) (start now : Traffic) (old new : Responder)
+    (unused : List ℕ) (error : LinkError) → IsServedOn rounds values start now old unused
+    → PumpsSome old.server.end new.server.end (Err error) → EndsWriting error
+    → Serves values start now (Err error)
+pumped_last rounds values start now old new unused error on pumped is =
+    let after = pumped.1 values on.0 on.2.represents in
+    serves_early rounds values start now old unused error on is
+    (stalls_by_memory now on.0 error
+    (pump_memory on.0 pumped.0 after.0 error on.2.up after.1 pumped.2))
 
 -- What the link gave of a buffer: nothing,
 pub gives_none : (one two : Option (List ℕ)) (buffer : List ℕ) (count : ℕ) → count ≡ 0

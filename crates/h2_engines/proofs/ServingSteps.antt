@@ -1,34 +1,38 @@
 -- What each step of a server over a link, as it is served a piece, makes of it.
-use Rattle.std.proofs.Common.{◌≡◌, ◌≤◌, ◌<◌, ℕ, ◌+◌, ◌^◌, List, ◌∷◌, ◌++◌, length, drop, None, Ok}
-use Rattle.std.proofs.Common.{Err, sym, ap, ◌∙◌, subst, inl, inr, arith}
+use Rattle.std.proofs.Common.{◌≡◌, ◌≤◌, ◌<◌, ℕ, ◌+◌, ◌-◌, ◌^◌, true, List, ◌∷◌, ◌++◌, length, drop}
+use Rattle.std.proofs.Common.{Some, None, Ok, Err, sym, ap, ◌∙◌, subst, inl, inr, arith}
 use Rattle.std.specs.Io.KnownBytes.{Appends}
 use Rattle.h2_log.specs.Acts.{Values, Answer, SendFields, ResetStream, Done, IsTypedAct}
 use Rattle.h2_log.specs.Log.{Log}
 use Rattle.h2_log.specs.LogCalls.{with_call}
 use Rattle.h2_pair.specs.Tokens.{is_head_alone}
 use Rattle.h2_message.specs.Messages.{SentMessage}
+use Rattle.h2_message.specs.Phases.{ends}
 use Rattle.h2_ends.specs.declared.end.End.{End}
 use Rattle.h2_ends.specs.declared.refusal.EndRefusal.{EndRefusal}
 use Rattle.h2_ends.specs.declared.refusal.EndRefusal.TheVariants as refusals
-use Rattle.h2_ends.specs.Ends.{EndLog, EndAnswer, EndTook, EndFailed}
+use Rattle.h2_ends.specs.Ends.{EndLog, EndAnswer, EndTook, EndFailed, parts_on}
 use Rattle.h2_ends.specs.EndTakes.{EndMayTake, end_with_log}
 use Rattle.h2_ends.specs.EndCalls.{MayRespond, IsUnchanged}
 use Rattle.h2_ends.specs.Represents.{EndRepresents}
 use Rattle.h2_link.specs.declared.error.LinkError.{LinkError}
+use Rattle.h2_link.specs.declared.error.LinkError.TheVariants as errors
 use Rattle.h2_engines.specs.declared.request.Next.{Next}
 use Rattle.h2_engines.specs.declared.request.Next.TheVariants as nexts
 use Rattle.h2_engines.specs.declared.request.Request.{Request}
 use Rattle.h2_engines.specs.declared.request.Requests.{Requests}
 use Rattle.h2_engines.specs.declared.responder.Heard.{Heard}
 use Rattle.h2_engines.specs.declared.responder.Responder.{Responder}
-use Rattle.h2_engines.specs.Answers.{answer_with}
-use Rattle.h2_engines.specs.Failures.{IsOfCall}
-use Rattle.h2_engines.specs.Keeping.{KeepsNext, KeepsRequests}
+use Rattle.h2_engines.specs.Answers.{answer_with, answer_to}
+use Rattle.h2_engines.specs.Failures.{IsOfCall, error_after}
+use Rattle.h2_engines.specs.Keeping.{KeepsNext, KeepsRequests, IsToAnswer}
 use Rattle.h2_engines.specs.Linked.{Traffic, IsLinked}
 use Rattle.h2_engines.specs.Responding.{IsResponding, takes, answers, resets, calm}
-use Rattle.h2_engines.specs.Serving.{IsServing, IsWrittenOut, WritesFor, ServerWrites, ServerHears}
-use Rattle.h2_engines.specs.Serving.{HeardSo, ErrsServing, ServerAnswers, AnsweredSo, ServerResets}
-use Rattle.h2_engines.specs.Serving.{ResetSo, counted_answer, ReceivesSo}
+use Rattle.h2_engines.specs.Serves as stops
+use Rattle.h2_engines.specs.Serving.{IsServing, IsWrittenOut, WritesFor, ServerHears, HeardSo}
+use Rattle.h2_engines.specs.Serving.{ErrsServing, ServerAnswers, AnsweredSo, NotAnswered, no_memory}
+use Rattle.h2_engines.specs.Serving.{counts_no_more, is_refused, ServerResets, ResetSo, ReceivesSo}
+use Rattle.h2_engines.specs.Serving.{counted_answer}
 use Rattle.h2_engines.proofs.KeptAnswers.{kept_to_answer, kept_answered, kept_reset}
 use Rattle.h2_engines.proofs.KeptNotes.{kept_noted}
 use Rattle.h2_engines.proofs.KeptRole.{kept_role}
@@ -36,7 +40,10 @@ use Rattle.h2_engines.proofs.KeptSame.{kept_same_next}
 use Rattle.h2_engines.proofs.KeptTaken.{taken_says, kept_failed}
 use Rattle.h2_engines.proofs.ServingLogs.{GoesOn, goes_none, call_goes, refused_goes, writes_given}
 use Rattle.h2_engines.proofs.ServingTakes.{takes_first, took_links, links_first}
-use Rattle.h2_engines.proofs.ServingEnds.{HasFailedSo, ends_early, writing_of_call}
+use Rattle.h2_engines.proofs.ServingEnds.{HasFailedSo, StallsServing, stalls_by_memory, ends_early}
+use Rattle.h2_engines.proofs.ServingEnds.{writing_of_call}
+use Rattle.h2_engines.proofs.TurnsPassed.{turns_of_take, turns_of_answer, turns_of_response}
+use Rattle.h2_engines.proofs.TurnsPassed.{turns_of_call}
 
 -- A server over a link, at which this is to be done next.
 pub record IsServingNext (values : Values) (start now : Traffic) (responder : Responder)
@@ -98,7 +105,7 @@ pub hears_on : (values : Values) (start now : Traffic) (old new : Responder) (en
     (piece : List ℕ) (heard : Heard) → IsServing values start now old end piece
     → new.answered ≡ old.answered
     → ServerHears old.server.end new.server.end old.requests new.requests piece (Ok heard)
-    → (after : EndLog)
+    → (after : EndLog) × (length end.log.turns < length after.log.turns)
     × IsServingNext values start now new after (drop heard.used piece) heard.next
     × (heard.next ≡ nexts.Done → heard.used ≡ length piece)
 unfolding HeardSo
@@ -109,6 +116,7 @@ hears_on values start now old new end piece heard is same hears =
     let first = takes_first end piece answer now_is.0 says.1 in
     let taken = taken_says end piece answer now_is.0 says.1 in (
       now_is.0,
+      turns_of_take end now_is.0 piece heard.used says.0 says.1,
       record {
         responding = takes is.responding piece answer says.1;
         represents = now_is.1;
@@ -142,13 +150,15 @@ errs_so end piece (EndFailed code) after error may errs =
 pub hears_last : (values : Values) (start now : Traffic) (old new : Responder) (end : EndLog)
     (piece : List ℕ) (error : LinkError) → IsServing values start now old end piece
     → ServerHears old.server.end new.server.end old.requests new.requests piece (Err error)
-    → (after : EndLog) × HasHeardLast values start now new after error
+    → (after : EndLog) × (length end.log.turns ≤ length after.log.turns)
+    × HasHeardLast values start now new after error
 unfolding HeardSo
 hears_last values start now old new end piece error is hears =
     let now_is = hears values end is.represents in
     let says = now_is.2 in
     let first = takes_first end piece says.0 now_is.0 says.1 in (
       now_is.0,
+      turns_of_answer end now_is.0 piece says.0 says.1,
       record {
         responding = takes is.responding piece says.0 says.1;
         represents = now_is.1;
@@ -169,26 +179,23 @@ written_links start now log unused given written =
       taken = subst (Appends start.taken now.taken) (sym written.all) written.taken;
     }
 
-pub writes_on : (values : Values) (start before now : Traffic) (old new : Responder)
-    (end : EndLog) (unused : List ℕ) (next : Next) (done : Unit {0})
-    → IsServingNext values start before old end unused next → new.answered ≡ old.answered
+pub writes_on : (values : Values) (start now : Traffic) (old new : Responder) (end : EndLog)
+    (unused : List ℕ) (next : Next) (done : Unit {0}) → old.answered ≡ length end.accepted
+    → end.log.failed ≡ None → KeepsNext old.requests end next → new.answered ≡ old.answered
     → new.requests ≡ old.requests
-    → ServerWrites before now old.server.end new.server.end (Ok done)
-    → (after : EndLog) × IsServingNext values start now new after unused next
-    × IsWrittenOut start now after.log
-writes_on values start before now old new end unused next done is same requests writes =
-    let wrote : WritesFor values start now end new.server.end unused (Ok done) =
-    writes values start end unused is.represents is.responding is.linked in
+    → (wrote : WritesFor values start now end new.server.end unused (Ok done))
+    → IsServingNext values start now new wrote.after unused next
+    × IsWrittenOut start now wrote.after.log
+writes_on values start now old new end unused next done count up keeps same requests wrote =
     let taken : IsWrittenOut start now wrote.after.log = wrote.taken in (
-      wrote.after,
       record {
         responding = wrote.responding;
         represents = wrote.represents;
         linked = written_links start now wrote.after.log unused wrote.given taken;
-        up = wrote.same.failed ∙ is.up;
+        up = wrote.same.failed ∙ up;
         keeps = subst (λ (kept : Requests). KeepsNext kept wrote.after next) (sym requests)
-            (kept_same_next old.requests end wrote.after next wrote.same is.keeps);
-        count = same ∙ is.count ∙ ap length (sym wrote.same.accepted);
+            (kept_same_next old.requests end wrote.after next wrote.same keeps);
+        count = same ∙ count ∙ ap length (sym wrote.same.accepted);
       },
       taken,
     )
@@ -216,8 +223,9 @@ pub answers_on : (values : Values) (start now : Traffic) (old new : Responder) (
     → IsServingNext values start now old end unused (nexts.Answer id request)
     → new.answered ≡ counted_answer old.answered (Ok done) → new.requests ≡ old.requests
     → ServerAnswers old.server.end new.server.end id
-    (answer_with request.text.items request.to_head) (Ok done)
-    → (after : EndLog) × IsServing values start now new after unused
+    (answer_with request.text.items request.to_head) old.answered (Ok done)
+    → (after : EndLog) × (length end.log.turns ≤ length after.log.turns)
+    × IsServing values start now new after unused
 unfolding KeepsNext AnsweredSo counted_answer
 answers_on values start now old new end unused id request done is counted requests answered =
     let message = answer_with request.text.items request.to_head in
@@ -226,6 +234,7 @@ answers_on values start now old new end unused id request done is counted reques
     let to_answer = is.keeps.1 in
     let goes = responded_goes end id message done now_is.0 may in (
       now_is.0,
+      turns_of_response end now_is.0 id message (Ok done) may,
       record {
         responding = answers is.responding id message (Ok done) to_answer.whole to_answer.fits
             (kept_to_answer end id request to_answer) may;
@@ -262,33 +271,95 @@ unanswered_goes end id message (refusals.BadMessage rule) after may = same_goes 
 unanswered_goes end id message (refusals.Conn refusal) after may =
     unchanged_goes end after may.4
 
+-- The request was not answered: so it ends early.
+unanswered_stalls : (now : Traffic) (end : EndLog) (id : ℕ) (message : SentMessage)
+    (refusal : EndRefusal) (after : EndLog) (error : LinkError)
+    → ends (parts_on id end.handed) ≡ true → answer_to (parts_on id end.handed) ≡ Some message
+    → MayRespond end id message (Err refusal) after → error ≡ error_after refusal
+    → StallsServing now after error
+unanswered_stalls now end id message refusal after errors.NoProgress whole asked may is =
+    stops.answer_refused end id message refusal whole asked may (sym is)
+unanswered_stalls now end id message refusal after error whole asked may is = tt
+
+-- It can count no more.
+uncounted_stalls : (now : Traffic) (end : EndLog) (error : LinkError)
+    → 2 ^ 32 - 1 ≤ length end.accepted → StallsServing now end error
+uncounted_stalls now end errors.NoProgress most = stops.counts_no_more most
+uncounted_stalls now end error most = tt
+
+-- nothing has happened
+same_stalls : (now : Traffic) (end after : EndLog) (error : LinkError) → after ≡ end
+    → StallsServing now end error → StallsServing now after error
+same_stalls now end after error same why =
+    subst (λ (one : EndLog). StallsServing now one error) (sym same) why
+
+same_turns : (end after : EndLog) → after ≡ end
+    → length end.log.turns ≤ length after.log.turns
+same_turns end after same =
+    let all = ap (λ (one : EndLog). length one.log.turns) same in omega arith
+
+-- A request was not answered: what is known of the server then.
+record HasNotAnswered (values : Values) (now : Traffic) (end after : EndLog) (error : LinkError) :
+    Type 0 where
+  turns : length end.log.turns ≤ length after.log.turns
+  responding : IsResponding values after
+  goes : GoesOn end.log after.log
+  stalls : StallsServing now after error
+
+not_answered : (values : Values) (now : Traffic) (end after : EndLog) (id : ℕ)
+    (request : Request) (count : ℕ) (error : LinkError) → IsResponding values end
+    → count ≡ length end.accepted → IsToAnswer end id request
+    → NotAnswered end id (answer_with request.text.items request.to_head) after count error
+    → HasNotAnswered values now end after error
+not_answered values now end after id request count error responding counted to_answer
+    (no_memory memory same) =
+    record {
+      turns = same_turns end after same;
+      responding = subst (λ (one : EndLog). IsResponding values one) (sym same) responding;
+      goes = same_goes end after same;
+      stalls = stalls_by_memory now after error memory;
+    }
+not_answered values now end after id request count error responding counted to_answer
+    (counts_no_more most same) =
+    let all : 2 ^ 32 - 1 ≤ length end.accepted =
+    subst (λ (n : ℕ). 2 ^ 32 - 1 ≤ n) counted most in
+    record {
+      turns = same_turns end after same;
+      responding = subst (λ (one : EndLog). IsResponding values one) (sym same) responding;
+      goes = same_goes end after same;
+      stalls = same_stalls now end after error same (uncounted_stalls now end error all);
+    }
+not_answered values now end after id request count error responding counted to_answer
+    (is_refused refusal may is) =
+    let message = answer_with request.text.items request.to_head in
+    let asked = kept_to_answer end id request to_answer in
+    record {
+      turns = turns_of_response end after id message (Err refusal) may;
+      responding = answers responding id message (Err refusal) to_answer.whole to_answer.fits asked
+          may;
+      goes = unanswered_goes end id message refusal after may;
+      stalls = unanswered_stalls now end id message refusal after error to_answer.whole asked may
+          is;
+    }
+
 pub answers_last : (values : Values) (start now : Traffic) (old new : Responder) (end : EndLog)
     (unused : List ℕ) (id : ℕ) (request : Request) (error : LinkError)
     → IsServingNext values start now old end unused (nexts.Answer id request) → IsOfCall error
     → ServerAnswers old.server.end new.server.end id
-    (answer_with request.text.items request.to_head) (Err error)
-    → (after : EndLog) × ReceivesSo values start now new after (Err error)
+    (answer_with request.text.items request.to_head) old.answered (Err error)
+    → (after : EndLog) × (length end.log.turns ≤ length after.log.turns)
+    × ReceivesSo values start now new after (Err error)
 unfolding KeepsNext AnsweredSo
 answers_last values start now old new end unused id request error is of_call answered =
-    let message = answer_with request.text.items request.to_head in
     let now_is = answered values end is.represents in
-    let to_answer = is.keeps.1 in
-    let within = given_fits values old.server.end end is.represents in
-    let early : IsResponding values now_is.0 → GoesOn end.log now_is.0.log
-    → ReceivesSo values start now new now_is.0 (Err error) =
-    λ responding goes. ends_early values start now new now_is.0 unused error responding now_is.1
-    (goes_links start now end.log now_is.0.log unused within goes is.linked)
-    (writing_of_call error of_call) in (
+    let says = not_answered values now end now_is.0 id request old.answered error is.responding
+    is.count is.keeps.1 now_is.2 in
+    let within = given_fits values old.server.end end is.represents in (
       now_is.0,
-      elim now_is.2 [
-        | inl same ↦ early
-            (subst (λ (one : EndLog). IsResponding values one) (sym same) is.responding)
-            (same_goes end now_is.0 same)
-        | inr refused ↦ early
-            (answers is.responding id message (Err refused.0) to_answer.whole to_answer.fits
-            (kept_to_answer end id request to_answer) refused.1)
-            (unanswered_goes end id message refused.0 now_is.0 refused.1)
-      ],
+      says.turns,
+      ends_early values start now new now_is.0 unused error says.responding now_is.1
+          (goes_links start now end.log now_is.0.log unused within says.goes is.linked)
+          (writing_of_call error of_call) says.stalls,
     )
 
 -- A stream was reset.
@@ -301,7 +372,8 @@ pub resets_on : (values : Values) (start now : Traffic) (old new : Responder) (e
     → IsServingNext values start now old end unused (nexts.Reset id)
     → new.answered ≡ old.answered → new.requests ≡ old.requests
     → ServerResets old.server.end new.server.end id (Ok done)
-    → (after : EndLog) × IsServing values start now new after unused
+    → (after : EndLog) × (length end.log.turns < length after.log.turns)
+    × IsServing values start now new after unused
 unfolding KeepsNext ResetSo
 resets_on values start now old new end unused id done fits is same requests reset =
     let now_is = reset values end is.represents in
@@ -311,6 +383,7 @@ resets_on values start now old new end unused id done fits is same requests rese
     let goes = call_goes end.log (ResetStream id calm) answer (λ count wrong. cc)
     (λ i code wrong. cc) (λ wrong. cc) in (
       end_with_log end log,
+      turns_of_call end.log (ResetStream id calm) answer,
       record {
         responding = resets is.responding id answer is.keeps.1 (reset_typed id fits) now_is.1;
         represents = now_is.2;

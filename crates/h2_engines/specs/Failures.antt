@@ -1,5 +1,8 @@
 -- How a connection over a link may end early, and how often the link has failed then.
 use Rattle.std.specs.Prelude.{◌≡◌, ℕ, ◌+◌, Bool, true, Result, Err}
+use Rattle.h2_log.specs.declared.refusal.Refusal.TheVariants.{Memory}
+use Rattle.h2_ends.specs.declared.refusal.EndRefusal.{EndRefusal}
+use Rattle.h2_ends.specs.declared.refusal.EndRefusal.TheVariants as refusals
 use Rattle.h2_link.specs.declared.error.LinkError.{LinkError}
 use Rattle.h2_link.specs.declared.error.LinkError.TheVariants as errors
 
@@ -36,6 +39,11 @@ abbrev pub IsOfCall : LinkError → Type 0
 IsOfCall errors.Memory = Unit {0}
 IsOfCall errors.NoProgress = Unit {0}
 IsOfCall error = ⊥
+
+-- how a call of an end that was refused for this ends the connection
+abbrev pub error_after : EndRefusal → LinkError
+error_after (refusals.Conn Memory) = errors.Memory
+error_after refusal = errors.NoProgress
 
 -- What writes to a link ends it so alone: as a call, or since the link has failed.
 abbrev pub EndsWriting : LinkError → Type 0

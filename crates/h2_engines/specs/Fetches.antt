@@ -1,7 +1,9 @@
 -- How a fetch over a link ends.
-use Rattle.std.specs.Prelude.{◌≡◌, ◌≢◌, ◌⊎◌, ℕ, Bool, false, [], Some, None, Result, Ok, Err}
+use Rattle.std.specs.Prelude.{◌≡◌, ◌≢◌, ◌⊎◌, ℕ, Bool, false, [], Option, Some, None}
+use Rattle.std.specs.Prelude.{Result, Ok, Err}
 use Rattle.std.specs.List.{Contains}
-use Rattle.h2_log.specs.declared.refusal.Refusal.TheVariants.{ListTooLarge}
+use Rattle.h2_log.specs.declared.refusal.Refusal.{Refusal}
+use Rattle.h2_log.specs.declared.refusal.Refusal.TheVariants.{ListTooLarge, Memory}
 use Rattle.h2_log.specs.declared.role.Role.TheVariants.{Client}
 use Rattle.h2_log.specs.Acts.{Values, Open}
 use Rattle.h2_log.specs.Events.{ResetEvent, UnprocessedEvent}
@@ -14,7 +16,7 @@ use Rattle.h2_ends.specs.EndCalls.{refusal_of_message}
 use Rattle.h2_link.specs.declared.error.LinkError.{LinkError}
 use Rattle.h2_link.specs.declared.error.LinkError.TheVariants as errors
 use Rattle.h2_engines.specs.declared.fetcher.Fetched.{Fetched}
-use Rattle.h2_engines.specs.Linked.{Traffic, HasGiven, IsLinkedInPart, HasTakenAll}
+use Rattle.h2_engines.specs.Linked.{Traffic, HasGiven, IsLinkedInPart, HasTakenAll, HasStalled}
 use Rattle.h2_engines.specs.Serves.{HasFailedWith, SendsAll}
 use Rattle.h2_engines.specs.Fetching.{IsFetching, IsFetched}
 
@@ -28,12 +30,21 @@ WasDropped end id number =
     ((ours : Bool) × Contains end.handed (Passed (ResetEvent id number ours)))
     ⊎ ((number ≡ refused_stream) × Contains end.handed (Passed (UnprocessedEvent id)))
 
+-- what a new client refuses its first request for
+abbrev pub refusal_of_request : Values → SentMessage → Option Refusal
+refusal_of_request values message =
+    refusal_of_message (opened Client values) (Open message.head (is_head_alone message)) message
+
 -- The message breaks a rule, or its fields are too many.
 abbrev pub IsRefusedMessage : Values → SentMessage → Type 0
 IsRefusedMessage values message =
-    (broken_by_request message ≢ None)
-    ⊎ (refusal_of_message (opened Client values) (Open message.head (is_head_alone message)) message
-    ≡ Some ListTooLarge)
+    (broken_by_request message ≢ None) ⊎ (refusal_of_request values message ≡ Some ListTooLarge)
+
+-- The client has refused it for something else.
+abbrev pub IsRefusedOtherwise : Values → SentMessage → Type 0
+IsRefusedOtherwise values message =
+    (refusal : Refusal) × (refusal_of_request values message ≡ Some refusal)
+    × (refusal ≢ ListTooLarge) × (refusal ≢ Memory)
 
 -- what is said of each end, where the message was accepted for this stream
 abbrev pub EndsFetchSo : (start now : Traffic) → EndLog → (id : ℕ) → Result Fetched LinkError
@@ -45,6 +56,7 @@ EndsFetchSo start now end id (Err (errors.Reset number)) = WasDropped end id num
 EndsFetchSo start now end id (Err errors.CutOff) =
     (end.log.failed ≡ None) × (ends (parts_on id end.handed) ≡ false)
     × HasGiven start now end.log [] × HasTakenAll start now end.log
+EndsFetchSo start now end id (Err errors.NoProgress) = HasStalled now end
 EndsFetchSo start now end id (Err errors.Refused) = ⊥
 EndsFetchSo start now end id (Err other) = Unit {0}
 
@@ -61,7 +73,7 @@ pub record EndsFetch (start now : Traffic) (message : SentMessage) (end : EndLog
 abbrev pub IsNotAccepted : Values → SentMessage → Result Fetched LinkError → Type 0
 IsNotAccepted values message (Err errors.Refused) = IsRefusedMessage values message
 IsNotAccepted values message (Err errors.Memory) = Unit {0}
-IsNotAccepted values message (Err errors.NoProgress) = Unit {0}
+IsNotAccepted values message (Err errors.NoProgress) = IsRefusedOtherwise values message
 IsNotAccepted values message result = ⊥
 
 -- However it ends: this has happened at the client; what the link gave since the connection began,

@@ -1,5 +1,6 @@
 -- What the steps of a client over a link do: the calls of its end, and what goes over the link.
-use Rattle.std.specs.Prelude.{◌≡◌, ◌≢◌, ◌⊎◌, ℕ, Bool, true, false, List, [], ◌∷◌, ◌++◌, length}
+use Rattle.std.specs.Prelude.{◌≡◌, ◌≢◌, ◌⊎◌, ◌≤◌, ◌<◌, ℕ, Bool, true, false, List, []}
+use Rattle.std.specs.Prelude.{◌∷◌, ◌++◌, length}
 use Rattle.std.specs.Prelude.{map as each, option_map, Option, Some, None}
 use Rattle.std.specs.Prelude.{Result, Ok, Err}
 use Rattle.hpack.specs.declared.types.field.Field.{Field}
@@ -25,11 +26,11 @@ use Rattle.h2_engines.specs.declared.fetcher.Heard.{Heard}
 use Rattle.h2_engines.specs.Fetches.{EndsFetchSo, refused_stream}
 use Rattle.h2_engines.specs.Fetching.{IsFetching}
 use Rattle.h2_engines.specs.Keeping.{HasCome, IsWhole}
-use Rattle.h2_engines.specs.Linked.{Traffic, HasGiven, IsLinked, IsLinkedInPart}
+use Rattle.h2_engines.specs.Linked.{Traffic, HasGiven, IsLinked, IsLinkedInPart, StallsWriting}
 use Rattle.h2_engines.specs.Serves.{SendsAll}
 use Rattle.h2_engines.specs.Serving.{IsSameOfMessages, TookBy, error_with}
 
--- Whatever has happened at the client and over the link: what waits is written.
+-- Whatever has happened at the client and over the link: what waits is written, in a turn at least.
 pub record WritesAt (values : Values) (message : SentMessage) (start now : Traffic)
     (before : EndLog) (new : End) (unused : List ℕ) (result : Result (Unit {0}) LinkError) : Type 0
   where
@@ -39,12 +40,22 @@ pub record WritesAt (values : Values) (message : SentMessage) (start now : Traff
     pub same : IsSameOfMessages before after
     pub given : HasGiven start now after.log unused
     pub taken : TookBy start now after.log result
+    pub turns : length before.log.turns < length after.log.turns
+    pub stalls : StallsWriting now after result
 
 abbrev pub ClientWrites : (before now : Traffic) → (old new : End) → Result (Unit {0}) LinkError
     → Type 0
 ClientWrites before now old new result =
     (values : Values) (message : SentMessage) (start : Traffic) (end : EndLog) (unused : List ℕ)
     → EndRepresents values old end → IsFetching values message end
+    → IsLinked start before end.log unused → WritesAt values message start now end new unused result
+
+-- The same while the connection is up.
+abbrev pub ClientSends : (before now : Traffic) → (old new : End) → Result (Unit {0}) LinkError
+    → Type 0
+ClientSends before now old new result =
+    (values : Values) (message : SentMessage) (start : Traffic) (end : EndLog) (unused : List ℕ)
+    → EndRepresents values old end → IsFetching values message end → end.log.failed ≡ None
     → IsLinked start before end.log unused → WritesAt values message start now end new unused result
 
 -- what is kept of the response after a call of `take`
@@ -114,7 +125,8 @@ abbrev pub ClientReceives : (before now : Traffic) → (old new : Fetcher) → L
 ClientReceives before now old new piece result =
     (values : Values) (message : SentMessage) (start : Traffic) (end : EndLog)
     → IsUnderWay values message start before old end piece
-    → (after : EndLog) × TakesPieceSo values message start now new after result
+    → (after : EndLog) × (length end.log.turns ≤ length after.log.turns)
+    × TakesPieceSo values message start now new after result
 
 -- What was handed out is kept, where it is a part of the response; and whether it ends that.
 pub data NotesPart (id : ℕ) (old new : Coming) : Handed → Bool → Type 0 where

@@ -1,16 +1,22 @@
 -- What has gone over a link since a connection began.
-use Rattle.std.specs.Prelude.{◌≡◌, ℕ, List, ◌++◌, Option}
+use Rattle.std.specs.Prelude.{◌≡◌, ◌≤◌, ◌-◌, ◌^◌, ◌⊎◌, ℕ, Bool, true, List, ◌++◌, length}
+use Rattle.std.specs.Prelude.{Option, Result, Err}
 use Rattle.std.specs.Io.KnownBytes.{Appends}
 use Rattle.h2_log.specs.Log.{Log}
+use Rattle.h2_ends.specs.Ends.{EndLog}
+use Rattle.h2_link.specs.declared.error.LinkError.{LinkError}
+use Rattle.h2_link.specs.declared.error.LinkError.TheVariants as errors
 use Rattle.h2_pair.specs.Pairs.{given_out}
 
--- the octets that a link has given and taken so far, where it tells
+-- the octets that a link has given and taken so far, where it tells; and whether a write of octets
+-- has taken none
 pub record Traffic : Type 0 where
   pub given : Option (List ℕ)
   pub taken : Option (List ℕ)
+  pub stalled : Bool
 
-abbrev pub traffic : (given taken : Option (List ℕ)) → Traffic
-traffic given taken = record { given = given; taken = taken }
+abbrev pub traffic : (given taken : Option (List ℕ)) → (stalled : Bool) → Traffic
+traffic given taken stalled = record { given = given; taken = taken; stalled = stalled }
 
 -- All octets that the link gave were used, but these.
 abbrev pub HasGiven : (start now : Traffic) → Log → (unused : List ℕ) → Type 0
@@ -39,3 +45,16 @@ pub record IsLinkedInPart (start now : Traffic) (log : Log) : Type 0 where
 -- The link has taken all of the end's output.
 abbrev pub HasTakenAll : (start now : Traffic) → Log → Type 0
 HasTakenAll start now log = Appends start.taken now.taken log.written
+
+-- 2^64 - 1 turns have passed at the end: each round of a loop is one at least.
+abbrev pub IsOutOfRounds : EndLog → Type 0
+IsOutOfRounds end = 2 ^ 64 - 1 ≤ length end.log.turns
+
+-- A write of octets has taken none, or the end is out of rounds.
+abbrev pub HasStalled : (now : Traffic) → EndLog → Type 0
+HasStalled now end = (now.stalled ≡ true) ⊎ IsOutOfRounds end
+
+-- Where what waits is written, N5 is answered only so.
+abbrev pub StallsWriting : {A : Type 0} → (now : Traffic) → EndLog → Result A LinkError → Type 0
+StallsWriting now end (Err errors.NoProgress) = HasStalled now end
+StallsWriting now end result = Unit {0}

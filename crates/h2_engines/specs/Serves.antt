@@ -1,20 +1,28 @@
 -- How a connection that is served over a link ends.
-use Rattle.std.specs.Prelude.{◌≡◌, ◌≢◌, ◌⊎◌, ◌≤◌, ℕ, true, false, [], length, Some, None}
+use Rattle.std.specs.Prelude.{◌≡◌, ◌≢◌, ◌⊎◌, ◌≤◌, ◌-◌, ◌^◌, ℕ, true, false, [], length}
+use Rattle.std.specs.Prelude.{Some, None}
 use Rattle.std.specs.Prelude.{Result, Ok, Err}
 use Rattle.std.specs.List.{Contains}
 use Rattle.h2_frame.specs.declared.code.Code.{Code}
 use Rattle.h2_frame.specs.declared.code.Code.TheVariants.{InternalError}
 use Rattle.h2_frame.specs.Codes.{code_number}
+use Rattle.h2_log.specs.declared.refusal.Refusal.{Refusal}
 use Rattle.h2_log.specs.declared.refusal.Refusal.TheVariants.{TooManyResets}
 use Rattle.h2_log.specs.Acts.{Values, ResetStream, Refused}
 use Rattle.h2_log.specs.Limits.{max_resets}
 use Rattle.h2_log.specs.Log.{Log, active, resets_written}
+use Rattle.h2_message.specs.Messages.{SentMessage}
+use Rattle.h2_message.specs.Phases.{ends}
+use Rattle.h2_ends.specs.declared.refusal.EndRefusal.{EndRefusal}
+use Rattle.h2_ends.specs.declared.refusal.EndRefusal.TheVariants.{Conn}
 use Rattle.h2_ends.specs.Ends.{EndLog, parts_on}
+use Rattle.h2_ends.specs.EndCalls.{MayRespond}
 use Rattle.h2_ends.specs.Represents.{SendsInOrder}
 use Rattle.h2_link.specs.declared.error.LinkError.{LinkError}
 use Rattle.h2_link.specs.declared.error.LinkError.TheVariants as errors
-use Rattle.h2_engines.specs.Answers.{is_too_large_body}
-use Rattle.h2_engines.specs.Linked.{Traffic, HasGiven, IsLinkedInPart, HasTakenAll}
+use Rattle.h2_engines.specs.Answers.{answer_to, is_too_large_body}
+use Rattle.h2_engines.specs.Failures.{error_after}
+use Rattle.h2_engines.specs.Linked.{Traffic, HasGiven, IsLinkedInPart, HasTakenAll, HasStalled}
 use Rattle.h2_engines.specs.Responding.{IsResponding, AnswersAll, calm}
 
 -- The input has ended where it may: no part of the preface or a frame is held, and no stream is
@@ -50,6 +58,21 @@ pub record CannotReset (end : EndLog) (number : ℕ) : Type 0 where
   pub none_left : max_resets ≤ resets_written end.log
   pub number_is : number ≡ calm
 
+-- Why a server makes no progress: a write of octets has taken none, or it is out of rounds; it can
+-- count no more answers; or its end has refused an answer or a reset, though memory was there.
+pub data StopsServing (now : Traffic) (end : EndLog) : Type 0 where
+  stalls : HasStalled now end → StopsServing now end
+  counts_no_more : 2 ^ 32 - 1 ≤ length end.accepted → StopsServing now end
+  answer_refused : (before : EndLog) (id : ℕ) (message : SentMessage) (refusal : EndRefusal)
+      → ends (parts_on id before.handed) ≡ true
+      → answer_to (parts_on id before.handed) ≡ Some message
+      → MayRespond before id message (Err refusal) end
+      → error_after refusal ≡ errors.NoProgress → StopsServing now end
+  reset_refused : (id : ℕ) (refusal : Refusal)
+      → is_too_large_body (parts_on id end.handed) ≡ true
+      → Contains end.log.calls (ResetStream id calm, Refused refusal) → refusal ≢ TooManyResets
+      → error_after (Conn refusal) ≡ errors.NoProgress → StopsServing now end
+
 -- The connection is up, and the input has ended where it may not.
 abbrev pub IsCutOff : Log → Type 0
 IsCutOff log =
@@ -68,6 +91,7 @@ EndsServingSo start now end (Err errors.CutOff) =
     IsCutOff end.log × HasGiven start now end.log [] × HasTakenAll start now end.log
 EndsServingSo start now end (Err (errors.Reset number)) = ⊥
 EndsServingSo start now end (Err errors.Refused) = ⊥
+EndsServingSo start now end (Err errors.NoProgress) = StopsServing now end
 EndsServingSo start now end (Err other) = Unit {0}
 
 -- However it ends: this has happened at the server; what it has sent on each stream is a prefix of

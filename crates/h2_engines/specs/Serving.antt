@@ -1,5 +1,6 @@
 -- What the steps of a server over a link do: the calls of its end, and what goes over the link.
-use Rattle.std.specs.Prelude.{◌≡◌, ◌≢◌, ◌⊎◌, ◌+◌, ℕ, List, [], length, Option, None}
+use Rattle.std.specs.Prelude.{◌≡◌, ◌≢◌, ◌+◌, ◌-◌, ◌^◌, ◌≤◌, ◌<◌, ℕ, List, []}
+use Rattle.std.specs.Prelude.{length, Option, None}
 use Rattle.std.specs.Prelude.{Result, Ok, Err}
 use Rattle.std.specs.List.{Contains}
 use Rattle.h2_frame.specs.declared.code.Code.{Code}
@@ -9,11 +10,12 @@ use Rattle.h2_log.specs.Acts.{Values, Act, Answer, ResetStream, Done, Refused}
 use Rattle.h2_log.specs.Log.{Log}
 use Rattle.h2_log.specs.LogCalls.{MayAnswer, with_call}
 use Rattle.h2_log.specs.declared.refusal.Refusal.{Refusal}
-use Rattle.h2_log.specs.declared.refusal.Refusal.TheVariants.{TooManyResets}
+use Rattle.h2_log.specs.declared.refusal.Refusal.TheVariants.{OutputFull, TooManyResets}
 use Rattle.h2_message.specs.Messages.{SentMessage}
 use Rattle.h2_pair.specs.Pairs.{given_out}
 use Rattle.h2_ends.specs.declared.end.End.{End}
 use Rattle.h2_ends.specs.declared.refusal.EndRefusal.{EndRefusal}
+use Rattle.h2_ends.specs.declared.refusal.EndRefusal.TheVariants.{Conn}
 use Rattle.h2_ends.specs.Ends.{EndLog, Handed, EndAnswer, EndTook, EndFailed}
 use Rattle.h2_ends.specs.EndTakes.{EndMayTake, end_with_log}
 use Rattle.h2_ends.specs.EndCalls.{MayRespond}
@@ -25,7 +27,8 @@ use Rattle.h2_engines.specs.declared.request.Requests.{Requests}
 use Rattle.h2_engines.specs.declared.responder.Heard.{Heard}
 use Rattle.h2_engines.specs.declared.responder.Responder.{Responder}
 use Rattle.h2_engines.specs.Linked.{Traffic, HasGiven, IsLinked, HasTakenAll, HasTakenFirst}
-use Rattle.h2_engines.specs.Linked.{IsLinkedInPart}
+use Rattle.h2_engines.specs.Linked.{IsLinkedInPart, StallsWriting}
+use Rattle.h2_engines.specs.Failures.{error_after}
 use Rattle.h2_engines.specs.Keeping.{KeepsRequests, NotesTaken}
 use Rattle.h2_engines.specs.Responding.{IsResponding, calm}
 use Rattle.h2_engines.specs.Serves.{EndsServingSo, IsAtRest, IsCutOff, SendsAll}
@@ -55,7 +58,7 @@ abbrev pub TookBy : {A : Type 0} → (start now : Traffic) → Log → Result A 
 TookBy start now log (Ok value) = IsWrittenOut start now log
 TookBy start now log (Err error) = HasTakenFirst start now log
 
--- Whatever has happened at the server and over the link: what waits is written.
+-- Whatever has happened at the server and over the link: what waits is written, in a turn at least.
 pub record WritesFor (values : Values) (start now : Traffic) (before : EndLog) (new : End)
     (unused : List ℕ) (result : Result (Unit {0}) LinkError) : Type 0 where
   pub after : EndLog
@@ -64,12 +67,22 @@ pub record WritesFor (values : Values) (start now : Traffic) (before : EndLog) (
   pub same : IsSameOfMessages before after
   pub given : HasGiven start now after.log unused
   pub taken : TookBy start now after.log result
+  pub turns : length before.log.turns < length after.log.turns
+  pub stalls : StallsWriting now after result
 
 abbrev pub ServerWrites : (before now : Traffic) → (old new : End) → Result (Unit {0}) LinkError
     → Type 0
 ServerWrites before now old new result =
     (values : Values) (start : Traffic) (end : EndLog) (unused : List ℕ)
     → EndRepresents values old end → IsResponding values end
+    → IsLinked start before end.log unused → WritesFor values start now end new unused result
+
+-- The same while the connection is up.
+abbrev pub ServerSends : (before now : Traffic) → (old new : End) → Result (Unit {0}) LinkError
+    → Type 0
+ServerSends before now old new result =
+    (values : Values) (start : Traffic) (end : EndLog) (unused : List ℕ)
+    → EndRepresents values old end → IsResponding values end → end.log.failed ≡ None
     → IsLinked start before end.log unused → WritesFor values start now end new unused result
 
 -- why a call of `take` ends the connection: it has failed; or there was no memory to keep what was
@@ -94,16 +107,27 @@ ServerHears old_end new_end old new piece result =
     (values : Values) (end : EndLog) → EndRepresents values old_end end
     → (after : EndLog) × EndRepresents values new_end after × HeardSo end piece after old new result
 
--- what was made of an answer to a request
-unfoldable pub AnsweredSo : EndLog → ℕ → SentMessage → EndLog → Result (Unit {0}) LinkError → Type 0
-AnsweredSo end id message after (Ok done) = MayRespond end id message (Ok done) after
-AnsweredSo end id message after (Err error) =
-    (after ≡ end) ⊎ ((refusal : EndRefusal) × MayRespond end id message (Err refusal) after)
+-- why a request was not answered: there was no memory for the answer, so many were answered that
+-- one more can't be counted, or the server has refused it
+pub data NotAnswered (end : EndLog) (id : ℕ) (message : SentMessage) (after : EndLog) (count : ℕ)
+    (error : LinkError) : Type 0 where
+  no_memory : error ≡ errors.Memory → after ≡ end → NotAnswered end id message after count error
+  counts_no_more : 2 ^ 32 - 1 ≤ count → after ≡ end → NotAnswered end id message after count error
+  is_refused : (refusal : EndRefusal) → MayRespond end id message (Err refusal) after
+      → error ≡ error_after refusal → NotAnswered end id message after count error
 
-abbrev pub ServerAnswers : (old new : End) → ℕ → SentMessage → Result (Unit {0}) LinkError → Type 0
-ServerAnswers old new id message result =
+-- what was made of an answer to a request, where so many were answered before
+unfoldable pub AnsweredSo : EndLog → ℕ → SentMessage → EndLog → (count : ℕ)
+    → Result (Unit {0}) LinkError → Type 0
+AnsweredSo end id message after count (Ok done) = MayRespond end id message (Ok done) after
+AnsweredSo end id message after count (Err error) = NotAnswered end id message after count error
+
+abbrev pub ServerAnswers : (old new : End) → ℕ → SentMessage → (count : ℕ)
+    → Result (Unit {0}) LinkError → Type 0
+ServerAnswers old new id message count result =
     (values : Values) (end : EndLog) → EndRepresents values old end
-    → (after : EndLog) × EndRepresents values new after × AnsweredSo end id message after result
+    → (after : EndLog) × EndRepresents values new after
+    × AnsweredSo end id message after count result
 
 -- how many were answered, after one more
 unfoldable pub counted_answer : ℕ → Result (Unit {0}) LinkError → ℕ
@@ -116,7 +140,9 @@ ResetSo answer (Ok done) = answer ≡ Done
 ResetSo answer (Err (errors.Stream number)) =
     (number ≡ calm) × (answer ≡ Refused TooManyResets)
 ResetSo answer (Err errors.Memory) = (refusal : Refusal) × (answer ≡ Refused refusal)
-ResetSo answer (Err errors.NoProgress) = (refusal : Refusal) × (answer ≡ Refused refusal)
+ResetSo answer (Err errors.NoProgress) =
+    (refusal : Refusal) × (answer ≡ Refused refusal) × (refusal ≢ TooManyResets)
+    × (error_after (Conn refusal) ≡ errors.NoProgress)
 ResetSo answer (Err error) = ⊥
 
 abbrev pub ServerResets : (old new : End) → ℕ → Result (Unit {0}) LinkError → Type 0
@@ -151,14 +177,28 @@ abbrev pub ServerReceives : (before now : Traffic) → (old new : Responder) →
 ServerReceives before now old new piece result =
     (values : Values) (start : Traffic) (end : EndLog)
     → IsServing values start before old end piece
-    → (after : EndLog) × ReceivesSo values start now new after result
+    → (after : EndLog) × (length end.log.turns ≤ length after.log.turns)
+    × ReceivesSo values start now new after result
 
--- `release_all` and `pump`, whatever they answer
-abbrev pub ReleasesSome : (old new : End) → Type 0
-ReleasesSome old new = (result : Result (Unit {0}) EndRefusal) × EndReleases old result new
+-- A call of an end ends the connection only where it was refused, and as the refusal says.
+unfoldable pub EndsAfter : {A : Type 0} → Result A EndRefusal → Result (Unit {0}) LinkError → Type 0
+EndsAfter answer (Ok done) = Unit {0}
+EndsAfter (Ok value) (Err error) = ⊥
+EndsAfter (Err refusal) (Err error) = error ≡ error_after refusal
 
-abbrev pub PumpsSome : (old new : End) → Type 0
-PumpsSome old new = (result : Result ℕ EndRefusal) × EndPumps old result new
+-- What a full output holds back is given back later.
+unfoldable pub EndsRelease : Result (Unit {0}) EndRefusal → Result (Unit {0}) LinkError → Type 0
+EndsRelease (Err (Conn OutputFull)) (Err error) = ⊥
+EndsRelease answer result = EndsAfter answer result
+
+-- `release_all` and `pump`
+abbrev pub ReleasesSome : (old new : End) → Result (Unit {0}) LinkError → Type 0
+ReleasesSome old new result =
+    (answer : Result (Unit {0}) EndRefusal) × EndReleases old answer new × EndsRelease answer result
+
+abbrev pub PumpsSome : (old new : End) → Result (Unit {0}) LinkError → Type 0
+PumpsSome old new result =
+    (answer : Result ℕ EndRefusal) × EndPumps old answer new × EndsAfter answer result
 
 -- what is answered once the input has ended, where so many requests were answered
 unfoldable pub FinishedSo : EndLog → ℕ → Result ℕ LinkError → Type 0

@@ -1,6 +1,6 @@
 //! Copies of what is lent, and room for input.
 
-ghost use Rattle.std.specs.Prelude.{◌≡◌, IfOk, IfErr};
+ghost use Rattle.std.specs.Prelude.{◌≡◌, IfOk, IfErr, length};
 
 use h2_ends::{Field, FieldList};
 use h2_link::LinkError;
@@ -25,7 +25,8 @@ const PIECE: usize = 16_384;
 
 /// Room for what is read.
 pub(crate) fn room_for_input(alloc: Global) -> Result<Vec<u8>, LinkError>
-    ensures { IfErr result (λ error. error ≡ LinkError.Memory) }
+    ensures ok { IfOk result (λ room. length room.items ≡ 16384) }
+    ensures err { IfErr result (λ error. error ≡ LinkError.Memory) }
 {
     match vec![in alloc; 0u8; PIECE] {
         Ok(room) => Ok(room),

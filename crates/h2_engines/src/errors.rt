@@ -1,7 +1,7 @@
 //! How a connection over a link ends, by what a call of its end has answered.
 
 ghost use Rattle.std.specs.Prelude.{◌≡◌};
-ghost use Rattle.h2_engines.specs.Failures.{IsOfCall, IsOfServer};
+ghost use Rattle.h2_engines.specs.Failures.{IsOfCall, IsOfServer, error_after};
 ghost use Rattle.h2_engines.specs.Serving.{error_with};
 
 use h2_ends::{Code, EndRefusal, Refusal};
@@ -21,7 +21,8 @@ pub(crate) fn error_of_code(code: Code) -> LinkError
 /// How it ends once a call was refused: C12 is N3, and any other N5. C7 comes about where so much
 /// output waits that a request can't be answered, without a link; over one no other is expected.
 pub(crate) fn error_of_refusal(refusal: EndRefusal) -> LinkError
-    ensures { IsOfCall result }
+    ensures error { result ≡ error_after refusal }
+    ensures kind { IsOfCall result }
 {
     match refusal {
         EndRefusal::Conn(Refusal::Memory) => LinkError::Memory,

@@ -21,8 +21,8 @@ use std::alloc::Global;
 ///
 /// N1 where the link failed; N2 where the connection failed, once its GOAWAY was written; N3 where
 /// an allocation was refused; N4 where the input ended before the response was whole; N5 where a
-/// write took nothing; N6 where the stream was reset, by either end, or was not processed; N7 where
-/// the message breaks a rule or its fields are too many.
+/// write took nothing, and after 2^64 - 1 rounds; N6 where the stream was reset, by either end, or
+/// was not processed; N7 where the message breaks a rule or its fields are too many.
 pub fn fetch_link<L: Link>(
     alloc: Global,
     link: &mut L,
@@ -31,8 +31,8 @@ pub fn fetch_link<L: Link>(
 ) -> Result<Fetched, LinkError>
     requires { L.faults link.old < 2 ^ 64 - 1 }
     ensures fetches { Fetches (values_of config) (message_value message)
-        (traffic (L.given link.old) (L.taken link.old))
-        (traffic (L.given link.new) (L.taken link.new)) result }
+        (traffic (L.given link.old) (L.taken link.old) (L.stalled link.old))
+        (traffic (L.given link.new) (L.taken link.new) (L.stalled link.new)) result }
     ensures cut_off { CutsOffAtEnd result (L.ended link.new) }
     ensures failures { L.faults link.new ≡ failures_told (L.faults link.old) result }
 {
@@ -59,8 +59,10 @@ impl Fetcher {
     /// that waits is written.
     fn receive<L: Link>(&mut self, link: &mut L, piece: &[u8]) -> Result<bool, LinkError>
         requires { L.faults link.old < 2 ^ 64 - 1 }
-        ensures receives { ClientReceives (traffic (L.given link.old) (L.taken link.old))
-            (traffic (L.given link.new) (L.taken link.new)) self.old self.new piece.now result }
+        ensures receives { ClientReceives
+            (traffic (L.given link.old) (L.taken link.old) (L.stalled link.old))
+            (traffic (L.given link.new) (L.taken link.new) (L.stalled link.new))
+            self.old self.new piece.now result }
         ensures failures { L.faults link.new ≡ failures_told (L.faults link.old) result }
     {
         let mut used = 0usize;

@@ -7,7 +7,8 @@ ghost use Rattle.h2_message.specs.Values.{message_value};
 ghost use Rattle.h2_ends.specs.Loans.{event_handed};
 ghost use Rattle.h2_engines.specs.Failures.{EndsWriting, IsOfCall, IsOfClient, failures_told};
 ghost use Rattle.h2_engines.specs.Fetches.{IsNotAccepted};
-ghost use Rattle.h2_engines.specs.FetchingSteps.{ClientHears, ClientWrites, HasRequested};
+ghost use Rattle.h2_engines.specs.FetchingSteps.{ClientHears, ClientSends, ClientWrites};
+ghost use Rattle.h2_engines.specs.FetchingSteps.{HasRequested};
 ghost use Rattle.h2_engines.specs.FetchingSteps.{IsFetchedOf, NotesPart};
 ghost use Rattle.h2_engines.specs.Linked.{traffic};
 ghost use Rattle.h2_engines.specs.Serving.{PumpsSome, ReleasesSome};
@@ -189,7 +190,7 @@ impl Fetcher {
 
     /// Gives back all that is owed. What a full output holds back is given back later.
     pub(crate) fn release(&mut self) -> Result<(), LinkError>
-        ensures releases { ReleasesSome self.old.client.end self.new.client.end }
+        ensures releases { ReleasesSome self.old.client.end self.new.client.end result }
         ensures id { self.new.id ≡ self.old.id }
         ensures coming { self.new.coming ≡ self.old.coming }
         ensures whole { self.new.whole ≡ self.old.whole }
@@ -203,7 +204,7 @@ impl Fetcher {
 
     /// Sends what waits of the request, as windows allow.
     pub(crate) fn pump(&mut self) -> Result<(), LinkError>
-        ensures pumps { PumpsSome self.old.client.end self.new.client.end }
+        ensures pumps { PumpsSome self.old.client.end self.new.client.end result }
         ensures id { self.new.id ≡ self.old.id }
         ensures coming { self.new.coming ≡ self.old.coming }
         ensures whole { self.new.whole ≡ self.old.whole }
@@ -218,9 +219,10 @@ impl Fetcher {
     /// Writes all output that waits.
     pub(crate) fn write_out<L: Link>(&mut self, link: &mut L) -> Result<(), LinkError>
         requires { L.faults link.old < 2 ^ 64 - 1 }
-        ensures writes { ClientWrites (traffic (L.given link.old) (L.taken link.old))
-            (traffic (L.given link.new) (L.taken link.new)) self.old.client.end self.new.client.end
-            result }
+        ensures writes { ClientWrites
+            (traffic (L.given link.old) (L.taken link.old) (L.stalled link.old))
+            (traffic (L.given link.new) (L.taken link.new) (L.stalled link.new))
+            self.old.client.end self.new.client.end result }
         ensures id { self.new.id ≡ self.old.id }
         ensures coming { self.new.coming ≡ self.old.coming }
         ensures whole { self.new.whole ≡ self.old.whole }
@@ -241,9 +243,10 @@ impl Fetcher {
     /// Writes all that waits, and what more can be sent where the output was full.
     pub(crate) fn send<L: Link>(&mut self, link: &mut L) -> Result<(), LinkError>
         requires { L.faults link.old < 2 ^ 64 - 1 }
-        ensures writes { ClientWrites (traffic (L.given link.old) (L.taken link.old))
-            (traffic (L.given link.new) (L.taken link.new)) self.old.client.end self.new.client.end
-            result }
+        ensures writes { ClientSends
+            (traffic (L.given link.old) (L.taken link.old) (L.stalled link.old))
+            (traffic (L.given link.new) (L.taken link.new) (L.stalled link.new))
+            self.old.client.end self.new.client.end result }
         ensures id { self.new.id ≡ self.old.id }
         ensures coming { self.new.coming ≡ self.old.coming }
         ensures whole { self.new.whole ≡ self.old.whole }

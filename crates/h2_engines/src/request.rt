@@ -51,9 +51,12 @@ impl Request {
         ensures { IfOk result (λ request. IsRequest head.now [] request) }
     {
         let method = value_or_nothing(head, b":method");
-        let mut text = Vec::from_slice(alloc, method)?;
+        let path = value_or_nothing(head, b":path");
+        let room = method.len().saturating_add(path.len()).saturating_add(2);
+        let mut text = Vec::with_capacity(alloc, room)?;
+        text.extend_from_slice(method)?;
         text.push(b' ')?;
-        text.extend_from_slice(value_or_nothing(head, b":path"))?;
+        text.extend_from_slice(path)?;
         text.push(b'\n')?;
         Ok(Request {
             start: text.len(),

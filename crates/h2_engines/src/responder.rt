@@ -9,7 +9,8 @@ ghost use Rattle.h2_engines.specs.Failures.{EndsWriting, IsOfCall, IsOfServer};
 ghost use Rattle.h2_engines.specs.Failures.{failures_told};
 ghost use Rattle.h2_engines.specs.Linked.{traffic};
 ghost use Rattle.h2_engines.specs.Serving.{ServerAnswers, ServerFinishes, ServerHears};
-ghost use Rattle.h2_engines.specs.Serving.{ServerResets, ServerWrites, PumpsSome, ReleasesSome};
+ghost use Rattle.h2_engines.specs.Serving.{ServerResets, ServerSends, ServerWrites, PumpsSome};
+ghost use Rattle.h2_engines.specs.Serving.{ReleasesSome};
 ghost use Rattle.h2_engines.specs.Serving.{counted_answer};
 
 use crate::errors::{error_of_code, error_of_refusal};
@@ -102,7 +103,7 @@ impl Responder {
     /// Answers a request that is whole.
     pub(crate) fn answer(&mut self, id: u32, request: Request) -> Result<(), LinkError>
         ensures answers { ServerAnswers self.old.server.end self.new.server.end id
-            (answer_with request.text.items request.to_head) result }
+            (answer_with request.text.items request.to_head) self.old.answered result }
         ensures count { self.new.answered ≡ counted_answer self.old.answered result }
         ensures requests { self.new.requests ≡ self.old.requests }
         ensures err { IfErr result IsOfCall }
@@ -139,7 +140,7 @@ impl Responder {
 
     /// Gives back all that is owed. What a full output holds back is given back later.
     pub(crate) fn release(&mut self) -> Result<(), LinkError>
-        ensures releases { ReleasesSome self.old.server.end self.new.server.end }
+        ensures releases { ReleasesSome self.old.server.end self.new.server.end result }
         ensures answered { self.new.answered ≡ self.old.answered }
         ensures requests { self.new.requests ≡ self.old.requests }
         ensures err { IfErr result IsOfCall }
@@ -152,7 +153,7 @@ impl Responder {
 
     /// Sends what waits of answers, as windows allow.
     pub(crate) fn pump(&mut self) -> Result<(), LinkError>
-        ensures pumps { PumpsSome self.old.server.end self.new.server.end }
+        ensures pumps { PumpsSome self.old.server.end self.new.server.end result }
         ensures answered { self.new.answered ≡ self.old.answered }
         ensures requests { self.new.requests ≡ self.old.requests }
         ensures err { IfErr result IsOfCall }
@@ -166,9 +167,10 @@ impl Responder {
     /// Writes all output that waits.
     pub(crate) fn write_out<L: Link>(&mut self, link: &mut L) -> Result<(), LinkError>
         requires { L.faults link.old < 2 ^ 64 - 1 }
-        ensures writes { ServerWrites (traffic (L.given link.old) (L.taken link.old))
-            (traffic (L.given link.new) (L.taken link.new)) self.old.server.end self.new.server.end
-            result }
+        ensures writes { ServerWrites
+            (traffic (L.given link.old) (L.taken link.old) (L.stalled link.old))
+            (traffic (L.given link.new) (L.taken link.new) (L.stalled link.new))
+            self.old.server.end self.new.server.end result }
         ensures answered { self.new.answered ≡ self.old.answered }
         ensures requests { self.new.requests ≡ self.old.requests }
         ensures failures { L.faults link.new ≡ failures_told (L.faults link.old) result }
@@ -188,9 +190,10 @@ impl Responder {
     /// Writes all that waits, and what more can be sent where the output was full.
     pub(crate) fn send<L: Link>(&mut self, link: &mut L) -> Result<(), LinkError>
         requires { L.faults link.old < 2 ^ 64 - 1 }
-        ensures writes { ServerWrites (traffic (L.given link.old) (L.taken link.old))
-            (traffic (L.given link.new) (L.taken link.new)) self.old.server.end self.new.server.end
-            result }
+        ensures writes { ServerSends
+            (traffic (L.given link.old) (L.taken link.old) (L.stalled link.old))
+            (traffic (L.given link.new) (L.taken link.new) (L.stalled link.new))
+            self.old.server.end self.new.server.end result }
         ensures answered { self.new.answered ≡ self.old.answered }
         ensures requests { self.new.requests ≡ self.old.requests }
         ensures failures { L.faults link.new ≡ failures_told (L.faults link.old) result }

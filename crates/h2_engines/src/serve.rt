@@ -24,11 +24,13 @@ use std::alloc::Global;
 /// N1 where the link failed; N2 where the connection failed, once its GOAWAY was written, or where
 /// no stream can be reset any more, with 11; N3 where an allocation was refused; N4 where the input
 /// ended inside the preface or a frame, or while a stream was active; N5 where a write took
-/// nothing.
+/// nothing, and also where nothing could go on, which is not expected: after 2^64 - 1 rounds or
+/// 2^32 - 1 answers, or where the end refuses an answer or a reset.
 pub fn serve_link<L: Link>(alloc: Global, link: &mut L, config: Config) -> Result<u32, LinkError>
     requires { L.faults link.old < 2 ^ 64 - 1 }
-    ensures serves { Serves (values_of config) (traffic (L.given link.old) (L.taken link.old))
-        (traffic (L.given link.new) (L.taken link.new)) result }
+    ensures serves { Serves (values_of config)
+        (traffic (L.given link.old) (L.taken link.old) (L.stalled link.old))
+        (traffic (L.given link.new) (L.taken link.new) (L.stalled link.new)) result }
     ensures ended { OnOk result (L.ended link.new ≡ true) }
     ensures cut_off { CutsOffAtEnd result (L.ended link.new) }
     ensures failures { L.faults link.new ≡ failures_told (L.faults link.old) result }
@@ -54,8 +56,10 @@ impl Responder {
     /// answer and each reset, and where the octets end the connection: its GOAWAY goes last.
     fn receive<L: Link>(&mut self, link: &mut L, piece: &[u8]) -> Result<(), LinkError>
         requires { L.faults link.old < 2 ^ 64 - 1 }
-        ensures receives { ServerReceives (traffic (L.given link.old) (L.taken link.old))
-            (traffic (L.given link.new) (L.taken link.new)) self.old self.new piece.now result }
+        ensures receives { ServerReceives
+            (traffic (L.given link.old) (L.taken link.old) (L.stalled link.old))
+            (traffic (L.given link.new) (L.taken link.new) (L.stalled link.new))
+            self.old self.new piece.now result }
         ensures failures { L.faults link.new ≡ failures_told (L.faults link.old) result }
         ensures err { IfErr result EndsServing }
     {

@@ -1,6 +1,6 @@
 -- What the calls of a link say: the octets that it gives and takes, and whether it fails.
-use Rattle.std.specs.Prelude.{◌≡◌, ◌≤◌, ℕ, ◌+◌, ◌==◌, Bool, ◌||◌, List, [], length, take, Option}
-use Rattle.std.specs.Prelude.{Result, Ok, Err}
+use Rattle.std.specs.Prelude.{◌≡◌, ◌≤◌, ℕ, ◌+◌, ◌==◌, nat_lt, Bool, true, ◌&&◌, ◌||◌, List, []}
+use Rattle.std.specs.Prelude.{length, take, Option, Result, Ok, Err}
 use Rattle.std.specs.Io.KnownBytes.{Appends}
 use Rattle.h2_link.specs.declared.link.LinkFault.{LinkFault}
 use Rattle.h2_link.specs.declared.error.LinkError.{LinkError}
@@ -11,10 +11,19 @@ abbrev pub failures_after : {A : Type 0} → ℕ → Result A LinkFault → ℕ
 failures_after failures (Ok value) = failures
 failures_after failures (Err fault) = failures + 1
 
--- whether a link has told the end of its input, after a read
-abbrev pub ended_after : Bool → Result ℕ LinkFault → Bool
-ended_after ended (Ok count) = (count == 0) || ended
-ended_after ended (Err fault) = ended
+-- whether none of these octets were read or written, and there were some
+abbrev pub is_none_of : (octets count : ℕ) → Bool
+is_none_of octets count = nat_lt 0 octets && (count == 0)
+
+-- whether a read has met the end of the input, after one with room for so many octets
+abbrev pub ended_after : Bool → (room : ℕ) → Result ℕ LinkFault → Bool
+ended_after ended room (Ok count) = is_none_of room count || ended
+ended_after ended room (Err fault) = ended
+
+-- whether a write of octets has taken none, after one of so many
+abbrev pub stalled_after : Bool → (octets : ℕ) → Result ℕ LinkFault → Bool
+stalled_after stalled octets (Ok count) = is_none_of octets count || stalled
+stalled_after stalled octets (Err fault) = stalled
 
 -- A read gave the first octets of the buffer, at most all of them; one that failed gave none.
 abbrev pub Gives : (before after : Option (List ℕ)) → Result ℕ LinkFault → List ℕ → Type 0
@@ -31,6 +40,11 @@ pub record TakesFirst (before after : Option (List ℕ)) (octets : List ℕ) (co
 abbrev pub Takes : (before after : Option (List ℕ)) → Result ℕ LinkFault → List ℕ → Type 0
 Takes before after (Ok count) octets = TakesFirst before after octets count
 Takes before after (Err fault) octets = (count : ℕ) × TakesFirst before after octets count
+
+-- N5 is answered only where a write of octets has taken none.
+abbrev pub StallsAtNoProgress : {A : Type 0} → Result A LinkError → (stalled : Bool) → Type 0
+StallsAtNoProgress (Err errors.NoProgress) stalled = stalled ≡ true
+StallsAtNoProgress result stalled = Unit {0}
 
 -- All octets were taken; or some first ones, or none: the link has failed, or has taken nothing in
 -- a call.

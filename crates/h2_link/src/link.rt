@@ -2,7 +2,8 @@
 
 ghost use Rattle.std.specs.Prelude.{◌≡◌, ◌<◌, ◌-◌, ◌^◌, ℕ, Bool, List, [], Option, length};
 ghost use Rattle.std.specs.Io.KnownBytes.{Appends};
-ghost use Rattle.h2_link.specs.Links.{failures_after, ended_after, Gives, Takes};
+ghost use Rattle.h2_link.specs.Links.{failures_after, ended_after, stalled_after, Gives};
+ghost use Rattle.h2_link.specs.Links.{Takes};
 
 use thiserror::Error;
 
@@ -19,13 +20,17 @@ pub trait Link {
     /// All octets that it has taken so far, where it tells.
     ghost taken: { Self → Option (List ℕ) };
 
-    /// Whether it has told the end of its input.
+    /// Whether a read with room has given nothing: the end of its input.
     ghost ended: { Self → Bool };
+
+    /// Whether a write of some octets has taken none.
+    ghost stalled: { Self → Bool };
 
     /// How many of its calls have failed.
     ghost faults: { Self → ℕ };
 
-    /// Reads octets to the front of a buffer, and answers how many; 0 is the end of the input.
+    /// Reads octets to the front of a buffer, and answers how many; 0 is the end of the input, where
+    /// the buffer has room.
     ///
     /// # Errors
     ///
@@ -35,7 +40,9 @@ pub trait Link {
         ensures length { length buffer.new ≡ length buffer.old }
         ensures gives { Gives (given self.old) (given self.new) result buffer.new }
         ensures takes_none { Appends (taken self.old) (taken self.new) [] }
-        ensures ended { ended self.new ≡ ended_after (ended self.old) result }
+        ensures ended { ended self.new
+            ≡ ended_after (ended self.old) (length buffer.old) result }
+        ensures stalled { stalled self.new ≡ stalled self.old }
         ensures failures { faults self.new ≡ failures_after (faults self.old) result };
 
     /// Writes the first of the octets, and answers how many.
@@ -48,6 +55,8 @@ pub trait Link {
         ensures takes { Takes (taken self.old) (taken self.new) result octets.now }
         ensures gives_none { Appends (given self.old) (given self.new) [] }
         ensures ended { ended self.new ≡ ended self.old }
+        ensures stalled { stalled self.new
+            ≡ stalled_after (stalled self.old) (length octets.now) result }
         ensures failures { faults self.new ≡ failures_after (faults self.old) result };
 
     /// How many of its calls have failed: one more after each that does, and after no other.

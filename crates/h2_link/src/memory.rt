@@ -16,6 +16,7 @@ pub struct MemoryLink {
     most_written: usize,
     fails_in: Option<u64>,
     ended: bool,
+    stalled: bool,
     failures: u64,
 }
 
@@ -35,6 +36,7 @@ impl MemoryLink {
             most_written: usize::MAX,
             fails_in: None,
             ended: false,
+            stalled: false,
             failures: 0,
         }
     }
@@ -73,6 +75,7 @@ impl MemoryLink {
         ensures used { self.new.used ≡ self.old.used }
         ensures taken { octets_taken self.new ≡ octets_taken self.old }
         ensures ended { self.new.ended ≡ self.old.ended }
+        ensures stalled { self.new.stalled ≡ self.old.stalled }
         ensures failures { self.new.failures ≡ self.old.failures }
     {
         let Some(calls) = self.fails_in else {
@@ -94,6 +97,8 @@ impl Link for MemoryLink {
 
     ghost ended = { λ link. link.ended };
 
+    ghost stalled = { λ link. link.stalled };
+
     ghost faults = { λ link. link.failures };
 
     fn read(&mut self, buffer: &mut [u8]) -> Result<usize, LinkFault> {
@@ -102,14 +107,14 @@ impl Link for MemoryLink {
             return Err(LinkFault);
         }
         if self.used >= self.input.len() {
-            self.ended = true;
+            self.ended = !buffer.is_empty() || self.ended;
             return Ok(0);
         }
         let left = self.input.len() - self.used;
         let count = left.min(self.most_read).min(buffer.len());
         buffer[..count].copy_from_slice(&self.input[self.used..self.used + count]);
         self.used += count;
-        self.ended = count == 0 || self.ended;
+        self.ended = (!buffer.is_empty() && count == 0) || self.ended;
         Ok(count)
     }
 
@@ -119,6 +124,7 @@ impl Link for MemoryLink {
             self.failures += 1;
             return Err(LinkFault);
         }
+        self.stalled = (!octets.is_empty() && count == 0) || self.stalled;
         Ok(count)
     }
 

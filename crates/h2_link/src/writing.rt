@@ -2,7 +2,7 @@
 
 ghost use Rattle.std.specs.Prelude.{◌≡◌, ◌<◌, ◌-◌, ◌^◌, []};
 ghost use Rattle.std.specs.Io.KnownBytes.{Appends};
-ghost use Rattle.h2_link.specs.Links.{WritesAll};
+ghost use Rattle.h2_link.specs.Links.{StallsAtNoProgress, WritesAll};
 
 use crate::error::LinkError;
 use crate::link::Link;
@@ -18,6 +18,7 @@ pub fn write_all<L: Link>(link: &mut L, octets: &[u8]) -> Result<(), LinkError>
         (L.faults link.new) result octets.now }
     ensures gives_none { Appends (L.given link.old) (L.given link.new) [] }
     ensures ended { L.ended link.new ≡ L.ended link.old }
+    ensures stalled { StallsAtNoProgress result (L.stalled link.new) }
 {
     let mut written = 0usize;
     for _ in 0..octets.len() {

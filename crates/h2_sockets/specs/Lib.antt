@@ -1,2 +1,5 @@
 pub mod Endings
+pub mod Fetching
+pub mod Locations
 pub mod Loopback
+pub mod Printing

@@ -1,7 +1,15 @@
 //! Fetching the response to a GET.
 
-ghost use Rattle.std.specs.Prelude.{◌≡◌, ◌<◌, ◌-◌, ◌^◌};
+ghost use Rattle.std.specs.Prelude.{◌≡◌, ◌<◌, ◌-◌, ◌^◌, IfOk, OnOk, option_map, nat_lt};
+ghost use Rattle.std.specs.Prelude.{◌&&◌, None, if◌then◌else◌, IfErr, List, Option, ℕ};
+ghost use Rattle.std.specs.Io.KnownBytes.{Appends};
+ghost use Rattle.http.specs.StatusCode.{reason_phrase};
+ghost use Rattle.h2_message.specs.Fields.{status_of};
+ghost use Rattle.h2_message.specs.Values.{message_value};
 ghost use Rattle.h2_engines.specs.Failures.{failures_told};
+ghost use Rattle.h2_engines.specs.Linked.{traffic};
+ghost use Rattle.h2_sockets.specs.Fetching.{FetchesLocation, get_request};
+ghost use Rattle.h2_sockets.specs.Printing.{IsPhraseOf, PrintsResponse, status_line};
 
 use crate::location::Location;
 use crate::stream_link::StreamLink;
@@ -43,6 +51,9 @@ pub fn get_over<L: Link>(
     location: &Location,
 ) -> Result<Fetched, LinkError>
     requires { L.faults link.old < 2 ^ 64 - 1 }
+    ensures fetches { FetchesLocation location.now
+        (traffic (L.given link.old) (L.taken link.old) (L.stalled link.old))
+        (traffic (L.given link.new) (L.taken link.new) (L.stalled link.new)) result }
     ensures failures { L.faults link.new ≡ failures_told (L.faults link.old) result }
 {
     match request_to(alloc, location) {
@@ -52,17 +63,16 @@ pub fn get_over<L: Link>(
 }
 
 /// The request for a location.
-fn request_to(alloc: Global, location: &Location) -> Result<Message, AllocError> {
-    let fields: [(&[u8], &[u8]); 4] = [
-        (b":method", b"GET"),
-        (b":scheme", b"http"),
-        (b":path", location.path.as_bytes()),
-        (b":authority", location.authority.as_bytes()),
-    ];
+fn request_to(alloc: Global, location: &Location) -> Result<Message, AllocError>
+    ensures { IfOk result (λ message. message_value message ≡ get_request location.now) }
+{
+    let path = location.path.as_bytes();
+    let authority = location.authority.as_bytes();
     let mut head = Vec::new(alloc);
-    for (name, value) in fields {
-        head.push(Field::copy_of(alloc, name, value, false)?)?;
-    }
+    head.push(Field::copy_of(alloc, b":method", b"GET", false)?)?;
+    head.push(Field::copy_of(alloc, b":scheme", b"http", false)?)?;
+    head.push(Field::copy_of(alloc, b":path", path, false)?)?;
+    head.push(Field::copy_of(alloc, b":authority", authority, false)?)?;
     Ok(Message {
         head,
         body: Vec::new(alloc),
@@ -76,21 +86,30 @@ fn request_to(alloc: Global, location: &Location) -> Result<Message, AllocError>
 /// # Errors
 ///
 /// N1 where a write failed.
-pub fn print_response<W: Write>(fetched: &Fetched, out: &mut W) -> Result<(), LinkError> {
+pub fn print_response<W: Write>(fetched: &Fetched, out: &mut W) -> Result<(), LinkError>
+    ensures prints { OnOk result
+        (PrintsResponse (W.contents out.old) (W.contents out.new) fetched.now) }
+    ensures err { IfErr result (λ error. error ≡ LinkError.Device) }
+{
     match write_response(fetched, out) {
         Ok(()) => Ok(()),
         Err(_) => Err(LinkError::Device),
     }
 }
 
-fn write_response<W: Write>(fetched: &Fetched, out: &mut W) -> io::Result<()> {
+fn write_response<W: Write>(fetched: &Fetched, out: &mut W) -> io::Result<()>
+    ensures { OnOk result (PrintsResponse (W.contents out.old) (W.contents out.new) fetched.now) }
+{
     write_status(status_value(&fetched.head), out)?;
     out.write_all(&fetched.body)?;
     out.flush()
 }
 
 /// The phrase of a status (RFC 9110, section 15), if it has one.
-pub fn phrase(status: u16) -> Option<&'static str> {
+pub fn phrase(status: u16) -> Option<&'static str>
+    ensures { option_map (λ text. text.now) result
+        ≡ (if nat_lt 99 status && nat_lt status 1000 then reason_phrase status else None) }
+{
     match StatusCode::from_u16(status) {
         Ok(status) => status.canonical_reason(),
         Err(_) => None,
@@ -98,20 +117,31 @@ pub fn phrase(status: u16) -> Option<&'static str> {
 }
 
 /// Writes a status and its phrase as a line.
-fn write_status<W: Write>(value: &[u8], out: &mut W) -> io::Result<()> {
-    let phrase = match StatusCode::from_bytes(value) {
-        Ok(status) => phrase(status.as_u16()),
-        Err(_) => None,
-    };
+fn write_status<W: Write>(value: &[u8], out: &mut W) -> io::Result<()>
+    ensures { OnOk result ((phrase : Option (List ℕ)) × IsPhraseOf value.now phrase
+        × Appends (W.contents out.old) (W.contents out.new) (status_line value.now phrase)) }
+{
     out.write_all(value)?;
-    match phrase {
+    match phrase_of(value) {
         Some(phrase) => writeln!(out, " {phrase}"),
         None => writeln!(out),
     }
 }
 
+/// The phrase of the status with these digits, if it has one.
+fn phrase_of(value: &[u8]) -> Option<&'static str>
+    ensures { IsPhraseOf value.now (option_map (λ text. text.now) result) }
+{
+    match StatusCode::from_bytes(value) {
+        Ok(status) => status.canonical_reason(),
+        Err(_) => None,
+    }
+}
+
 /// The value of `:status`, which each response has (RFC 9113, section 8.3.2).
-pub(crate) fn status_value(head: &[Field]) -> &[u8] {
+pub(crate) fn status_value(head: &[Field]) -> &[u8]
+    ensures { result.now ≡ status_of head.now }
+{
     for field in head {
         if field.name.as_slice() == b":status".as_slice() {
             return field.value.as_slice();

@@ -1,6 +1,10 @@
 //! URLs that can be fetched.
 
-ghost use Rattle.std.specs.Prelude.{◌<◌, IfOk, IfSome};
+ghost use Rattle.std.specs.Prelude.{◌≡◌, ◌<◌, ◌++◌, IfOk, IfSome, string_bytes};
+ghost use Rattle.http_uri.specs.ByteClasses.{colon, rsplit_once_back};
+ghost use Rattle.http_uri.specs.Port.{port_value};
+ghost use Rattle.http_uri.specs.Uri.{uri_authority, uri_path, uri_query};
+ghost use Rattle.h2_sockets.specs.Locations.{IsLocationOf, Names, query_part};
 
 use http_uri::{Uri, UriError};
 use std::alloc::{AllocError, Global};
@@ -55,16 +59,20 @@ impl From<AllocError> for TargetFault {
 /// [`TargetFault`] names the first reason for which it can't be fetched, in the order in which they
 /// stand there.
 pub fn target(alloc: Global, url: &[u8]) -> Result<Location, TargetFault>
-    ensures { IfOk result (λ target. 0 < target.port) }
+    ensures { IfOk result (Names url.now) }
 {
-    let Ok(url) = str::from_utf8(url) else {
-        return Err(TargetFault::Unread);
-    };
-    let uri = match Uri::from_str(alloc, url) {
+    let uri = match Uri::from_bytes(alloc, url) {
         Ok(uri) => uri,
         Err(UriError::Invalid(_)) => return Err(TargetFault::Unread),
         Err(UriError::OutOfMemory) => return Err(TargetFault::Memory),
     };
+    location_of(alloc, &uri)
+}
+
+/// The location of a URI.
+fn location_of(alloc: Global, uri: &Uri) -> Result<Location, TargetFault>
+    ensures { IfOk result (IsLocationOf uri.now) }
+{
     if uri.scheme_str() != Some("http") {
         return Err(TargetFault::OtherScheme);
     }
@@ -75,17 +83,17 @@ pub fn target(alloc: Global, url: &[u8]) -> Result<Location, TargetFault>
     if host.is_empty() {
         return Err(TargetFault::NoHost);
     }
-    let Some(port) = port_of(&uri) else {
+    let Some(port) = port_of(uri) else {
         return Err(TargetFault::NoPort);
     };
-    if authority.as_str().contains('@') {
+    if authority.as_str().as_bytes().contains(&b'@') {
         return Err(TargetFault::UserInfo);
     }
     Ok(Location {
         host: String::from_str(alloc, host)?,
         port,
         authority: String::from_str(alloc, authority.as_str())?,
-        path: path_of(alloc, &uri)?,
+        path: path_of(alloc, uri)?,
     })
 }
 
@@ -99,7 +107,9 @@ fn without_brackets(host: &str) -> &str {
 
 /// The port of a URL, if it is one of 1 to 65,535 in digits alone.
 fn port_of(uri: &Uri) -> Option<u16>
-    ensures { IfSome result (λ port. 0 < port) }
+    ensures above { IfSome result (λ port. 0 < port) }
+    ensures number { IfSome result (λ port. IfSome (uri_authority uri.now)
+        (λ authority. port ≡ port_value (rsplit_once_back colon authority))) }
 {
     let port = uri.port()?;
     let is_decimal = port.as_str().bytes().all(|octet| octet.is_ascii_digit());
@@ -110,12 +120,12 @@ fn port_of(uri: &Uri) -> Option<u16>
     }
 }
 
-/// The path of a URL, or `/` where it has none, with the query.
-fn path_of(alloc: Global, uri: &Uri) -> Result<String, AllocError> {
-    let path = match uri.path() {
-        "" => "/",
-        path => path,
-    };
+/// The path of a URL, which is `/` where it has none, with the query.
+fn path_of(alloc: Global, uri: &Uri) -> Result<String, AllocError>
+    ensures { IfOk result (λ path. string_bytes path
+        ≡ uri_path uri.now ++ query_part (uri_query uri.now)) }
+{
+    let path = uri.path();
     match uri.query() {
         Some(query) => format!(in alloc; "{path}?{query}"),
         None => String::from_str(alloc, path),

@@ -1,6 +1,6 @@
 //! Both ends in one process, over one connection.
 
-ghost use Rattle.std.specs.Prelude.{◌≡◌, ◌≤◌, ◌<◌, ◌-◌, ◌^◌, length, IfOk, OnOk};
+ghost use Rattle.std.specs.Prelude.{◌≡◌, ◌≤◌, ◌<◌, ◌-◌, ◌^◌, length, IfErr, IfOk, OnOk};
 ghost use Rattle.h2_engines.specs.Failures.{failures_told};
 ghost use Rattle.h2_sockets.specs.Loopback.{NoneHasFailed};
 
@@ -48,34 +48,51 @@ struct Carried {
 /// N1 where the connection failed or can't be made; N3 where an allocation was refused; N4 where
 /// the response isn't whole at the end. N2, N5, N6 and N7 would be faults of the ends.
 pub fn exchange<N: Net>(net: &N, alloc: Global, count: u32) -> Result<Fetched, LinkError> {
-    let Ok(message) = post_of(alloc, count) else {
-        return Err(LinkError::Memory);
-    };
-    let (client_link, server_link) = joined(net, alloc)?;
-    let mut ends = Ends {
-        client: Fetcher::new(alloc, Config::default(), message)?,
-        server: Responder::new(alloc, Config::default())?,
-        client_link,
-        server_link,
-    };
+    let mut ends = new_ends(net, alloc, count)?;
     let mut carried = Carried {
         written: Vec::new(alloc),
         read: room_for_turn(alloc)?,
     };
+    if carry_all(&mut ends, &mut carried)? {
+        ends.client.into_fetched()
+    } else {
+        Err(LinkError::CutOff)
+    }
+}
+
+/// Two ends, of which the client is to post so many octets, and their connection.
+fn new_ends<N: Net>(net: &N, alloc: Global, count: u32) -> Result<Ends<N::Stream>, LinkError>
+    ensures { IfOk result NoneHasFailed }
+{
+    let Ok(message) = post_of(alloc, count) else {
+        return Err(LinkError::Memory);
+    };
+    let (client_link, server_link) = joined(net, alloc)?;
+    Ok(Ends {
+        client: Fetcher::new(alloc, Config::default(), message)?,
+        server: Responder::new(alloc, Config::default())?,
+        client_link,
+        server_link,
+    })
+}
+
+/// Lets both ends write in turns, until neither does. Answers whether the response is whole.
+fn carry_all<S: Read + Write + OpenStream>(
+    ends: &mut Ends<S>,
+    carried: &mut Carried,
+) -> Result<bool, LinkError>
+    requires { NoneHasFailed ends.old }
+{
     let mut is_whole = false;
     for _ in 0..u64::MAX {
-        let sent = client_turn(&mut ends, &mut carried)?;
-        let (returned, has_ended) = server_turn(&mut ends, &mut carried)?;
+        let sent = client_turn(ends, carried)?;
+        let (returned, has_ended) = server_turn(ends, carried)?;
         is_whole = is_whole || has_ended;
         if sent == 0 && returned == 0 {
             break;
         }
     }
-    if is_whole {
-        ends.client.into_fetched()
-    } else {
-        Err(LinkError::CutOff)
-    }
+    Ok(is_whole)
 }
 
 /// Prints how many octets were posted, how many the response's body has, and its status.
@@ -83,11 +100,9 @@ pub fn exchange<N: Net>(net: &N, alloc: Global, count: u32) -> Result<Fetched, L
 /// # Errors
 ///
 /// N1 where a write failed.
-pub fn print_exchange<W: Write>(
-    count: u32,
-    fetched: &Fetched,
-    out: &mut W,
-) -> Result<(), LinkError> {
+pub fn print_exchange<W: Write>(count: u32, fetched: &Fetched, out: &mut W) -> Result<(), LinkError>
+    ensures err { IfErr result (λ error. error ≡ LinkError.Device) }
+{
     let status = str::from_utf8(status_value(&fetched.head)).unwrap_or("none");
     let length = fetched.body.len();
     let written = writeln!(out, "sent {count} got {length} status {status}");

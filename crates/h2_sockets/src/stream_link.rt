@@ -26,6 +26,7 @@ pub struct StreamLink<S> {
     stream: S,
     held: Vec<u8>,
     ended: bool,
+    stalled: bool,
     failures: u64,
 }
 
@@ -41,6 +42,7 @@ impl<S: Read + Write + OpenStream> StreamLink<S> {
         S: Drop,
         ensures failures { IfOk result (λ link. link.failures ≡ 0) }
         ensures ended { IfOk result (λ link. link.ended ≡ false) }
+        ensures stalled { IfOk result (λ link. link.stalled ≡ false) }
     {
         if stream.set_nodelay(true).is_err() {
             return Err(LinkError::Device);
@@ -52,6 +54,7 @@ impl<S: Read + Write + OpenStream> StreamLink<S> {
             stream,
             held,
             ended: false,
+            stalled: false,
             failures: 0,
         })
     }
@@ -66,6 +69,7 @@ impl<S: Read + Write + OpenStream> StreamLink<S> {
         requires { self.old.failures < 2 ^ 64 - 1 }
         ensures failures { self.new.failures ≡ failures_after self.old.failures result }
         ensures ended { self.new.ended ≡ self.old.ended }
+        ensures stalled { self.new.stalled ≡ self.old.stalled }
     {
         let is_sent = self.stream.write_all(&self.held).is_ok();
         self.held.clear();
@@ -102,13 +106,15 @@ impl<S: Read + Write + OpenStream> Link for StreamLink<S> {
 
     ghost ended = { λ link. link.ended };
 
+    ghost stalled = { λ link. link.stalled };
+
     ghost faults = { λ link. link.failures };
 
     fn read(&mut self, buffer: &mut [u8]) -> Result<usize, LinkFault> {
         self.flush()?;
         match read_some(&mut self.stream, buffer) {
             Ok(count) => {
-                self.ended = count == 0 || self.ended;
+                self.ended = (!buffer.is_empty() && count == 0) || self.ended;
                 Ok(count)
             }
             Err(_) => {
@@ -128,6 +134,7 @@ impl<S: Read + Write + OpenStream> Link for StreamLink<S> {
         if self.held.len() >= MOST_HELD {
             self.flush()?;
         }
+        self.stalled = (!octets.is_empty() && count == 0) || self.stalled;
         Ok(count)
     }
 

@@ -6,7 +6,7 @@ use crate::{
     Fetched, LinkError, TargetFault, exchange, get_location, get_over, phrase, print_exchange,
     print_response, serve_port, status_of, target,
 };
-use h2_engines::{Field, MemoryLink};
+use h2_engines::{Field, Link, MemoryLink};
 use h2_show::Status;
 use std::alloc::Global;
 use std::net::{Ipv4Addr, Net, OpenListener, SocketAddr, TcpListener};
@@ -207,6 +207,7 @@ fn get_over_a_link_in_memory(rt: HostRuntime) -> Result<(), Fail> {
         panic!(rt; "the URL isn't read")
     };
     let mut out = Vec::new(rt.alloc());
+    assert_eq!(rt; link.failures(), 0);
     match get_over(rt.alloc(), &mut link, &target) {
         Ok(fetched) => assert_eq!(rt; print_response(&fetched, &mut out), Ok(())),
         Err(error) => panic!(rt; "{error}"),

@@ -86,12 +86,12 @@ fn is_done(ending: &Ending, output: &[u8]) -> bool {
 
 /// Whether an engine does its work, and its output is these octets.
 fn does(alloc: Global, engine: Engine, calls: Calls, texts: &[&str]) -> bool {
-    match (
-        run(alloc, engine, usize::MAX, calls),
-        octets_in(alloc, &[texts]),
-    ) {
-        (Some(ending), Ok(output)) => is_done(&ending, &output),
-        _ => false,
+    let Ok(output) = octets_spelled(alloc, texts) else {
+        return false;
+    };
+    match run(alloc, engine, usize::MAX, calls) {
+        Some(ending) => is_done(&ending, &output),
+        None => false,
     }
 }
 
@@ -101,8 +101,8 @@ fn fetches(alloc: Global, calls: Calls) -> bool {
         return false;
     };
     match fetch(alloc, GET, &input, calls) {
-        Some(run) => match run.answer {
-            Ok(fetched) => is_response(alloc, &fetched, RESPONSE),
+        Some(run) => match &run.answer {
+            Ok(fetched) => is_response(alloc, fetched, RESPONSE),
             Err(_) => false,
         },
         None => false,
@@ -230,20 +230,21 @@ fn without_goaway(output: &[u8]) -> &[u8] {
 /// Whether an engine does its work, or reports that an allocation was refused: to itself, or to its
 /// link, whose write then fails. Then a prefix of the output was written, and perhaps GOAWAY.
 fn is_sound(alloc: Global, engine: Engine, texts: &[&str]) -> bool {
-    match (
-        run(alloc, engine, usize::MAX, WHOLE),
-        octets_in(alloc, &[texts]),
-    ) {
-        (Some(ending), Ok(output)) => match ending.error {
-            None => is_done(&ending, &output),
-            Some(LinkError::Device) => reports_failure(&ending, &output),
-            Some(LinkError::Memory) => {
-                ending.failures == 0 && begins_with(&output, without_goaway(&ending.output))
-            }
-            Some(_) => false,
-        },
-        _ => true,
-    }
+    is_sound_in(alloc, engine, texts).unwrap_or(true)
+}
+
+/// The same; nothing where there is no memory for it.
+fn is_sound_in(alloc: Global, engine: Engine, texts: &[&str]) -> Option<bool> {
+    let output = octets_in(alloc, &[texts]).ok()?;
+    let ending = run(alloc, engine, usize::MAX, WHOLE)?;
+    Some(match ending.error {
+        None => is_done(&ending, &output),
+        Some(LinkError::Device) => reports_failure(&ending, &output),
+        Some(LinkError::Memory) => {
+            ending.failures == 0 && begins_with(&output, without_goaway(&ending.output))
+        }
+        Some(_) => false,
+    })
 }
 
 // `rt try --test --fail-alloc N`, by which the allocation N is refused, passes these for each N.

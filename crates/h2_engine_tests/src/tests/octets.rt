@@ -129,6 +129,15 @@ pub(crate) fn octets_of(alloc: Global, parts: &[Part]) -> Result<Vec<u8>, AllocE
     Ok(octets)
 }
 
+/// The octets that texts in hexadecimal spell.
+pub(crate) fn octets_spelled(alloc: Global, texts: &[&str]) -> Result<Vec<u8>, AllocError> {
+    let mut octets = Vec::new(alloc);
+    for text in texts {
+        add_hex(&mut octets, text)?;
+    }
+    Ok(octets)
+}
+
 /// The octets of texts in hexadecimal, one list of them after another.
 pub(crate) fn octets_in(alloc: Global, lists: &[&[&str]]) -> Result<Vec<u8>, AllocError> {
     let mut octets = Vec::new(alloc);

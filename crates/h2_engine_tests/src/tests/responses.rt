@@ -256,8 +256,8 @@ const ENDING: &[Failure] = &[
 /// Whether a response is fetched from these octets.
 fn fetches(alloc: Global, input: &[u8], calls: Calls, wanted: &Response) -> bool {
     match fetch(alloc, GET, input, calls) {
-        Some(run) => match run.answer {
-            Ok(fetched) => is_response(alloc, &fetched, wanted),
+        Some(run) => match &run.answer {
+            Ok(fetched) => is_response(alloc, fetched, wanted),
             Err(_) => false,
         },
         None => false,

@@ -99,19 +99,17 @@ fn post_of(count: usize) -> Said {
 
 /// Whether a client writes this, and then its input has ended.
 fn writes(alloc: Global, said: &Said, texts: &[&str]) -> bool {
-    let (Ok(input), Ok(output)) = (
-        octets_in(alloc, &[&[NO_SETTINGS]]),
-        octets_in(alloc, &[&[PREFACE, CLIENT_SETTINGS], texts]),
-    ) else {
-        return false;
-    };
-    match fetch(alloc, said, &input, WHOLE) {
-        Some(run) => {
-            run.output.as_slice() == output.as_slice()
-                && run.answer.err() == Some(LinkError::CutOff)
-        }
-        None => false,
-    }
+    writes_in(alloc, said, texts).unwrap_or(false)
+}
+
+/// The same; nothing where there is no memory for it.
+fn writes_in(alloc: Global, said: &Said, texts: &[&str]) -> Option<bool> {
+    let input = octets_in(alloc, &[&[NO_SETTINGS]]).ok()?;
+    let opening = octets_in(alloc, &[&[PREFACE, CLIENT_SETTINGS]]).ok()?;
+    let others = octets_in(alloc, &[texts]).ok()?;
+    let run = fetch(alloc, said, &input, WHOLE)?;
+    let is_written = run.output.strip_prefix(opening.as_slice()) == Some(others.as_slice());
+    Some(is_written && run.answer.err() == Some(LinkError::CutOff))
 }
 
 /// The place of the first request of which a client writes something else.
@@ -133,12 +131,12 @@ fn end_of(alloc: Global, said: &Said, texts: &[&str]) -> Option<(Option<LinkErro
 /// How many octets of a counted body are in frames of DATA, if they are the first ones, and in how
 /// many frames.
 fn sent_in(alloc: Global, count: usize, frames: &[u8]) -> Option<(usize, usize)> {
-    match (body_in(alloc, frames, 1), counted(alloc, count)) {
-        (Ok(body), Ok(wanted)) if wanted.get(..body.len()) == Some(body.as_slice()) => {
-            count_in(frames, DATA).map(|number| (body.len(), number))
-        }
-        _ => None,
+    let body = body_in(alloc, frames, 1).ok()?;
+    let wanted = counted(alloc, count).ok()?;
+    if wanted.get(..body.len()) != Some(body.as_slice()) {
+        return None;
     }
+    Some((body.len(), count_in(frames, DATA)?))
 }
 
 /// So much a client sends of a body of so many octets to a server that sends this and ends.

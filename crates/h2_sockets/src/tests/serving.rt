@@ -22,14 +22,19 @@ const ANSWER: &[u8] = b"\x00\x00\x06\x00\x01\x00\x00\x00\x01GET /\n";
 // GOAWAY with PROTOCOL_ERROR, after which no stream is processed.
 const GOAWAY: &[u8] = b"\x00\x00\x08\x07\x00\x00\x00\x00\x00\x00\x00\x00\x00\x00\x00\x00\x01";
 
-// What is served: the octets that each client writes, the last that it then reads, the lines on
-// standard error, and the status.
-#[derive(Drop)]
-struct Case<'a> {
-    clients: &'a [(&'a [u8], &'a [u8])],
-    lines: &'a str,
-    status: Status,
-}
+// What a client writes, and the last octets that it then reads.
+type Client<'a> = (&'a [u8], &'a [u8]);
+
+const WHOLE: Client<'static> = (REQUEST, ANSWER);
+
+// No preface.
+const BAD: Client<'static> = (b"GET / HTTP/1.1\r\n\r\n", GOAWAY);
+
+// It ends inside the head of a frame.
+const CUT: Client<'static> = (
+    b"PRI * HTTP/2.0\r\n\r\nSM\r\n\r\n\x00\x00\x00\x04\x00\x00",
+    b"",
+);
 
 // A client that has written these octets, and no more.
 fn new_client<R: Net>(rt: &R, address: SocketAddr, octets: &[u8]) -> Result<R::Stream, Fail> {
@@ -39,55 +44,40 @@ fn new_client<R: Net>(rt: &R, address: SocketAddr, octets: &[u8]) -> Result<R::S
     Ok(stream)
 }
 
-fn check_case<R: Abort + Net>(rt: &R, alloc: Global, case: &Case<'_>) -> Result<(), Fail> {
+// Serves clients one after another: which lines stand on standard error then, and the status.
+fn check_served<R: Abort + Net>(
+    rt: &R,
+    alloc: Global,
+    clients: &[Client<'_>],
+    lines: &str,
+    status: Status,
+) -> Result<(), Fail> {
     let listener = TcpListener::bind(rt, SocketAddr::from((Ipv4Addr::LOCALHOST, 0)))?;
     let address = listener.local_addr()?;
     let mut streams = Vec::new(alloc);
-    for (octets, _) in case.clients {
+    for (octets, _) in clients {
         streams.push(new_client(rt, address, octets)?)?;
     }
     let mut err = Vec::new(alloc);
-    let count = u16::try_from(case.clients.len()).unwrap_or(u16::MAX);
-    let status = serve_connections(alloc, &listener, count, &mut err);
-    assert_eq!(rt; err.as_slice(), case.lines.as_bytes());
-    assert_eq!(rt; status, case.status);
-    for (stream, (_, last)) in streams.iter_mut().zip(case.clients) {
+    let count = u16::try_from(clients.len()).unwrap_or(u16::MAX);
+    let ended = serve_connections(alloc, &listener, count, &mut err);
+    assert_eq!(rt; err.as_slice(), lines.as_bytes());
+    assert_eq!(rt; ended, status);
+    for (stream, (_, last)) in streams.iter_mut().zip(clients) {
         let mut read = Vec::new(alloc);
         stream.read_to_end(&mut read)?;
-        assert!(rt; read.ends_with(*last), "{}", case.lines);
+        assert!(rt; read.ends_with(*last), "{lines}");
     }
     Ok(())
 }
 
 #[test]
 fn connections_one_after_another(rt: HostRuntime) -> Result<(), Fail> {
-    let whole = (REQUEST, ANSWER);
-    let bad: (&[u8], &[u8]) = (b"GET / HTTP/1.1\r\n\r\n", GOAWAY);
-    let cut: (&[u8], &[u8]) = (&REQUEST[..30], b"");
-    let cases = [
-        Case {
-            clients: &[whole],
-            lines: "",
-            status: Status::Good,
-        },
-        Case {
-            clients: &[whole, whole, whole],
-            lines: "",
-            status: Status::Good,
-        },
-        Case {
-            clients: &[whole, bad, whole],
-            lines: "N2 Stream 1\n",
-            status: Status::Fault,
-        },
-        Case {
-            clients: &[cut, whole, bad],
-            lines: "N4 CutOff\nN2 Stream 1\n",
-            status: Status::Fault,
-        },
-    ];
-    for case in &cases {
-        check_case(&rt, rt.alloc(), case)?;
-    }
-    Ok(())
+    let alloc = rt.alloc();
+    check_served(&rt, alloc, &[WHOLE], "", Status::Good)?;
+    check_served(&rt, alloc, &[WHOLE, WHOLE, WHOLE], "", Status::Good)?;
+    let bad = "N2 Stream 1\n";
+    check_served(&rt, alloc, &[WHOLE, BAD, WHOLE], bad, Status::Fault)?;
+    let both = "N4 CutOff\nN2 Stream 1\n";
+    check_served(&rt, alloc, &[CUT, WHOLE, BAD], both, Status::Fault)
 }

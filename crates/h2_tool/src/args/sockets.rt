@@ -67,8 +67,9 @@ stream whose request has a body above 1048576 octets is reset with code 11.
 
 A client begins with the preface: it knows already that HTTP/2 is spoken here
 (RFC 9113, section 3.3). `h2 serve` takes one connection at a time and has no
-clocks: one that stays idle keeps others waiting. It ends after COUNT
-connections, and prints nothing on standard output.
+clocks: one that stays idle keeps others waiting, and so does one that has
+failed and that its client keeps open. It ends after COUNT connections, and
+prints nothing on standard output.
 
 A connection that ends early has a line on standard error, and the next one is
 served. Exit status, that of the first such connection, with its line:
@@ -132,6 +133,7 @@ Exit status, with the line on standard error:
      `N2 Stream CODE` and `N6 Reset CODE` as at `h2 get`
   2  wrong words
   3  `N1 Device`: no connection can be made, or a read or a write failed
+     `N5 NoProgress`: an end can't go on
   4  `N3 Memory`: out of memory
 
 Example:

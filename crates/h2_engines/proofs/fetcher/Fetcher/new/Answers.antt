@@ -1,8 +1,13 @@
 -- By the lemmas on a new client's request.
-use Rattle.std.proofs.Common.{refl}
+use Rattle.std.proofs.Common.{◌≡◌, ◌≢◌, refl, rules}
+use Rattle.h2_log.specs.declared.refusal.Refusal.TheVariants as reasons
+use Rattle.h2_ends.specs.declared.refusal.EndRefusal.TheVariants as refusals
+use Rattle.h2_message.specs.declared.malformed.Malformed.{Malformed}
 use Rattle.h2_config.specs.ConfigValues.{values_of}
 use Rattle.h2_message.specs.Values.{message_value}
+use Rattle.h2_engines.specs.Failures.{error_after}
 use Rattle.h2_engines.proofs.FetchStart.{has_requested, refused_as_broken, refused_as_large}
+use Rattle.h2_engines.proofs.FetchStart.{refused_otherwise}
 use Rattle.h2_engines.proofs.fetcher.Fetcher.new.Goals as goal
 
 pub returns-in-Ok-request-clause-ok : goal.returns-in-Ok-request-clause-ok
@@ -30,3 +35,13 @@ returns-in-Err-default-Conn-ListTooLarge-clause-refused c =
     (rw c.in-Err-default-Conn-ListTooLarge.field-0-1-is
     at c.in-Err-default-Conn-ListTooLarge.field-0-1-0-is)
     c.in-Err-default-Conn-ListTooLarge.ensures
+
+pub returns-clause-refused : goal.returns-clause-refused
+returns-clause-refused c =
+    let kept : (rule : Malformed) → c.in-Err.refusal ≢ refusals.BadMessage rule =
+    λ rule. search rules in
+    let small : c.in-Err.refusal ≢ refusals.Conn reasons.ListTooLarge = search rules in
+    let ends : c.error_of_refusal.result ≡ error_after c.in-Err.refusal = search rules in
+    refused_otherwise (values_of c.args.config) (message_value c.args.message) c.in-Ok.client.end
+    c.request.new.self.end c.in-Err.field-0-0 c.in-Err.refusal c.error_of_refusal.result
+    c.in-Ok.ensures.ok kept small ends c.in-Err.ensures

@@ -22,19 +22,21 @@ loop-preserved g c =
       within = left_within c.args.piece.now c.loop.used c.in-Ok.heard.used c.loop.invariant.within
           c.in-Ok.ensures.within;
       failures = c.loop.invariant.failures;
-      goes = goes_again _ _ _ c.loop.self _ c.args.piece.now c.loop.used c.in-Ok.heard
-          c.in-Again.is refl c.in-Ok.ensures.hears c.loop.invariant.goes;
+      goes = goes_again _ _ _ c.loop.self _ c.args.piece.now c.loop.used
+          c.loop.counter c.in-Ok.heard c.in-Again.is refl c.in-Ok.ensures.hears
+          c.loop.invariant.goes;
     }
 
 pub returns-in-Done-clause-receives : goal.returns-in-Done-clause-receives
 returns-in-Done-clause-receives g c =
-    goes_done _ _ _ c.loop.self _ c.args.piece.now c.loop.used c.in-Ok.heard c.in-Done.is refl
+    goes_done _ _ _ c.loop.self _ c.args.piece.now c.loop.used c.loop.counter c.in-Ok.heard
+    c.in-Done.is refl
     c.in-Ok.ensures.hears c.loop.invariant.goes
 
 pub returns-in-Whole-clause-receives : goal.returns-in-Whole-clause-receives
 returns-in-Whole-clause-receives g c =
-    goes_whole _ _ _ c.loop.self _ c.args.piece.now c.loop.used c.in-Ok.heard c.in-Whole.is refl
-    refl c.in-Ok.ensures.hears c.loop.invariant.goes
+    goes_whole _ _ _ c.loop.self _ c.args.piece.now c.loop.used c.loop.counter c.in-Ok.heard
+    c.in-Whole.is refl refl c.in-Ok.ensures.hears c.loop.invariant.goes
 
 pub returns-in_err-write_out-in-Err-clause-receives :
     goal.returns-in_err-write_out-in-Err-clause-receives
@@ -45,7 +47,7 @@ returns-in_err-write_out-in-Err-clause-receives g c =
       coming = c.hear-heard.new.coming;
     } in
     let stopped = goes_stopped _ _ c.args.self.now c.loop.self heard c.args.piece.now c.loop.used
-    c.in-Err.error refl c.in-Err.ensures.hears c.loop.invariant.goes in
+    c.loop.counter c.in-Err.error refl c.in-Err.ensures.hears c.loop.invariant.goes in
     rw (answer.1, answer.2)
     (goes_unwritten _ _ _ c.args.self.now heard c.write_out.new.self c.args.piece.now
     c.in-Err.error c.in_err-write_out-in-Err.field-0.0 c.in_err-write_out-in-Err.ensures.id
@@ -59,7 +61,7 @@ returns-in_ok-write_out-in-Err-clause-receives g c =
       coming = c.hear-heard.new.coming;
     } in
     let stopped = goes_stopped _ _ c.args.self.now c.loop.self heard c.args.piece.now c.loop.used
-    c.in-Err.error refl c.in-Err.ensures.hears c.loop.invariant.goes in
+    c.loop.counter c.in-Err.error refl c.in-Err.ensures.hears c.loop.invariant.goes in
     goes_written _ _ _ c.args.self.now heard c.write_out.new.self c.args.piece.now c.in-Err.error
     c.in_ok-write_out-in-Err.field-0 c.in_ok-write_out-in-Err.ensures.id
     c.in_ok-write_out-in-Err.ensures.writes stopped
@@ -71,11 +73,12 @@ returns-else-is_some-clause-receives g c =
       coming = c.hear-heard.new.coming;
     } in
     let stopped = goes_stopped _ _ c.args.self.now c.loop.self heard c.args.piece.now c.loop.used
-    c.in-Err.error refl c.in-Err.ensures.hears c.loop.invariant.goes in
+    c.loop.counter c.in-Err.error refl c.in-Err.ensures.hears c.loop.invariant.goes in
     goes_ended _ _ c.args.self.now heard c.args.piece.now c.in-Err.error c.failed.result
     (subst (λ (conn : Conn). ReadsFailed conn c.failed.result) c.conn.ensures c.failed.ensures)
     (sym c.is_some.ensures ∙ c.if-is_some.false) stopped
 
 pub returns-clause-receives : goal.returns-clause-receives
 returns-clause-receives g c =
-    goes_nowhere _ _ _ c.loop.self c.args.piece.now _ c.loop.invariant.goes
+    goes_nowhere _ _ _ c.loop.self c.args.piece.now _ c.loop.counter (omega arith)
+    c.loop.invariant.goes

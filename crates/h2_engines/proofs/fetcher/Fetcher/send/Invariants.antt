@@ -1,7 +1,8 @@
--- No call of the link has failed, and it took all that the client has given out.
+-- No call of the link has failed, and it took all that the client has given out, in so many
+-- rounds.
 use Rattle.std.proofs.Common.{◌≡◌}
 use Rattle.h2_engines.specs.Linked.{traffic}
-use Rattle.h2_engines.proofs.FetchWrites.{ClientWritesOn}
+use Rattle.h2_engines.proofs.FetchWrites.{ClientSendsOn}
 use Rattle.h2_engines.proofs.fetcher.Fetcher.send.Given as goal
 
 abbrev pub invariant-loop : goal.invariant-loop
@@ -11,8 +12,9 @@ invariant-loop g l =
       id : l.self.id ≡ l.initial.self.id;
       coming : l.self.coming ≡ l.initial.self.coming;
       whole : l.self.whole ≡ l.initial.self.whole;
-      writes : ClientWritesOn
-          (traffic (g.L.Link.given l.initial.link) (g.L.Link.taken l.initial.link))
-          (traffic (g.L.Link.given l.link) (g.L.Link.taken l.link))
-          l.initial.self.client.end l.self.client.end;
+      writes : ClientSendsOn
+          (traffic (g.L.Link.given l.initial.link) (g.L.Link.taken l.initial.link)
+          (g.L.Link.stalled l.initial.link))
+          (traffic (g.L.Link.given l.link) (g.L.Link.taken l.link) (g.L.Link.stalled l.link))
+          l.initial.self.client.end l.self.client.end l.counter;
     }

@@ -27,8 +27,8 @@ returns-in-Ok-eq0-clause-writes g c values message start end unused is was linke
     (Count n) c.put_out.new.self.end) c.in-Ok-eq0.field-0-test c.in-Ok-eq0.ensures.answers in
     client_writes values message start _ end _ unused _
     (writes_all (IsFetching values message) (client_puts_out values message) values start _ end
-    c.loop.self.client.end c.put_out.new.self.end unused 18446744073709551615 tt (omega arith)
-    (omega arith) none
+    c.loop.self.client.end c.put_out.new.self.end unused c.loop.counter
+    18446744073709551615 tt (omega arith) (omega arith) none
     (c.loop.invariant.writes values message start end unused is was linked))
 
 pub returns-in_err-write_all-in-Ok-clause-writes :
@@ -38,12 +38,13 @@ returns-in_err-write_all-in-Ok-clause-writes g c values message start end unused
     let written = rw c.deref.ensures.value at c.in_err-write_all-in-Ok.ensures.writes in
     let some = written_some _ _ _ _ _ _ written in
     let gives = rw c.clear.ensures.items at c.in-Ok.ensures.ok in
-    rw answer.1
+    rw (answer.1, answer.2)
     (client_writes values message start _ end _ unused _
     (writes_first (IsFetching values message) (client_puts_out values message) values start _ _ end
-    c.loop.self.client.end c.put_out.new.self.end unused 18446744073709551615 c.in-Ok.field-0
-    c.put_out.new.out.items some.0 answer.0 (omega arith) c.in-Ok.ensures.answers gives
+    c.loop.self.client.end c.put_out.new.self.end unused c.loop.counter 18446744073709551615
+    c.in-Ok.field-0 c.put_out.new.out.items some.0 _ (omega arith) c.in-Ok.ensures.answers gives
     c.in_err-write_all-in-Ok.ensures.gives_none some.1.took
+    c.in_err-write_all-in-Ok.ensures.stalled
     (c.loop.invariant.writes values message start end unused is was linked)))
 
 pub returns-in_err-write_all-in-Ok-clause-failures :
@@ -62,8 +63,9 @@ pub returns-in-Err-clause-writes : goal.returns-in-Err-clause-writes
 returns-in-Err-clause-writes g c values message start end unused is was linked =
     client_writes values message start _ end _ unused _
     (writes_refused (IsFetching values message) (client_puts_out values message) values start _ end
-    c.loop.self.client.end c.put_out.new.self.end unused 18446744073709551615 c.in-Err.refusal
-    c.error_of_refusal.result (omega arith) c.in-Err.ensures.answers
+    c.loop.self.client.end c.put_out.new.self.end unused c.loop.counter 18446744073709551615
+    c.in-Err.refusal c.error_of_refusal.result (omega arith) c.in-Err.ensures.answers
+    c.error_of_refusal.ensures.error
     (c.loop.invariant.writes values message start end unused is was linked))
 
 pub loop-preserved : goal.loop-preserved
@@ -78,8 +80,9 @@ loop-preserved g c =
       whole = c.loop.invariant.whole;
       writes = λ values message start end unused is was linked.
           writes_more (IsFetching values message) (client_puts_out values message) values start
-          _ _ end c.loop.self.client.end c.put_out.new.self.end unused 18446744073709551615
-          c.in-Ok.field-0 c.put_out.new.out.items (omega arith) c.in-Ok.ensures.answers gives
+          _ _ end c.loop.self.client.end c.put_out.new.self.end unused c.loop.counter
+          18446744073709551615 c.in-Ok.field-0 c.put_out.new.out.items (omega arith)
+          c.in-Ok.ensures.answers gives
           c.in_ok-write_all-in-Ok.ensures.gives_none written.0
           (c.loop.invariant.writes values message start end unused is was linked);
     }
@@ -87,5 +90,6 @@ loop-preserved g c =
 pub returns-clause-writes : goal.returns-clause-writes
 returns-clause-writes g c values message start end unused is was linked =
     client_writes values message start _ end _ unused _
-    (writes_no_more (IsFetching values message) values start _ end c.loop.self.client.end unused _
+    (writes_no_more (IsFetching values message) values start _ end c.loop.self.client.end unused
+    c.loop.counter (omega arith)
     (c.loop.invariant.writes values message start end unused is was linked))

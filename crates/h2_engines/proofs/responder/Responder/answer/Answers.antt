@@ -1,13 +1,15 @@
 -- By the lemmas on an answer.
 use Rattle.std.proofs.Common.{refl, arith}
 use Rattle.h2_engines.specs.Serving.{counted_answer}
-use Rattle.h2_engines.proofs.ServeCalls.{answers_none, answers_done, answers_refused}
+use Rattle.h2_engines.proofs.ServeCalls.{answers_none, answers_no_more, answers_done}
+use Rattle.h2_engines.proofs.ServeCalls.{answers_refused}
 use Rattle.h2_engines.proofs.responder.Responder.answer.Goals as goal
 use Rattle.h2_engines.proofs.responder.Responder.answer.Goals.{in-Ok-respond, in-Err}
 
 pub returns-in_default-clause-answers : goal.returns-in_default-clause-answers
 returns-in_default-clause-answers c =
-    answers_none c.args.self.now.server.end c.args.id _ _
+    answers_no_more c.args.self.now.server.end c.args.id _ _
+    (omega (arith, c.in_default.ensures))
 
 pub returns-in_default-clause-count : goal.returns-in_default-clause-count
 unfolding counted_answer
@@ -16,7 +18,7 @@ returns-in_default-clause-count c = refl
 pub returns-in_default-into_answer-clause-answers :
     goal.returns-in_default-into_answer-clause-answers
 returns-in_default-into_answer-clause-answers c =
-    answers_none c.args.self.now.server.end c.args.id _ _
+    answers_none c.args.self.now.server.end c.args.id _ c.args.self.now.answered
 
 pub returns-in_default-into_answer-clause-count :
     goal.returns-in_default-into_answer-clause-count
@@ -27,11 +29,12 @@ pub returns-clause-answers : goal.returns-clause-answers
 returns-clause-answers c =
     elim c.match-respond.branch [
       | in-Ok-respond w ↦ rw (w.self-is, w.result-is)
-          (answers_done c.args.self.now.server.end c.respond.new.self.end c.args.id _ _ _
+          (answers_done c.args.self.now.server.end c.respond.new.self.end c.args.id _ _ _ _
           c.in-Ok.ensures w.in-Ok-respond.ensures)
       | in-Err w ↦ rw (w.self-is, w.result-is)
-          (answers_refused c.args.self.now.server.end c.respond.new.self.end c.args.id _ _
-          (w.in-Err.field-0-0, w.in-Err.refusal) _ c.in-Ok.ensures w.in-Err.ensures)
+          (answers_refused c.args.self.now.server.end c.respond.new.self.end c.args.id _ _ _
+          (w.in-Err.field-0-0, w.in-Err.refusal) _ c.in-Ok.ensures
+          w.error_of_refusal.ensures.error w.in-Err.ensures)
     ]
 
 pub returns-clause-count : goal.returns-clause-count

@@ -1,5 +1,5 @@
 -- So many octets of the piece were used and no call of the link has failed; and the server that it
--- was at first, is one over the link now.
+-- was at first, is one over the link now, at which each round was a turn at least.
 use Rattle.std.proofs.Common.{◌≡◌, ◌≤◌, length, drop}
 use Rattle.h2_engines.specs.Linked.{traffic}
 use Rattle.h2_engines.proofs.ServingEnds.{ServesOn}
@@ -10,8 +10,10 @@ invariant-loop g l =
     record {
       within : l.used ≤ length l.piece;
       failures : g.L.Link.faults l.link ≡ g.L.Link.faults l.initial.link;
-      serves : ServesOn
-          (traffic (g.L.Link.given l.initial.link) (g.L.Link.taken l.initial.link))
-          (traffic (g.L.Link.given l.link) (g.L.Link.taken l.link)) l.initial.self l.self l.piece
+      serves : ServesOn l.counter
+          (traffic (g.L.Link.given l.initial.link) (g.L.Link.taken l.initial.link)
+          (g.L.Link.stalled l.initial.link))
+          (traffic (g.L.Link.given l.link) (g.L.Link.taken l.link)
+          (g.L.Link.stalled l.link)) l.initial.self l.self l.piece
           (drop l.used l.piece);
     }

@@ -1,5 +1,6 @@
 -- By the lemmas on a reset.
-use Rattle.std.proofs.Common.{refl}
+use Rattle.std.proofs.Common.{◌≢◌, refl, rules}
+use Rattle.h2_log.specs.declared.refusal.Refusal.TheVariants.{TooManyResets}
 use Rattle.h2_engines.proofs.ServeCalls.{resets_done, resets_no_more, resets_refused}
 use Rattle.h2_engines.proofs.ServeFaults.{call_ends_server}
 use Rattle.h2_engines.proofs.responder.Responder.reset.Goals as goal
@@ -15,11 +16,13 @@ returns-in-Err-TooManyResets-clause-resets c =
 
 pub returns-in-Err : goal.returns-in-Err
 returns-in-Err c =
+    let other : c.in-Err.refusal ≢ TooManyResets = search rules in
     record {
       resets = resets_refused c.args.self.now.server.end c.reset.new.self.end c.args.id
-          c.in-Err.refusal c.error_of_refusal.result c.error_of_refusal.ensures c.in-Err.ensures;
+          c.in-Err.refusal c.error_of_refusal.result other c.error_of_refusal.ensures.error
+          c.in-Err.ensures;
       fits = c.ranges.id.fits;
       answered = refl;
       requests = refl;
-      err = call_ends_server c.error_of_refusal.result c.error_of_refusal.ensures;
+      err = call_ends_server c.error_of_refusal.result c.error_of_refusal.ensures.kind;
     }

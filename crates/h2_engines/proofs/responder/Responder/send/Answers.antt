@@ -1,8 +1,9 @@
 -- By the lemmas on output that is written.
-use Rattle.std.proofs.Common.{refl, ◌∙◌}
+use Rattle.std.proofs.Common.{refl, ◌∙◌, arith}
 use Rattle.std.proofs.lemmas.Result.{err_from_is_err_and}
 use Rattle.h2_engines.specs.Responding.{IsResponding}
-use Rattle.h2_engines.proofs.ServeServer.{writes_then, writes_then_pumps, writes_until}
+use Rattle.h2_engines.proofs.ServeServer.{writes_until}
+use Rattle.h2_engines.proofs.ServeServer.{writes_then, writes_then_pumps, writes_then_stops}
 use Rattle.h2_engines.proofs.ServeWrites.{writes_nothing}
 use Rattle.h2_engines.proofs.responder.Responder.send.Goals as goal
 
@@ -11,7 +12,7 @@ loop-init g c = record {
   failures = refl;
   answered = refl;
   requests = refl;
-  writes = λ values start end unused is was linked.
+  writes = λ values start end unused is was up linked.
       writes_nothing (IsResponding values) values start _ end _ unused is was linked;
 }
 
@@ -19,21 +20,21 @@ pub returns-in_err-write_out-clause-writes : goal.returns-in_err-write_out-claus
 returns-in_err-write_out-clause-writes g c =
     let answer = err_from_is_err_and c.from_residual.result c.from_residual.ensures.1 in
     rw (answer.1, answer.2) (writes_then _ _ _ c.args.self.now.server.end c.loop.self.server.end
-    c.write_out.new.self.server.end _ c.loop.invariant.writes c.in_err-write_out.ensures.writes)
+    c.write_out.new.self.server.end _ _ c.loop.invariant.writes c.in_err-write_out.ensures.writes)
 
 pub returns-then-not-is_full-clause-writes : goal.returns-then-not-is_full-clause-writes
 returns-then-not-is_full-clause-writes g c =
     writes_then _ _ _ c.args.self.now.server.end c.loop.self.server.end
-    c.write_out.new.self.server.end _ c.loop.invariant.writes c.in_ok-write_out.ensures.writes
+    c.write_out.new.self.server.end _ _ c.loop.invariant.writes c.in_ok-write_out.ensures.writes
 
 pub returns-in_err-pump-clause-writes : goal.returns-in_err-pump-clause-writes
 returns-in_err-pump-clause-writes g c =
     let answer = err_from_is_err_and c.from_residual-in_err-pump.result
     c.from_residual-in_err-pump.ensures.1 in
-    rw answer.1 (writes_until _ _ c.args.self.now.server.end c.pump.new.self.server.end _
-    (writes_then_pumps _ _ _ c.args.self.now.server.end c.loop.self.server.end
-    c.write_out.new.self.server.end c.pump.new.self.server.end tt c.pump.ensures.pumps.0
-    c.loop.invariant.writes c.in_ok-write_out.ensures.writes c.pump.ensures.pumps.1))
+    let (refused, pumps, ends) = c.in_err-pump.ensures.pumps in
+    rw (answer.1, answer.2) (writes_then_stops _ _ _ c.args.self.now.server.end
+    c.loop.self.server.end c.write_out.new.self.server.end c.pump.new.self.server.end _ tt refused _
+    c.loop.invariant.writes c.in_ok-write_out.ensures.writes pumps ends)
 
 pub loop-preserved : goal.loop-preserved
 loop-preserved g c =
@@ -44,10 +45,11 @@ loop-preserved g c =
       requests = c.pump.ensures.requests ∙ c.write_out.ensures.requests
           ∙ c.loop.invariant.requests;
       writes = writes_then_pumps _ _ _ c.args.self.now.server.end c.loop.self.server.end
-          c.write_out.new.self.server.end c.pump.new.self.server.end tt c.pump.ensures.pumps.0
+          c.write_out.new.self.server.end c.pump.new.self.server.end _ tt c.pump.ensures.pumps.0
           c.loop.invariant.writes c.in_ok-write_out.ensures.writes c.pump.ensures.pumps.1;
     }
 
 pub returns-clause-writes : goal.returns-clause-writes
 returns-clause-writes g c =
-    writes_until _ _ c.args.self.now.server.end c.loop.self.server.end _ c.loop.invariant.writes
+    writes_until _ _ c.args.self.now.server.end c.loop.self.server.end c.loop.counter (omega arith)
+    c.loop.invariant.writes

@@ -1,7 +1,8 @@
--- No call of the link has failed, and it took all that the server has given out.
+-- No call of the link has failed, and it took all that the server has given out, in so many
+-- rounds.
 use Rattle.std.proofs.Common.{◌≡◌}
 use Rattle.h2_engines.specs.Linked.{traffic}
-use Rattle.h2_engines.proofs.ServeServer.{ServerWritesOn}
+use Rattle.h2_engines.proofs.ServeServer.{ServerSendsOn}
 use Rattle.h2_engines.proofs.responder.Responder.send.Given as goal
 
 abbrev pub invariant-loop : goal.invariant-loop
@@ -10,8 +11,9 @@ invariant-loop g l =
       failures : g.L.Link.faults l.link ≡ g.L.Link.faults l.initial.link;
       answered : l.self.answered ≡ l.initial.self.answered;
       requests : l.self.requests ≡ l.initial.self.requests;
-      writes : ServerWritesOn
-          (traffic (g.L.Link.given l.initial.link) (g.L.Link.taken l.initial.link))
-          (traffic (g.L.Link.given l.link) (g.L.Link.taken l.link))
-          l.initial.self.server.end l.self.server.end;
+      writes : ServerSendsOn
+          (traffic (g.L.Link.given l.initial.link) (g.L.Link.taken l.initial.link)
+          (g.L.Link.stalled l.initial.link))
+          (traffic (g.L.Link.given l.link) (g.L.Link.taken l.link) (g.L.Link.stalled l.link))
+          l.initial.self.server.end l.self.server.end l.counter;
     }

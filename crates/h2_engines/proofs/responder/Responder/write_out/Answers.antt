@@ -26,8 +26,8 @@ returns-in-Ok-eq0-clause-writes g c values start end unused is was linked =
     (Count n) c.put_out.new.self.end) c.in-Ok-eq0.field-0-test c.in-Ok-eq0.ensures.answers in
     server_writes values start _ end _ unused _
     (writes_all (IsResponding values) (server_puts_out values) values start _ end
-    c.loop.self.server.end c.put_out.new.self.end unused 18446744073709551615 tt (omega arith)
-    (omega arith) none
+    c.loop.self.server.end c.put_out.new.self.end unused c.loop.counter
+    18446744073709551615 tt (omega arith) (omega arith) none
     (c.loop.invariant.writes values start end unused is was linked))
 
 pub returns-in_err-write_all-in-Ok-clause-writes :
@@ -37,12 +37,13 @@ returns-in_err-write_all-in-Ok-clause-writes g c values start end unused is was 
     let written = rw c.deref.ensures.value at c.in_err-write_all-in-Ok.ensures.writes in
     let some = written_some _ _ _ _ _ _ written in
     let gives = rw c.clear.ensures.items at c.in-Ok.ensures.ok in
-    rw answer.1
+    rw (answer.1, answer.2)
     (server_writes values start _ end _ unused _
     (writes_first (IsResponding values) (server_puts_out values) values start _ _ end
-    c.loop.self.server.end c.put_out.new.self.end unused 18446744073709551615 c.in-Ok.field-0
-    c.put_out.new.out.items some.0 answer.0 (omega arith) c.in-Ok.ensures.answers gives
+    c.loop.self.server.end c.put_out.new.self.end unused c.loop.counter 18446744073709551615
+    c.in-Ok.field-0 c.put_out.new.out.items some.0 _ (omega arith) c.in-Ok.ensures.answers gives
     c.in_err-write_all-in-Ok.ensures.gives_none some.1.took
+    c.in_err-write_all-in-Ok.ensures.stalled
     (c.loop.invariant.writes values start end unused is was linked)))
 
 pub returns-in_err-write_all-in-Ok-clause-failures :
@@ -61,8 +62,9 @@ pub returns-in-Err-clause-writes : goal.returns-in-Err-clause-writes
 returns-in-Err-clause-writes g c values start end unused is was linked =
     server_writes values start _ end _ unused _
     (writes_refused (IsResponding values) (server_puts_out values) values start _ end
-    c.loop.self.server.end c.put_out.new.self.end unused 18446744073709551615 c.in-Err.refusal
-    c.error_of_refusal.result (omega arith) c.in-Err.ensures.answers
+    c.loop.self.server.end c.put_out.new.self.end unused c.loop.counter 18446744073709551615
+    c.in-Err.refusal c.error_of_refusal.result (omega arith) c.in-Err.ensures.answers
+    c.error_of_refusal.ensures.error
     (c.loop.invariant.writes values start end unused is was linked))
 
 pub loop-preserved : goal.loop-preserved
@@ -76,7 +78,7 @@ loop-preserved g c =
       requests = c.loop.invariant.requests;
       writes = λ values start end unused is was linked.
           writes_more (IsResponding values) (server_puts_out values) values start _ _ end
-          c.loop.self.server.end c.put_out.new.self.end unused 18446744073709551615
+          c.loop.self.server.end c.put_out.new.self.end unused c.loop.counter 18446744073709551615
           c.in-Ok.field-0 c.put_out.new.out.items (omega arith) c.in-Ok.ensures.answers gives
           c.in_ok-write_all-in-Ok.ensures.gives_none written.0
           (c.loop.invariant.writes values start end unused is was linked);
@@ -85,5 +87,5 @@ loop-preserved g c =
 pub returns-clause-writes : goal.returns-clause-writes
 returns-clause-writes g c values start end unused is was linked =
     server_writes values start _ end _ unused _
-    (writes_no_more (IsResponding values) values start _ end c.loop.self.server.end unused _
-    (c.loop.invariant.writes values start end unused is was linked))
+    (writes_no_more (IsResponding values) values start _ end c.loop.self.server.end unused
+    c.loop.counter (omega arith) (c.loop.invariant.writes values start end unused is was linked))

@@ -1,4 +1,5 @@
--- No call of the link has failed, and it took all that the server has given out.
+-- No call of the link has failed, and it took all that the server has given out, in so many
+-- rounds.
 use Rattle.std.proofs.Common.{◌≡◌}
 use Rattle.h2_engines.specs.Linked.{traffic}
 use Rattle.h2_engines.proofs.ServeServer.{ServerWritesOn}
@@ -11,7 +12,8 @@ invariant-loop g l =
       answered : l.self.answered ≡ l.initial.self.answered;
       requests : l.self.requests ≡ l.initial.self.requests;
       writes : ServerWritesOn
-          (traffic (g.L.Link.given l.initial.link) (g.L.Link.taken l.initial.link))
-          (traffic (g.L.Link.given l.link) (g.L.Link.taken l.link))
-          l.initial.self.server.end l.self.server.end;
+          (traffic (g.L.Link.given l.initial.link) (g.L.Link.taken l.initial.link)
+          (g.L.Link.stalled l.initial.link))
+          (traffic (g.L.Link.given l.link) (g.L.Link.taken l.link) (g.L.Link.stalled l.link))
+          l.initial.self.server.end l.self.server.end l.counter;
     }

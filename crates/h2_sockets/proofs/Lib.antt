@@ -1,0 +1,2 @@
+pub mod Locating
+pub mod Printing
