@@ -7,11 +7,11 @@ use Rattle.h2_link.specs.declared.error.LinkError.{LinkError}
 use Rattle.h2_link.specs.declared.error.LinkError.TheVariants as errors
 
 -- N1 is answered exactly where the link has failed, once, in the call.
-abbrev pub failures_told : {A : Type 0} → ℕ → Result A LinkError → ℕ
-failures_told failures (Err errors.Device) = failures + 1
-failures_told failures result = failures
+abbrev pub failures_at_end : {A : Type 0} → ℕ → Result A LinkError → ℕ
+failures_at_end failures (Err errors.Device) = failures + 1
+failures_at_end failures result = failures
 
--- N4 is answered only where the link has told the end of its input.
+-- N4 is answered only where the link has met the end of its input.
 abbrev pub CutsOffAtEnd : {A : Type 0} → Result A LinkError → (ended : Bool) → Type 0
 CutsOffAtEnd (Err errors.CutOff) ended = ended ≡ true
 CutsOffAtEnd result ended = Unit {0}

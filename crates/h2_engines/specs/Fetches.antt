@@ -18,7 +18,7 @@ use Rattle.h2_link.specs.declared.error.LinkError.TheVariants as errors
 use Rattle.h2_engines.specs.declared.fetcher.Fetched.{Fetched}
 use Rattle.h2_engines.specs.Linked.{Traffic, HasGiven, IsLinkedInPart, HasTakenAll, HasStalled}
 use Rattle.h2_engines.specs.Serves.{HasFailedWith, SendsAll}
-use Rattle.h2_engines.specs.Fetching.{IsFetching, IsFetched}
+use Rattle.h2_engines.specs.ClientHistories.{IsFetching, IsFetched}
 
 -- REFUSED_STREAM (RFC 9113, section 7): what is said of a request that was not processed
 abbrev pub refused_stream : ℕ
@@ -54,11 +54,17 @@ EndsFetchSo start now end id (Err (errors.Stream number)) =
     HasFailedWith start now end.log number
 EndsFetchSo start now end id (Err (errors.Reset number)) = WasDropped end id number
 EndsFetchSo start now end id (Err errors.CutOff) =
-    (end.log.failed ≡ None) × (ends (parts_on id end.handed) ≡ false)
-    × HasGiven start now end.log [] × HasTakenAll start now end.log
+    (end.log.failed ≡ None) × HasGiven start now end.log [] × HasTakenAll start now end.log
 EndsFetchSo start now end id (Err errors.NoProgress) = HasStalled now end
 EndsFetchSo start now end id (Err errors.Refused) = ⊥
 EndsFetchSo start now end id (Err other) = Unit {0}
+
+-- A fetch ends early only before its response is whole, whatever comes after that; out of memory
+-- says nothing.
+abbrev pub EndsUnfinished : EndLog → (id : ℕ) → Result Fetched LinkError → Type 0
+EndsUnfinished end id (Ok fetched) = Unit {0}
+EndsUnfinished end id (Err errors.Memory) = Unit {0}
+EndsUnfinished end id (Err error) = ends (parts_on id end.handed) ≡ false
 
 -- The message was accepted for a stream, what was sent there is a prefix of it, and so the fetch
 -- has ended.
@@ -67,6 +73,7 @@ pub record EndsFetch (start now : Traffic) (message : SentMessage) (end : EndLog
   pub id : ℕ
   pub accepted : message_for id end.accepted ≡ Some message
   pub sends : SendsAll end
+  pub unfinished : EndsUnfinished end id result
   pub so : EndsFetchSo start now end id result
 
 -- how a fetch ends whose message was not accepted

@@ -1,10 +1,11 @@
 pub mod Answers
 pub mod Failures
 pub mod Fetches
-pub mod Fetching
-pub mod FetchingSteps
-pub mod Keeping
+pub mod ClientHistories
+pub mod ClientSteps
+pub mod PartialMessages
 pub mod Linked
-pub mod Responding
+pub mod ServerHistories
 pub mod Serves
-pub mod Serving
+pub mod ServerSteps
+pub mod WithoutLink

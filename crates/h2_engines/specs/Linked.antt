@@ -8,8 +8,8 @@ use Rattle.h2_link.specs.declared.error.LinkError.{LinkError}
 use Rattle.h2_link.specs.declared.error.LinkError.TheVariants as errors
 use Rattle.h2_pair.specs.Pairs.{given_out}
 
--- the octets that a link has given and taken so far, where it tells; and whether a write of octets
--- has taken none
+-- the octets that a link has given and taken so far, where it says so; and whether a write of
+-- octets has taken none
 pub record Traffic : Type 0 where
   pub given : Option (List ℕ)
   pub taken : Option (List ℕ)

@@ -7,7 +7,7 @@ use Rattle.h2_frame.specs.declared.code.Code.{Code}
 use Rattle.h2_frame.specs.declared.code.Code.TheVariants.{InternalError}
 use Rattle.h2_frame.specs.Codes.{code_number}
 use Rattle.h2_log.specs.declared.refusal.Refusal.{Refusal}
-use Rattle.h2_log.specs.declared.refusal.Refusal.TheVariants.{TooManyResets}
+use Rattle.h2_log.specs.declared.refusal.Refusal.TheVariants.{OutputFull, TooManyResets}
 use Rattle.h2_log.specs.Acts.{Values, ResetStream, Refused}
 use Rattle.h2_log.specs.Limits.{max_resets}
 use Rattle.h2_log.specs.Log.{Log, active, resets_written}
@@ -23,7 +23,7 @@ use Rattle.h2_link.specs.declared.error.LinkError.TheVariants as errors
 use Rattle.h2_engines.specs.Answers.{answer_to, is_too_large_body}
 use Rattle.h2_engines.specs.Failures.{error_after}
 use Rattle.h2_engines.specs.Linked.{Traffic, HasGiven, IsLinkedInPart, HasTakenAll, HasStalled}
-use Rattle.h2_engines.specs.Responding.{IsResponding, AnswersAll, calm}
+use Rattle.h2_engines.specs.ServerHistories.{IsResponding, AnswersAll, calm}
 
 -- The input has ended where it may: no part of the preface or a frame is held, and no stream is
 -- active.
@@ -42,7 +42,7 @@ pub record IsServed (start now : Traffic) (end : EndLog) (count : ℕ) : Type 0 
   pub counted : count ≡ length end.accepted
 
 -- The connection has failed with this code, and the link took its GOAWAY, which ends the output.
--- Its own want of memory is told as such.
+-- Being out of memory is N3.
 pub record HasFailedWith (start now : Traffic) (log : Log) (number : ℕ) : Type 0 where
   pub code : Code
   pub failed : log.failed ≡ Some code
@@ -59,14 +59,15 @@ pub record CannotReset (end : EndLog) (number : ℕ) : Type 0 where
   pub number_is : number ≡ calm
 
 -- Why a server makes no progress: a write of octets has taken none, or it is out of rounds; it can
--- count no more answers; or its end has refused an answer or a reset, though memory was there.
+-- count no more answers; or its end has refused an answer or a reset, though memory was there. No
+-- answer is refused since the output is full: before each one all of it is written.
 pub data StopsServing (now : Traffic) (end : EndLog) : Type 0 where
   stalls : HasStalled now end → StopsServing now end
   counts_no_more : 2 ^ 32 - 1 ≤ length end.accepted → StopsServing now end
   answer_refused : (before : EndLog) (id : ℕ) (message : SentMessage) (refusal : EndRefusal)
       → ends (parts_on id before.handed) ≡ true
       → answer_to (parts_on id before.handed) ≡ Some message
-      → MayRespond before id message (Err refusal) end
+      → MayRespond before id message (Err refusal) end → refusal ≢ Conn OutputFull
       → error_after refusal ≡ errors.NoProgress → StopsServing now end
   reset_refused : (id : ℕ) (refusal : Refusal)
       → is_too_large_body (parts_on id end.handed) ≡ true
@@ -89,6 +90,7 @@ EndsServingSo start now end (Err (errors.Stream number)) =
     HasFailedWith start now end.log number ⊎ CannotReset end number
 EndsServingSo start now end (Err errors.CutOff) =
     IsCutOff end.log × HasGiven start now end.log [] × HasTakenAll start now end.log
+    × AnswersAll end
 EndsServingSo start now end (Err (errors.Reset number)) = ⊥
 EndsServingSo start now end (Err errors.Refused) = ⊥
 EndsServingSo start now end (Err errors.NoProgress) = StopsServing now end

@@ -2,7 +2,7 @@
 
 ghost use Rattle.std.specs.Prelude.{◌≡◌};
 ghost use Rattle.h2_engines.specs.Failures.{IsOfCall, IsOfServer, error_after};
-ghost use Rattle.h2_engines.specs.Serving.{error_with};
+ghost use Rattle.h2_engines.specs.ServerSteps.{error_with};
 
 use h2_ends::{Code, EndRefusal, Refusal};
 use h2_link::LinkError;

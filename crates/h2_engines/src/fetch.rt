@@ -3,9 +3,9 @@
 ghost use Rattle.std.specs.Prelude.{◌≡◌, ◌<◌, ◌-◌, ◌^◌};
 ghost use Rattle.h2_config.specs.ConfigValues.{values_of};
 ghost use Rattle.h2_message.specs.Values.{message_value};
-ghost use Rattle.h2_engines.specs.Failures.{CutsOffAtEnd, failures_told};
+ghost use Rattle.h2_engines.specs.Failures.{CutsOffAtEnd, failures_at_end};
 ghost use Rattle.h2_engines.specs.Fetches.{Fetches};
-ghost use Rattle.h2_engines.specs.FetchingSteps.{ClientReceives};
+ghost use Rattle.h2_engines.specs.ClientSteps.{ClientReceives};
 ghost use Rattle.h2_engines.specs.Linked.{traffic};
 
 use crate::copies::room_for_input;
@@ -34,7 +34,7 @@ pub fn fetch_link<L: Link>(
         (traffic (L.given link.old) (L.taken link.old) (L.stalled link.old))
         (traffic (L.given link.new) (L.taken link.new) (L.stalled link.new)) result }
     ensures cut_off { CutsOffAtEnd result (L.ended link.new) }
-    ensures failures { L.faults link.new ≡ failures_told (L.faults link.old) result }
+    ensures failures { L.faults link.new ≡ failures_at_end (L.faults link.old) result }
 {
     let mut fetcher = Fetcher::new(alloc, config, message)?;
     let mut input = room_for_input(alloc)?;
@@ -63,7 +63,7 @@ impl Fetcher {
             (traffic (L.given link.old) (L.taken link.old) (L.stalled link.old))
             (traffic (L.given link.new) (L.taken link.new) (L.stalled link.new))
             self.old self.new piece.now result }
-        ensures failures { L.faults link.new ≡ failures_told (L.faults link.old) result }
+        ensures failures { L.faults link.new ≡ failures_at_end (L.faults link.old) result }
     {
         let mut used = 0usize;
         for _ in 0..u64::MAX {

@@ -5,13 +5,13 @@ ghost use Rattle.std.specs.Prelude.{◌⊎◌, true, false, length};
 ghost use Rattle.h2_config.specs.ConfigValues.{values_of};
 ghost use Rattle.h2_message.specs.Values.{message_value};
 ghost use Rattle.h2_ends.specs.Loans.{event_handed};
-ghost use Rattle.h2_engines.specs.Failures.{EndsWriting, IsOfCall, IsOfClient, failures_told};
+ghost use Rattle.h2_engines.specs.Failures.{EndsWriting, IsOfCall, IsOfClient, failures_at_end};
 ghost use Rattle.h2_engines.specs.Fetches.{IsNotAccepted};
-ghost use Rattle.h2_engines.specs.FetchingSteps.{ClientHears, ClientSends, ClientWrites};
-ghost use Rattle.h2_engines.specs.FetchingSteps.{HasRequested};
-ghost use Rattle.h2_engines.specs.FetchingSteps.{IsFetchedOf, NotesPart};
+ghost use Rattle.h2_engines.specs.ClientSteps.{ClientHears, ClientSends, ClientWrites};
+ghost use Rattle.h2_engines.specs.ClientSteps.{HasRequested};
+ghost use Rattle.h2_engines.specs.ClientSteps.{IsFetchedOf, NotesPart};
 ghost use Rattle.h2_engines.specs.Linked.{traffic};
-ghost use Rattle.h2_engines.specs.Serving.{PumpsSome, ReleasesSome};
+ghost use Rattle.h2_engines.specs.ServerSteps.{PumpsSome, ReleasesSome};
 
 use crate::copies::copy_list;
 use crate::errors::{error_of_code, error_of_refusal};
@@ -226,7 +226,7 @@ impl Fetcher {
         ensures id { self.new.id ≡ self.old.id }
         ensures coming { self.new.coming ≡ self.old.coming }
         ensures whole { self.new.whole ≡ self.old.whole }
-        ensures failures { L.faults link.new ≡ failures_told (L.faults link.old) result }
+        ensures failures { L.faults link.new ≡ failures_at_end (L.faults link.old) result }
         ensures err { IfErr result EndsWriting }
     {
         for _ in 0..u64::MAX {
@@ -250,7 +250,7 @@ impl Fetcher {
         ensures id { self.new.id ≡ self.old.id }
         ensures coming { self.new.coming ≡ self.old.coming }
         ensures whole { self.new.whole ≡ self.old.whole }
-        ensures failures { L.faults link.new ≡ failures_told (L.faults link.old) result }
+        ensures failures { L.faults link.new ≡ failures_at_end (L.faults link.old) result }
         ensures err { IfErr result EndsWriting }
     {
         for _ in 0..u64::MAX {

@@ -12,7 +12,7 @@ mod fetcher;
 mod request;
 mod responder;
 mod serve;
-mod turns;
+mod without_link;
 
 pub use fetch::fetch_link;
 pub use fetcher::{Fetched, Fetcher};

@@ -5,7 +5,7 @@ ghost use Rattle.h2_message.specs.Fields.{value_or_nothing};
 ghost use Rattle.h2_message.specs.Values.{message_value};
 ghost use Rattle.h2_ends.specs.Loans.{event_handed};
 ghost use Rattle.h2_engines.specs.Answers.{IsRequest, answer_with};
-ghost use Rattle.h2_engines.specs.Keeping.{AddsOctets, EndsKept, NotesHanded, request_at};
+ghost use Rattle.h2_engines.specs.PartialMessages.{AddsOctets, EndsKept, NotesHanded, request_at};
 
 use h2_ends::{EndEvent, Field, FieldList, Message};
 use std::alloc::{AllocError, Global};

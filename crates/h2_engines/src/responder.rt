@@ -6,12 +6,13 @@ ghost use Rattle.h2_log.specs.declared.role.Role.TheVariants as roles;
 ghost use Rattle.h2_ends.specs.Represents.{EndRepresents, new_end};
 ghost use Rattle.h2_engines.specs.Answers.{answer_with};
 ghost use Rattle.h2_engines.specs.Failures.{EndsWriting, IsOfCall, IsOfServer};
-ghost use Rattle.h2_engines.specs.Failures.{failures_told};
+ghost use Rattle.h2_engines.specs.Failures.{failures_at_end};
 ghost use Rattle.h2_engines.specs.Linked.{traffic};
-ghost use Rattle.h2_engines.specs.Serving.{ServerAnswers, ServerFinishes, ServerHears};
-ghost use Rattle.h2_engines.specs.Serving.{ServerResets, ServerSends, ServerWrites, PumpsSome};
-ghost use Rattle.h2_engines.specs.Serving.{ReleasesSome};
-ghost use Rattle.h2_engines.specs.Serving.{counted_answer};
+ghost use Rattle.h2_engines.specs.ServerSteps.{ServerAnswers, ServerFinishes, ServerHears};
+ghost use Rattle.h2_engines.specs.ServerSteps.{ServerResets, ServerSends, ServerWrites, PumpsSome};
+ghost use Rattle.h2_engines.specs.ServerSteps.{ReleasesSome};
+ghost use Rattle.h2_engines.specs.ServerSteps.{counted_answer};
+ghost use Rattle.h2_engines.specs.WithoutLink.{IsServingAlone};
 
 use crate::errors::{error_of_code, error_of_refusal};
 use crate::request::{Next, Request, Requests};
@@ -56,6 +57,8 @@ impl Responder {
             responder.server.end (new_end roles.Server (values_of config))) }
         ensures requests { IfOk result (λ responder. responder.requests.kept.entries ≡ []) }
         ensures answered { IfOk result (λ responder. responder.answered ≡ 0) }
+        ensures alone { IfOk result (λ responder. IsServingAlone (values_of config) responder
+            (new_end roles.Server (values_of config))) }
         ensures err { IfErr result (λ error. error ≡ LinkError.Memory) }
     {
         let Ok(server) = Server::new(alloc, config) else {
@@ -173,7 +176,7 @@ impl Responder {
             self.old.server.end self.new.server.end result }
         ensures answered { self.new.answered ≡ self.old.answered }
         ensures requests { self.new.requests ≡ self.old.requests }
-        ensures failures { L.faults link.new ≡ failures_told (L.faults link.old) result }
+        ensures failures { L.faults link.new ≡ failures_at_end (L.faults link.old) result }
         ensures err { IfErr result EndsWriting }
     {
         for _ in 0..u64::MAX {
@@ -196,7 +199,7 @@ impl Responder {
             self.old.server.end self.new.server.end result }
         ensures answered { self.new.answered ≡ self.old.answered }
         ensures requests { self.new.requests ≡ self.old.requests }
-        ensures failures { L.faults link.new ≡ failures_told (L.faults link.old) result }
+        ensures failures { L.faults link.new ≡ failures_at_end (L.faults link.old) result }
         ensures err { IfErr result EndsWriting }
     {
         for _ in 0..u64::MAX {

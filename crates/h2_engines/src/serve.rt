@@ -2,10 +2,10 @@
 
 ghost use Rattle.std.specs.Prelude.{◌≡◌, ◌<◌, ◌-◌, ◌^◌, IfErr, OnOk, true};
 ghost use Rattle.h2_config.specs.ConfigValues.{values_of};
-ghost use Rattle.h2_engines.specs.Failures.{CutsOffAtEnd, EndsServing, failures_told};
+ghost use Rattle.h2_engines.specs.Failures.{CutsOffAtEnd, EndsServing, failures_at_end};
 ghost use Rattle.h2_engines.specs.Linked.{traffic};
 ghost use Rattle.h2_engines.specs.Serves.{Serves};
-ghost use Rattle.h2_engines.specs.Serving.{ServerReceives};
+ghost use Rattle.h2_engines.specs.ServerSteps.{ServerReceives};
 
 use crate::copies::room_for_input;
 use crate::request::Next;
@@ -33,7 +33,7 @@ pub fn serve_link<L: Link>(alloc: Global, link: &mut L, config: Config) -> Resul
         (traffic (L.given link.new) (L.taken link.new) (L.stalled link.new)) result }
     ensures ended { OnOk result (L.ended link.new ≡ true) }
     ensures cut_off { CutsOffAtEnd result (L.ended link.new) }
-    ensures failures { L.faults link.new ≡ failures_told (L.faults link.old) result }
+    ensures failures { L.faults link.new ≡ failures_at_end (L.faults link.old) result }
     ensures err { IfErr result EndsServing }
 {
     let mut responder = Responder::new(alloc, config)?;
@@ -60,7 +60,7 @@ impl Responder {
             (traffic (L.given link.old) (L.taken link.old) (L.stalled link.old))
             (traffic (L.given link.new) (L.taken link.new) (L.stalled link.new))
             self.old self.new piece.now result }
-        ensures failures { L.faults link.new ≡ failures_told (L.faults link.old) result }
+        ensures failures { L.faults link.new ≡ failures_at_end (L.faults link.old) result }
         ensures err { IfErr result EndsServing }
     {
         let mut used = 0usize;

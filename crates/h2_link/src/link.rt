@@ -14,10 +14,10 @@ pub struct LinkFault;
 
 /// What carries the octets of a connection, both ways. It waits for its peer where it has to.
 pub trait Link {
-    /// All octets that it has given so far, where it tells; a socket doesn't.
+    /// All octets that it has given so far, where it says so; a socket doesn't.
     ghost given: { Self → Option (List ℕ) };
 
-    /// All octets that it has taken so far, where it tells.
+    /// All octets that it has taken so far, where it says so.
     ghost taken: { Self → Option (List ℕ) };
 
     /// Whether a read with room has given nothing: the end of its input.
@@ -29,8 +29,8 @@ pub trait Link {
     /// How many of its calls have failed.
     ghost faults: { Self → ℕ };
 
-    /// Reads octets to the front of a buffer, and answers how many; 0 is the end of the input, where
-    /// the buffer has room.
+    /// Reads octets to the front of a buffer, and answers how many; 0 is the end of the input,
+    /// where the buffer has room.
     ///
     /// # Errors
     ///

@@ -1,6 +1,6 @@
 //! A link in memory.
 
-ghost use Rattle.std.specs.Prelude.{◌≡◌, ◌≤◌, ◌<◌, ◌-◌, ◌^◌, [], take, length, Some};
+ghost use Rattle.std.specs.Prelude.{◌≡◌, ◌≤◌, ◌<◌, ◌-◌, ◌^◌, [], take, length, Some, false};
 
 use crate::link::{Link, LinkFault};
 use std::alloc::Global;
@@ -27,6 +27,10 @@ impl MemoryLink {
     pub fn new(alloc: Global, input: Vec<u8>) -> MemoryLink
         ensures given { octets_given result ≡ [] }
         ensures taken { octets_taken result ≡ [] }
+        ensures input { result.input ≡ input }
+        ensures ended { result.ended ≡ false }
+        ensures stalled { result.stalled ≡ false }
+        ensures failures { result.failures ≡ 0 }
     {
         MemoryLink {
             input,
@@ -44,8 +48,7 @@ impl MemoryLink {
     /// The same link, which reads and writes at most so many octets a call. With 0 it is at its
     /// end, or takes nothing.
     pub fn with_most(mut self, read: usize, written: usize) -> MemoryLink
-        ensures given { octets_given result ≡ octets_given self }
-        ensures taken { octets_taken result ≡ octets_taken self }
+        ensures { result ≡ record self { most_read = read; most_written = written } }
     {
         self.most_read = read;
         self.most_written = written;
@@ -54,8 +57,7 @@ impl MemoryLink {
 
     /// The same link, whose call after so many more fails: 0 is the next one.
     pub fn failing_after(mut self, calls: u64) -> MemoryLink
-        ensures given { octets_given result ≡ octets_given self }
-        ensures taken { octets_taken result ≡ octets_taken self }
+        ensures { result ≡ record self { fails_in = Some calls } }
     {
         self.fails_in = Some(calls);
         self

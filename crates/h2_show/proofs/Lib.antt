@@ -1,3 +1,11 @@
 pub mod BlocksLemmas
 pub mod ViewerLemmas
 pub mod ReportLemmas
+pub mod LinesLemmas
+pub mod BlocksShown
+pub mod PrefaceLemmas
+pub mod PrintedLemmas
+pub mod FaultLemmas
+pub mod PieceLemmas
+pub mod InputLemmas
+pub mod examples

@@ -1,5 +1,5 @@
 -- What a run of the cutter and the blocks reports of the stream.
-use Rattle.std.proofs.Common.{◌≡◌, ℕ, ◌+◌, ◌==◌, not, ◌&&◌, Bool, false, List, []}
+use Rattle.std.proofs.Common.{◌≡◌, ℕ, ◌==◌, not, ◌&&◌, Bool, false, List, []}
 use Rattle.std.proofs.Common.{◌∷◌, ◌++◌, length, take, if◌then◌else◌, Option, Some, None, IfSome}
 use Rattle.std.proofs.Common.{subst, sym, ap, ◌∙◌, arith, append_assoc, append-nil}
 use Rattle.std.proofs.Common.{length-append, Result, Ok, Err, IfOk}

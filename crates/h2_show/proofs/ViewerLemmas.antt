@@ -46,7 +46,7 @@ used_within piece done used within unused =
     omega (arith, simp length-drop at unused_length)
 
 -- a prefix of the piece, and a prefix of what follows it, are a prefix of the piece
-prefix_append : (piece : List ℕ) (done used : ℕ)
+pub prefix_append : (piece : List ℕ) (done used : ℕ)
     → take done piece ++ take used (take (length piece - done) (drop done piece))
     ≡ take (done + used) piece
 prefix_append piece done used =
@@ -110,7 +110,7 @@ continues_with_frame cutter mid_cutter new_cutter blocks mid_blocks new_blocks p
     blocks_continue))
 
 -- a stream, a prefix of the piece, and what follows it
-stream_and_piece : (stream piece : List ℕ) (done : ℕ)
+pub stream_and_piece : (stream piece : List ℕ) (done : ℕ)
     → (stream ++ take done piece) ++ take (length piece - done) (drop done piece)
     ≡ stream ++ piece
 stream_and_piece stream piece done =
@@ -119,7 +119,7 @@ stream_and_piece stream piece done =
     ∙ ap (λ (octets : List ℕ). stream ++ octets) (take-append-drop done piece)
 
 -- where the cutter had no fault, a call that fails is at fault
-faults_of_sound : (fault : WireFault) (mid new : CutterState) (unused : List ℕ)
+pub faults_of_sound : (fault : WireFault) (mid new : CutterState) (unused : List ℕ)
     → mid.fault ≡ None
     → MatchOption mid.fault (CutterFaults mid unused fault new) (λ known. new ≡ mid)
     → CutterFaults mid unused fault new

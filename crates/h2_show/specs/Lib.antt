@@ -1,5 +1,8 @@
 pub mod Status
 pub mod Hexadecimal
 pub mod Blocks
+pub mod Lines
 pub mod Report
+pub mod Shown
 pub mod Viewer
+pub mod Printed

@@ -1,11 +1,13 @@
 //! The field blocks among frames, decoded.
 
-ghost use Rattle.std.specs.Prelude.{◌≡◌, false, [], ◌∷◌, ◌++◌, List as Items, IfOk, IfErr, OnOk};
+ghost use Rattle.std.specs.Prelude.{◌≡◌, ℕ, false, [], ◌∷◌, ◌++◌, List as Items, IfOk, IfErr, OnOk};
 ghost use Rattle.std.specs.Option.{is_some};
 ghost use Rattle.h2_frame.specs.Frames.{Frame, frame_of};
 ghost use Rattle.hpack.specs.Lists.{Decodes};
 ghost use Rattle.h2_show.specs.Blocks.{BlocksRepresent, BlockErrorReports, DecodingErrorReports};
 ghost use Rattle.h2_show.specs.Blocks.{error_of_grouping, error_of_decoding};
+ghost use Rattle.h2_show.specs.Lines.{frame_line};
+ghost use Rattle.h2_show.specs.Printed.{BlocksShow, block_lines};
 
 use h2_block::{BlockFault, Gather, Gathered};
 use h2_frame::{Code, FrameRef};
@@ -68,7 +70,8 @@ impl Blocks {
     ///
     /// [`AllocError`] when out of memory.
     pub(crate) fn new(alloc: Global) -> Result<Blocks, AllocError>
-        ensures { IfOk result (λ blocks. BlocksRepresent blocks []) }
+        ensures represents { IfOk result (λ blocks. BlocksRepresent blocks []) }
+        ensures shows { IfOk result (λ blocks. BlocksShow blocks [] []) }
     {
         let mut decoder = Decoder::new(alloc, FIRST_MAXIMUM).map_err(|_| AllocError)?;
         decoder.set_limit(TABLE_LIMIT);
@@ -90,6 +93,10 @@ impl Blocks {
         ensures err { IfErr result (λ error. (frames : Items Frame)
             → BlocksRepresent self.old frames
             → BlockErrorReports (frames ++ frame_of frame.entry ∷ []) error) }
+        ensures shown { IfOk result (λ list. (frames : Items Frame) (lines : Items ℕ)
+            → BlocksShow self.old frames lines
+            → BlocksShow self.new (frames ++ frame_of frame.entry ∷ [])
+            (lines ++ (frame_line (frame_of frame.entry) ++ block_lines list))) }
     {
         match self.gather.take(frame)? {
             Gathered::Pass(_) | Gathered::More => Ok(None),

@@ -1,6 +1,16 @@
 //! Frames and fields as lines of text.
 
-ghost use Rattle.std.specs.Prelude.{◌<◌};
+ghost use Rattle.std.specs.Prelude.{◌≡◌, ◌<◌, ℕ, ◌+◌, ◌*◌, not, [], ◌∷◌, ◌++◌, length, position};
+ghost use Rattle.std.specs.Prelude.{Some};
+ghost use Rattle.std.specs.Prelude.{flat_map, if◌then◌else◌, OnOk};
+ghost use Rattle.std.specs.Fmt.{WritesOnOk};
+ghost use Rattle.std.specs.Io.KnownBytes.{Appends};
+ghost use Rattle.h2_frame.specs.Frames.{frame_of, Settings};
+ghost use Rattle.h2_frame.specs.Pairs.{lent_pairs};
+ghost use Rattle.h2_show.specs.Lines.{frame_line, frame_words, flag_word, pad_word, pad_octets};
+ghost use Rattle.h2_show.specs.Lines.{hex_octet};
+ghost use Rattle.h2_show.specs.Lines.{hex_digit, is_plain as plain, shown_octet, shown_octets};
+ghost use Rattle.h2_show.specs.Lines.{field_line, field_of, answered_lines};
 
 use h2_frame::{FrameRef, Pairs};
 use hpack::{FieldRef, List};
@@ -16,12 +26,23 @@ const PRIORITY: usize = 5;
 /// The octets of GOAWAY preceding its debug data (RFC 9113, section 6.8).
 const GOAWAY: usize = 8;
 
+/// Prints the line of a frame.
+pub(crate) fn write_frame<W: Write>(frame: FrameRef<'_>, out: &mut W) -> io::Result<()>
+    ensures { OnOk result (Appends (W.contents out.old) (W.contents out.new)
+        (frame_line (frame_of frame.entry))) }
+{
+    writeln!(out, "{}", FrameLine(frame))
+}
+
 /// The line of a frame, without its end: the kind, the stream, the octets of the payload, and then
 /// what the kind adds. The words are divided by one space, and numbers are decimal.
 #[derive(Clone, Copy)]
-pub(crate) struct FrameLine<'a>(pub(crate) FrameRef<'a>);
+struct FrameLine<'a>(FrameRef<'a>);
 
+#[tactic(auto, unfolding(crate::specs::Lines::frame_words))]
 impl fmt::Display for FrameLine<'_> {
+    ghost output = { λ line. Some (frame_words (frame_of line.0)) };
+
     fn fmt<W: fmt::Write>(&self, f: &mut fmt::Formatter<W>) -> fmt::Result {
         match self.0 {
             FrameRef::Data {
@@ -30,7 +51,7 @@ impl fmt::Display for FrameLine<'_> {
                 octets,
                 pad,
             } => {
-                let length = octets.len().saturating_add(padded(pad));
+                let length = data_length(octets, pad);
                 write!(f, "DATA {stream} {length}{}{}", Word(end, "end"), Pad(pad))
             }
             FrameRef::Headers {
@@ -51,11 +72,10 @@ impl fmt::Display for FrameLine<'_> {
             FrameRef::Reset { stream, code } => write!(f, "RST_STREAM {stream} 4 code={code}"),
             FrameRef::Settings { ack, pairs } => write_settings(f, ack, pairs),
             FrameRef::Ping { ack, octets } => {
-                let octets = u64::from_be_bytes(octets);
-                write!(f, "PING 0 8{} {octets:016x}", Word(ack, "ack"))
+                write!(f, "PING 0 8{} {}", Word(ack, "ack"), Hexadecimal(octets))
             }
             FrameRef::GoAway { last, code, debug } => {
-                let length = debug.len().saturating_add(GOAWAY);
+                let length = goaway_length(debug);
                 let count = debug.len();
                 write!(f, "GOAWAY 0 {length} last={last} code={code} debug={count}")
             }
@@ -88,6 +108,8 @@ impl fmt::Display for FrameLine<'_> {
 struct Word<'a>(bool, &'a str);
 
 impl fmt::Display for Word<'_> {
+    ghost output = { λ word. Some (flag_word word.0 word.1.now) };
+
     fn fmt<W: fmt::Write>(&self, f: &mut fmt::Formatter<W>) -> fmt::Result {
         match self.0 {
             true => write!(f, " {}", self.1),
@@ -101,6 +123,8 @@ impl fmt::Display for Word<'_> {
 struct Pad(Option<u8>);
 
 impl fmt::Display for Pad {
+    ghost output = { λ pad. Some (pad_word pad.0) };
+
     fn fmt<W: fmt::Write>(&self, f: &mut fmt::Formatter<W>) -> fmt::Result {
         match self.0 {
             Some(pad) => write!(f, " pad={pad}"),
@@ -109,8 +133,72 @@ impl fmt::Display for Pad {
     }
 }
 
+/// Octets in hexadecimal, two digits each.
+#[derive(Clone, Copy)]
+struct Hexadecimal([u8; 8]);
+
+impl fmt::Display for Hexadecimal {
+    ghost output = { λ octets. Some (flat_map hex_octet octets.0) };
+
+    fn fmt<W: fmt::Write>(&self, f: &mut fmt::Formatter<W>) -> fmt::Result {
+        match str::from_utf8(&hexadecimal_of(self.0)) {
+            Ok(digits) => f.write_str(digits),
+            // Digits are text: no octets lead here.
+            Err(_) => Err(fmt::Error),
+        }
+    }
+}
+
+/// The digits of octets in hexadecimal.
+fn hexadecimal_of(octets: [u8; 8]) -> [u8; 16]
+    ensures { result ≡ flat_map hex_octet octets }
+{
+    let [a, b, c, d, e, f, g, h] = octets;
+    [
+        digit(a / 16),
+        digit(a % 16),
+        digit(b / 16),
+        digit(b % 16),
+        digit(c / 16),
+        digit(c % 16),
+        digit(d / 16),
+        digit(d % 16),
+        digit(e / 16),
+        digit(e % 16),
+        digit(f / 16),
+        digit(f % 16),
+        digit(g / 16),
+        digit(g % 16),
+        digit(h / 16),
+        digit(h % 16),
+    ]
+}
+
+/// How many octets the payload of DATA has.
+fn data_length(octets: &[u8], pad: Option<u8>) -> usize
+    ensures { result ≡ length octets.now + pad_octets pad }
+{
+    octets.len().saturating_add(padded(pad))
+}
+
+/// How many octets the payload of SETTINGS has.
+fn settings_length(pairs: Pairs<'_>) -> usize
+    ensures { result ≡ 6 * length (lent_pairs pairs.entry) }
+{
+    pairs.len().saturating_mul(PAIR)
+}
+
+/// How many octets the payload of GOAWAY has.
+fn goaway_length(debug: &[u8]) -> usize
+    ensures { result ≡ 8 + length debug.now }
+{
+    debug.len().saturating_add(GOAWAY)
+}
+
 /// How many octets the payload of HEADERS has.
-fn headers_length(fragment: &[u8], pad: Option<u8>, prioritized: bool) -> usize {
+fn headers_length(fragment: &[u8], pad: Option<u8>, prioritized: bool) -> usize
+    ensures { result ≡ length fragment.now + pad_octets pad + (if prioritized then 5 else 0) }
+{
     let priority = if prioritized { PRIORITY } else { 0 };
     fragment
         .len()
@@ -119,19 +207,26 @@ fn headers_length(fragment: &[u8], pad: Option<u8>, prioritized: bool) -> usize 
 }
 
 /// How many octets of a payload are pad length and padding.
-fn padded(pad: Option<u8>) -> usize {
+fn padded(pad: Option<u8>) -> usize
+    ensures value { result ≡ pad_octets pad }
+    ensures bound { result < 257 }
+{
     match pad {
         Some(pad) => usize::from(pad) + 1,
         None => 0,
     }
 }
 
+#[tactic(auto, unfolding(crate::specs::Lines::frame_words))]
 fn write_settings<W: fmt::Write>(
     f: &mut fmt::Formatter<W>,
     ack: bool,
     pairs: Pairs<'_>,
-) -> fmt::Result {
-    let length = pairs.len().saturating_mul(PAIR);
+) -> fmt::Result
+    ensures { WritesOnOk W.write_str_gives f.old result
+        (frame_words (Settings ack (lent_pairs pairs.entry))) f.new }
+{
+    let length = settings_length(pairs);
     write!(f, "SETTINGS 0 {length}{}", Word(ack, "ack"))?;
     for (id, value) in pairs.iter() {
         write!(f, " {id}={value}")?;
@@ -140,7 +235,10 @@ fn write_settings<W: fmt::Write>(
 }
 
 /// Prints the lines of a block's list: one a field, or that the list is too large.
-pub(crate) fn write_list<W: Write>(list: &List, out: &mut W) -> io::Result<()> {
+pub(crate) fn write_list<W: Write>(list: &List, out: &mut W) -> io::Result<()>
+    ensures { OnOk result (Appends (W.contents out.old) (W.contents out.new)
+        (answered_lines list.now)) }
+{
     let List::Whole(fields) = list else {
         return out.write_all(b"  list too large\n");
     };
@@ -162,7 +260,10 @@ pub(crate) fn write_list<W: Write>(list: &List, out: &mut W) -> io::Result<()> {
 /// # Errors
 ///
 /// Those of the writer.
-pub fn write_field<W: Write>(field: FieldRef<'_>, out: &mut W) -> io::Result<()> {
+pub fn write_field<W: Write>(field: FieldRef<'_>, out: &mut W) -> io::Result<()>
+    ensures { OnOk result (Appends (W.contents out.old) (W.contents out.new)
+        (field_line (field_of field.entry))) }
+{
     out.write_all(if field.sensitive { b"  !" } else { b"  " })?;
     write_text(field.name, out)?;
     out.write_all(b": ")?;
@@ -171,32 +272,44 @@ pub fn write_field<W: Write>(field: FieldRef<'_>, out: &mut W) -> io::Result<()>
 }
 
 // Prints octets as text: those that aren't printable ASCII, and the backslash, escaped.
-fn write_text<W: Write>(octets: &[u8], out: &mut W) -> io::Result<()> {
-    for run in octets.split_inclusive(|octet| !is_plain(*octet)) {
-        match run.split_last() {
-            Some((last, plain)) if !is_plain(*last) => {
-                out.write_all(plain)?;
-                out.write_all(&escaped(*last))?;
-            }
-            _ => out.write_all(run)?,
-        }
+fn write_text<W: Write>(octets: &[u8], out: &mut W) -> io::Result<()>
+    ensures { OnOk result (Appends (W.contents out.old) (W.contents out.new)
+        (shown_octets octets.now)) }
+{
+    let mut rest = octets;
+    while let Some(count) = plain_count(rest) {
+        out.write_all(&rest[..count])?;
+        out.write_all(&escaped(rest[count]))?;
+        rest = &rest[count + 1..];
     }
-    Ok(())
+    out.write_all(rest)
+}
+
+// How many octets precede the first that is escaped, where there is one.
+fn plain_count(octets: &[u8]) -> Option<usize>
+    ensures { result ≡ position (λ octet. not (plain octet)) octets.now }
+{
+    octets.iter().position(|octet| !is_plain(*octet))
 }
 
 // Whether an octet is printed as it is.
-fn is_plain(octet: u8) -> bool {
+fn is_plain(octet: u8) -> bool
+    ensures { result ≡ plain octet }
+{
     (0x20..=0x7e).contains(&octet) && octet != b'\\'
 }
 
 // An octet as `\x` and two hexadecimal digits.
-fn escaped(octet: u8) -> [u8; 4] {
+fn escaped(octet: u8) -> [u8; 4]
+    ensures { result ≡ 92 ∷ 120 ∷ hex_octet octet }
+{
     [b'\\', b'x', digit(octet / 16), digit(octet % 16)]
 }
 
 // A number as a hexadecimal digit.
 fn digit(number: u8) -> u8
     requires { number < 16 }
+    ensures { result ≡ hex_digit number }
 {
     if number < 10 {
         b'0' + number

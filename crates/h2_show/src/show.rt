@@ -1,11 +1,15 @@
 //! An input, shown to its end.
 
-ghost use Rattle.std.specs.Prelude.{◌≡◌, ◌<◌, length, [], true, Err};
-ghost use Rattle.std.specs.Prelude.{IsOk, IfOk, OnOk, IfErr, IfSome};
-ghost use Rattle.std.specs.Io.Buffered.{writer_buffer};
+ghost use Rattle.std.specs.Prelude.{◌≡◌, ◌<◌, ℕ, List, length, [], true, Err};
+ghost use Rattle.std.specs.Prelude.{◌∷◌, option_map, IsOk, IfOk, OnOk, IfErr, IfSome};
+ghost use Rattle.std.specs.Io.Buffered.{writer_buffer, writer_contents};
+ghost use Rattle.std.specs.Io.KnownBytes.{Appends};
 ghost use Rattle.h2_show.specs.Hexadecimal.{IsBadHex};
+ghost use Rattle.h2_show.specs.Printed.{ViewerPrints, ViewerFailsWith, ShowsAfter, ShowsText};
 ghost use Rattle.h2_show.specs.Report.{StatusReportsOctets, StatusReportsText, StatusReportsInput};
+ghost use Rattle.h2_show.specs.Shown.{ShowsOctets, ShowsInput};
 ghost use Rattle.h2_show.specs.Viewer.{ViewerContinues, ViewerFails, StatusReportsAfter};
+ghost use Rattle.h2_show.specs.Viewer.{IsStreamFault};
 
 use crate::failure::Failure;
 use crate::hint::Hint;
@@ -23,6 +27,30 @@ pub struct Shown {
     pub status: Status,
     /// What is likely wrong with the options, where the first octets aren't the preface.
     pub hint: Option<Hint>,
+}
+
+/// A writer that is lent.
+#[derive(Drop)]
+struct Lent<'a, W> {
+    out: &'a mut W,
+}
+
+impl<W: Write> Write for Lent<'_, W> {
+    // The name of the reference precedes the octets, so what is appended says that it is the same.
+    ghost contents = { λ lent. option_map (λ known. lent.out.ghost_name ∷ known)
+        (W.contents lent.out.now) };
+
+    fn write(&mut self, octets: &[u8]) -> io::Result<usize> {
+        self.out.write(octets)
+    }
+
+    fn flush(&mut self) -> io::Result<()> {
+        self.out.flush()
+    }
+
+    fn write_all(&mut self, octets: &[u8]) -> io::Result<()> {
+        self.out.write_all(octets)
+    }
 }
 
 /// Shows the input: a line for each frame, the fields of a block under the frame that ends it, and
@@ -49,11 +77,17 @@ pub fn show_input<R: Read, W: Write>(
         (λ given. StatusReportsInput options given shown.status)) }
     ensures bad_hex { result ≡ Err Failure.BadHex
         → (options.hex ≡ true) × IfSome (R.remaining input.old) IsBadHex }
+    ensures shows { IfOk result (λ shown. IfSome (R.remaining input.old) (λ given.
+        (lines : List ℕ) × ShowsInput options given shown.status lines
+        × Appends (W.contents out.old) (W.contents out.new) lines)) }
 {
-    let mut lines = BufWriter::with_capacity(alloc, PIECE, out)?;
+    let mut lines = BufWriter::with_capacity(alloc, PIECE, Lent { out })?;
     let shown = show_lines(alloc, options, input, &mut lines);
     // Only a failed write has left something, which isn't written again.
-    let _ = lines.into_parts();
+    let (lent, _) = lines.into_parts();
+    let Lent { out: written } = lent;
+    // No effect at run time. The proof reads what `out` holds from this use of `written`.
+    let _ = &*written;
     shown
 }
 
@@ -69,20 +103,42 @@ fn show_lines<R: Read, W: Write + Drop>(
     ensures bad_hex { result ≡ Err Failure.BadHex
         → (options.hex ≡ true) × IfSome (R.remaining input.old) IsBadHex }
     ensures written { IsOk result → writer_buffer lines.new ≡ [] }
+    ensures shows { IfOk result (λ shown. IfSome (R.remaining input.old) (λ given.
+        (printed : List ℕ) × ShowsInput options given shown.status printed
+        × Appends (writer_contents W.contents lines.old) (writer_contents W.contents lines.new)
+        printed)) }
 {
-    let shown = if options.hex {
-        show_hex(alloc, options.from, input, lines)
-    } else {
-        match show_octets(alloc, options.from, input, lines) {
-            Ok(shown) => Ok(shown),
-            Err(error) => Err(Failure::from(error)),
-        }
-    };
+    let shown = show_given(alloc, options, input, lines);
     if let Err(Failure::Device) = shown {
         return shown;
     }
     lines.flush()?;
     shown
+}
+
+// Shows the input, into the buffer.
+fn show_given<R: Read, W: Write + Drop>(
+    alloc: Global,
+    options: ShowOptions,
+    input: &mut R,
+    lines: &mut BufWriter<W>,
+) -> Result<Shown, Failure>
+    ensures reports { IfOk result (λ shown. IfSome (R.remaining input.old)
+        (λ given. StatusReportsInput options given shown.status)) }
+    ensures bad_hex { result ≡ Err Failure.BadHex
+        → (options.hex ≡ true) × IfSome (R.remaining input.old) IsBadHex }
+    ensures shows { IfOk result (λ shown. IfSome (R.remaining input.old) (λ given.
+        (printed : List ℕ) × ShowsInput options given shown.status printed
+        × Appends (writer_contents W.contents lines.old) (writer_contents W.contents lines.new)
+        printed)) }
+{
+    if options.hex {
+        return show_hex(alloc, options.from, input, lines);
+    }
+    match show_octets(alloc, options.from, input, lines) {
+        Ok(shown) => Ok(shown),
+        Err(error) => Err(Failure::from(error)),
+    }
 }
 
 // Shows the octets that an end sent, as they come.
@@ -92,8 +148,12 @@ fn show_octets<R: Read, W: Write + Drop>(
     input: &mut R,
     lines: &mut BufWriter<W>,
 ) -> io::Result<Shown>
-    ensures { IfOk result (λ shown. IfSome (R.remaining input.old)
+    ensures reports { IfOk result (λ shown. IfSome (R.remaining input.old)
         (λ octets. StatusReportsOctets from octets shown.status)) }
+    ensures shows { IfOk result (λ shown. IfSome (R.remaining input.old) (λ octets.
+        (printed : List ℕ) × ShowsOctets from octets shown.status printed
+        × Appends (writer_contents W.contents lines.old) (writer_contents W.contents lines.new)
+        printed)) }
 {
     let mut buffer = new_buffer(alloc)?;
     let mut viewer = Viewer::new(alloc, from)?;
@@ -110,8 +170,13 @@ fn show_pieces<R: Read, W: Write + Drop>(
 ) -> io::Result<Shown>
     requires { 0 < length buffer.old }
     // Of a reader whose octets are known, the status reports all of them, whatever pieces it gave.
-    ensures { IfOk result (λ shown. IfSome (R.remaining input.old)
+    ensures reports { IfOk result (λ shown. IfSome (R.remaining input.old)
         (λ octets. StatusReportsAfter viewer.old.cutter viewer.old.blocks octets shown.status)) }
+    ensures shows { IfOk result (λ shown. IfSome (R.remaining input.old) (λ octets.
+        (printed : List ℕ) × ShowsAfter viewer.old.cutter viewer.old.blocks
+        viewer.old.preface.is_due octets shown.status printed
+        × Appends (writer_contents W.contents lines.old) (writer_contents W.contents lines.new)
+        printed)) }
 {
     for _ in 0..u64::MAX {
         let count = read_some(input, buffer)?;
@@ -143,6 +208,16 @@ fn write_piece<W: Write + Drop>(
     ensures err { IfErr result (λ error. ViewerFails viewer.old.cutter viewer.old.blocks piece.now
         error viewer.new.cutter) }
     ensures written { OnOk result (writer_buffer lines.new ≡ []) }
+    ensures shown { OnOk result ((printed : List ℕ)
+        × Appends (writer_contents W.contents lines.old) (writer_contents W.contents lines.new)
+        printed
+        × ViewerPrints viewer.old.cutter viewer.old.blocks viewer.old.preface.is_due piece.now
+        viewer.new.cutter viewer.new.blocks viewer.new.preface.is_due printed) }
+    ensures fault { IfErr result (λ error. IsStreamFault error → (printed : List ℕ)
+        × Appends (writer_contents W.contents lines.old) (writer_contents W.contents lines.new)
+        printed
+        × ViewerFailsWith viewer.old.cutter viewer.old.blocks viewer.old.preface.is_due piece.now
+        error viewer.new.cutter viewer.new.preface.is_due printed) }
 {
     viewer.show_piece(piece, lines)?;
     Ok(lines.flush()?)
@@ -157,6 +232,9 @@ fn show_hex<R: Read, W: Write>(
 ) -> Result<Shown, Failure>
     ensures reports { IfOk result (λ shown. IfSome (R.remaining input.old)
         (λ text. StatusReportsText from text shown.status)) }
+    ensures shows { IfOk result (λ shown. IfSome (R.remaining input.old) (λ text.
+        (printed : List ℕ) × ShowsText from text shown.status printed
+        × Appends (W.contents out.old) (W.contents out.new) printed)) }
     ensures bad_hex { result ≡ Err Failure.BadHex → IfSome (R.remaining input.old) IsBadHex }
 {
     let octets = read_hex(alloc, input)?;
@@ -166,7 +244,10 @@ fn show_hex<R: Read, W: Write>(
 
 // Shows the octets that an end sent, all at once.
 fn show_all<W: Write>(alloc: Global, from: Side, octets: &[u8], out: &mut W) -> io::Result<Shown>
-    ensures { IfOk result (λ shown. StatusReportsOctets from octets.now shown.status) }
+    ensures reports { IfOk result (λ shown. StatusReportsOctets from octets.now shown.status) }
+    ensures shows { IfOk result (λ shown. (printed : List ℕ)
+        × ShowsOctets from octets.now shown.status printed
+        × Appends (W.contents out.old) (W.contents out.new) printed) }
 {
     let mut viewer = Viewer::new(alloc, from)?;
     match viewer.show_piece(octets, out) {

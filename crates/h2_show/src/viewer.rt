@@ -1,17 +1,20 @@
 //! Shows a stream of frames that comes in pieces.
 
-ghost use Rattle.std.specs.Prelude.{◌≡◌, ◌==◌, not, ◌&&◌, length, if◌then◌else◌};
-ghost use Rattle.std.specs.Prelude.{[], ◌++◌, codes, decimal, OnOk, IfOk, IfErr};
+ghost use Rattle.std.specs.Prelude.{◌≡◌, ◌==◌, not, ◌&&◌, length, if◌then◌else◌, ℕ, List, false};
+ghost use Rattle.std.specs.Prelude.{[], OnOk, IfOk, IfErr};
 ghost use Rattle.std.specs.Io.KnownBytes.{Appends};
 ghost use Rattle.std.specs.Option.{is_some};
-ghost use Rattle.h2_frame.specs.Codes.{name_of};
+ghost use Rattle.h2_show.specs.Lines.{fault_line};
+ghost use Rattle.h2_show.specs.Printed.{due_line, error_lines, end_lines, ViewerShows};
+ghost use Rattle.h2_show.specs.Printed.{ViewerPrints};
+ghost use Rattle.h2_show.specs.Printed.{ViewerFailsWith};
 ghost use Rattle.h2_show.specs.Report.{begins_with_preface, first_limits};
 ghost use Rattle.h2_show.specs.Viewer.{ViewerRepresents, ViewerContinues, ViewerFails};
 ghost use Rattle.h2_show.specs.Viewer.{IsStreamFault};
 ghost use Rattle.h2_show.specs.declared.viewer.ShowError.TheVariants.{Wire, Block, Output};
 
 use crate::blocks::{BlockError, Blocks};
-use crate::lines::{FrameLine, write_list};
+use crate::lines::{write_frame, write_list};
 use crate::options::Side;
 use crate::status::Status;
 use h2_frame::Code;
@@ -74,7 +77,12 @@ impl From<io::Error> for ShowError {
 
 impl PrefaceLine {
     // Prints the line where it is still to be printed and the preface is complete.
-    fn advance<W: Write>(&mut self, is_complete: bool, out: &mut W) -> io::Result<()> {
+    fn advance<W: Write>(&mut self, is_complete: bool, out: &mut W) -> io::Result<()>
+        ensures due { OnOk result (self.new.is_due ≡ (if is_complete then false
+            else self.old.is_due)) }
+        ensures line { OnOk result (Appends (W.contents out.old) (W.contents out.new)
+            (due_line (self.old.is_due && is_complete))) }
+    {
         if self.is_due && is_complete {
             self.is_due = false;
             out.write_all(b"preface\n")?;
@@ -90,8 +98,10 @@ impl Viewer {
     ///
     /// [`AllocError`] when out of memory.
     pub(crate) fn new(alloc: Global, from: Side) -> Result<Viewer, AllocError>
-        ensures { IfOk result (λ viewer. ViewerRepresents viewer.cutter viewer.blocks
+        ensures represents { IfOk result (λ viewer. ViewerRepresents viewer.cutter viewer.blocks
             (begins_with_preface from) first_limits []) }
+        ensures shows { IfOk result (λ viewer. ViewerShows viewer.cutter viewer.blocks
+            viewer.preface.is_due (begins_with_preface from) first_limits [] []) }
     {
         let expect_preface = from.begins_with_preface();
         Ok(Viewer {
@@ -107,7 +117,8 @@ impl Viewer {
     ///
     /// By `ok` the piece was used to its end: the cutter and the blocks represent all octets so
     /// far, however they were cut into pieces. By `err` the stream is at fault right after the
-    /// frames taken, or with the last of them. That each frame is printed, in order, is tested.
+    /// frames taken, or with the last of them. What is printed shows the octets so far: each frame
+    /// in order, and the fields of each block.
     ///
     /// # Errors
     ///
@@ -122,6 +133,14 @@ impl Viewer {
             self.new.cutter self.new.blocks) }
         ensures err { IfErr result (λ error. ViewerFails self.old.cutter self.old.blocks piece.now
             error self.new.cutter) }
+        ensures shown { OnOk result ((printed : List ℕ)
+            × Appends (W.contents out.old) (W.contents out.new) printed
+            × ViewerPrints self.old.cutter self.old.blocks self.old.preface.is_due piece.now
+            self.new.cutter self.new.blocks self.new.preface.is_due printed) }
+        ensures fault { IfErr result (λ error. IsStreamFault error → (printed : List ℕ)
+            × Appends (W.contents out.old) (W.contents out.new) printed
+            × ViewerFailsWith self.old.cutter self.old.blocks self.old.preface.is_due piece.now
+            error self.new.cutter self.new.preface.is_due printed) }
     {
         let mut done = 0;
         while done < piece.len() {
@@ -133,7 +152,7 @@ impl Viewer {
             };
             let list = self.blocks.take(frame)?;
             self.preface.advance(true, out)?;
-            writeln!(out, "{}", FrameLine(frame))?;
+            write_frame(frame, out)?;
             if let Some(list) = list {
                 write_list(&list, out)?;
             }
@@ -152,7 +171,9 @@ impl Viewer {
         error: ShowError,
         out: &mut W,
     ) -> io::Result<Status>
-        ensures { IfOk result (λ status. (status ≡ Status.Fault) × IsStreamFault error) }
+        ensures status { IfOk result (λ status. (status ≡ Status.Fault) × IsStreamFault error) }
+        ensures lines { OnOk result (Appends (W.contents out.old) (W.contents out.new)
+            (error_lines error self.old.cutter.place self.old.preface.is_due)) }
     {
         match error {
             ShowError::Output(error) => Err(error),
@@ -172,8 +193,7 @@ impl Viewer {
     fn show_fault<W: Write>(&self, code: Code, out: &mut W) -> io::Result<Status>
         ensures status { IfOk result (λ status. status ≡ Status.Fault) }
         ensures line { IfOk result (λ status. Appends (W.contents out.old) (W.contents out.new)
-            (codes "fault " ++ name_of code ++ codes " at " ++ decimal self.now.cutter.place
-            ++ codes "\n")) }
+            (fault_line code self.now.cutter.place)) }
     {
         writeln!(out, "fault {code} at {}", self.cutter.place())?;
         Ok(Status::Fault)
@@ -186,9 +206,11 @@ impl Viewer {
     ///
     /// Those of the writer.
     pub(crate) fn show_end<W: Write>(&self, out: &mut W) -> io::Result<Status>
-        ensures { IfOk result (λ status. status ≡
+        ensures status { IfOk result (λ status. status ≡
             (if length self.now.cutter.unparsed == 0 && not (is_some self.now.blocks.gather.begun)
             then Status.Good else Status.Fault)) }
+        ensures lines { OnOk result (Appends (W.contents out.old) (W.contents out.new)
+            (end_lines (length self.now.cutter.unparsed) (is_some self.now.blocks.gather.begun))) }
     {
         let held = self.cutter.held();
         if held != 0 {
@@ -203,7 +225,9 @@ impl Viewer {
     }
 
     /// How many octets were used, or the number of the octet at fault, from 1 on.
-    pub(crate) fn place(&self) -> u64 {
+    pub(crate) fn place(&self) -> u64
+        ensures { result ≡ self.now.cutter.place }
+    {
         self.cutter.place()
     }
 }

@@ -1,2 +1,1 @@
-pub mod Locating
 pub mod Printing

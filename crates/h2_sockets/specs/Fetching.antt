@@ -10,7 +10,7 @@ use Rattle.h2_engines.specs.declared.fetcher.Fetched.{Fetched}
 use Rattle.h2_engines.specs.Answers.{answer_field}
 use Rattle.h2_engines.specs.Fetches.{Fetches}
 use Rattle.h2_engines.specs.Linked.{Traffic}
-use Rattle.h2_sockets.specs.declared.location.Location.{Location}
+use Rattle.h2_location.specs.declared.location.Location.{Location}
 
 -- the values of a connection that says nothing else (RFC 9113, section 6.5.2), and 100 streams
 abbrev pub default_values : Values
@@ -33,3 +33,9 @@ abbrev pub FetchesLocation : Location → (start now : Traffic) → Result Fetch
 FetchesLocation location start now result =
     Fetches default_values (get_request location) start now result
     ⊎ ((result ≡ Err errors.Memory) × (now ≡ start))
+
+-- The location was fetched over a new connection; or none could be made, or there was no memory for
+-- it.
+abbrev pub GetsLocation : Location → Result Fetched LinkError → Type 0
+GetsLocation location result = (result ≡ Err errors.Device) ⊎ ((result ≡ Err errors.Memory)
+    ⊎ ((start now : Traffic) × FetchesLocation location start now result))

@@ -1,5 +1,4 @@
 pub mod Endings
 pub mod Fetching
-pub mod Locations
 pub mod Loopback
 pub mod Printing

@@ -1,5 +1,6 @@
 -- What is printed of a response.
-use Rattle.std.specs.Prelude.{◌≡◌, ◌⊎◌, ℕ, List, ◌++◌, codes, Option, Some, None}
+use Rattle.std.specs.Prelude.{◌≡◌, ◌⊎◌, ℕ, List, ◌++◌, length, codes, decimal}
+use Rattle.std.specs.Prelude.{Option, Some, None}
 use Rattle.std.specs.Io.KnownBytes.{Appends}
 use Rattle.http.specs.StatusCode.{IsCodeText, code_digits, reason_phrase}
 use Rattle.h2_message.specs.Fields.{status_of}
@@ -22,3 +23,9 @@ PrintsResponse before after fetched =
     (phrase : Option (List ℕ)) × IsPhraseOf (status_of fetched.head.items) phrase
     × Appends before after
     (status_line (status_of fetched.head.items) phrase ++ fetched.body.items)
+
+-- how many octets were posted, how many the body of the response has, and its status
+abbrev pub exchange_line : (count : ℕ) → Fetched → List ℕ
+exchange_line count fetched =
+    codes "sent " ++ decimal count ++ codes " got " ++ decimal (length fetched.body.items)
+    ++ codes " status " ++ status_of fetched.head.items ++ codes "\n"

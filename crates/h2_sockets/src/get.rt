@@ -6,14 +6,14 @@ ghost use Rattle.std.specs.Io.KnownBytes.{Appends};
 ghost use Rattle.http.specs.StatusCode.{reason_phrase};
 ghost use Rattle.h2_message.specs.Fields.{status_of};
 ghost use Rattle.h2_message.specs.Values.{message_value};
-ghost use Rattle.h2_engines.specs.Failures.{failures_told};
+ghost use Rattle.h2_engines.specs.Failures.{failures_at_end};
 ghost use Rattle.h2_engines.specs.Linked.{traffic};
-ghost use Rattle.h2_sockets.specs.Fetching.{FetchesLocation, get_request};
+ghost use Rattle.h2_sockets.specs.Fetching.{FetchesLocation, GetsLocation, get_request};
 ghost use Rattle.h2_sockets.specs.Printing.{IsPhraseOf, PrintsResponse, status_line};
 
-use crate::location::Location;
-use crate::stream_link::StreamLink;
 use h2_engines::{Config, Fetched, Field, Link, LinkError, Message, fetch_link};
+use h2_location::Location;
+use h2_stream_link::StreamLink;
 use http::StatusCode;
 use std::alloc::{AllocError, Global};
 use std::io::{self, Write};
@@ -29,11 +29,16 @@ pub fn get_location<N: Net>(
     net: &N,
     alloc: Global,
     location: &Location,
-) -> Result<Fetched, LinkError> {
+) -> Result<Fetched, LinkError>
+    ensures { GetsLocation location.now result }
+{
     let Ok(stream) = TcpStream::connect(net, (location.host.as_str(), location.port)) else {
         return Err(LinkError::Device);
     };
-    let mut link = StreamLink::new(alloc, stream)?;
+    let mut link = match StreamLink::new(alloc, stream) {
+        Ok(link) => link,
+        Err(error) => return Err(error),
+    };
     let fetched = get_over(alloc, &mut link, location);
     // A GOAWAY may be held. That it can't be sent changes nothing of what was fetched.
     let _ = link.flush();
@@ -54,7 +59,7 @@ pub fn get_over<L: Link>(
     ensures fetches { FetchesLocation location.now
         (traffic (L.given link.old) (L.taken link.old) (L.stalled link.old))
         (traffic (L.given link.new) (L.taken link.new) (L.stalled link.new)) result }
-    ensures failures { L.faults link.new ≡ failures_told (L.faults link.old) result }
+    ensures failures { L.faults link.new ≡ failures_at_end (L.faults link.old) result }
 {
     match request_to(alloc, location) {
         Ok(message) => fetch_link(alloc, link, Config::default(), message),

@@ -6,17 +6,15 @@
 
 mod ending;
 mod get;
-mod location;
 mod loopback;
 mod serving;
-mod stream_link;
 #[cfg(test)]
 mod tests;
 
 pub use ending::{report, status_of};
 pub use get::{get_location, get_over, phrase, print_response};
 pub use h2_engines::{Fetched, LinkError};
-pub use location::{Location, TargetFault, target};
-pub use loopback::{MOST_POSTED, exchange, print_exchange};
+pub use h2_location::{Location, TargetFault, target};
+pub use h2_stream_link::StreamLink;
+pub use loopback::{exchange, print_exchange};
 pub use serving::{serve_connections, serve_port};
-pub use stream_link::StreamLink;

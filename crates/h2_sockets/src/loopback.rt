@@ -1,19 +1,18 @@
 //! Both ends in one process, over one connection.
 
 ghost use Rattle.std.specs.Prelude.{◌≡◌, ◌≤◌, ◌<◌, ◌-◌, ◌^◌, length, IfErr, IfOk, OnOk};
-ghost use Rattle.h2_engines.specs.Failures.{failures_told};
+ghost use Rattle.std.specs.Io.KnownBytes.{Appends};
+ghost use Rattle.h2_engines.specs.Failures.{failures_at_end};
 ghost use Rattle.h2_sockets.specs.Loopback.{NoneHasFailed};
+ghost use Rattle.h2_sockets.specs.Printing.{exchange_line};
 
 use crate::get::status_value;
-use crate::stream_link::StreamLink;
 use h2_engines::{Config, Fetched, Fetcher, Field, Link, LinkError, Message, Responder};
 use h2_link::write_all;
+use h2_stream_link::StreamLink;
 use std::alloc::{AllocError, Global};
-use std::io::{Read, Write};
+use std::io::{self, Read, Write};
 use std::net::{Ipv4Addr, Net, OpenListener, OpenStream, SocketAddr, TcpListener, TcpStream};
-
-/// The most octets that are posted.
-pub const MOST_POSTED: u32 = 1_048_576;
 
 /// So many octets an end writes in its turn, at most.
 const TURN: usize = 4_096;
@@ -101,15 +100,25 @@ fn carry_all<S: Read + Write + OpenStream>(
 ///
 /// N1 where a write failed.
 pub fn print_exchange<W: Write>(count: u32, fetched: &Fetched, out: &mut W) -> Result<(), LinkError>
+    ensures prints { OnOk result (Appends (W.contents out.old) (W.contents out.new)
+        (exchange_line count fetched.now)) }
     ensures err { IfErr result (λ error. error ≡ LinkError.Device) }
 {
-    let status = str::from_utf8(status_value(&fetched.head)).unwrap_or("none");
-    let length = fetched.body.len();
-    let written = writeln!(out, "sent {count} got {length} status {status}");
-    match written.and_then(|()| out.flush()) {
+    match write_exchange(count, fetched, out) {
         Ok(()) => Ok(()),
         Err(_) => Err(LinkError::Device),
     }
+}
+
+fn write_exchange<W: Write>(count: u32, fetched: &Fetched, out: &mut W) -> io::Result<()>
+    ensures { OnOk result (Appends (W.contents out.old) (W.contents out.new)
+        (exchange_line count fetched.now)) }
+{
+    let length = fetched.body.len();
+    write!(out, "sent {count} got {length} status ")?;
+    out.write_all(status_value(&fetched.head))?;
+    out.write_all(b"\n")?;
+    out.flush()
 }
 
 /// The request that posts so many octets.
@@ -222,7 +231,7 @@ fn carry<S: Read + Write + OpenStream>(
 fn read_all<L: Link>(link: &mut L, room: &mut [u8]) -> Result<(), LinkError>
     requires { L.faults link.old < 2 ^ 64 - 1 }
     ensures length { length room.new ≡ length room.old }
-    ensures failures { L.faults link.new ≡ failures_told (L.faults link.old) result }
+    ensures failures { L.faults link.new ≡ failures_at_end (L.faults link.old) result }
 {
     let mut filled = 0usize;
     for _ in 0..room.len() {

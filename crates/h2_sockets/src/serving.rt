@@ -1,11 +1,17 @@
 //! Serving connections to a port.
 
-ghost use Rattle.std.specs.Prelude.{◌≡◌};
+ghost use Rattle.std.specs.Prelude.{◌≡◌, ℕ, Result as Outcome, OnOk, IfErr, None, true};
+ghost use Rattle.h2_link.specs.declared.error.LinkError.{LinkError as Ending};
+ghost use Rattle.h2_engines.specs.Failures.{EndsServing};
+ghost use Rattle.h2_engines.specs.Linked.{traffic};
+ghost use Rattle.h2_engines.specs.Serves.{Serves};
+ghost use Rattle.h2_sockets.specs.Endings.{EndsStream, IsServingStatus};
+ghost use Rattle.h2_sockets.specs.Fetching.{default_values};
 
 use crate::ending::report;
-use crate::stream_link::StreamLink;
 use h2_engines::{Config, LinkError, serve_link};
 use h2_show::Status;
+use h2_stream_link::StreamLink;
 use std::alloc::Global;
 use std::io::{Read, Write};
 use std::net::{Ipv4Addr, Net, OpenListener, OpenStream, SocketAddr, TcpListener};
@@ -22,7 +28,9 @@ pub fn serve_port<N: Net, E: Write>(
     port: u16,
     count: u16,
     err: &mut E,
-) -> Status {
+) -> Status
+    ensures { IsServingStatus result }
+{
     match TcpListener::bind(net, SocketAddr::from((Ipv4Addr::LOCALHOST, port))) {
         Ok(listener) => serve_connections(alloc, &listener, count, err),
         Err(_) => report(LinkError::Device, err),
@@ -39,6 +47,7 @@ pub fn serve_connections<L: OpenListener, E: Write>(
 ) -> Status
 where
     L::Stream: Read + Write + OpenStream,
+    ensures { IsServingStatus result }
 {
     let mut status = Status::Good;
     for _ in 0..count {
@@ -56,12 +65,15 @@ where
 fn serve_next<L: OpenListener>(alloc: Global, listener: &L) -> Result<(), LinkError>
 where
     L::Stream: Read + Write + OpenStream,
+    ensures { IfErr result EndsServing }
 {
     let Ok((stream, _)) = listener.accept() else {
         return Err(LinkError::Device);
     };
-    let mut link = StreamLink::new(alloc, stream)?;
-    serve_stream(alloc, &mut link)
+    match StreamLink::new(alloc, stream) {
+        Ok(mut link) => serve_stream(alloc, &mut link),
+        Err(error) => Err(error),
+    }
 }
 
 /// Serves one connection, and sends all that is held for it. After N2 and N3 the peer has the time
@@ -71,6 +83,11 @@ fn serve_stream<S: Read + Write + OpenStream>(
     link: &mut StreamLink<S>,
 ) -> Result<(), LinkError>
     requires { link.old.failures ≡ 0 }
+    ensures serves { (served : Outcome ℕ Ending) × EndsStream served result
+        × Serves default_values (traffic None None link.old.stalled)
+        (traffic None None link.new.stalled) served }
+    ensures ended { OnOk result (link.new.ended ≡ true) }
+    ensures err { IfErr result EndsServing }
 {
     let served = serve_link(alloc, link, Config::default());
     if link.flush().is_err() {

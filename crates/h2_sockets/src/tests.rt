@@ -1,10 +1,10 @@
-//! URLs, statuses, both ends over one connection, and a get that nothing answers.
+//! Statuses, both ends over one connection, and a get that nothing answers.
 
 mod serving;
 
 use crate::{
-    Fetched, LinkError, TargetFault, exchange, get_location, get_over, phrase, print_exchange,
-    print_response, serve_port, status_of, target,
+    Fetched, LinkError, exchange, get_location, get_over, phrase, print_exchange, print_response,
+    serve_port, status_of, target,
 };
 use h2_engines::{Field, Link, MemoryLink};
 use h2_show::Status;
@@ -12,74 +12,6 @@ use std::alloc::Global;
 use std::net::{Ipv4Addr, Net, OpenListener, SocketAddr, TcpListener};
 use std::process::Abort;
 use std::test::Fail;
-
-#[test]
-fn urls_that_can_be_fetched(rt: HostRuntime) -> Result<(), Fail> {
-    let cases = [
-        (
-            "http://127.0.0.1:9001",
-            "127.0.0.1",
-            9001,
-            "127.0.0.1:9001",
-            "/",
-        ),
-        ("http://localhost:1/", "localhost", 1, "localhost:1", "/"),
-        (
-            "HTTP://Example.com:65535/a/b",
-            "Example.com",
-            65535,
-            "Example.com:65535",
-            "/a/b",
-        ),
-        ("http://h:80/a?b=c&d", "h", 80, "h:80", "/a?b=c&d"),
-        ("http://h:80?b", "h", 80, "h:80", "/?b"),
-        ("http://h:80/a?b#c", "h", 80, "h:80", "/a?b"),
-        ("http://h:80/a#c?d", "h", 80, "h:80", "/a"),
-        ("http://h:80#c", "h", 80, "h:80", "/"),
-        ("http://[::1]:8080/x", "::1", 8080, "[::1]:8080", "/x"),
-    ];
-    for (url, host, port, authority, path) in cases {
-        match target(rt.alloc(), url.as_bytes()) {
-            Ok(target) => {
-                assert_eq!(rt; target.host.as_str(), host, "{url}");
-                assert_eq!(rt; target.port, port, "{url}");
-                assert_eq!(rt; target.authority.as_str(), authority, "{url}");
-                assert_eq!(rt; target.path.as_str(), path, "{url}");
-            }
-            Err(fault) => panic!(rt; "{url}: {fault}"),
-        }
-    }
-    Ok(())
-}
-
-#[test]
-fn urls_that_cannot_be_fetched(rt: HostRuntime) -> Result<(), Fail> {
-    let cases = [
-        ("", TargetFault::Unread),
-        ("http://", TargetFault::Unread),
-        ("http://h:80/a b", TargetFault::Unread),
-        ("/path", TargetFault::OtherScheme),
-        ("h:80", TargetFault::OtherScheme),
-        ("https://h:443/", TargetFault::OtherScheme),
-        ("ftp://h:21/", TargetFault::OtherScheme),
-        ("http://:80/", TargetFault::NoHost),
-        ("http://h/", TargetFault::NoPort),
-        ("http://h:/", TargetFault::NoPort),
-        ("http://h:0/", TargetFault::NoPort),
-        ("http://h:+80/", TargetFault::NoPort),
-        ("http://h:65536/", TargetFault::NoPort),
-        ("http://[::1]/", TargetFault::NoPort),
-        ("http://user@h:80/", TargetFault::UserInfo),
-        ("http://user:word@h:80/", TargetFault::UserInfo),
-    ];
-    for (url, fault) in cases {
-        match target(rt.alloc(), url.as_bytes()) {
-            Ok(_) => panic!(rt; "{url} is read"),
-            Err(found) => assert_eq!(rt; found, fault, "{url}"),
-        }
-    }
-    Ok(())
-}
 
 #[test]
 fn statuses_of_errors(rt: HostRuntime) {

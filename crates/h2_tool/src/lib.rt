@@ -5,7 +5,6 @@
 //! sockets opens them by the network that it is given.
 #![tactic(auto)]
 
-mod args;
 mod program;
 mod replay;
 mod show;
@@ -13,7 +12,6 @@ mod sockets;
 #[cfg(test)]
 mod tests;
 
-pub use args::{ServeOptions, get_args, loop_args, replay_args, serve_args, show_args};
 pub use program::{no_words, run};
 pub use replay::cmd_replay;
 pub use show::cmd_show;

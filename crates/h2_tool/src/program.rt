@@ -1,15 +1,17 @@
 //! The program as a whole.
 
-ghost use Rattle.std.specs.Prelude.{◌≡◌, ◌≢◌, ◌⊎◌, IfSome, map, string_bytes};
+ghost use Rattle.std.specs.Prelude.{◌≡◌, ◌≢◌, List, ℕ, ◌∷◌, codes, map, string_bytes};
+ghost use Rattle.clap.specs.Words.{kind_of};
 ghost use Rattle.h2_show.specs.Status.{failure_status};
-ghost use Rattle.h2_tool.specs.Commands.{CommandReports, ReadsInput};
+ghost use Rattle.h2_tool.specs.Commands.{AnswersWords, EndsShow, EndsReplay, EndsServe, EndsGet};
+ghost use Rattle.h2_tool.specs.Commands.{EndsLoop, EndsProgram, NamesNoCommand};
 
-use crate::args::no_command;
 use crate::replay::cmd_replay;
 use crate::show::cmd_show;
 use crate::sockets::{cmd_get, cmd_loop, cmd_serve};
 use clap::Error;
 use clap::error::ErrorKind;
+use h2_args::no_command;
 use h2_show::{Failure, Hint, Status};
 use std::alloc::Global;
 use std::io::{self, Read, Write};
@@ -26,11 +28,19 @@ pub fn run<N: Net, R: Read, W: Write, E: Write>(
     out: &mut W,
     err: &mut E,
 ) -> Status
-    ensures fault { ReadsInput (map string_bytes words.now) → result ≡ Status.Fault
-        → IfSome (R.remaining input.old) (λ given. CommandReports given result) }
-    ensures good { ReadsInput (map string_bytes words.now) → result ≡ Status.Good
-        → IfSome (R.remaining input.old) (λ given. CommandReports given result
-        ⊎ (R.remaining input.new ≡ R.remaining input.old)) }
+    ensures show { (others : List (List ℕ)) → map string_bytes words.now ≡ codes "show" ∷ others
+        → EndsShow others (R.remaining input.old) (R.remaining input.new) (W.contents out.old)
+        (W.contents out.new) result }
+    ensures replay { (others : List (List ℕ)) → map string_bytes words.now ≡ codes "replay" ∷ others
+        → EndsReplay others (R.remaining input.old) (R.remaining input.new) result }
+    ensures serve { (others : List (List ℕ)) → map string_bytes words.now ≡ codes "serve" ∷ others
+        → EndsServe others result }
+    ensures get { (others : List (List ℕ)) → map string_bytes words.now ≡ codes "get" ∷ others
+        → EndsGet others (W.contents out.old) (W.contents out.new) result }
+    ensures post { (others : List (List ℕ)) → map string_bytes words.now ≡ codes "loop" ∷ others
+        → EndsLoop others (W.contents out.old) (W.contents out.new) result }
+    ensures none { NamesNoCommand (map string_bytes words.now)
+        → EndsProgram (map string_bytes words.now) result }
 {
     if let Some((name, others)) = words.split_first() {
         match name.as_str() {
@@ -65,7 +75,8 @@ pub fn no_words<E: Write>(error: &io::Error, err: &mut E) -> Status
 /// Answers words that give no options: prints the help or the version that they ask for, or what is
 /// wrong with them.
 pub(crate) fn answer<W: Write, E: Write>(error: &Error, out: &mut W, err: &mut E) -> Status
-    ensures { result ≢ Status.Fault }
+    ensures kind { AnswersWords (kind_of error.now) result }
+    ensures unwritten { result ≡ Status.Usage → W.contents out.new ≡ W.contents out.old }
 {
     if let ErrorKind::OutOfMemory = error.kind() {
         return give_up(Failure::Memory, err);

@@ -1,11 +1,10 @@
 //! The command `h2 replay`.
 
-ghost use Rattle.std.specs.Prelude.{◌≡◌, ◌⊎◌, IfSome};
-ghost use Rattle.h2_events.specs.Report.{ReplayReportsInput};
-ghost use Rattle.h2_events.specs.declared.options.ReplayOptions.{ReplayOptions as Options};
+ghost use Rattle.std.specs.Prelude.{map, string_bytes};
+ghost use Rattle.h2_tool.specs.Commands.{EndsReplay};
 
-use crate::args::replay_args;
 use crate::program::{answer, give_hint, give_up};
+use h2_args::replay_args;
 use h2_events::replay_input;
 use h2_show::Status;
 use std::alloc::Global;
@@ -14,14 +13,13 @@ use std::io::{Read, Write};
 /// Runs `h2 replay` with the words after `replay`: hands the input to one end of a new connection,
 /// and prints a line for each event, then the fault with which the connection fails, if it does,
 /// and then all that the end sends. Where the first octets aren't the preface that a server
-/// expects,
-/// a line on standard error names the option that is likely missing.
+/// expects, a line on standard error names the option that is likely missing.
 ///
 /// The words are checked before anything is read. Lines are written at the end of each piece that
 /// was read.
 ///
-/// The status is that of [`replay_input`], and reports the octets truly under some options; for
-/// help it is [`Status::Good`] with nothing read, and for wrong words [`Status::Usage`].
+/// The status is that of [`replay_input`] under the options that the words give; for help it is
+/// [`Status::Good`] with nothing read, and for wrong words [`Status::Usage`].
 pub fn cmd_replay<R: Read, W: Write, E: Write>(
     alloc: Global,
     words: &[String],
@@ -29,11 +27,8 @@ pub fn cmd_replay<R: Read, W: Write, E: Write>(
     out: &mut W,
     err: &mut E,
 ) -> Status
-    ensures fault { result ≡ Status.Fault → IfSome (R.remaining input.old)
-        (λ given. (options : Options) × ReplayReportsInput options given result) }
-    ensures good { result ≡ Status.Good → IfSome (R.remaining input.old)
-        (λ given. ((options : Options) × ReplayReportsInput options given result)
-        ⊎ (R.remaining input.new ≡ R.remaining input.old)) }
+    ensures { EndsReplay (map string_bytes words.now) (R.remaining input.old)
+        (R.remaining input.new) result }
 {
     let options = match replay_args(alloc, words) {
         Ok(options) => options,

@@ -1,11 +1,10 @@
 //! The command `h2 show`.
 
-ghost use Rattle.std.specs.Prelude.{◌≡◌, ◌⊎◌, IfSome};
-ghost use Rattle.h2_show.specs.Report.{StatusReportsInput};
-ghost use Rattle.h2_show.specs.declared.options.ShowOptions.{ShowOptions as Options};
+ghost use Rattle.std.specs.Prelude.{map, string_bytes};
+ghost use Rattle.h2_tool.specs.Commands.{EndsShow};
 
-use crate::args::show_args;
 use crate::program::{answer, give_hint, give_up};
+use h2_args::show_args;
 use h2_show::{Status, show_input};
 use std::alloc::Global;
 use std::io::{Read, Write};
@@ -18,8 +17,9 @@ use std::io::{Read, Write};
 /// The words are checked before anything is read. Lines are written at the end of each piece that
 /// was read.
 ///
-/// The status is that of [`show_input`], and reports the octets truly under some options; for help
-/// it is [`Status::Good`] with nothing read, and for wrong words [`Status::Usage`].
+/// The status is that of [`show_input`] under the options that the words give, and what was printed
+/// are the lines of the input; for help it is [`Status::Good`] with nothing read, and for wrong
+/// words [`Status::Usage`].
 pub fn cmd_show<R: Read, W: Write, E: Write>(
     alloc: Global,
     words: &[String],
@@ -27,11 +27,8 @@ pub fn cmd_show<R: Read, W: Write, E: Write>(
     out: &mut W,
     err: &mut E,
 ) -> Status
-    ensures fault { result ≡ Status.Fault → IfSome (R.remaining input.old)
-        (λ given. (options : Options) × StatusReportsInput options given result) }
-    ensures good { result ≡ Status.Good → IfSome (R.remaining input.old)
-        (λ given. ((options : Options) × StatusReportsInput options given result)
-        ⊎ (R.remaining input.new ≡ R.remaining input.old)) }
+    ensures { EndsShow (map string_bytes words.now) (R.remaining input.old) (R.remaining input.new)
+        (W.contents out.old) (W.contents out.new) result }
 {
     let options = match show_args(alloc, words) {
         Ok(options) => options,

@@ -1,11 +1,17 @@
 //! The commands over sockets: `h2 serve`, `h2 get` and `h2 loop`.
 
-use crate::args::{get_args, loop_args, serve_args};
+ghost use Rattle.std.specs.Prelude.{◌≡◌, Ok, Err, MatchResult, map, string_bytes};
+ghost use Rattle.h2_location.specs.declared.location.TargetFault.TheVariants.{Memory};
+ghost use Rattle.h2_show.specs.declared.status.Status.TheVariants.{Good};
+ghost use Rattle.h2_sockets.specs.Endings.{status_with};
+ghost use Rattle.h2_tool.specs.Commands.{EndsServe, EndsGet, EndsLoop, RefusesUrl};
+
 use crate::program::{answer, give_up};
+use h2_args::{get_args, loop_args, serve_args};
+use h2_location::{TargetFault, target};
 use h2_show::{Failure, Status};
 use h2_sockets::{
-    LinkError, TargetFault, exchange, get_location, print_exchange, print_response, report,
-    serve_port, target,
+    LinkError, exchange, get_location, print_exchange, print_response, report, serve_port,
 };
 use std::alloc::Global;
 use std::io::Write;
@@ -23,11 +29,11 @@ pub fn cmd_serve<N: Net, W: Write, E: Write>(
     words: &[String],
     out: &mut W,
     err: &mut E,
-) -> Status {
+) -> Status
+    ensures { EndsServe (map string_bytes words.now) result }
+{
     match serve_args(alloc, words) {
-        Ok(Some(options)) => serve_port(net, alloc, options.port, options.count, err),
-        // The words are wrong where they give no number: no words lead here.
-        Ok(None) => Status::Usage,
+        Ok(options) => serve_port(net, alloc, options.port, options.count, err),
         Err(error) => answer(&error, out, err),
     }
 }
@@ -44,22 +50,22 @@ pub fn cmd_get<N: Net, W: Write, E: Write>(
     words: &[String],
     out: &mut W,
     err: &mut E,
-) -> Status {
+) -> Status
+    ensures { EndsGet (map string_bytes words.now) (W.contents out.old) (W.contents out.new)
+        result }
+{
     let url = match get_args(alloc, words) {
-        Ok(Some(url)) => url,
-        // The words are wrong where they give no URL: no words lead here.
-        Ok(None) => return Status::Usage,
+        Ok(url) => url,
         Err(error) => return answer(&error, out, err),
     };
     let target = match target(alloc, url.as_bytes()) {
         Ok(target) => target,
         Err(fault) => return refuse_url(fault, err),
     };
-    let got = match get_location(net, alloc, &target) {
-        Ok(fetched) => print_response(&fetched, out),
-        Err(error) => Err(error),
-    };
-    status_of_end(got, err)
+    match get_location(net, alloc, &target) {
+        Ok(fetched) => status_of_end(print_response(&fetched, out), err),
+        Err(error) => report(error, err),
+    }
 }
 
 /// Runs `h2 loop` with the words after `loop`: posts octets from a client to a server, both in this
@@ -73,22 +79,24 @@ pub fn cmd_loop<N: Net, W: Write, E: Write>(
     words: &[String],
     out: &mut W,
     err: &mut E,
-) -> Status {
+) -> Status
+    ensures { EndsLoop (map string_bytes words.now) (W.contents out.old) (W.contents out.new)
+        result }
+{
     let count = match loop_args(alloc, words) {
-        Ok(Some(count)) => count,
-        // The words are wrong where they give no number: no words lead here.
-        Ok(None) => return Status::Usage,
+        Ok(count) => count,
         Err(error) => return answer(&error, out, err),
     };
-    let posted = match exchange(net, alloc, count) {
-        Ok(fetched) => print_exchange(count, &fetched, out),
-        Err(error) => Err(error),
-    };
-    status_of_end(posted, err)
+    match exchange(net, alloc, count) {
+        Ok(fetched) => status_of_end(print_exchange(count, &fetched, out), err),
+        Err(error) => report(error, err),
+    }
 }
 
 // Prints on standard error why a URL can't be fetched.
-fn refuse_url<E: Write>(fault: TargetFault, err: &mut E) -> Status {
+fn refuse_url<E: Write>(fault: TargetFault, err: &mut E) -> Status
+    ensures { RefusesUrl fault result }
+{
     if fault == TargetFault::Memory {
         return give_up(Failure::Memory, err);
     }
@@ -99,7 +107,9 @@ fn refuse_url<E: Write>(fault: TargetFault, err: &mut E) -> Status {
 }
 
 // Prints on standard error how a connection has ended, if it has ended early.
-fn status_of_end<E: Write>(ended: Result<(), LinkError>, err: &mut E) -> Status {
+fn status_of_end<E: Write>(ended: Result<(), LinkError>, err: &mut E) -> Status
+    ensures { MatchResult ended (λ done. result ≡ Good) (λ error. result ≡ status_with error) }
+{
     match ended {
         Ok(()) => Status::Good,
         Err(error) => report(error, err),

@@ -81,3 +81,12 @@ fn connections_one_after_another(rt: HostRuntime) -> Result<(), Fail> {
     let both = "N4 CutOff\nN2 Stream 1\n";
     check_served(&rt, alloc, &[CUT, WHOLE, BAD], both, Status::Fault)
 }
+
+// 24 octets that are no preface, and 100,000 more, all written before one is read. They are read
+// too: a stream that is closed while octets are unread resets the connection.
+#[test]
+fn octets_after_a_bad_preface(rt: HostRuntime) -> Result<(), Fail> {
+    let octets = vec![in rt.alloc(); b'x'; 100_024]?;
+    let client = (octets.as_slice(), GOAWAY);
+    check_served(&rt, rt.alloc(), &[client], "N2 Stream 1\n", Status::Fault)
+}

@@ -40,6 +40,7 @@ fn loops(rt: HostRuntime) -> Result<(), Fail> {
     let cases = [
         ("loop 0", "sent 0 got 7 status 200\n"),
         ("loop 70000", "sent 70000 got 70007 status 200\n"),
+        ("loop 1048576", "sent 1048576 got 1048583 status 200\n"),
     ];
     for (line, printed) in cases {
         check_line(&rt, rt.alloc(), line, printed, "", Status::Good)?;
@@ -75,11 +76,14 @@ fn get_where_nothing_listens(rt: HostRuntime) -> Result<(), Fail> {
     check_line(&rt, rt.alloc(), &line, "", "N1 Device\n", Status::Device)
 }
 
-// The port is taken.
+// The port is taken. A server of the second word as its port would wait.
 #[test]
 fn serve_at_a_taken_port(rt: HostRuntime) -> Result<(), Fail> {
     let listener = TcpListener::bind(&rt, SocketAddr::from((Ipv4Addr::LOCALHOST, 0)))?;
     let port = listener.local_addr()?.port();
-    let line = format!(in rt.alloc(); "serve {port} 1")?;
+    let other = TcpListener::bind(&rt, SocketAddr::from((Ipv4Addr::LOCALHOST, 0)))?;
+    let free = other.local_addr()?.port();
+    drop(other);
+    let line = format!(in rt.alloc(); "serve {port} {free}")?;
     check_line(&rt, rt.alloc(), &line, "", "N1 Device\n", Status::Device)
 }

@@ -4,13 +4,13 @@ use Rattle.std.proofs.lemmas.List.{with_items_is}
 use Rattle.std.proofs.lemmas.Result.{err_from_is_err_and}
 use Rattle.h2_config.specs.ConfigValues.{values_of}
 use Rattle.h2_message.specs.Values.{message_value}
-use Rattle.h2_engines.proofs.FetchingEnds.{ends_for_memory, ends_out_of_rounds, called_not_cut}
-use Rattle.h2_engines.proofs.FetchingEnds.{called_told, ends_sending}
-use Rattle.h2_engines.proofs.FetchingEnds.{sends_all, reads_on, ends_cut_off, ends_failed}
-use Rattle.h2_engines.proofs.FetchingEnds.{ends_received, received_not_cut, receives_more}
-use Rattle.h2_engines.proofs.FetchingEnds.{ends_whole, released_up, pumped_up, ends_releasing}
-use Rattle.h2_engines.proofs.FetchingEnds.{ends_pumping}
-use Rattle.h2_engines.proofs.FetchingStart.{ends_at_once, begins_up, up_now}
+use Rattle.h2_engines.proofs.FetchLinkEnds.{ends_for_memory, ends_out_of_rounds, called_not_cut}
+use Rattle.h2_engines.proofs.FetchLinkEnds.{called_failures, ends_sending}
+use Rattle.h2_engines.proofs.FetchLinkEnds.{sends_all, reads_on, ends_cut_off, ends_failed}
+use Rattle.h2_engines.proofs.FetchLinkEnds.{ends_received, received_not_cut, receives_more}
+use Rattle.h2_engines.proofs.FetchLinkEnds.{ends_whole, released_up, pumped_up, ends_releasing}
+use Rattle.h2_engines.proofs.FetchLinkEnds.{ends_pumping}
+use Rattle.h2_engines.proofs.FetchLinkStart.{ends_at_once, begins_up, up_now}
 use Rattle.h2_engines.proofs.fetch.fetch_link.Goals as goal
 
 pub loop-init : goal.loop-init
@@ -203,7 +203,7 @@ returns-in_err-release-clause-failures g c =
     rw (answer.1, answer.2)
     (c.in_ok-is_whole-in-Ok.ensures.failures ∙ c.in-Ok.ensures.failures
     ∙ c.in_ok-send.ensures.failures ∙ c.loop.invariant.failures
-    ∙ sym (called_told c.in_err-release.field-0.0 _ c.in_err-release.ensures.err))
+    ∙ sym (called_failures c.in_err-release.field-0.0 _ c.in_err-release.ensures.err))
 
 pub returns-in_err-pump-clause-fetches : goal.returns-in_err-pump-clause-fetches
 returns-in_err-pump-clause-fetches g c =
@@ -245,7 +245,7 @@ returns-in_err-pump-clause-failures g c =
     rw (answer.1, answer.2)
     (c.in_ok-is_whole-in-Ok.ensures.failures ∙ c.in-Ok.ensures.failures
     ∙ c.in_ok-send.ensures.failures ∙ c.loop.invariant.failures
-    ∙ sym (called_told c.in_err-pump.field-0.0 _ c.in_err-pump.ensures.err))
+    ∙ sym (called_failures c.in_err-pump.field-0.0 _ c.in_err-pump.ensures.err))
 
 pub returns-clause-fetches : goal.returns-clause-fetches
 returns-clause-fetches g c =

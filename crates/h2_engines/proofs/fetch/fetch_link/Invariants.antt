@@ -2,7 +2,7 @@
 -- at least in each round.
 use Rattle.std.proofs.Common.{◌≡◌, length}
 use Rattle.h2_engines.specs.Linked.{traffic}
-use Rattle.h2_engines.proofs.FetchingEnds.{FetchesOn}
+use Rattle.h2_engines.proofs.FetchLinkEnds.{FetchesOn}
 use Rattle.h2_engines.proofs.fetch.fetch_link.Given as goal
 
 abbrev pub invariant-loop : goal.invariant-loop

@@ -2,8 +2,8 @@
 use Rattle.std.proofs.Common.{refl, ap, arith, false, true}
 use Rattle.h2_ends.specs.Loans.{event_handed}
 use Rattle.h2_engines.specs.declared.fetcher.Fetching.TheVariants as goes
-use Rattle.h2_engines.proofs.FetchHears.{heard_nothing, heard_part, heard_error, heard_fault}
-use Rattle.h2_engines.proofs.FetchHears.{errs_memory, errs_reset, errs_unprocessed}
+use Rattle.h2_engines.proofs.FetcherHears.{heard_nothing, heard_part, heard_error, heard_fault}
+use Rattle.h2_engines.proofs.FetcherHears.{errs_memory, errs_reset, errs_unprocessed}
 use Rattle.h2_engines.proofs.fetcher.hear.Goals as goal
 
 pub returns-in-Some-Reset-clause-hears : goal.returns-in-Some-Reset-clause-hears

@@ -1,6 +1,6 @@
 -- The first field that has the name.
 use Rattle.std.proofs.Common.{sym, ◌∙◌, arith}
-use Rattle.h2_engines.proofs.KeptValues.{value_here, value_later, value_none}
+use Rattle.h2_engines.proofs.FieldValues.{value_here, value_later, value_none}
 use Rattle.h2_engines.proofs.request.value_or_nothing.Goals as goal
 
 pub returns-then-eq : goal.returns-then-eq

@@ -5,15 +5,17 @@ use Rattle.std.specs.List.{length_refill}
 use Rattle.h2_config.specs.ConfigValues.{values_of}
 use Rattle.h2_link.specs.declared.error.LinkError.TheVariants as errors
 use Rattle.h2_engines.specs.Linked.{traffic}
-use Rattle.h2_engines.proofs.ServingEnds.{writing_of_call}
-use Rattle.h2_engines.proofs.ServingExits.{serves_as, fails_as, fails_none, cuts_as, cuts_of_call}
-use Rattle.h2_engines.proofs.ServingExits.{errs_as, errs_of_call, meets_end, ends_at_end}
-use Rattle.h2_engines.proofs.ServingExits.{cuts_at_end}
-use Rattle.h2_engines.proofs.ServingRounds.{new_serves, none_serves, serves_early, serves_no_round}
-use Rattle.h2_engines.proofs.ServingRounds.{sent_on, sent_last, read_on, ended_on, finished_serves}
-use Rattle.h2_engines.proofs.ServingRounds.{finished_fails, finished_ends, received_on}
-use Rattle.h2_engines.proofs.ServingRounds.{received_last, received_goes, released_on, pumped_on}
-use Rattle.h2_engines.proofs.ServingRounds.{released_last, pumped_last, gives_none, gives_piece}
+use Rattle.h2_engines.proofs.ServeLinkEnds.{writing_of_call}
+use Rattle.h2_engines.proofs.ServeLinkExits.{serves_as, fails_as, fails_none, cuts_as, cuts_of_call}
+use Rattle.h2_engines.proofs.ServeLinkExits.{errs_as, errs_of_call, meets_end, ends_at_end}
+use Rattle.h2_engines.proofs.ServeLinkExits.{cuts_at_end}
+use Rattle.h2_engines.proofs.ServeLinkRounds.{new_serves, none_serves, serves_early}
+use Rattle.h2_engines.proofs.ServeLinkRounds.{serves_no_round}
+use Rattle.h2_engines.proofs.ServeLinkRounds.{sent_on, sent_last, read_on, ended_on}
+use Rattle.h2_engines.proofs.ServeLinkRounds.{finished_serves}
+use Rattle.h2_engines.proofs.ServeLinkRounds.{finished_fails, finished_ends, received_on}
+use Rattle.h2_engines.proofs.ServeLinkRounds.{received_last, received_goes, released_on, pumped_on}
+use Rattle.h2_engines.proofs.ServeLinkRounds.{released_last, pumped_last, gives_none, gives_piece}
 use Rattle.h2_engines.proofs.serve.serve_link.Goals as goal
 
 pub returns-in_err-responder-clause-serves : goal.returns-in_err-responder-clause-serves

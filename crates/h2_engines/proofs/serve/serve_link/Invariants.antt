@@ -3,7 +3,7 @@
 use Rattle.std.proofs.Common.{◌≡◌, [], length}
 use Rattle.h2_config.specs.ConfigValues.{values_of}
 use Rattle.h2_engines.specs.Linked.{traffic}
-use Rattle.h2_engines.proofs.ServingRounds.{IsServedOn}
+use Rattle.h2_engines.proofs.ServeLinkRounds.{IsServedOn}
 use Rattle.h2_engines.proofs.serve.serve_link.Given as goal
 
 abbrev pub invariant-loop : goal.invariant-loop

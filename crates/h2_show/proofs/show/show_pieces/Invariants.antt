@@ -1,6 +1,8 @@
 -- The octets that were read have been shown.
 use Rattle.std.proofs.Common.{ℕ, List}
-use Rattle.std.specs.Io.KnownBytes.{Consumes}
+use Rattle.std.specs.Io.Buffered.{writer_contents}
+use Rattle.std.specs.Io.KnownBytes.{Appends, Consumes}
+use Rattle.h2_show.specs.Printed.{ViewerPrints}
 use Rattle.h2_show.specs.Viewer.{ViewerContinues}
 use Rattle.h2_show.proofs.show.show_pieces.Given as goal
 
@@ -10,3 +12,8 @@ invariant-loop g l =
     × Consumes (g.R.Read.remaining l.initial.input) (g.R.Read.remaining l.input) octets
     × ViewerContinues l.initial.viewer.cutter l.initial.viewer.blocks octets l.viewer.cutter
     l.viewer.blocks
+    × ((printed : List ℕ)
+    × Appends (writer_contents g.W.Write.contents l.initial.lines)
+    (writer_contents g.W.Write.contents l.lines) printed
+    × ViewerPrints l.initial.viewer.cutter l.initial.viewer.blocks l.initial.viewer.preface.is_due
+    octets l.viewer.cutter l.viewer.blocks l.viewer.preface.is_due printed)

@@ -4,9 +4,9 @@ use Rattle.std.proofs.Common.{ap, ◌∙◌}
 use Rattle.std.proofs.lemmas.List.{map_push}
 use Rattle.hpack.specs.declared.types.field.Field.{Field}
 use Rattle.h2_ends.specs.Loans.{event_handed}
-use Rattle.h2_engines.proofs.KeptParts.{noted_interim, noted_head, noted_body, noted_trailers}
-use Rattle.h2_engines.proofs.KeptParts.{other_interim, other_head, other_body, other_trailers}
-use Rattle.h2_engines.proofs.KeptParts.{other_event}
+use Rattle.h2_engines.proofs.NoteResponses.{noted_interim, noted_head, noted_body, noted_trailers}
+use Rattle.h2_engines.proofs.NoteResponses.{other_interim, other_head, other_body, other_trailers}
+use Rattle.h2_engines.proofs.NoteResponses.{other_event}
 use Rattle.h2_engines.proofs.fetcher.Coming.note.Goals as goal
 
 pub returns-in_ok-push-in-Interim : goal.returns-in_ok-push-in-Interim

@@ -6,8 +6,8 @@ use Rattle.h2_message.specs.declared.malformed.Malformed.{Malformed}
 use Rattle.h2_config.specs.ConfigValues.{values_of}
 use Rattle.h2_message.specs.Values.{message_value}
 use Rattle.h2_engines.specs.Failures.{error_after}
-use Rattle.h2_engines.proofs.FetchStart.{has_requested, refused_as_broken, refused_as_large}
-use Rattle.h2_engines.proofs.FetchStart.{refused_otherwise}
+use Rattle.h2_engines.proofs.FetcherStart.{has_requested, refused_as_broken, refused_as_large}
+use Rattle.h2_engines.proofs.FetcherStart.{refused_otherwise}
 use Rattle.h2_engines.proofs.fetcher.Fetcher.new.Goals as goal
 
 pub returns-in-Ok-request-clause-ok : goal.returns-in-Ok-request-clause-ok

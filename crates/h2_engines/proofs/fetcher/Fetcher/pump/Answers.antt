@@ -1,5 +1,5 @@
 -- By the lemmas on a pump.
-use Rattle.h2_engines.proofs.ServeRefusals.{pumps_some, pumps_err}
+use Rattle.h2_engines.proofs.ResponderRefusals.{pumps_some, pumps_err}
 use Rattle.h2_engines.proofs.fetcher.Fetcher.pump.Goals as goal
 
 pub returns-in-Ok-clause-pumps : goal.returns-in-Ok-clause-pumps

@@ -3,9 +3,9 @@
 use Rattle.std.proofs.Common.{refl, sym, ◌∙◌, subst, arith}
 use Rattle.std.proofs.lemmas.Result.{err_from_is_err_and}
 use Rattle.h2_conn.specs.declared.conn.Conn.{Conn}
-use Rattle.h2_engines.proofs.FetchingGoes.{ReadsFailed, left_within, goes_at_first, goes_again}
-use Rattle.h2_engines.proofs.FetchingGoes.{goes_done, goes_whole, goes_stopped, goes_ended}
-use Rattle.h2_engines.proofs.FetchingGoes.{goes_written, goes_unwritten, goes_nowhere}
+use Rattle.h2_engines.proofs.FetchLinkGoes.{ReadsFailed, left_within, goes_at_first, goes_again}
+use Rattle.h2_engines.proofs.FetchLinkGoes.{goes_done, goes_whole, goes_stopped, goes_ended}
+use Rattle.h2_engines.proofs.FetchLinkGoes.{goes_written, goes_unwritten, goes_nowhere}
 use Rattle.h2_engines.proofs.fetcher.Fetcher.receive.Goals as goal
 
 pub loop-init : goal.loop-init
@@ -50,7 +50,9 @@ returns-in_err-write_out-in-Err-clause-receives g c =
     c.loop.counter c.in-Err.error refl c.in-Err.ensures.hears c.loop.invariant.goes in
     rw (answer.1, answer.2)
     (goes_unwritten _ _ _ c.args.self.now heard c.write_out.new.self c.args.piece.now
-    c.in-Err.error c.in_err-write_out-in-Err.field-0.0 c.in_err-write_out-in-Err.ensures.id
+    c.in-Err.error c.in_err-write_out-in-Err.field-0.0 c.failed.result
+    (subst (λ (conn : Conn). ReadsFailed conn c.failed.result) c.conn.ensures c.failed.ensures)
+    (sym c.is_some.ensures ∙ c.if-is_some.true) c.in_err-write_out-in-Err.ensures.id
     c.in_err-write_out-in-Err.ensures.err c.in_err-write_out-in-Err.ensures.writes stopped)
 
 pub returns-in_ok-write_out-in-Err-clause-receives :

@@ -2,7 +2,7 @@
 -- with a turn at least in each round.
 use Rattle.std.proofs.Common.{◌≡◌, ◌≤◌, length, drop}
 use Rattle.h2_engines.specs.Linked.{traffic}
-use Rattle.h2_engines.proofs.FetchingGoes.{GoesOn}
+use Rattle.h2_engines.proofs.FetchLinkGoes.{GoesOn}
 use Rattle.h2_engines.proofs.fetcher.Fetcher.receive.Given as goal
 
 abbrev pub invariant-loop : goal.invariant-loop

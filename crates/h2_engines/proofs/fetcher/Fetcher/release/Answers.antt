@@ -3,7 +3,7 @@ use Rattle.std.proofs.Common.{◌≡◌, ◌≢◌, Ok, Err, rules}
 use Rattle.h2_log.specs.declared.refusal.Refusal.TheVariants as reasons
 use Rattle.h2_ends.specs.declared.refusal.EndRefusal.TheVariants as refusals
 use Rattle.h2_engines.specs.Failures.{error_after}
-use Rattle.h2_engines.proofs.ServeRefusals.{releases_some, releases_full, releases_err}
+use Rattle.h2_engines.proofs.ResponderRefusals.{releases_some, releases_full, releases_err}
 use Rattle.h2_engines.proofs.fetcher.Fetcher.release.Goals as goal
 
 pub returns-in-Ok-clause-releases : goal.returns-in-Ok-clause-releases

@@ -1,10 +1,10 @@
 -- By the lemmas on output that is written.
 use Rattle.std.proofs.Common.{refl, ◌∙◌, arith}
 use Rattle.std.proofs.lemmas.Result.{err_from_is_err_and}
-use Rattle.h2_engines.specs.Fetching.{IsFetching}
-use Rattle.h2_engines.proofs.FetchWrites.{writes_until}
-use Rattle.h2_engines.proofs.FetchWrites.{writes_then, writes_then_pumps, writes_then_stops}
-use Rattle.h2_engines.proofs.ServeWrites.{writes_nothing}
+use Rattle.h2_engines.specs.ClientHistories.{IsFetching}
+use Rattle.h2_engines.proofs.FetcherWrites.{writes_until}
+use Rattle.h2_engines.proofs.FetcherWrites.{writes_then, writes_then_pumps, writes_then_stops}
+use Rattle.h2_engines.proofs.ResponderWrites.{writes_nothing}
 use Rattle.h2_engines.proofs.fetcher.Fetcher.send.Goals as goal
 
 pub loop-init : goal.loop-init

@@ -2,7 +2,7 @@
 -- rounds.
 use Rattle.std.proofs.Common.{◌≡◌}
 use Rattle.h2_engines.specs.Linked.{traffic}
-use Rattle.h2_engines.proofs.FetchWrites.{ClientSendsOn}
+use Rattle.h2_engines.proofs.FetcherWrites.{ClientSendsOn}
 use Rattle.h2_engines.proofs.fetcher.Fetcher.send.Given as goal
 
 abbrev pub invariant-loop : goal.invariant-loop

@@ -4,11 +4,11 @@ use Rattle.std.proofs.lemmas.Result.{err_from_is_err_and}
 use Rattle.h2_log.specs.Acts.{PutOut, Count}
 use Rattle.h2_link.specs.Links.{WritesAll}
 use Rattle.h2_ends.specs.Represents.{EndAnswers}
-use Rattle.h2_engines.specs.Fetching.{IsFetching}
-use Rattle.h2_engines.proofs.ServeFaults.{written_some, written_told, written_ends}
-use Rattle.h2_engines.proofs.FetchWrites.{client_puts_out, client_writes}
-use Rattle.h2_engines.proofs.ServeWrites.{writes_more, writes_first, writes_all, writes_refused}
-use Rattle.h2_engines.proofs.ServeWrites.{writes_no_more, writes_nothing}
+use Rattle.h2_engines.specs.ClientHistories.{IsFetching}
+use Rattle.h2_engines.proofs.ResponderFaults.{written_some, written_failures, written_ends}
+use Rattle.h2_engines.proofs.FetcherWrites.{client_puts_out, client_writes}
+use Rattle.h2_engines.proofs.ResponderWrites.{writes_more, writes_first, writes_all, writes_refused}
+use Rattle.h2_engines.proofs.ResponderWrites.{writes_no_more, writes_nothing}
 use Rattle.h2_engines.proofs.fetcher.Fetcher.write_out.Goals as goal
 
 pub loop-init : goal.loop-init
@@ -51,7 +51,7 @@ pub returns-in_err-write_all-in-Ok-clause-failures :
     goal.returns-in_err-write_all-in-Ok-clause-failures
 returns-in_err-write_all-in-Ok-clause-failures g c =
     let answer = err_from_is_err_and c.from_residual.result c.from_residual.ensures.1 in
-    rw (answer.1, answer.2) (written_told (Unit {0}) _ _ _ _ _ _ _ c.loop.invariant.failures
+    rw (answer.1, answer.2) (written_failures (Unit {0}) _ _ _ _ _ _ _ c.loop.invariant.failures
     c.in_err-write_all-in-Ok.ensures.writes)
 
 pub returns-in_err-write_all-in-Ok-clause-err : goal.returns-in_err-write_all-in-Ok-clause-err

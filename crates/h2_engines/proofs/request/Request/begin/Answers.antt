@@ -1,7 +1,7 @@
 -- The method and the path of the head, and whether it asks with HEAD.
 use Rattle.std.proofs.Common.{◌≡◌, ◌++◌, ◌∷◌, [], List, ℕ, refl, ap, ◌∙◌, arith}
 use Rattle.std.specs.Str.{bytes_eq}
-use Rattle.h2_engines.proofs.KeptBegins.{is_begun}
+use Rattle.h2_engines.proofs.NoteHeads.{is_begun}
 use Rattle.h2_engines.proofs.request.Request.begin.Goals as goal
 
 pub returns : goal.returns

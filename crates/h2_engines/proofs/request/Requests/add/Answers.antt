@@ -4,9 +4,9 @@ use Rattle.std.specs.Option.{is_some}
 use Rattle.std.specs.BTreeMap.{BTreeMap}
 use Rattle.h2_engines.specs.declared.request.Request.{Request}
 use Rattle.h2_engines.specs.declared.request.Requests.{Requests}
-use Rattle.h2_engines.specs.Keeping.{room_of}
-use Rattle.h2_engines.proofs.KeptTables.{adds_none, adds_no_more, adds_more, adds_last}
-use Rattle.h2_engines.proofs.KeptTables.{changes_one, changes_none, changes_twice}
+use Rattle.h2_engines.specs.PartialMessages.{room_of}
+use Rattle.h2_engines.proofs.RequestTable.{adds_none, adds_no_more, adds_more, adds_last}
+use Rattle.h2_engines.proofs.RequestTable.{changes_one, changes_none, changes_twice}
 use Rattle.h2_engines.proofs.request.Requests.add.Goals as goal
 
 pub returns-in_default : goal.returns-in_default

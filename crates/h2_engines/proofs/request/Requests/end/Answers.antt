@@ -1,6 +1,6 @@
 -- The request is taken out, if it is kept.
 use Rattle.std.proofs.Common.{None, sym}
-use Rattle.h2_engines.proofs.KeptTables.{changes_one, ends_some, ends_none}
+use Rattle.h2_engines.proofs.RequestTable.{changes_one, ends_some, ends_none}
 use Rattle.h2_engines.proofs.request.Requests.end.Goals as goal
 
 pub returns-in-Some : goal.returns-in-Some

@@ -1,8 +1,8 @@
 -- By the lemmas on an answer.
 use Rattle.std.proofs.Common.{refl, arith}
-use Rattle.h2_engines.specs.Serving.{counted_answer}
-use Rattle.h2_engines.proofs.ServeCalls.{answers_none, answers_no_more, answers_done}
-use Rattle.h2_engines.proofs.ServeCalls.{answers_refused}
+use Rattle.h2_engines.specs.ServerSteps.{counted_answer}
+use Rattle.h2_engines.proofs.ResponderCalls.{answers_none, answers_no_more, answers_done}
+use Rattle.h2_engines.proofs.ResponderCalls.{answers_refused}
 use Rattle.h2_engines.proofs.responder.Responder.answer.Goals as goal
 use Rattle.h2_engines.proofs.responder.Responder.answer.Goals.{in-Ok-respond, in-Err}
 

@@ -1,6 +1,6 @@
 -- By the lemmas on what is left at the end of the input.
 use Rattle.std.proofs.Common.{sym, ◌∙◌}
-use Rattle.h2_engines.proofs.ServeFinishes.{finishes_at_rest, finishes_held, finishes_active}
+use Rattle.h2_engines.proofs.ResponderFinishes.{finishes_at_rest, finishes_held, finishes_active}
 use Rattle.h2_engines.proofs.responder.Responder.finish.Goals as goal
 use Rattle.h2_engines.proofs.responder.Responder.finish.Goals.{
   then-held-gt0-via-then-held-gt0,

@@ -4,12 +4,13 @@ use Rattle.std.proofs.lemmas.Result.{err_from_is_err_and}
 use Rattle.h2_engines.specs.declared.request.Next.TheVariants as nexts
 use Rattle.h2_engines.specs.declared.responder.Responder.{Responder}
 use Rattle.h2_engines.specs.Linked.{traffic}
-use Rattle.h2_engines.proofs.ServingEnds.{ServesOn}
-use Rattle.h2_engines.proofs.ServingRests.{heard_rest, done_rest, again_rest, written_rest}
-use Rattle.h2_engines.proofs.ServingRests.{unwritten_rest, last_rest, last_written, last_unwritten}
-use Rattle.h2_engines.proofs.ServingRests.{answered_rest, unanswered_rest, reset_rest}
-use Rattle.h2_engines.proofs.ServingRests.{not_reset_rest, no_round_rest, moved_to, receives_as}
-use Rattle.h2_engines.proofs.ServingRests.{next_as, answers_as, within_rest}
+use Rattle.h2_engines.proofs.ServeLinkEnds.{ServesOn}
+use Rattle.h2_engines.proofs.ServeLinkRests.{heard_rest, done_rest, again_rest, written_rest}
+use Rattle.h2_engines.proofs.ServeLinkRests.{unwritten_rest, last_rest, last_written}
+use Rattle.h2_engines.proofs.ServeLinkRests.{last_unwritten}
+use Rattle.h2_engines.proofs.ServeLinkRests.{answered_rest, unanswered_rest, reset_rest}
+use Rattle.h2_engines.proofs.ServeLinkRests.{not_reset_rest, no_round_rest, moved_to, receives_as}
+use Rattle.h2_engines.proofs.ServeLinkRests.{next_as, written_as, answers_as, within_rest}
 use Rattle.h2_engines.proofs.responder.Responder.receive.Goals as goal
 
 pub returns-in-Done-clause-receives : goal.returns-in-Done-clause-receives
@@ -68,7 +69,7 @@ returns-in_err-answer-in-Answer-clause-receives g c =
     c.from_residual-in_err-answer-in-Answer.ensures.1)
     (unanswered_rest _ before now c.args.self.now c.write_out.new.self c.answer.new.self
     c.args.piece.now rest c.in-Answer.id c.in-Answer.request error
-    (next_as _ before now c.args.self.now c.write_out.new.self c.args.piece.now rest
+    (written_as _ before now c.args.self.now c.write_out.new.self c.args.piece.now rest
     c.in-Ok.heard.next (nexts.Answer c.in-Answer.id c.in-Answer.request) c.in-Answer.is wrote)
     c.in_err-answer-in-Answer.ensures.err
     (answers_as c.write_out.new.self c.answer.new.self c.in-Answer.id _ _ c.in-Answer.request

@@ -2,7 +2,7 @@
 -- was at first, is one over the link now, at which each round was a turn at least.
 use Rattle.std.proofs.Common.{◌≡◌, ◌≤◌, length, drop}
 use Rattle.h2_engines.specs.Linked.{traffic}
-use Rattle.h2_engines.proofs.ServingEnds.{ServesOn}
+use Rattle.h2_engines.proofs.ServeLinkEnds.{ServesOn}
 use Rattle.h2_engines.proofs.responder.Responder.receive.Given as goal
 
 abbrev pub invariant-loop : goal.invariant-loop

@@ -1,8 +1,8 @@
 -- By the lemmas on a reset.
 use Rattle.std.proofs.Common.{◌≢◌, refl, rules}
 use Rattle.h2_log.specs.declared.refusal.Refusal.TheVariants.{TooManyResets}
-use Rattle.h2_engines.proofs.ServeCalls.{resets_done, resets_no_more, resets_refused}
-use Rattle.h2_engines.proofs.ServeFaults.{call_ends_server}
+use Rattle.h2_engines.proofs.ResponderCalls.{resets_done, resets_no_more, resets_refused}
+use Rattle.h2_engines.proofs.ResponderFaults.{call_ends_server}
 use Rattle.h2_engines.proofs.responder.Responder.reset.Goals as goal
 
 pub returns-in-Ok-clause-resets : goal.returns-in-Ok-clause-resets

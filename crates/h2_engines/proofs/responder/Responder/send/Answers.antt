@@ -1,10 +1,10 @@
 -- By the lemmas on output that is written.
 use Rattle.std.proofs.Common.{refl, ◌∙◌, arith}
 use Rattle.std.proofs.lemmas.Result.{err_from_is_err_and}
-use Rattle.h2_engines.specs.Responding.{IsResponding}
-use Rattle.h2_engines.proofs.ServeServer.{writes_until}
-use Rattle.h2_engines.proofs.ServeServer.{writes_then, writes_then_pumps, writes_then_stops}
-use Rattle.h2_engines.proofs.ServeWrites.{writes_nothing}
+use Rattle.h2_engines.specs.ServerHistories.{IsResponding}
+use Rattle.h2_engines.proofs.ResponderWriteOut.{writes_until}
+use Rattle.h2_engines.proofs.ResponderWriteOut.{writes_then, writes_then_pumps, writes_then_stops}
+use Rattle.h2_engines.proofs.ResponderWrites.{writes_nothing}
 use Rattle.h2_engines.proofs.responder.Responder.send.Goals as goal
 
 pub loop-init : goal.loop-init

@@ -2,7 +2,7 @@
 -- rounds.
 use Rattle.std.proofs.Common.{◌≡◌}
 use Rattle.h2_engines.specs.Linked.{traffic}
-use Rattle.h2_engines.proofs.ServeServer.{ServerSendsOn}
+use Rattle.h2_engines.proofs.ResponderWriteOut.{ServerSendsOn}
 use Rattle.h2_engines.proofs.responder.Responder.send.Given as goal
 
 abbrev pub invariant-loop : goal.invariant-loop

@@ -2,7 +2,7 @@
 -- rounds.
 use Rattle.std.proofs.Common.{◌≡◌}
 use Rattle.h2_engines.specs.Linked.{traffic}
-use Rattle.h2_engines.proofs.ServeServer.{ServerWritesOn}
+use Rattle.h2_engines.proofs.ResponderWriteOut.{ServerWritesOn}
 use Rattle.h2_engines.proofs.responder.Responder.write_out.Given as goal
 
 abbrev pub invariant-loop : goal.invariant-loop

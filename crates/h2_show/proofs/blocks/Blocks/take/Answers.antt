@@ -3,6 +3,7 @@ use Rattle.std.proofs.Common.{inl, inr}
 use Rattle.std.proofs.lemmas.Result.{err_from_is_err_and}
 use Rattle.h2_show.proofs.BlocksLemmas.{represent_alone, represent_more, represent_block}
 use Rattle.h2_show.proofs.BlocksLemmas.{grouping_error_reports, decoding_error_reports}
+use Rattle.h2_show.proofs.BlocksShown.{show_alone, show_more, show_block}
 use Rattle.h2_show.proofs.blocks.Blocks.take.Goals as goal
 
 pub returns-in_err-take-clause-err : goal.returns-in_err-take-clause-err
@@ -34,6 +35,12 @@ returns-in-Pass c =
             (rw more at c.in_ok-take.ensures.takes) represents
       ];
       err = tt;
+      shown = λ frames lines shows. elim c.in-Pass.is [
+        | inl passed ↦ show_alone c.args.self.now c.take.new.self _ _ frames lines
+            (rw passed.1 at c.in_ok-take.ensures.takes) shows
+        | inr more ↦ show_more c.args.self.now c.take.new.self _ frames lines
+            (rw more at c.in_ok-take.ensures.takes) shows
+      ];
     }
 
 pub returns-in_ok-decode-in-Block-clause-ok : goal.returns-in_ok-decode-in-Block-clause-ok
@@ -42,3 +49,11 @@ returns-in_ok-decode-in-Block-clause-ok c = λ frames represents.
     c.in-Block.end c.in-Block.octets.items _
     (rw c.in-Block.is at c.in_ok-take.ensures.takes) c.decode.ensures.same
     (rw c.deref.ensures.value at c.in_ok-decode-in-Block.ensures.ok.1) represents
+
+pub returns-in_ok-decode-in-Block-clause-shown : goal.returns-in_ok-decode-in-Block-clause-shown
+returns-in_ok-decode-in-Block-clause-shown c = λ frames lines shows.
+    show_block c.args.self.now c.decode.new.self c.take.new.self _ frames lines c.in-Block.stream
+    c.in-Block.end c.in-Block.octets.items _
+    (rw c.in-Block.is at c.in_ok-take.ensures.takes)
+    (rw c.in-Block.is at c.in_ok-take.ensures.ended) c.decode.ensures.same
+    (rw c.deref.ensures.value at c.in_ok-decode-in-Block.ensures.ok.1) shows

@@ -1,9 +1,47 @@
 -- Each call of the cutter, and of the blocks where it answers a frame, shows more of the piece, or
 -- fails.
 use Rattle.std.proofs.lemmas.Result.{err_from_is_err_and}
-use Rattle.h2_show.proofs.ViewerLemmas.{used_within, continues_without_frame}
+use Rattle.std.proofs.Common.{rules, []}
+use Rattle.h2_show.proofs.ViewerLemmas.{continues_nothing, used_within, continues_without_frame}
 use Rattle.h2_show.proofs.ViewerLemmas.{continues_with_frame, fails_at_cut, fails_at_frame}
+use Rattle.std.proofs.KnownBytes.{Appends-nil, Appends-trans}
+use Rattle.h2_show.proofs.PieceLemmas.{prints_none, prints_without_frame, prints_frame}
+use Rattle.h2_show.proofs.PieceLemmas.{frame_written, fails_with_wire, fails_with_block}
 use Rattle.h2_show.proofs.viewer.Viewer.show_piece.Goals as goal
+
+pub loop-done-init : goal.loop-done-init
+loop-done-init g c =
+    record {
+      within = search rules;
+      shown = continues_nothing _ _;
+      printed = ([], Appends-nil _, prints_none _ _ _);
+    }
+
+pub returns-in_err-cut-clause-fault : goal.returns-in_err-cut-clause-fault
+returns-in_err-cut-clause-fault g c =
+    let answer = err_from_is_err_and c.from_residual.result c.from_residual.ensures.1 in
+    rw (answer.1, answer.2) (λ is.
+    let (printed, written, prints) = c.loop-done.invariant.printed in (
+      printed,
+      written,
+      fails_with_wire c.in_err-cut.field-0.0 _ c.loop-done.self.cutter _ _ c.loop-done.self.blocks
+          _ c.loop-done.self.preface.is_due c.args.piece.now c.loop-done.done printed prints
+          (rw c.in_err-cut.was at c.cut.follows.holds-at-none) is,
+    ))
+
+pub returns-in_err-list-clause-fault : goal.returns-in_err-list-clause-fault
+returns-in_err-list-clause-fault g c =
+    let result = c.from_residual-in_err-list.result in
+    let answer = err_from_is_err_and result c.from_residual-in_err-list.ensures.1 in
+    rw (answer.1, answer.2) (λ is.
+    let (printed, written, prints) = c.loop-done.invariant.printed in (
+      printed,
+      written,
+      fails_with_block c.in_err-list.field-0.0 _ c.loop-done.self.cutter _ _
+          c.loop-done.self.blocks _ c.loop-done.self.preface.is_due c.args.piece.now
+          c.loop-done.done c.in_ok-cut.cut c.in-Some.frame printed prints c.in-Some.is
+          (rw c.in_ok-cut.was at c.cut.follows.holds-at-none) c.in_err-list.ensures.err is,
+    ))
 
 pub returns-in_err-cut-clause-err : goal.returns-in_err-cut-clause-err
 returns-in_err-cut-clause-err g c =
@@ -22,6 +60,15 @@ loop-done-preserved-in_default g c =
       shown = continues_without_frame _ c.loop-done.self.cutter _ _ c.loop-done.self.blocks
           c.args.piece.now c.loop-done.done c.in_ok-cut.cut c.loop-done.invariant.shown
           c.in_default.is (rw c.in_ok-cut.was at c.cut.follows.holds-at-none);
+      printed = let (printed, written, prints) = c.loop-done.invariant.printed in (
+        _,
+        Appends-trans _ _ _ printed _ written c.in_ok-advance.ensures.line,
+        prints_without_frame _ c.loop-done.self.cutter _ _ c.loop-done.self.blocks _
+            c.loop-done.self.preface.is_due _ c.is_past_preface.result c.args.piece.now
+            c.loop-done.done c.in_ok-cut.cut printed prints c.in_default.is
+            (rw c.in_ok-cut.was at c.cut.follows.holds-at-none) c.is_past_preface.ensures
+            c.in_ok-advance.ensures.due,
+      );
     }
 
 pub returns-in_err-list-clause-err : goal.returns-in_err-list-clause-err
@@ -45,6 +92,18 @@ loop-done-preserved-in_ok-write_list g c =
           c.args.piece.now c.loop-done.done c.in_ok-cut.cut c.in-Some.frame
           c.loop-done.invariant.shown c.in-Some.is
           (rw c.in_ok-cut.was at c.cut.follows.holds-at-none) c.in_ok-list.ensures.ok;
+      printed = let (printed, written, prints) = c.loop-done.invariant.printed in (
+        _,
+        frame_written _ _ _ _ _ c.loop-done.self.preface.is_due printed _ _ written
+            c.in_ok-advance-2.ensures.line c.in_ok-write_frame.ensures
+            c.in_ok-write_list.ensures,
+        prints_frame _ c.loop-done.self.cutter _ _ c.loop-done.self.blocks _ _
+            c.loop-done.self.preface.is_due _ c.args.piece.now c.loop-done.done
+            c.in_ok-cut.cut c.in-Some.frame printed _ prints c.in-Some.is
+            (rw c.in_ok-cut.was at c.cut.follows.holds-at-none)
+            c.in_ok-advance-2.ensures.due
+            (rw c.in-Some-list.is at c.in_ok-list.ensures.shown),
+      );
     }
 
 pub loop-done-preserved-in_ok-write_list-2 : goal.loop-done-preserved-in_ok-write_list-2
@@ -56,6 +115,18 @@ loop-done-preserved-in_ok-write_list-2 g c =
           c.args.piece.now c.loop-done.done c.in_ok-cut.cut c.in-Some.frame
           c.loop-done.invariant.shown c.in-Some.is
           (rw c.in_ok-cut.was at c.cut.follows.holds-at-none) c.in_ok-list.ensures.ok;
+      printed = let (printed, written, prints) = c.loop-done.invariant.printed in (
+        _,
+        frame_written _ _ _ _ _ c.loop-done.self.preface.is_due printed _ _ written
+            c.in_ok-advance-2.ensures.line c.in_ok-write_frame.ensures
+            c.in_ok-write_list.ensures,
+        prints_frame _ c.loop-done.self.cutter _ _ c.loop-done.self.blocks _ _
+            c.loop-done.self.preface.is_due _ c.args.piece.now c.loop-done.done
+            c.in_ok-cut.cut c.in-Some.frame printed _ prints c.in-Some.is
+            (rw c.in_ok-cut.was at c.cut.follows.holds-at-none)
+            c.in_ok-advance-2.ensures.due
+            (rw c.in-Some-list.is at c.in_ok-list.ensures.shown),
+      );
     }
 
 pub loop-done-preserved : goal.loop-done-preserved
@@ -67,4 +138,15 @@ loop-done-preserved g c =
           c.args.piece.now c.loop-done.done c.in_ok-cut.cut c.in-Some.frame
           c.loop-done.invariant.shown c.in-Some.is
           (rw c.in_ok-cut.was at c.cut.follows.holds-at-none) c.in_ok-list.ensures.ok;
+      printed = let (printed, written, prints) = c.loop-done.invariant.printed in (
+        _,
+        frame_written _ _ _ _ _ c.loop-done.self.preface.is_due printed _ [] written
+            c.in_ok-advance-2.ensures.line c.in_ok-write_frame.ensures (Appends-nil _),
+        prints_frame _ c.loop-done.self.cutter _ _ c.loop-done.self.blocks _ _
+            c.loop-done.self.preface.is_due _ c.args.piece.now c.loop-done.done
+            c.in_ok-cut.cut c.in-Some.frame printed [] prints c.in-Some.is
+            (rw c.in_ok-cut.was at c.cut.follows.holds-at-none)
+            c.in_ok-advance-2.ensures.due
+            (rw c.in_default-list.is at c.in_ok-list.ensures.shown),
+      );
     }

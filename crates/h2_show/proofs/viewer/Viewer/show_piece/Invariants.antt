@@ -1,5 +1,7 @@
 -- A prefix of the piece has been shown.
-use Rattle.std.proofs.Common.{length, ◌-◌, ◌≤◌, take}
+use Rattle.std.proofs.Common.{ℕ, List, length, ◌-◌, ◌≤◌, take}
+use Rattle.std.specs.Io.KnownBytes.{Appends}
+use Rattle.h2_show.specs.Printed.{ViewerPrints}
 use Rattle.h2_show.specs.Viewer.{ViewerContinues}
 use Rattle.h2_show.proofs.viewer.Viewer.show_piece.Given as goal
 
@@ -9,6 +11,10 @@ invariant-loop-done g l =
       within : l.done ≤ length l.piece;
       shown : ViewerContinues l.initial.self.cutter l.initial.self.blocks (take l.done l.piece)
           l.self.cutter l.self.blocks;
+      printed : (printed : List ℕ)
+          × Appends (g.W.Write.contents l.initial.out) (g.W.Write.contents l.out) printed
+          × ViewerPrints l.initial.self.cutter l.initial.self.blocks l.initial.self.preface.is_due
+          (take l.done l.piece) l.self.cutter l.self.blocks l.self.preface.is_due printed;
     }
 
 abbrev pub decreases-loop-done : goal.decreases-loop-done

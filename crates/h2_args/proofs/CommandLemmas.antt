@@ -1,0 +1,90 @@
+-- What holds of the commands.
+use Rattle.std.proofs.Common.{◌≡◌, ◌<◌, refl, arith, codes, lit<, true, zero}
+use Rattle.std.proofs.Common.{suc, ℕ}
+use Rattle.std.specs.List.{slice_index_or}
+use Rattle.std.specs.Str.{bytes_eq}
+use Rattle.clap.specs.Words.{Rule}
+use Rattle.h2_args.specs.Commands.{SideNames, get_app, loop_app, number_rule, replay_app}
+use Rattle.h2_args.specs.Commands.{required_rule, serve_app, show_app}
+use Rattle.h2_args.proofs.RequiredLemmas.{IsAlone, IsRequiredAt}
+
+pub show_is_alone : (names : SideNames) → IsAlone (show_app names)
+show_is_alone names = record { ready = refl; leaves = refl; free = refl; negates = refl }
+
+pub replay_is_alone : (names : SideNames) → IsAlone (replay_app names)
+replay_is_alone names = record { ready = refl; leaves = refl; free = refl; negates = refl }
+
+pub get_is_alone : IsAlone get_app
+get_is_alone = record { ready = refl; leaves = refl; free = refl; negates = refl }
+
+pub get_wants_url : IsRequiredAt get_app 0 (required_rule (codes "URL"))
+get_wants_url = record {
+  inside = lit< tt;
+  at = λ d. refl;
+  required = refl;
+  action = refl;
+  range = refl;
+  simple = refl;
+  unique = λ j d lt same. omega arith;
+  named = refl;
+  own = refl;
+}
+
+pub serve_is_alone : IsAlone serve_app
+serve_is_alone = record { ready = refl; leaves = refl; free = refl; negates = refl }
+
+-- the first argument of `serve` alone is its port
+only_port : (j : ℕ) (d : Rule) → j < 2
+    → bytes_eq (slice_index_or serve_app.top.rules j d).id (codes "PORT") ≡ true → j ≡ 0
+only_port zero d lt same = refl
+only_port (suc zero) d lt same = cc
+only_port (suc (suc j)) d lt same = absurd (omega arith)
+
+-- the second argument of `serve` alone is its count
+only_count : (j : ℕ) (d : Rule) → j < 2
+    → bytes_eq (slice_index_or serve_app.top.rules j d).id (codes "COUNT") ≡ true → j ≡ 1
+only_count zero d lt same = cc
+only_count (suc zero) d lt same = refl
+only_count (suc (suc j)) d lt same = absurd (omega arith)
+
+pub serve_wants_port : IsRequiredAt serve_app 0 (number_rule (codes "PORT") 1 65535)
+serve_wants_port = record {
+  inside = lit< tt;
+  at = λ d. refl;
+  required = refl;
+  action = refl;
+  range = refl;
+  simple = refl;
+  unique = only_port;
+  named = refl;
+  own = refl;
+}
+
+pub serve_wants_count : IsRequiredAt serve_app 1 (number_rule (codes "COUNT") 1 65535)
+serve_wants_count = record {
+  inside = lit< tt;
+  at = λ d. refl;
+  required = refl;
+  action = refl;
+  range = refl;
+  simple = refl;
+  unique = only_count;
+  named = refl;
+  own = refl;
+}
+
+pub loop_is_alone : IsAlone loop_app
+loop_is_alone = record { ready = refl; leaves = refl; free = refl; negates = refl }
+
+pub loop_wants_number : IsRequiredAt loop_app 0 (number_rule (codes "N") 0 1048576)
+loop_wants_number = record {
+  inside = lit< tt;
+  at = λ d. refl;
+  required = refl;
+  action = refl;
+  range = refl;
+  simple = refl;
+  unique = λ j d lt same. omega arith;
+  named = refl;
+  own = refl;
+}

@@ -1,0 +1,5 @@
+pub mod RequiredLemmas
+pub mod GivenLemmas
+pub mod CommandLemmas
+pub mod OptionLemmas
+pub mod examples

@@ -1,0 +1,212 @@
+-- What a parse gives a required argument, by what clap reads of the command.
+use Rattle.std.proofs.Common.{◌≡◌, ◌∙◌, ◌<◌, ◌≤◌, ℕ, true, false, refl, sym, ap, subst}
+use Rattle.std.proofs.Common.{arith, inl, inr, List, [], ◌∷◌, length, Option, Some, None, codes}
+use Rattle.std.proofs.Common.{is_some, ◌||◌}
+use Rattle.std.specs.List.{list_all, slice_index_or}
+use Rattle.std.specs.Str.{bytes_eq}
+use Rattle.std.specs.Str.Parse.{ParsesUnsigned, digits_value, without_leading_plus}
+use Rattle.std.specs.Prelude.{pos, unwrap_or, Result, Ok, ◌^◌}
+use Rattle.std.proofs.lemmas.List.{get_or-map, length-map}
+use Rattle.clap.specs.Words.{App, IsParsedFrom, IsPlain, Rule, Text, Accepts, app_of}
+use Rattle.clap.specs.Words.{args_of, first_of, first_value, found_of, one_of, one_text, read_as}
+use Rattle.clap.specs.Words.{reading_of, rows_of, rule_of, ReadsOne, Row, without_minus}
+use Rattle.clap.specs.Walk.{is_empty}
+use Rattle.clap.specs.Simple.{IsSimple, is_ready, is_ready_leaf}
+use Rattle.clap.specs.Facts.{least_values, unwrap_or_range}
+use Rattle.clap.specs.Faults.{has_free_rules}
+use Rattle.clap.specs.Built.{IsAuto}
+use Rattle.clap.specs.declared.builder.action.ArgAction.TheVariants.{Set}
+use Rattle.clap.specs.declared.builder.arg.Arg.{Arg}
+use Rattle.clap.specs.declared.builder.command.Command.{Command}
+use Rattle.clap.specs.declared.builder.value_parser.ValueParser.{ValueParser}
+use Rattle.clap.specs.declared.builder.value_parser.ValueParser.TheVariants.{Signed}
+use Rattle.clap.specs.declared.parser.matches.ArgMatches.{ArgMatches}
+use Rattle.clap.proofs.CallerLemmas.{required_has_value}
+use Rattle.clap.proofs.CallerReads.{required_reads, signed_reads}
+use Rattle.clap.proofs.FaultLemmas.{free_args}
+use Rattle.clap.proofs.SimpleLemmas.{ready_simple, simple_groups}
+use Rattle.clap.proofs.WalkLemmas.{both, first_value-rows, one_text-rows}
+use Rattle.h2_args.specs.Commands.{number_rule}
+use Rattle.h2_args.specs.Words.{number_of}
+
+-- the command has no rule of one argument on another, and no argument that changes how words are
+-- read
+pub record IsAlone (a : App) : Type 0 where
+  pub ready : is_ready a.top ≡ true
+  pub leaves : list_all is_ready_leaf a.subs ≡ true
+  pub free : has_free_rules a.top ≡ true
+  pub negates : a.top.subcommand_negates_reqs ≡ false
+
+-- place k of the command has the rule r, of a required argument of one value, whose id no other has
+pub record IsRequiredAt (a : App) (k : ℕ) (r : Rule) : Type 0 where
+  pub inside : k < length a.top.rules
+  pub at : (d : Rule) → slice_index_or a.top.rules k d ≡ r
+  pub required : r.required ≡ true
+  pub action : r.action ≡ Some Set
+  pub range : r.range ≡ None
+  pub simple : r.is_simple ≡ true
+  pub unique : (j : ℕ) (d : Rule) → j < length a.top.rules
+      → bytes_eq (slice_index_or a.top.rules j d).id r.id ≡ true → j ≡ k
+  pub named : is_empty r.id ≡ false
+  pub own : (bytes_eq r.id (codes "help") || bytes_eq r.id (codes "version")) ≡ false
+
+-- some argument of a list that has one
+head : (xs : List Arg) (k : ℕ) → k < length xs → Arg
+head [] k lt = absurd (omega arith)
+head (x ∷ xs) k lt = x
+
+module _ (a : App) (c : Command) (e : app_of c ≡ a) (alone : IsAlone a) where
+  -- the command is simple
+  pub simple : IsSimple c
+  simple = ready_simple c (ap (λ (x : App). is_ready x.top) e ∙ alone.ready)
+      (ap (λ (x : App). list_all is_ready_leaf x.subs) e ∙ alone.leaves)
+
+  -- nothing in the command excludes anything
+  plain : IsPlain c
+  plain =
+      let free = free_args c simple (ap (λ (x : App). has_free_rules x.top) e ∙ alone.free) in
+      let rules = (both _ _ ((both _ _ (ap (λ (x : App). is_ready x.top) e ∙ alone.ready)).0)).1 in
+      let groups = simple_groups c rules in (
+        λ k d lt. (
+          (free k d lt).exclusive,
+          (free k d lt).conflicts,
+          (free k d lt).overrides,
+          groups k d lt,
+        ),
+        simple.groups,
+      )
+
+  -- the rule of an argument
+  rule_of_place : (j : ℕ) (d : Arg) → j < length (args_of c)
+      → rule_of (slice_index_or (args_of c) j d) ≡ slice_index_or a.top.rules j (rule_of d)
+  rule_of_place j d lt = sym (get_or-map rule_of (args_of c) j d (rule_of d) lt)
+      ∙ ap (λ (x : App). slice_index_or x.top.rules j (rule_of d)) e
+
+  -- as many arguments as rules
+  as_many : length (args_of c) ≡ length a.top.rules
+  as_many = sym (length-map (args_of c) rule_of) ∙ ap (λ (x : App). length x.top.rules) e
+
+  module _ (m : ArgMatches) (p : IsParsedFrom c m) (k : ℕ) (r : Rule)
+      (is : IsRequiredAt a k r) where
+    -- the place is one of the command's
+    inside : k < length (args_of c)
+    inside = subst (λ n. k < n) (sym as_many) is.inside
+
+    module _ (d : Arg) where
+      -- the argument's rule
+      rule : rule_of (slice_index_or (args_of c) k d) ≡ r
+      rule = rule_of_place k d inside ∙ is.at (rule_of d)
+
+      -- no other argument has its id
+      unique : (j : ℕ) (f : Arg) → j < length (args_of c)
+          → bytes_eq (slice_index_or (args_of c) j f).id.now
+          (slice_index_or (args_of c) k d).id.now ≡ true → j ≡ k
+      unique j f lt same = is.unique j (rule_of f) (subst (λ n. j < n) as_many lt)
+          (subst (λ (x : Rule). bytes_eq x.id r.id ≡ true) (rule_of_place j f lt)
+          (subst (λ (x : Rule). bytes_eq (slice_index_or (args_of c) j f).id.now x.id ≡ true) rule
+          same))
+
+      -- its use takes a value
+      least : 1 ≤ least_values (slice_index_or (args_of c) k d)
+      least = subst (λ o. 1 ≤ (unwrap_or_range o).start_inclusive)
+          (sym (ap (λ (x : Rule). x.range) rule ∙ is.range)) (omega arith)
+
+      -- its id isn't empty
+      named : (slice_index_or (args_of c) k d).id.now ≡ [] → ⊥
+      named empty =
+          let bad : true ≡ false = ap (λ (t : Text). is_empty t)
+          (sym (sym (ap (λ (x : Rule). x.id) rule) ∙ empty)) ∙ is.named in
+          cc
+
+      -- it is no flag that building adds
+      own : IsAuto (slice_index_or (args_of c) k d) → ⊥
+      own auto = elim auto [
+        | inl h ↦
+            let bad : true ≡ false = is_flag (sym (sym (ap (λ (x : Rule). x.id) rule) ∙ h)) in
+            cc
+        | inr h ↦
+            let bad : true ≡ false = is_flag (sym (sym (ap (λ (x : Rule). x.id) rule) ∙ h)) in
+            cc
+      ]
+        where
+          is_flag : {t : Text} → t ≡ r.id
+              → (bytes_eq t (codes "help") || bytes_eq t (codes "version")) ≡ false
+          is_flag h = ap (λ (t : Text). bytes_eq t (codes "help") || bytes_eq t (codes "version")) h
+              ∙ is.own
+
+      -- it has a value
+      value_at : is_some (first_of r.id (rows_of (found_of m))) ≡ true
+      value_at =
+          let has = required_has_value c m p plain simple.globals
+          (ap (λ (x : App). x.top.subcommand_negates_reqs) e ∙ alone.negates) k d inside
+          (ap (λ (x : Rule). x.required) rule ∙ is.required)
+          (ap (λ (x : Rule). x.action) rule ∙ is.action)
+          (simple.args k d inside).delimiter least unique named own in
+          ap (λ o. is_some o) (sym (first_value-rows (found_of m) r.id))
+          ∙ subst (λ (x : Rule). is_some (first_value (found_of m) x.id) ≡ true) rule has
+
+      -- the value has passed its parser, and is read as that says
+      reading_at : (q : ValueParser) → r.parser ≡ Some q → (t : Text)
+          × (one_of r.id (rows_of (found_of m)) ≡ Some (read_as (reading_of q) t))
+          × Accepts r.ignore_case q t
+      reading_at q parser =
+          let got = required_reads c m p plain simple.globals
+          (ap (λ (x : App). x.top.subcommand_negates_reqs) e ∙ alone.negates) k d inside
+          (ap (λ (x : Rule). x.required) rule ∙ is.required)
+          (ap (λ (x : Rule). x.action) rule ∙ is.action)
+          (simple.args k d inside).delimiter least unique named own q
+          (ap (λ (x : Rule). x.parser) rule ∙ parser) in (
+            got.0,
+            sym (one_text-rows (found_of m) r.id)
+                ∙ subst (λ (x : Rule). one_text (found_of m) x.id
+                ≡ Some (read_as (reading_of q) got.0))
+                rule got.1,
+            subst (λ (x : Rule). Accepts x.ignore_case q got.0) rule got.2,
+          )
+
+    -- a required argument has a value
+    pub required_value : is_some (first_of r.id (rows_of (found_of m))) ≡ true
+    required_value = value_at (head (args_of c) k inside)
+
+    -- its value has passed its parser, and is read as that says
+    pub required_reading : (q : ValueParser) → r.parser ≡ Some q → (t : Text)
+        × (one_of r.id (rows_of (found_of m)) ≡ Some (read_as (reading_of q) t))
+        × Accepts r.ignore_case q t
+    required_reading = reading_at (head (args_of c) k inside)
+
+-- what a typed getter gives of an argument's value: a number in its range
+pub record GivesNumber (r : Option ℕ) (least most : ℕ) (name : Text) (rows : List Row)
+    : Type 0 where
+  pub number : ℕ
+  pub given : r ≡ Some number
+  pub low : least ≤ number
+  pub high : number ≤ most
+  pub read : number ≡ number_of name rows
+
+-- A number in a range that the type holds is read from a required argument.
+pub required_number : (a : App) (c : Command) (e : app_of c ≡ a) (alone : IsAlone a)
+    (m : ArgMatches) (p : IsParsedFrom c m) (k : ℕ) (name : Text) (least most : ℕ)
+    → IsRequiredAt a k (number_rule name least most)
+    → (E : Type 0) (gives : Text → Result ℕ E → Type 0) (bits : ℕ) (r : Option ℕ)
+    → ((t : Text) → one_text (found_of m) name ≡ Some t → ReadsOne gives t r)
+    → ((u : Text) (x : Result ℕ E) → gives u x → ParsesUnsigned bits 10 u x) → most < 2 ^ bits
+    → GivesNumber r least most name (rows_of (found_of m))
+required_number a c e alone m p k name least most is E gives bits r reads parses fits =
+    let rows = rows_of (found_of m) in
+    let q = Signed (pos least) (pos most) in
+    let got = required_reading a c e alone m p k (number_rule name least most) is q refl in
+    let one : one_text (found_of m) name ≡ Some (without_minus got.0) =
+    one_text-rows (found_of m) name ∙ got.1 in
+    let read = reads (without_minus got.0) one in
+    let number = signed_reads E gives bits least most got.0 r read parses fits got.2 in
+    let given = subst (ReadsOne gives (without_minus got.0)) number.1 read in
+    let parsed = parses _ (Ok number.0) given in
+    record {
+      number = number.0;
+      given = number.1;
+      low = number.2;
+      high = number.3;
+      read = parsed.1
+          ∙ ap (λ (o : Option Text). digits_value 10 (without_leading_plus (unwrap_or o [])))
+          (sym got.1);
+    }

@@ -1,0 +1,6 @@
+-- Worked examples: what words after a command's name give. Each computes: a definition that says
+-- otherwise is refused.
+pub mod ShowWords
+pub mod SocketWords
+pub mod ReplayWords
+pub mod ProgramWords

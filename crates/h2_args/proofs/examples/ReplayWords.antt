@@ -1,0 +1,35 @@
+-- Words after `replay`, written out.
+use Rattle.std.proofs.Common.{◌≡◌, [], ◌∷◌, true, false, codes, refl, Some}
+use Rattle.clap.proofs.OnLiterals.{clap_on_literals}
+use Rattle.clap.specs.declared.error.kind.ErrorKind.TheVariants.{ArgumentConflict, DisplayHelp}
+use Rattle.clap.specs.declared.error.kind.ErrorKind.TheVariants.{UnknownArgument}
+use Rattle.h2_log.specs.declared.role.Role.TheVariants.{Client, Server}
+use Rattle.h2_args.specs.Commands.{sides}
+use Rattle.h2_args.specs.Words.{replay_faults, replay_options_of}
+
+no_words : replay_options_of sides [] ≡ Some (record { hex = false; role = Server })
+unfolding clap_on_literals
+no_words = refl
+
+as_client : replay_options_of sides (codes "--hex" ∷ codes "--as=client" ∷ [])
+    ≡ Some (record { hex = true; role = Client })
+unfolding clap_on_literals
+as_client = refl
+
+as_server : replay_options_of sides (codes "--as" ∷ codes "server" ∷ [])
+    ≡ Some (record { hex = false; role = Server })
+unfolding clap_on_literals
+as_server = refl
+
+side_twice : replay_faults sides (codes "--as=client" ∷ codes "--as=client" ∷ [])
+    ≡ ArgumentConflict ∷ []
+unfolding clap_on_literals
+side_twice = refl
+
+option_of_show : replay_faults sides (codes "--from=client" ∷ []) ≡ UnknownArgument ∷ []
+unfolding clap_on_literals
+option_of_show = refl
+
+help : replay_faults sides (codes "--help" ∷ []) ≡ DisplayHelp ∷ []
+unfolding clap_on_literals
+help = refl

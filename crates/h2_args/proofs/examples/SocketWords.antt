@@ -1,0 +1,57 @@
+-- Words after `serve`, `get` and `loop`, written out.
+use Rattle.std.proofs.Common.{◌≡◌, [], ◌∷◌, codes, refl, Some}
+use Rattle.clap.proofs.OnLiterals.{clap_on_literals}
+use Rattle.clap.specs.declared.error.kind.ErrorKind.TheVariants.{MissingRequiredArgument}
+use Rattle.clap.specs.declared.error.kind.ErrorKind.TheVariants.{UnknownArgument, ValueValidation}
+use Rattle.h2_args.specs.Words.{get_faults, loop_faults, octets_of, serve_faults}
+use Rattle.h2_args.specs.Words.{serve_options_of, url_of}
+
+port_and_count : serve_options_of (codes "9001" ∷ codes "2" ∷ [])
+    ≡ Some (record { port = 9001; count = 2 })
+unfolding clap_on_literals
+port_and_count = refl
+
+greatest_port : serve_options_of (codes "65535" ∷ codes "1" ∷ [])
+    ≡ Some (record { port = 65535; count = 1 })
+unfolding clap_on_literals
+greatest_port = refl
+
+port_above_the_greatest : serve_faults (codes "65536" ∷ codes "1" ∷ []) ≡ ValueValidation ∷ []
+unfolding clap_on_literals
+port_above_the_greatest = refl
+
+no_connections : serve_faults (codes "9001" ∷ codes "0" ∷ []) ≡ ValueValidation ∷ []
+unfolding clap_on_literals
+no_connections = refl
+
+no_count : serve_faults (codes "9001" ∷ []) ≡ MissingRequiredArgument ∷ []
+unfolding clap_on_literals
+no_count = refl
+
+one_word_too_many : serve_faults (codes "1" ∷ codes "2" ∷ codes "3" ∷ []) ≡ UnknownArgument ∷ []
+unfolding clap_on_literals
+one_word_too_many = refl
+
+url : url_of (codes "http://h:1/a" ∷ []) ≡ Some (codes "http://h:1/a")
+unfolding clap_on_literals
+url = refl
+
+no_url : get_faults [] ≡ MissingRequiredArgument ∷ []
+unfolding clap_on_literals
+no_url = refl
+
+no_octets : octets_of (codes "0" ∷ []) ≡ Some 0
+unfolding clap_on_literals
+no_octets = refl
+
+most_octets : octets_of (codes "1048576" ∷ []) ≡ Some 1048576
+unfolding clap_on_literals
+most_octets = refl
+
+above_the_most : loop_faults (codes "1048577" ∷ []) ≡ ValueValidation ∷ []
+unfolding clap_on_literals
+above_the_most = refl
+
+negative_after_dashes : octets_of (codes "--" ∷ codes "-0" ∷ []) ≡ Some 0
+unfolding clap_on_literals
+negative_after_dashes = refl

@@ -1,0 +1,35 @@
+use Rattle.std.proofs.Common.{◌∙◌, ap, sym, IfErr, map, string_bytes, refl, rules}
+use Rattle.std.proofs.lemmas.Result.{IfErr-weaker}
+use Rattle.clap.specs.Words.{App, HasKind, fault_of, is_simple_and_free}
+use Rattle.h2_args.specs.Commands.{sides}
+use Rattle.h2_args.specs.Words.{program_faults}
+use Rattle.h2_args.proofs.program.no_command.Goals as goal
+
+pub returns-clause-ok : goal.returns-clause-ok
+returns-clause-ok c =
+    let is = c.in_ok-command.ensures in
+    let words = map string_bytes c.args.words.now in (
+      is.0,
+      is.1,
+      is.2,
+      is.3,
+      ap (λ (a : App). fault_of a words) (sym is.4)
+          ∙ c.in_ok-try_get_matches_from.ensures.kinds (ap is_simple_and_free is.4),
+    )
+
+pub returns-in_err-command-clause-err : goal.returns-in_err-command-clause-err
+returns-in_err-command-clause-err c =
+    let words = map string_bytes c.args.words.now in
+    let fails : IfErr c.from_residual.result (HasKind (program_faults sides sides words)) =
+    search rules in
+    IfErr-weaker c.from_residual.result _ _ (λ e h. (sides, sides, refl, refl, h)) fails
+
+pub returns-in_err-try_get_matches_from-clause-err
+    : goal.returns-in_err-try_get_matches_from-clause-err
+returns-in_err-try_get_matches_from-clause-err c =
+    let is = c.in_ok-command.ensures in
+    let words = map string_bytes c.args.words.now in
+    let fails : IfErr c.from_residual-in_err-try_get_matches_from.result
+    (HasKind (program_faults is.0 is.1 words)) = search rules in
+    IfErr-weaker c.from_residual-in_err-try_get_matches_from.result _ _
+    (λ e h. (is.0, is.1, is.2, is.3, h)) fails

@@ -1,0 +1,110 @@
+-- The commands of `h2` as clap reads them: of words that begin with no program's name.
+use Rattle.std.specs.Prelude.{◌≡◌, ℕ, true, List, [], ◌∷◌, Some, pos, codes, map}
+use Rattle.std.specs.Borrow.{Bor}
+use Rattle.clap.specs.Words.{App, Rule, Text, new_app, new_rule, with_rule, with_subcommand}
+use Rattle.clap.specs.Simple.{on_top}
+use Rattle.clap.specs.declared.builder.action.ArgAction.TheVariants.{Set, SetTrue}
+use Rattle.clap.specs.declared.builder.value_parser.ValueParser.{ValueParser}
+use Rattle.clap.specs.declared.builder.value_parser.ValueParser.TheVariants.{Names, Signed}
+
+-- a command of this name with no arguments yet
+abbrev pub named_app : Text → App
+named_app name = on_top (λ s. record s { no_binary_name = true }) (new_app name)
+
+-- the flag `--hex`
+abbrev pub hex_rule : Rule
+hex_rule = record (new_rule (codes "hex")) { long = Some (codes "hex"); action = Some SetTrue }
+
+-- a value that stands at no place in memory
+abbrev pub at_no_place : {X : Type 0} → X → Bor X
+at_no_place x = record { ref_ptr = (0, 0); now = x }
+
+-- Names of a side, as a parser lends them: where they stand in memory isn't known.
+abbrev pub SideNames : Type 0
+SideNames = Bor (List (Bor Text))
+
+-- the names are `client` and `server`
+abbrev pub AreSides : SideNames → Type 0
+AreSides names = map (λ name. name.now) names.now ≡ codes "client" ∷ codes "server" ∷ []
+
+-- the names where they stand at no place in memory
+abbrev pub sides : SideNames
+sides = at_no_place (at_no_place (codes "client") ∷ at_no_place (codes "server") ∷ [])
+
+-- an option that names a side, with the name that it has where it isn't given
+abbrev pub side_rule : Text → Text → SideNames → Rule
+side_rule name default names = record (new_rule name) {
+  long = Some name;
+  value_names = 1;
+  parser = Some (Names names);
+  defaults = default ∷ [];
+}
+
+-- the rule is that of an option that names a side
+abbrev pub IsSideRule : Text → Text → Rule → Type 0
+IsSideRule name default rule =
+    (names : SideNames) × AreSides names × (rule ≡ side_rule name default names)
+
+-- `show [--hex] [--from SIDE]`, of the client where no side is given
+abbrev pub show_app : SideNames → App
+show_app names = with_rule (with_rule (named_app (codes "show")) hex_rule)
+    (side_rule (codes "from") (codes "client") names)
+
+-- the command is `show`
+abbrev pub IsShowCommand : App → Type 0
+IsShowCommand a = (names : SideNames) × AreSides names × (a ≡ show_app names)
+
+-- `replay [--hex] [--as SIDE]`, at the server where no side is given
+abbrev pub replay_app : SideNames → App
+replay_app names = with_rule (with_rule (named_app (codes "replay")) hex_rule)
+    (side_rule (codes "as") (codes "server") names)
+
+-- the command is `replay`
+abbrev pub IsReplayCommand : App → Type 0
+IsReplayCommand a = (names : SideNames) × AreSides names × (a ≡ replay_app names)
+
+-- a positional argument that has to stand
+abbrev pub required_rule : Text → Rule
+required_rule name =
+    record (new_rule name) { value_names = 1; required = true; action = Some Set }
+
+-- the argument with what its numbers have to be
+abbrev pub with_numbers : Rule → ValueParser → Rule
+with_numbers rule numbers = record rule { parser = Some numbers }
+
+-- a number from `least` to `most` that has to stand
+abbrev pub number_rule : Text → ℕ → ℕ → Rule
+number_rule name least most = with_numbers (required_rule name) (Signed (pos least) (pos most))
+
+-- `serve PORT COUNT`, each number from 1 to 65,535
+abbrev pub serve_app : App
+serve_app = with_rule (with_rule (named_app (codes "serve")) (number_rule (codes "PORT") 1 65535))
+    (number_rule (codes "COUNT") 1 65535)
+
+-- `get URL`
+abbrev pub get_app : App
+get_app = with_rule (named_app (codes "get")) (required_rule (codes "URL"))
+
+-- `loop N`, from 0 to 1,048,576
+abbrev pub loop_app : App
+loop_app = with_rule (named_app (codes "loop")) (number_rule (codes "N") 0 1048576)
+
+-- `h2 COMMAND`, with no command yet: it has a version, and no words ask for help
+abbrev pub bare_program : App
+bare_program = on_top (λ s. record s {
+  no_binary_name = true;
+  has_version = true;
+  subcommand_required = true;
+  arg_required_else_help = true;
+}) (new_app (codes "h2"))
+
+-- the program with its commands
+abbrev pub program_app : SideNames → SideNames → App
+program_app shown replayed = with_subcommand (with_subcommand (with_subcommand (with_subcommand
+    (with_subcommand bare_program (show_app shown).top) (replay_app replayed).top) serve_app.top)
+    get_app.top) loop_app.top
+
+-- the command is the program with its commands
+abbrev pub IsProgram : App → Type 0
+IsProgram a = (shown replayed : SideNames) × AreSides shown × AreSides replayed
+    × (a ≡ program_app shown replayed)

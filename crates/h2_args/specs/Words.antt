@@ -1,0 +1,133 @@
+-- What the words after a command's name give.
+use Rattle.std.specs.Prelude.{◌≡◌, ℕ, Bool, false, List, Option, Some, None, []}
+use Rattle.std.specs.Prelude.{if◌then◌else◌, codes, unwrap_or}
+use Rattle.std.specs.Str.{bytes_eq}
+use Rattle.std.specs.Str.Parse.{digits_value, without_leading_plus}
+use Rattle.clap.specs.Words.{App, HasKind, Kinds, Row, Text, fault_of, first_of}
+use Rattle.clap.specs.Words.{matches_of, one_of}
+use Rattle.clap.specs.Walk.{is_empty}
+use Rattle.clap.specs.declared.error.Error.{Error}
+use Rattle.h2_show.specs.declared.options.ShowOptions.{ShowOptions}
+use Rattle.h2_show.specs.declared.options.Side.TheVariants.{Client, Server}
+use Rattle.h2_events.specs.declared.options.ReplayOptions.{ReplayOptions}
+use Rattle.h2_log.specs.declared.role.Role.TheVariants as role
+use Rattle.h2_args.specs.Commands.{AreSides, SideNames, program_app, replay_app, show_app}
+use Rattle.h2_args.specs.Commands.{serve_app, get_app, loop_app}
+use Rattle.h2_args.specs.declared.sockets.ServeOptions.{ServeOptions}
+
+-- What the command's matches of the words give, where clap lists no fault of these words.
+abbrev pub given_by : {T : Type 0} → App → (List Row → T) → List Text → Option T
+given_by app read words =
+    if is_empty (fault_of app words) then Some (read (matches_of app words)) else None
+
+-- the flag was given
+abbrev pub is_set : Option Text → Bool
+is_set (Some text) = bytes_eq text (codes "true")
+is_set None = false
+
+-- the option has this value
+abbrev pub is_named : Text → Option Text → Bool
+is_named name (Some text) = bytes_eq text name
+is_named name None = false
+
+-- what the matches of `show` say
+abbrev pub show_options_in : List Row → ShowOptions
+show_options_in rows = record {
+  hex = is_set (one_of (codes "hex") rows);
+  from = if is_named (codes "server") (first_of (codes "from") rows) then Server else Client;
+}
+
+-- The options that the words after `show` give, if they have no fault.
+abbrev pub show_options_of : SideNames → List Text → Option ShowOptions
+show_options_of names = given_by (show_app names) show_options_in
+
+-- the kinds of error that the words after `show` may have
+abbrev pub show_faults : SideNames → List Text → Kinds
+show_faults names = fault_of (show_app names)
+
+-- the words after `show` give these options
+abbrev pub ShowWordsGive : List Text → ShowOptions → Type 0
+ShowWordsGive words options =
+    (names : SideNames) × AreSides names × (show_options_of names words ≡ Some options)
+
+-- the words after `show` have a fault of the error's kind, or memory ran out
+abbrev pub ShowWordsFail : List Text → Error → Type 0
+ShowWordsFail words error =
+    (names : SideNames) × AreSides names × HasKind (show_faults names words) error
+
+-- what the matches of `replay` say
+abbrev pub replay_options_in : List Row → ReplayOptions
+replay_options_in rows = record {
+  hex = is_set (one_of (codes "hex") rows);
+  role = if is_named (codes "client") (first_of (codes "as") rows) then role.Client
+      else role.Server;
+}
+
+-- The options that the words after `replay` give, if they have no fault.
+abbrev pub replay_options_of : SideNames → List Text → Option ReplayOptions
+replay_options_of names = given_by (replay_app names) replay_options_in
+
+-- the kinds of error that the words after `replay` may have
+abbrev pub replay_faults : SideNames → List Text → Kinds
+replay_faults names = fault_of (replay_app names)
+
+-- the words after `replay` give these options
+abbrev pub ReplayWordsGive : List Text → ReplayOptions → Type 0
+ReplayWordsGive words options =
+    (names : SideNames) × AreSides names × (replay_options_of names words ≡ Some options)
+
+-- the words after `replay` have a fault of the error's kind, or memory ran out
+abbrev pub ReplayWordsFail : List Text → Error → Type 0
+ReplayWordsFail words error =
+    (names : SideNames) × AreSides names × HasKind (replay_faults names words) error
+
+-- the number that an argument's value writes in decimal digits
+abbrev pub number_of : Text → List Row → ℕ
+number_of id rows = digits_value 10 (without_leading_plus (unwrap_or (one_of id rows) []))
+
+-- what the matches of `serve` say
+abbrev pub serve_options_in : List Row → ServeOptions
+serve_options_in rows =
+    record { port = number_of (codes "PORT") rows; count = number_of (codes "COUNT") rows }
+
+-- The port and the count that the words after `serve` give, if they have no fault.
+abbrev pub serve_options_of : List Text → Option ServeOptions
+serve_options_of = given_by serve_app serve_options_in
+
+-- the kinds of error that the words after `serve` may have
+abbrev pub serve_faults : List Text → Kinds
+serve_faults = fault_of serve_app
+
+-- what the matches of `get` say
+abbrev pub url_in : List Row → Text
+url_in rows = unwrap_or (first_of (codes "URL") rows) []
+
+-- The URL that the words after `get` give, if they have no fault.
+abbrev pub url_of : List Text → Option Text
+url_of = given_by get_app url_in
+
+-- the kinds of error that the words after `get` may have
+abbrev pub get_faults : List Text → Kinds
+get_faults = fault_of get_app
+
+-- The number of octets that the words after `loop` give, if they have no fault.
+abbrev pub octets_of : List Text → Option ℕ
+octets_of = given_by loop_app (number_of (codes "N"))
+
+-- the kinds of error that the words after `loop` may have
+abbrev pub loop_faults : List Text → Kinds
+loop_faults = fault_of loop_app
+
+-- the kinds of error that the words of the program may have
+abbrev pub program_faults : SideNames → SideNames → List Text → Kinds
+program_faults shown replayed = fault_of (program_app shown replayed)
+
+-- the words of the program have no fault
+abbrev pub ProgramWordsPass : List Text → Type 0
+ProgramWordsPass words = (shown replayed : SideNames) × AreSides shown × AreSides replayed
+    × (program_faults shown replayed words ≡ [])
+
+-- the words of the program have a fault of the error's kind, or memory ran out
+abbrev pub ProgramWordsFail : List Text → Error → Type 0
+ProgramWordsFail words error = (shown replayed : SideNames) × AreSides shown × AreSides replayed
+    × HasKind (program_faults shown replayed words) error

@@ -1,0 +1,17 @@
+//! The words of the command line of `h2`, as what they ask for.
+//!
+//! Each command has a function that reads the words after its name: [`show_args`], [`replay_args`],
+//! [`serve_args`], [`get_args`] and [`loop_args`]. [`no_command`] reads words that begin with no
+//! command's name. An error is clap's, and its text is for the user.
+#![tactic(auto)]
+
+mod options;
+mod program;
+mod replay;
+mod show;
+mod sockets;
+
+pub use program::no_command;
+pub use replay::replay_args;
+pub use show::show_args;
+pub use sockets::{MOST_POSTED, ServeOptions, get_args, loop_args, serve_args};

@@ -1,0 +1,58 @@
+//! The options that `show` and `replay` share.
+
+ghost use Rattle.std.specs.Prelude.{◌≡◌, false};
+ghost use Rattle.clap.specs.Words.{first_of, found_of, one_of, rows_of, rule_of};
+ghost use Rattle.h2_args.specs.Commands.{IsSideRule, hex_rule};
+ghost use Rattle.h2_args.specs.Words.{is_named, is_set};
+
+use clap::{Arg, ArgAction, ArgMatches};
+use std::alloc::Global;
+
+/// The name of the flag: the input is hexadecimal text.
+pub(super) const HEX: &str = "hex";
+
+const HEX_HELP: &str = r"Read hexadecimal text, of which spaces, tabs and line ends
+are ignored";
+
+/// The flag as clap has it.
+pub(super) fn hex_arg<'a>(alloc: Global) -> Arg<'a>
+    ensures rule { rule_of result ≡ hex_rule }
+    ensures local { result.global ≡ false }
+{
+    Arg::new(alloc, HEX)
+        .long(HEX)
+        .action(ArgAction::SetTrue)
+        .help(HEX_HELP)
+}
+
+/// An option that names a side, with the name that it has where it isn't given.
+pub(super) fn side_arg<'a>(alloc: Global, name: &'a str, default: &'a str, help: &'a str) -> Arg<'a>
+    ensures rule { IsSideRule name.entry.now default.entry.now (rule_of result) }
+    ensures local { result.global ≡ false }
+{
+    Arg::new(alloc, name)
+        .long(name)
+        .value_name("SIDE")
+        .value_parser(["client", "server"].as_slice())
+        .default_value(default)
+        .hide_default_value(true)
+        .hide_possible_values(true)
+        .help(help)
+}
+
+/// Whether a flag was given.
+pub(super) fn is_set(matches: &ArgMatches<'_>, flag: &str) -> bool
+    ensures { result ≡ is_set (one_of flag.now (rows_of (found_of matches.now))) }
+{
+    matches.get_one::<bool>(flag).unwrap_or(false)
+}
+
+/// Whether an option has this value.
+pub(super) fn is_named(matches: &ArgMatches<'_>, option: &str, name: &str) -> bool
+    ensures { result ≡ is_named name.now (first_of option.now (rows_of (found_of matches.now))) }
+{
+    match matches.get_str(option) {
+        Some(given) => given == name,
+        None => false,
+    }
+}

@@ -1,0 +1,52 @@
+//! Words that begin with no command's name.
+
+ghost use Rattle.std.specs.Prelude.{◌≡◌, IfErr, IfOk, OnOk, map, string_bytes};
+ghost use Rattle.clap.specs.Words.{app_of};
+ghost use Rattle.h2_args.specs.Commands.{IsProgram, bare_program};
+ghost use Rattle.h2_args.specs.Words.{ProgramWordsFail, ProgramWordsPass};
+
+use crate::replay::replay_command;
+use crate::show::show_command;
+use crate::sockets::{get_command, loop_command, serve_command};
+use clap::{Command, Error};
+use std::alloc::{AllocError, Global};
+
+/// Reads words that begin with no command's name. They ask for help or the version, or are wrong.
+///
+/// # Errors
+///
+/// Those of [`crate::show_args`], and `DisplayVersion` where the version is asked for.
+pub fn no_command(alloc: Global, words: &[String]) -> Result<(), Error>
+    ensures ok { OnOk result (ProgramWordsPass (map string_bytes words.now)) }
+    ensures err { IfErr result (ProgramWordsFail (map string_bytes words.now)) }
+{
+    let command = program_command(alloc)?;
+    command.try_get_matches_from(words)?;
+    Ok(())
+}
+
+// The program with its commands.
+fn program_command<'a>(alloc: Global) -> Result<Command<'a>, AllocError>
+    ensures { IfOk result (λ command. IsProgram (app_of command)) }
+{
+    bare_program(alloc)?
+        .subcommand(show_command(alloc)?)?
+        .subcommand(replay_command(alloc)?)?
+        .subcommand(serve_command(alloc)?)?
+        .subcommand(get_command(alloc)?)?
+        .subcommand(loop_command(alloc)?)
+}
+
+// The program with no command yet.
+fn bare_program<'a>(alloc: Global) -> Result<Command<'a>, AllocError>
+    ensures { IfOk result (λ command. app_of command ≡ bare_program) }
+{
+    let program = Command::new(alloc, "h2")
+        .bin_name("h2")?
+        .about("Shows, replays, serves and fetches HTTP/2 over cleartext")
+        .version("0.1.0")
+        .no_binary_name(true)
+        .subcommand_required(true)
+        .arg_required_else_help(true);
+    Ok(program)
+}

@@ -1,0 +1,107 @@
+//! What the words after `replay` ask for.
+
+ghost use Rattle.std.specs.Prelude.{◌≡◌, IfErr, IfOk, map, string_bytes};
+ghost use Rattle.clap.specs.Words.{app_of, found_of, rows_of};
+ghost use Rattle.h2_args.specs.Commands.{IsReplayCommand};
+ghost use Rattle.h2_args.specs.Words.{ReplayWordsFail, ReplayWordsGive, replay_options_in};
+
+use crate::options::{HEX, hex_arg, is_named, is_set, side_arg};
+use clap::{ArgMatches, Command, Error};
+use h2_events::{ReplayOptions, Role};
+use std::alloc::{AllocError, Global};
+
+/// Reads the words after `replay`.
+///
+/// # Errors
+///
+/// Those of [`crate::show_args`].
+pub fn replay_args(alloc: Global, words: &[String]) -> Result<ReplayOptions, Error>
+    ensures ok { IfOk result (ReplayWordsGive (map string_bytes words.now)) }
+    ensures err { IfErr result (ReplayWordsFail (map string_bytes words.now)) }
+{
+    let command = replay_command(alloc)?;
+    let matches = command.try_get_matches_from(words)?;
+    Ok(options_of(&matches))
+}
+
+// The options that the matches of `replay` give.
+fn options_of(matches: &ArgMatches<'_>) -> ReplayOptions
+    ensures { result ≡ replay_options_in (rows_of (found_of matches.now)) }
+{
+    let role = if is_named(matches, AS, "client") {
+        Role::Client
+    } else {
+        Role::Server
+    };
+    ReplayOptions {
+        hex: is_set(matches, HEX),
+        role,
+    }
+}
+
+const AS: &str = "as";
+
+/// The lines that `replay` prints, how it ends, how octets are had, and an example.
+const EVENTS_AND_STATUSES: &str =
+    r"The octets are handed to one end of a new connection, which has the default
+settings and makes no call of its own: it answers no request, opens no stream
+and releases no octets. So the 101st request is reset with code 7, a body above
+65535 octets is a fault, and so is a response at a client.
+
+Each event has a line:
+  fields ID          a field block has come on stream ID; `end` after it, as
+                     after `data`: nothing follows on the stream
+    name: value      a header field, as `h2 show` prints it
+  data ID octets=N flow=M
+                     N octets of a body, which took M of the windows
+  reset ID code=N ours
+                     this end has reset the stream, for a fault of the peer;
+                     `theirs`: the peer has
+  goaway last=N code=M
+                     the peer takes no streams above N
+  unprocessed ID, pong OCTETS
+                     of a stream or a PING of this end, which makes none here
+  acked              the peer has applied this end's settings
+Then, once the input has ended or the connection has failed:
+  fault CODE         the connection has failed with this code (RFC 9113,
+                     section 7)
+  out OCTETS         all that this end sends, in hexadecimal: its opening and
+                     its replies
+
+Exit status, with the line on standard error:
+  0  the connection has not failed, wherever the input ends
+  1  a fault
+  2  wrong words; or `bad hex`: the input isn't hexadecimal text
+  3  `N1 Device`: a read or a write failed
+  4  `N3 Memory`: out of memory
+
+It reads octets, no capture and no socket. What a client sends first is had so:
+  $ nc -l 127.0.0.1 9002 > client.octets &
+  $ curl --http2-prior-knowledge --max-time 1 http://127.0.0.1:9002/
+  $ h2 replay < client.octets
+`tcpflow -r FILE` makes a file of each direction of a capture.
+
+Example (the last line goes on):
+  $ echo 000000 04 00 00000000 000008 07 00 00000000 00000003 00000000 |
+      h2 replay --hex --as client
+  goaway last=3 code=0
+  out 505249202a20485454502f322e300d0a0d0a534d0d0a0d0a000018040000000000";
+
+const AS_HELP: &str = r"The end that takes the octets, which are its peer's:
+server, whose peer begins with the preface, or client
+[default: server]";
+
+/// The command as clap has it.
+pub(super) fn replay_command<'a>(alloc: Global) -> Result<Command<'a>, AllocError>
+    ensures { IfOk result (λ command. IsReplayCommand (app_of command)) }
+{
+    let role = side_arg(alloc, AS, "server", AS_HELP);
+    Command::new(alloc, "replay")
+        .no_binary_name(true)
+        .bin_name("h2 replay")?
+        .about("Hands a stream to one end of a connection, and prints its events")
+        .override_usage("h2 replay [OPTIONS] < FILE")
+        .after_help(EVENTS_AND_STATUSES)
+        .arg(hex_arg(alloc))?
+        .arg(role)
+}

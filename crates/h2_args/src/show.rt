@@ -1,0 +1,88 @@
+//! What the words after `show` ask for.
+
+ghost use Rattle.std.specs.Prelude.{◌≡◌, IfErr, IfOk, map, string_bytes};
+ghost use Rattle.clap.specs.Words.{app_of, found_of, rows_of};
+ghost use Rattle.h2_args.specs.Commands.{IsShowCommand};
+ghost use Rattle.h2_args.specs.Words.{ShowWordsFail, ShowWordsGive, show_options_in};
+
+use crate::options::{HEX, hex_arg, is_named, is_set, side_arg};
+use clap::{ArgMatches, Command, Error};
+use h2_show::{ShowOptions, Side};
+use std::alloc::{AllocError, Global};
+
+/// Reads the words after `show`.
+///
+/// # Errors
+///
+/// The kind is `DisplayHelp` where help is asked for, `OutOfMemory` when out of memory, and another
+/// one where a word is wrong. The error's text is for the user.
+pub fn show_args(alloc: Global, words: &[String]) -> Result<ShowOptions, Error>
+    ensures ok { IfOk result (ShowWordsGive (map string_bytes words.now)) }
+    ensures err { IfErr result (ShowWordsFail (map string_bytes words.now)) }
+{
+    let command = show_command(alloc)?;
+    let matches = command.try_get_matches_from(words)?;
+    Ok(options_of(&matches))
+}
+
+// The options that the matches of `show` give.
+fn options_of(matches: &ArgMatches<'_>) -> ShowOptions
+    ensures { result ≡ show_options_in (rows_of (found_of matches.now)) }
+{
+    let from = if is_named(matches, FROM, "server") {
+        Side::Server
+    } else {
+        Side::Client
+    };
+    ShowOptions {
+        hex: is_set(matches, HEX),
+        from,
+    }
+}
+
+const FROM: &str = "from";
+
+/// The lines that `show` prints, how it ends, and an example.
+const LINES_AND_STATUSES: &str =
+    r"Each frame has a line: its kind, its stream, the length of its payload, and what
+the kind adds. The fields of a block follow the frame that ends it. Other lines:
+  preface            the client's preface
+    name: value      a header field; `!` before the name: it is never to be
+                     indexed; `\x00`: an octet that is no printable ASCII, or a
+                     backslash, in hexadecimal
+    list too large   the fields of the block have more than 65536 octets, with
+                     32 added for each field
+  fault CODE at N    octet N, counted from 1, is a connection error with this
+                     code (RFC 9113, section 7); nothing after it is shown
+  rest N             the input ends inside the preface or a frame, N octets of
+                     which came
+  unfinished block   the input ends inside a field block
+
+Exit status, with the line on standard error:
+  0  the input is complete frames and field blocks
+  1  a fault, or the end inside the preface, a frame or a field block
+  2  wrong words; or `bad hex`: the input isn't hexadecimal text
+  3  `N1 Device`: a read or a write failed
+  4  `N3 Memory`: out of memory
+
+Example:
+  $ echo 000004 08 00 00000000 0000000f | h2 show --hex --from server
+  WINDOW_UPDATE 0 4 add=15";
+
+const FROM_HELP: &str = r"The end that sent the octets: client, which begins with the
+preface, or server [default: client]";
+
+/// The command as clap has it.
+pub(super) fn show_command<'a>(alloc: Global) -> Result<Command<'a>, AllocError>
+    ensures { IfOk result (λ command. IsShowCommand (app_of command)) }
+{
+    let from = side_arg(alloc, FROM, "client", FROM_HELP);
+    Command::new(alloc, "show")
+        .no_binary_name(true)
+        .bin_name("h2 show")?
+        .about("Prints the frames of a stream and the header fields of its blocks")
+        .override_usage("h2 show [OPTIONS] < FILE")
+        .after_help(LINES_AND_STATUSES)
+        .arg(hex_arg(alloc))?
+        .arg(from)
+}

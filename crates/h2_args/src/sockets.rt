@@ -1,0 +1,261 @@
+//! What the words of the commands over sockets ask for.
+
+ghost use Rattle.std.specs.Prelude.{◌≡◌, ◌≤◌, IfErr, IfOk, Some, false, map, pos, string_bytes};
+ghost use Rattle.clap.specs.Words.{HasKind, app_of, rule_of};
+ghost use Rattle.h2_args.specs.Commands.{get_app, loop_app, required_rule, serve_app};
+ghost use Rattle.h2_args.specs.Commands.{with_numbers};
+ghost use Rattle.h2_args.specs.Words.{get_faults, loop_faults, octets_of, serve_faults};
+ghost use Rattle.h2_args.specs.Words.{serve_options_of, url_of};
+
+use clap::builder::ValueParser;
+use clap::{Arg, ArgAction, Command, Error, value_parser};
+use std::alloc::{AllocError, Global};
+
+/// The most octets that `loop` posts.
+pub const MOST_POSTED: u32 = 1_048_576;
+
+/// What `serve` is asked for.
+#[derive(Clone, Copy, Debug, PartialEq, Eq)]
+pub struct ServeOptions {
+    /// The port of 127.0.0.1, from 1 to 65,535.
+    pub port: u16,
+    /// How many connections are served, from 1 to 65,535.
+    pub count: u16,
+}
+
+/// Reads the words after `serve`.
+///
+/// # Errors
+///
+/// Those of [`crate::show_args`].
+pub fn serve_args(alloc: Global, words: &[String]) -> Result<ServeOptions, Error>
+    ensures ok { IfOk result (λ options.
+        serve_options_of (map string_bytes words.now) ≡ Some options) }
+    ensures port { IfOk result (λ options. (1 ≤ options.port) × (options.port ≤ 65535)) }
+    ensures count { IfOk result (λ options. (1 ≤ options.count) × (options.count ≤ 65535)) }
+    ensures err { IfErr result (HasKind (serve_faults (map string_bytes words.now))) }
+{
+    let command = serve_command(alloc)?;
+    let matches = command.try_get_matches_from(words)?;
+    // Both are required.
+    let Some(port) = matches.get_one::<u16>(PORT) else {
+        unreachable!();
+    };
+    let Some(count) = matches.get_one::<u16>(COUNT) else {
+        unreachable!();
+    };
+    Ok(ServeOptions { port, count })
+}
+
+/// Reads the words after `get`: a URL, which isn't read yet.
+///
+/// # Errors
+///
+/// Those of [`crate::show_args`].
+pub fn get_args<'a>(alloc: Global, words: &'a [String]) -> Result<&'a str, Error>
+    ensures ok { IfOk result (λ url. url_of (map string_bytes words.entry.now) ≡ Some url.now) }
+    ensures err { IfErr result (HasKind (get_faults (map string_bytes words.entry.now))) }
+{
+    let command = get_command(alloc)?;
+    let matches = command.try_get_matches_from(words)?;
+    // It is required.
+    let Some(url) = matches.get_str(URL) else {
+        unreachable!();
+    };
+    Ok(url)
+}
+
+/// Reads the words after `loop`: how many octets are posted, from 0 to [`MOST_POSTED`].
+///
+/// # Errors
+///
+/// Those of [`crate::show_args`].
+pub fn loop_args(alloc: Global, words: &[String]) -> Result<u32, Error>
+    ensures ok { IfOk result (λ count. octets_of (map string_bytes words.now) ≡ Some count) }
+    ensures most { IfOk result (λ count. count ≤ MOST_POSTED) }
+    ensures err { IfErr result (HasKind (loop_faults (map string_bytes words.now))) }
+{
+    let command = loop_command(alloc)?;
+    let matches = command.try_get_matches_from(words)?;
+    // It is required.
+    let Some(count) = matches.get_one::<u32>(OCTETS) else {
+        unreachable!();
+    };
+    Ok(count)
+}
+
+const PORT: &str = "PORT";
+
+const COUNT: &str = "COUNT";
+
+const URL: &str = "URL";
+
+const OCTETS: &str = "N";
+
+/// What `serve` answers, how it ends, and an example.
+const SERVED_AND_STATUSES: &str =
+    r"Each request is answered with status 200 and a body: its method, a space, its
+path, a line end, and the request's own body. An answer to HEAD has no body. A
+stream whose request has a body above 1048576 octets is reset with code 11.
+
+A client begins with the preface: it knows already that HTTP/2 is spoken here
+(RFC 9113, section 3.3). `h2 serve` takes one connection at a time and has no
+clocks: one that stays idle keeps others waiting, and so does one that has
+failed and that its client keeps open. It ends after COUNT connections, and
+prints nothing on standard output.
+
+A connection that ends early has a line on standard error, and the next one is
+served. Exit status, that of the first such connection, with its line:
+  0  each connection was served until its client ended it
+  1  `N2 Stream CODE`: it failed with this code (RFC 9113, section 7), or no
+     stream of it could be reset any more: then it is 11
+     `N4 CutOff`: it ended inside the preface or a frame, or while a stream was
+     active
+  2  wrong words
+  3  `N1 Device`: the port can't be had, or a read or a write failed
+     `N5 NoProgress`: a write took nothing
+  4  `N3 Memory`: out of memory
+
+Example:
+  $ h2 serve 9001 1 &
+  $ curl --http2-prior-knowledge --data hello http://127.0.0.1:9001/a
+  POST /a
+  hello";
+
+/// What `get` prints, how it ends, and an example.
+const FETCHED_AND_STATUSES: &str =
+    r"It asks for the URL with GET over a new connection, which begins with the
+preface: the server has to speak HTTP/2 without being asked (RFC 9113, section
+3.3). It prints the status with its phrase, `200 OK`, or a status that has none
+alone, and then the octets of the body as they are. Interim responses (1xx) and
+trailers aren't printed. It follows no redirection and has no clocks: it waits
+for a server that stays idle.
+
+The URL has the scheme http, a host, and a port of 1 to 65535; a user's name is
+refused, and a fragment is dropped.
+
+Exit status, with the line on standard error:
+  0  a response has come, whatever its status
+  1  `N2 Stream CODE`: the connection failed with this code (RFC 9113, section
+     7)
+     `N4 CutOff`: it ended before the response was complete
+     `N6 Reset CODE`: the request was reset with this code, or was not
+     processed: then it is 7
+  2  wrong words, or a URL that can't be fetched
+     `N7 Refused`: the request breaks a rule, or its fields are too many
+  3  `N1 Device`: no connection can be made, or a read or a write failed
+     `N5 NoProgress`: a write took nothing
+  4  `N3 Memory`: out of memory
+
+Example, beside `h2 serve 9001 1`:
+  $ h2 get http://127.0.0.1:9001/a
+  200 OK
+  GET /a";
+
+/// What `loop` prints, how it ends, and an example.
+const LOOPED_AND_STATUSES: &str =
+    r"A client and a server of this process are joined by one TCP connection of
+127.0.0.1. The client posts N octets to `/`, of which octet k, counted from 0,
+is k mod 251, and the server answers as `h2 serve` does. Each end in turn writes
+at most 4096 octets, which the other then reads.
+
+Exit status, with the line on standard error:
+  0  the response has come, and the line `sent N got M status 200` is printed,
+     with M = N + 7
+  1  `N4 CutOff`: the response isn't complete, and neither end writes any more;
+     `N2 Stream CODE` and `N6 Reset CODE` as at `h2 get`
+  2  wrong words
+  3  `N1 Device`: no connection can be made, or a read or a write failed
+     `N5 NoProgress`: an end can't go on
+  4  `N3 Memory`: out of memory
+
+Example:
+  $ h2 loop 70000
+  sent 70000 got 70007 status 200";
+
+// An argument that has to stand.
+fn required_arg<'a>(alloc: Global, name: &'a str, help: &'a str) -> Arg<'a>
+    ensures rule { rule_of result ≡ required_rule name.entry.now }
+    ensures local { result.global ≡ false }
+{
+    Arg::new(alloc, name)
+        .value_name(name)
+        .required(true)
+        .action(ArgAction::Set)
+        .help(help)
+}
+
+// A number that has to stand.
+fn number_arg<'a>(alloc: Global, name: &'a str, numbers: ValueParser<'a>, help: &'a str) -> Arg<'a>
+    ensures rule { rule_of result ≡ with_numbers (required_rule name.entry.now) numbers.entry }
+    ensures local { result.global ≡ false }
+{
+    required_arg(alloc, name, help).value_parser(numbers)
+}
+
+// The numbers of ports, and of connections.
+fn counts<'a>() -> ValueParser<'a>
+    ensures { result ≡ ValueParser.Signed (pos 1) (pos 65535) }
+{
+    value_parser!(u16).range(1..=65_535)
+}
+
+// The numbers of octets.
+fn lengths<'a>() -> ValueParser<'a>
+    ensures { result ≡ ValueParser.Signed (pos 0) (pos 1048576) }
+{
+    value_parser!(u32).range(0..=i64::from(MOST_POSTED))
+}
+
+/// The command as clap has it.
+pub(super) fn serve_command<'a>(alloc: Global) -> Result<Command<'a>, AllocError>
+    ensures { IfOk result (λ command. app_of command ≡ serve_app) }
+{
+    let port = number_arg(alloc, PORT, counts(), "The port of 127.0.0.1, 1 to 65535");
+    let count = number_arg(
+        alloc,
+        COUNT,
+        counts(),
+        "How many connections are served, 1 to 65535",
+    );
+    Command::new(alloc, "serve")
+        .no_binary_name(true)
+        .bin_name("h2 serve")?
+        .about("Answers requests at a port, each with what it asked")
+        .override_usage("h2 serve PORT COUNT")
+        .after_help(SERVED_AND_STATUSES)
+        .arg(port)?
+        .arg(count)
+}
+
+/// The command as clap has it.
+pub(super) fn get_command<'a>(alloc: Global) -> Result<Command<'a>, AllocError>
+    ensures { IfOk result (λ command. app_of command ≡ get_app) }
+{
+    Command::new(alloc, "get")
+        .no_binary_name(true)
+        .bin_name("h2 get")?
+        .about("Fetches a URL, and prints the status and the body")
+        .override_usage("h2 get URL")
+        .after_help(FETCHED_AND_STATUSES)
+        .arg(required_arg(alloc, URL, "http://HOST:PORT/PATH?QUERY"))
+}
+
+/// The command as clap has it.
+pub(super) fn loop_command<'a>(alloc: Global) -> Result<Command<'a>, AllocError>
+    ensures { IfOk result (λ command. app_of command ≡ loop_app) }
+{
+    let octets = number_arg(
+        alloc,
+        OCTETS,
+        lengths(),
+        "How many octets are posted, 0 to 1048576",
+    );
+    Command::new(alloc, "loop")
+        .no_binary_name(true)
+        .bin_name("h2 loop")?
+        .about("Posts octets from a client to a server in one process")
+        .override_usage("h2 loop N")
+        .after_help(LOOPED_AND_STATUSES)
+        .arg(octets)
+}

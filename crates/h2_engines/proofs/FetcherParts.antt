@@ -1,0 +1,330 @@
+-- What has come of a response, one part on.
+use Rattle.std.proofs.Common.{map as each, ◌≡◌, ◌≢◌, ℕ, Bool, true, false, if◌then◌else◌, Vec}
+use Rattle.std.proofs.Common.{Global, List, [], ◌∷◌, ◌++◌, Option, Some, None, option_map, refl}
+use Rattle.std.proofs.Common.{sym, ap, ◌∙◌, subst, append_assoc, append-nil}
+use Rattle.std.specs.Prelude.{◌==◌}
+use Rattle.std.specs.List.{AllByRecursion, concat}
+use Rattle.std.proofs.lemmas.Bool.{eq-eqb}
+use Rattle.std.proofs.lemmas.List.{map_push}
+use Rattle.std.proofs.lemmas.List.Folds.{concat-append}
+use Rattle.hpack.specs.declared.types.field.Field.{Field}
+use Rattle.h2_message.specs.Messages.{first_broken, interim_rules}
+use Rattle.h2_message.specs.Reading.{Part, FieldsPart, OctetsPart, BreakNone}
+use Rattle.h2_message.specs.Reading.{ended, message_parts, final_parts, trailers_parts}
+use Rattle.h2_ends.specs.Ends.{Handed, InterimHanded, HeadHanded, BodyHanded, TrailersHanded}
+use Rattle.h2_ends.specs.Ends.{Passed, part_on}
+use Rattle.h2_engines.specs.declared.fetcher.Coming.{Coming}
+use Rattle.h2_engines.specs.ClientSteps.{NotesPart, notes_interim, notes_head, notes_body}
+use Rattle.h2_engines.specs.ClientSteps.{notes_trailers, notes_nothing}
+use Rattle.h2_engines.specs.PartialMessages.{AreHeads, HasCome, interims_alone, head_and_body}
+use Rattle.h2_engines.specs.PartialMessages.{IsWhole}
+use Rattle.h2_engines.specs.PartialMessages.{interim_parts, data_parts_of}
+use Rattle.h2_engines.proofs.FetcherPlaces.{head_there}
+
+-- What may be handed out of the response: interim responses and its head, as long as no head has
+-- come; octets and trailers after that.
+abbrev pub MayHand : Coming → (id : ℕ) → Handed → Type 0
+MayHand coming id (InterimHanded i list) =
+    i ≡ id → (coming.head ≡ None) × BreakNone (interim_rules list)
+MayHand coming id (HeadHanded i list end) =
+    i ≡ id → (coming.head ≡ None) × (first_broken (interim_rules list) ≢ None)
+MayHand coming id (BodyHanded i octets end) = i ≡ id → coming.head ≢ None
+MayHand coming id (TrailersHanded i list) = i ≡ id → coming.head ≢ None
+MayHand coming id (Passed event) = Unit {0}
+
+-- What is kept, where the response is whole, and where it isn't.
+abbrev pub KeepsSoFar : Coming → List (Part × Bool) → (whole : Bool) → Type 0
+KeepsSoFar coming parts true = IsWhole coming parts
+KeepsSoFar coming parts false = HasCome coming parts
+
+-- The interim responses, as fields, and one more of them.
+abbrev lists_of : Vec (Vec Field Global) Global → List (List Field)
+lists_of interims = each (λ (list : Vec Field Global). list.items) interims.items
+
+all_and_one : (P : List Field → Type 0) (lists : List (List Field)) (list : List Field)
+    → AllByRecursion P lists → P list → AllByRecursion P (lists ++ list ∷ [])
+all_and_one P [] list all one = (one, tt)
+all_and_one P (first ∷ lists) list all one = (all.0, all_and_one P lists list all.1 one)
+
+-- An interim response has come.
+on_interim : (old new : Coming) (parts : List (Part × Bool)) (list : List Field)
+    → lists_of new.interims ≡ lists_of old.interims ++ list ∷ [] → new.head ≡ old.head
+    → new.body ≡ old.body → new.trailers ≡ old.trailers → old.head ≡ None
+    → BreakNone (interim_rules list) → HasCome old parts
+    → HasCome new (parts ++ (FieldsPart list, false) ∷ [])
+on_interim old new parts list interims head body trailers none sound
+    (interims_alone heads nothing empty end) =
+    let all = all_and_one (λ fields. BreakNone (interim_rules fields)) (lists_of old.interims)
+    list heads.interims sound in
+    let now : new.head ≡ None = head ∙ none in
+    let come : HasCome new (interim_parts (lists_of new.interims)) =
+    interims_alone (record {
+      interims = subst (λ (lists : List (List Field)).
+          AllByRecursion (λ fields. BreakNone (interim_rules fields)) lists) (sym interims) all;
+      head = λ one is. absurd (head_there (λ (list : Vec Field Global). list.items) new.head one
+          is now);
+    }) now (ap (λ (body : Vec ℕ Global). body.items) body ∙ empty) (trailers ∙ end) in
+    subst (HasCome new) (ap interim_parts interims
+    ∙ map_push (λ (fields : List Field). (FieldsPart fields, false)) (lists_of old.interims) list)
+    come
+on_interim old new parts list interims head body trailers none sound
+    (head_and_body heads one data_parts came octets end) =
+    absurd (head_there (λ (list : Vec Field Global). list.items) old.head one came none)
+
+-- The response is whole with this head.
+is_whole : (coming : Coming) (head : Vec Field Global) (parts : List (Part × Bool))
+    (data_parts : List (List ℕ)) (trailers : Option (List Field)) → coming.head ≡ Some head
+    → option_map (λ (list : Vec Field Global). list.items) coming.trailers ≡ trailers
+    → parts ≡ message_parts (record {
+      interims = lists_of coming.interims;
+      head = head.items;
+      data_parts = data_parts;
+      trailers = trailers;
+    }) → coming.body.items ≡ concat data_parts → IsWhole coming parts
+is_whole coming head parts data_parts trailers there after are body = (
+  record {
+    interims = coming.interims;
+    head = head;
+    body = coming.body;
+    trailers = coming.trailers;
+  },
+  there,
+  refl,
+  refl,
+  refl,
+  record {
+    data_parts = data_parts;
+    whole = are ∙ ap (λ (trailers : Option (List Field)). message_parts (record {
+      interims = lists_of coming.interims;
+      head = head.items;
+      data_parts = data_parts;
+      trailers = trailers;
+    })) (sym after);
+    body = body;
+  },
+)
+
+-- The head of which these are the fields.
+record IsHead (coming : Coming) (list : List Field) : Type 0 where
+  pub head : Vec Field Global
+  pub there : coming.head ≡ Some head
+  pub fields : head.items ≡ list
+
+head_of : (option : Option (Vec Field Global)) (list : List Field)
+    → option_map (λ (one : Vec Field Global). one.items) option ≡ Some list
+    → (head : Vec Field Global) × (option ≡ Some head) × (head.items ≡ list)
+head_of None list came = absurd (cc)
+head_of (Some head) list came = (head, refl, cc)
+
+is_head : (coming : Coming) (list : List Field)
+    → option_map (λ (one : Vec Field Global). one.items) coming.head ≡ Some list
+    → IsHead coming list
+is_head coming list came =
+    let (head, there, fields) = head_of coming.head list came in
+    record { head = head; there = there; fields = fields }
+
+-- A message whose last part is this one, after the head and octets.
+ended_with : (first : Part) (data_parts : List (List ℕ)) (last : Part)
+    → ended (first ∷ (each OctetsPart data_parts ++ last ∷ []))
+    ≡ (first, false) ∷ (data_parts_of data_parts ++ (last, true) ∷ [])
+unfolding ended
+ended_with first [] last = refl
+ended_with first (octets ∷ data_parts) last =
+    ap (λ (line : List (Part × Bool)). (first, false) ∷ line)
+    (ended_with (OctetsPart octets) data_parts last)
+
+-- What is read of a message without trailers, and with them.
+read_head : (interims : List (List Field)) (head : List Field)
+    → message_parts (record { interims = interims; head = head; data_parts = []; trailers = None })
+    ≡ interim_parts interims ++ (FieldsPart head, true) ∷ []
+unfolding message_parts final_parts trailers_parts ended
+read_head interims head = refl
+
+read_octets : (interims : List (List Field)) (head : List Field) (data_parts : List (List ℕ))
+    (octets : List ℕ)
+    → message_parts (record {
+      interims = interims;
+      head = head;
+      data_parts = data_parts ++ octets ∷ [];
+      trailers = None;
+    })
+    ≡ interim_parts interims ++ (FieldsPart head, false)
+    ∷ (data_parts_of data_parts ++ (OctetsPart octets, true) ∷ [])
+unfolding message_parts final_parts trailers_parts
+read_octets interims head data_parts octets =
+    ap (λ (line : List Part). interim_parts interims ++ ended (FieldsPart head ∷ line))
+    (append-nil (each OctetsPart (data_parts ++ octets ∷ []))
+    ∙ map_push OctetsPart data_parts octets)
+    ∙ ap (λ (parts : List (Part × Bool)). interim_parts interims ++ parts)
+    (ended_with (FieldsPart head) data_parts (OctetsPart octets))
+
+read_trailers : (interims : List (List Field)) (head : List Field) (data_parts : List (List ℕ))
+    (list : List Field)
+    → message_parts (record {
+      interims = interims;
+      head = head;
+      data_parts = data_parts;
+      trailers = Some list;
+    })
+    ≡ interim_parts interims ++ (FieldsPart head, false)
+    ∷ (data_parts_of data_parts ++ (FieldsPart list, true) ∷ [])
+unfolding message_parts final_parts trailers_parts
+read_trailers interims head data_parts list =
+    ap (λ (parts : List (Part × Bool)). interim_parts interims ++ parts)
+    (ended_with (FieldsPart head) data_parts (FieldsPart list))
+
+-- The head has come.
+on_head : (old new : Coming) (parts : List (Part × Bool)) (list : List Field) (end : Bool)
+    → option_map (λ (one : Vec Field Global). one.items) new.head ≡ Some list
+    → new.interims ≡ old.interims → new.body.items ≡ [] → new.trailers ≡ old.trailers
+    → old.head ≡ None → first_broken (interim_rules list) ≢ None → HasCome old parts
+    → KeepsSoFar new (parts ++ (FieldsPart list, end) ∷ []) end
+on_head old new parts list true head interims body trailers none final
+    (interims_alone heads nothing empty end) =
+    let is = is_head new list head in
+    is_whole new is.head _ [] None is.there
+    (ap (option_map (λ (one : Vec Field Global). one.items)) (trailers ∙ end))
+    (ap (λ (all : Vec (Vec Field Global) Global).
+    interim_parts (lists_of all) ++ (FieldsPart list, true) ∷ []) (sym interims)
+    ∙ ap (λ (fields : List Field).
+    interim_parts (lists_of new.interims) ++ (FieldsPart fields, true) ∷ []) (sym is.fields)
+    ∙ sym (read_head (lists_of new.interims) is.head.items)) body
+on_head old new parts list false head interims body trailers none final
+    (interims_alone heads nothing empty end) =
+    let come : HasCome new (interim_parts (lists_of new.interims)
+    ++ (FieldsPart list, false) ∷ []) =
+    head_and_body (record {
+      interims = subst (λ (all : Vec (Vec Field Global) Global).
+          AllByRecursion (λ fields. BreakNone (interim_rules fields)) (lists_of all))
+          (sym interims) heads.interims;
+      head = λ one is.
+          let same : list ≡ one = cc in
+          subst (λ (fields : List Field). first_broken (interim_rules fields) ≢ None) same final;
+    }) list [] head body (trailers ∙ end) in
+    subst (λ (all : Vec (Vec Field Global) Global).
+    HasCome new (interim_parts (lists_of all) ++ (FieldsPart list, false) ∷ [])) interims come
+on_head old new parts list end head interims body trailers none final
+    (head_and_body heads one data_parts came octets no_end) =
+    absurd (head_there (λ (list : Vec Field Global). list.items) old.head one came none)
+
+-- The same heads are.
+same_heads : (old new : Coming) → new.interims ≡ old.interims → new.head ≡ old.head
+    → AreHeads old → AreHeads new
+same_heads old new interims head heads =
+    record {
+      interims = subst (λ (all : Vec (Vec Field Global) Global).
+          AllByRecursion (λ fields. BreakNone (interim_rules fields)) (lists_of all))
+          (sym interims) heads.interims;
+      head = λ one is. heads.head one
+          (ap (option_map (λ (one : Vec Field Global). one.items)) (sym head) ∙ is);
+    }
+
+-- Parts after the head, and one more.
+after_parts : (interims : List (List Field)) (head : List Field) (data_parts : List (List ℕ))
+    (part : Part × Bool)
+    → (interim_parts interims ++ (FieldsPart head, false) ∷ data_parts_of data_parts) ++ part ∷ []
+    ≡ interim_parts interims ++ (FieldsPart head, false)
+    ∷ (data_parts_of data_parts ++ part ∷ [])
+after_parts interims head data_parts part =
+    append_assoc (interim_parts interims) ((FieldsPart head, false) ∷ data_parts_of data_parts)
+    (part ∷ [])
+
+joined_one : (data_parts : List (List ℕ)) (octets : List ℕ)
+    → concat (data_parts ++ octets ∷ []) ≡ concat data_parts ++ octets
+joined_one data_parts octets =
+    concat-append data_parts (octets ∷ [])
+    ∙ ap (λ (more : List ℕ). concat data_parts ++ more) (append-nil octets)
+
+-- Octets have come.
+on_octets : (old new : Coming) (parts : List (Part × Bool)) (octets : List ℕ) (end : Bool)
+    → new.body.items ≡ old.body.items ++ octets → new.interims ≡ old.interims
+    → new.head ≡ old.head → new.trailers ≡ old.trailers → old.head ≢ None → HasCome old parts
+    → KeepsSoFar new (parts ++ (OctetsPart octets, end) ∷ []) end
+on_octets old new parts octets end body interims head trailers some
+    (interims_alone heads nothing empty no_end) = absurd (some nothing)
+on_octets old new parts octets true body interims head trailers some
+    (head_and_body heads one data_parts came before no_end) =
+    let value = option_map (λ (one : Vec Field Global). one.items) in
+    let is = is_head new one (ap value head ∙ came) in
+    is_whole new is.head _ (data_parts ++ octets ∷ []) None is.there (ap value (trailers ∙ no_end))
+    (after_parts (lists_of old.interims) one data_parts (OctetsPart octets, true)
+    ∙ ap (λ (all : Vec (Vec Field Global) Global). interim_parts (lists_of all)
+    ++ (FieldsPart one, false) ∷ (data_parts_of data_parts ++ (OctetsPart octets, true) ∷ []))
+    (sym interims)
+    ∙ ap (λ (fields : List Field). interim_parts (lists_of new.interims)
+    ++ (FieldsPart fields, false) ∷ (data_parts_of data_parts ++ (OctetsPart octets, true) ∷ []))
+    (sym is.fields)
+    ∙ sym (read_octets (lists_of new.interims) is.head.items data_parts octets))
+    (body ∙ ap (λ (all : List ℕ). all ++ octets) before ∙ sym (joined_one data_parts octets))
+on_octets old new parts octets false body interims head trailers some
+    (head_and_body heads one data_parts came before no_end) =
+    let value = option_map (λ (one : Vec Field Global). one.items) in
+    let come : HasCome new (interim_parts (lists_of new.interims)
+    ++ (FieldsPart one, false) ∷ data_parts_of (data_parts ++ octets ∷ [])) =
+    head_and_body (same_heads old new interims head heads) one (data_parts ++ octets ∷ [])
+    (ap value head ∙ came)
+    (body ∙ ap (λ (all : List ℕ). all ++ octets) before ∙ sym (joined_one data_parts octets))
+    (trailers ∙ no_end) in
+    subst (HasCome new)
+    (ap (λ (all : Vec (Vec Field Global) Global). interim_parts (lists_of all)
+    ++ (FieldsPart one, false) ∷ data_parts_of (data_parts ++ octets ∷ [])) interims
+    ∙ ap (λ (more : List (Part × Bool)). interim_parts (lists_of old.interims)
+    ++ (FieldsPart one, false) ∷ more)
+    (map_push (λ (octets : List ℕ). (OctetsPart octets, false)) data_parts octets)
+    ∙ sym (after_parts (lists_of old.interims) one data_parts (OctetsPart octets, false))) come
+
+-- Trailers have come.
+on_trailers : (old new : Coming) (parts : List (Part × Bool)) (list : List Field)
+    → option_map (λ (one : Vec Field Global). one.items) new.trailers ≡ Some list
+    → new.interims ≡ old.interims → new.head ≡ old.head → new.body ≡ old.body
+    → old.head ≢ None → HasCome old parts
+    → IsWhole new (parts ++ (FieldsPart list, true) ∷ [])
+on_trailers old new parts list trailers interims head body some
+    (interims_alone heads nothing empty no_end) = absurd (some nothing)
+on_trailers old new parts list trailers interims head body some
+    (head_and_body heads one data_parts came before no_end) =
+    let value = option_map (λ (one : Vec Field Global). one.items) in
+    let is = is_head new one (ap value head ∙ came) in
+    is_whole new is.head _ data_parts (Some list) is.there trailers
+    (after_parts (lists_of old.interims) one data_parts (FieldsPart list, true)
+    ∙ ap (λ (all : Vec (Vec Field Global) Global). interim_parts (lists_of all)
+    ++ (FieldsPart one, false) ∷ (data_parts_of data_parts ++ (FieldsPart list, true) ∷ []))
+    (sym interims)
+    ∙ ap (λ (fields : List Field). interim_parts (lists_of new.interims)
+    ++ (FieldsPart fields, false) ∷ (data_parts_of data_parts ++ (FieldsPart list, true) ∷ []))
+    (sym is.fields)
+    ∙ sym (read_trailers (lists_of new.interims) is.head.items data_parts list))
+    (ap (λ (octets : Vec ℕ Global). octets.items) body ∙ before)
+
+-- What was handed out is on its stream.
+on_stream : (coming : Coming) (parts : List (Part × Bool)) (id : ℕ) (part : Part × Bool)
+    (whole : Bool) → KeepsSoFar coming (parts ++ part ∷ []) whole
+    → KeepsSoFar coming (parts ++ (if id == id then part ∷ [] else [])) whole
+on_stream coming parts id part whole keeps =
+    subst (λ (b : Bool). KeepsSoFar coming (parts ++ (if b then part ∷ [] else [])) whole)
+    (sym (eq-eqb id id refl)) keeps
+
+-- So much is kept of the response after one part more.
+pub notes_on : (id : ℕ) (old new : Coming) (parts : List (Part × Bool)) (handed : Handed)
+    (whole : Bool) → HasCome old parts → MayHand old id handed → NotesPart id old new handed whole
+    → KeepsSoFar new (parts ++ part_on id handed) whole
+unfolding part_on
+notes_on id old new parts handed whole come may (notes_interim list interims head body trailers) =
+    let say = may refl in
+    on_stream new parts id (FieldsPart list, false) false
+    (on_interim old new parts list interims head body trailers say.0 say.1 come)
+notes_on id old new parts handed whole come may (notes_head list end head interims body trailers) =
+    let say = may refl in
+    on_stream new parts id (FieldsPart list, end) end
+    (on_head old new parts list end head interims body trailers say.0 say.1 come)
+notes_on id old new parts handed whole come may
+    (notes_body octets end body interims head trailers) =
+    on_stream new parts id (OctetsPart octets, end) end
+    (on_octets old new parts octets end body interims head trailers (may refl) come)
+notes_on id old new parts handed whole come may (notes_trailers list trailers interims head body) =
+    on_stream new parts id (FieldsPart list, true) true
+    (on_trailers old new parts list trailers interims head body (may refl) come)
+notes_on id old new parts handed whole come may (notes_nothing one none same) =
+    subst (λ (coming : Coming). HasCome coming (parts ++ part_on id handed)) (sym same)
+    (subst (HasCome old) (sym (ap (λ (more : List (Part × Bool)). parts ++ more) none
+    ∙ append-nil parts)) come)

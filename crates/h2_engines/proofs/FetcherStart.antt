@@ -1,0 +1,133 @@
+-- How a new client has made its request.
+use Rattle.std.proofs.Common.{◌≡◌, ◌≢◌, [], Option, Some, None, Ok, Err}
+use Rattle.std.proofs.Common.{refl, sym, ap, ◌∙◌, subst, inl, inr}
+use Rattle.std.specs.Prelude.{◌⊎◌}
+use Rattle.h2_log.specs.declared.refusal.Refusal.{Refusal}
+use Rattle.h2_log.specs.declared.refusal.Refusal.TheVariants.{ListTooLarge, Memory}
+use Rattle.h2_log.specs.declared.role.Role.TheVariants.{Client}
+use Rattle.h2_log.specs.Acts.{Values}
+use Rattle.h2_message.specs.declared.malformed.Malformed.{Malformed}
+use Rattle.h2_message.specs.declared.message.Message.{Message}
+use Rattle.h2_message.specs.Messages.{SentMessage, broken_by_request}
+use Rattle.h2_link.specs.declared.error.LinkError.{LinkError}
+use Rattle.h2_ends.specs.declared.end.End.{End}
+use Rattle.h2_ends.specs.declared.refusal.EndRefusal.{EndRefusal}
+use Rattle.h2_ends.specs.declared.refusal.EndRefusal.TheVariants as refusals
+use Rattle.h2_ends.specs.Ends.{EndLog}
+use Rattle.h2_ends.specs.EndCalls.{MayRequest}
+use Rattle.h2_ends.specs.Represents.{EndRepresents, EndRequests, new_end}
+use Rattle.h2_engines.specs.declared.fetcher.Fetcher.{Fetcher}
+use Rattle.h2_engines.specs.Failures.{error_after}
+use Rattle.h2_engines.specs.Fetches.{IsRefusedMessage, IsRefusedOtherwise, IsNotAccepted}
+use Rattle.h2_engines.specs.Fetches.{refusal_of_request}
+use Rattle.h2_engines.specs.ClientSteps.{HasRequested}
+
+-- It was accepted.
+pub has_requested : (values : Values) (message : SentMessage) (old : End) (fetcher : Fetcher)
+    → EndRepresents values old (new_end Client values)
+    → EndRequests old message (Ok fetcher.id) fetcher.client.end
+    → fetcher.coming.head ≡ None → fetcher.coming.body.items ≡ []
+    → fetcher.coming.interims.items ≡ [] → fetcher.coming.trailers ≡ None
+    → HasRequested values message fetcher
+has_requested values message old fetcher represents requests none empty no_interims no_trailers =
+    let (end, may, now) = requests.1 values (new_end Client values) represents in
+    record {
+      end = end;
+      requested = may;
+      represents = now;
+      none_come = none;
+      no_body = empty;
+      no_interims = no_interims;
+      no_trailers = no_trailers;
+    }
+
+-- Or it breaks a rule,
+broken_some : (broken : Option Malformed) (rule : Malformed) → broken ≡ Some rule → broken ≢ None
+broken_some broken rule is none = absurd (cc)
+
+refused_rule : (values : Values) (message : SentMessage) (rule : Malformed) (after : EndLog)
+    → MayRequest (new_end Client values) message (Err (refusals.BadMessage rule)) after
+    → IsRefusedMessage values message
+unfolding MayRequest
+refused_rule values message rule after may =
+    inl (broken_some (broken_by_request message) rule may.0)
+
+pub refused_as_broken : (values : Values) (message : SentMessage) (old new : End)
+    (back : Message) (refusal : EndRefusal) (rule : Malformed)
+    → EndRepresents values old (new_end Client values)
+    → refusal ≡ refusals.BadMessage rule → EndRequests old message (Err (back, refusal)) new
+    → IsRefusedMessage values message
+refused_as_broken values message old new back refusal rule represents is requests =
+    let (end, may, now) = requests.1 values (new_end Client values) represents in
+    refused_rule values message rule end
+    (subst (λ (one : EndRefusal). MayRequest (new_end Client values) message (Err one) end) is may)
+
+-- or its fields are too many.
+too_many : (found : Option Refusal) → (found ≡ Some ListTooLarge)
+    ⊎ ((found ≡ None) × (ListTooLarge ≡ Memory)) → found ≡ Some ListTooLarge
+too_many found (inl is) = is
+too_many found (inr other) = let wrong = other.1 in cc
+
+refused_list : (values : Values) (message : SentMessage) (after : EndLog)
+    → MayRequest (new_end Client values) message (Err (refusals.Conn ListTooLarge)) after
+    → IsRefusedMessage values message
+unfolding MayRequest
+refused_list values message after may = inr (too_many _ may.1)
+
+pub refused_as_large : (values : Values) (message : SentMessage) (old new : End)
+    (back : Message) (refusal : EndRefusal) (reason : Refusal)
+    → EndRepresents values old (new_end Client values)
+    → refusal ≡ refusals.Conn reason → reason ≡ ListTooLarge
+    → EndRequests old message (Err (back, refusal)) new → IsRefusedMessage values message
+refused_as_large values message old new back refusal reason represents named same requests =
+    let is : refusal ≡ refusals.Conn ListTooLarge =
+    named ∙ ap (λ (one : Refusal). refusals.Conn one) same in
+    let (end, may, now) = requests.1 values (new_end Client values) represents in
+    refused_list values message end
+    (subst (λ (one : EndRefusal). MayRequest (new_end Client values) message (Err one) end) is may)
+
+-- A request that was refused for something else was not refused as out of memory.
+otherwise : (values : Values) (message : SentMessage) (refusal : Refusal)
+    → refusal ≢ ListTooLarge → refusal ≢ Memory
+    → (refusal_of_request values message ≡ Some refusal)
+    ⊎ ((refusal_of_request values message ≡ None) × (refusal ≡ Memory))
+    → IsRefusedOtherwise values message
+otherwise values message refusal small other (inl is) = (refusal, is, small, other)
+otherwise values message refusal small other (inr lacks) = absurd (other lacks.1)
+
+-- A call that was refused for something else ends the fetch as the refusal says.
+ends_otherwise : (values : Values) (message : SentMessage) (refusal : Refusal)
+    → refusal ≢ ListTooLarge
+    → (refusal_of_request values message ≡ Some refusal)
+    ⊎ ((refusal_of_request values message ≡ None) × (refusal ≡ Memory))
+    → IsNotAccepted values message (Err (error_after (refusals.Conn refusal)))
+ends_otherwise values message Memory small why = tt
+ends_otherwise values message refusal small why =
+    otherwise values message refusal small (λ same. absurd (cc)) why
+
+-- So does a message that breaks no rule, and whose fields are not too many.
+refused_so : (values : Values) (message : SentMessage) (refusal : EndRefusal) (after : EndLog)
+    → ((rule : Malformed) → refusal ≢ refusals.BadMessage rule)
+    → refusal ≢ refusals.Conn ListTooLarge
+    → MayRequest (new_end Client values) message (Err refusal) after
+    → IsNotAccepted values message (Err (error_after refusal))
+unfolding MayRequest
+refused_so values message (refusals.BadMessage rule) after kept small may =
+    absurd (kept rule refl)
+refused_so values message (refusals.Conn refusal) after kept small may =
+    ends_otherwise values message refusal
+    (λ same. small (ap (λ (one : Refusal). refusals.Conn one) same)) may.1
+refused_so values message refusal after kept small may = absurd may
+
+-- So the fetch has ended.
+pub refused_otherwise : (values : Values) (message : SentMessage) (old new : End)
+    (back : Message) (refusal : EndRefusal) (error : LinkError)
+    → EndRepresents values old (new_end Client values)
+    → ((rule : Malformed) → refusal ≢ refusals.BadMessage rule)
+    → refusal ≢ refusals.Conn ListTooLarge → error ≡ error_after refusal
+    → EndRequests old message (Err (back, refusal)) new
+    → IsNotAccepted values message (Err error)
+refused_otherwise values message old new back refusal error represents kept small is requests =
+    let (end, may, now) = requests.1 values (new_end Client values) represents in
+    subst (λ (one : LinkError). IsNotAccepted values message (Err one)) (sym is)
+    (refused_so values message refusal end kept small may)

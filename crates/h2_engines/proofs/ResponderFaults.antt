@@ -1,0 +1,60 @@
+-- How often a link has failed, and what it has taken, where writing to it has ended early.
+use Rattle.std.proofs.Common.{◌≡◌, ℕ, ◌+◌, List, Option, Err, refl, ap, ◌∙◌}
+use Rattle.h2_link.specs.declared.error.LinkError.{LinkError}
+use Rattle.h2_link.specs.declared.error.LinkError.TheVariants as errors
+use Rattle.h2_link.specs.Links.{WritesAll, TakesFirst}
+use Rattle.h2_engines.specs.Failures.{failures_at_end, IsOfCall, EndsWriting, IsOfServer}
+use Rattle.h2_engines.specs.Failures.{IsOfClient}
+
+-- The link took some first octets,
+pub written_some : (before after : Option (List ℕ)) (failures failures_now : ℕ)
+    (error : LinkError) (octets : List ℕ)
+    → WritesAll before after failures failures_now (Err error) octets
+    → (count : ℕ) × TakesFirst before after octets count
+unfolding WritesAll
+written_some before after failures failures_now errors.Device octets so = so.0
+written_some before after failures failures_now errors.NoProgress octets so = so.0
+written_some before after failures failures_now other octets so = absurd so
+
+-- has failed where that is said,
+pub written_failures : (A : Type 0) (before after : Option (List ℕ)) (first failures now : ℕ)
+    (error : LinkError) (octets : List ℕ) → failures ≡ first
+    → WritesAll before after failures now (Err error) octets
+    → now ≡ failures_at_end {A = A} first (Err error)
+unfolding WritesAll
+written_failures A before after first failures now errors.Device octets same so =
+    so.1 ∙ ap (λ (n : ℕ). n + 1) same
+written_failures A before after first failures now errors.NoProgress octets same so = so.1 ∙ same
+written_failures A before after first failures now other octets same so = absurd so
+
+-- and nothing else ends it.
+pub written_ends : (before after : Option (List ℕ)) (failures failures_now : ℕ)
+    (error : LinkError) (octets : List ℕ)
+    → WritesAll before after failures failures_now (Err error) octets → EndsWriting error
+unfolding WritesAll
+written_ends before after failures failures_now errors.Device octets so = tt
+written_ends before after failures failures_now errors.NoProgress octets so = tt
+written_ends before after failures failures_now other octets so = absurd so
+
+-- A call of an end is no failure of the link,
+pub call_failures : (A : Type 0) (failures : ℕ) (error : LinkError) → IsOfCall error
+    → failures ≡ failures_at_end {A = A} failures (Err error)
+call_failures A failures errors.Memory is = refl
+call_failures A failures errors.NoProgress is = refl
+call_failures A failures other is = absurd is
+
+-- and may end what writes, a server and a client.
+pub call_ends_writing : (error : LinkError) → IsOfCall error → EndsWriting error
+call_ends_writing errors.Memory is = tt
+call_ends_writing errors.NoProgress is = tt
+call_ends_writing other is = absurd is
+
+pub call_ends_server : (error : LinkError) → IsOfCall error → IsOfServer error
+call_ends_server errors.Memory is = tt
+call_ends_server errors.NoProgress is = tt
+call_ends_server other is = absurd is
+
+pub call_ends_client : (error : LinkError) → IsOfCall error → IsOfClient error
+call_ends_client errors.Memory is = tt
+call_ends_client errors.NoProgress is = tt
+call_ends_client other is = absurd is

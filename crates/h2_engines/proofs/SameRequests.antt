@@ -1,0 +1,133 @@
+-- What is kept of requests says the same of an end at which nothing of a request has happened.
+use Rattle.std.proofs.Common.{◌≡◌, ℕ, List, Option}
+use Rattle.std.proofs.Common.{sym, ap, ◌∙◌, subst, inl, inr}
+use Rattle.std.specs.Prelude.{◌⊎◌}
+use Rattle.std.specs.List.{Contains}
+use Rattle.h2_log.specs.Events.{ResetEvent}
+use Rattle.h2_message.specs.Phases.{ends}
+use Rattle.h2_ends.specs.Ends.{EndLog, Handed, Passed, message_for, parts_on}
+use Rattle.h2_engines.specs.declared.request.Next.{Next}
+use Rattle.h2_engines.specs.declared.request.Next.TheVariants as nexts
+use Rattle.h2_engines.specs.declared.request.Request.{Request}
+use Rattle.h2_engines.specs.declared.request.Requests.{Requests}
+use Rattle.h2_engines.specs.Answers.{answer_to, is_too_large_body}
+use Rattle.h2_engines.specs.PartialMessages.{RequestState, has_not_come, comes, was_answered}
+use Rattle.h2_engines.specs.PartialMessages.{was_given_up}
+use Rattle.h2_engines.specs.PartialMessages.{KeepsRequests, KeepsOthers, IsToAnswer, KeepsNext}
+use Rattle.h2_engines.specs.PartialMessages.{request_at}
+use Rattle.h2_engines.specs.ServerHistories.{WasReset, WasTooLarge, WasAnswered}
+use Rattle.h2_engines.specs.ServerSteps.{IsSameOfMessages}
+use Rattle.h2_engines.proofs.TakeMessages.{KeepsCalls}
+
+-- Nothing has happened to the request on this stream.
+pub record SameOn (before after : EndLog) (id : ℕ) : Type 0 where
+  pub parts : parts_on id after.handed ≡ parts_on id before.handed
+  pub message : message_for id after.accepted ≡ message_for id before.accepted
+  pub resets : WasReset before id → WasReset after id
+  pub calls : KeepsCalls before.log after.log
+
+-- A request that was answered still was;
+answered_as : (before after : EndLog) (id : ℕ) → SameOn before after id → WasAnswered before id
+    → WasAnswered after id
+answered_as before after id same was =
+    record {
+      whole = ap ends same.parts ∙ was.whole;
+      fits = ap is_too_large_body same.parts ∙ was.fits;
+      message = was.message;
+      asked = ap answer_to same.parts ∙ was.asked;
+      answered = same.message ∙ was.answered;
+    }
+
+-- and one that was given up.
+given_up_as : (before after : EndLog) (id : ℕ) → SameOn before after id
+    → WasReset before id ⊎ WasTooLarge before id → WasReset after id ⊎ WasTooLarge after id
+given_up_as before after id same (inl reset) = inl (same.resets reset)
+given_up_as before after id same (inr large) =
+    inr (record {
+      too_large = ap is_too_large_body same.parts ∙ large.too_large;
+      reset = same.calls _ _ large.reset;
+    })
+
+-- The state of the request is as before.
+pub stands_as : (before after : EndLog) (id : ℕ) (request : Option Request)
+    → SameOn before after id → RequestState before id request → RequestState after id request
+stands_as before after id request same (has_not_come none unsaid) =
+    has_not_come (same.parts ∙ none) (same.message ∙ unsaid)
+stands_as before after id request same (comes head parts kept are goes fits is unsaid) =
+    comes head parts kept (same.parts ∙ are) (ap ends same.parts ∙ goes)
+    (ap is_too_large_body same.parts ∙ fits) is (same.message ∙ unsaid)
+stands_as before after id request same (was_answered was) =
+    was_answered (answered_as before after id same was)
+stands_as before after id request same (was_given_up why unsaid) =
+    was_given_up (given_up_as before after id same why) (same.message ∙ unsaid)
+
+-- So it is on each stream where nothing was accepted and handed out.
+pub same_on : (before after : EndLog) (id : ℕ) → after.accepted ≡ before.accepted
+    → after.handed ≡ before.handed → KeepsCalls before.log after.log → SameOn before after id
+same_on before after id accepted handed calls =
+    record {
+      parts = ap (parts_on id) handed;
+      message = ap (message_for id) accepted;
+      resets = λ reset. (
+        reset.0,
+        reset.1,
+        subst (λ (all : List Handed). Contains all (Passed (ResetEvent id reset.0 reset.1)))
+            (sym handed) reset.2,
+      );
+      calls = calls;
+    }
+
+same_of_messages : (before after : EndLog) (id : ℕ) → IsSameOfMessages before after
+    → SameOn before after id
+same_of_messages before after id same =
+    same_on before after id same.accepted same.handed same.calls
+
+pub kept_same : (requests : Requests) (before after : EndLog) → IsSameOfMessages before after
+    → KeepsRequests requests before → KeepsRequests requests after
+kept_same requests before after same keeps id =
+    stands_as before after id (request_at id requests) (same_of_messages before after id same)
+    (keeps id)
+
+-- The same of all streams but one,
+others_as : (requests : Requests) (before after : EndLog) (id : ℕ) → IsSameOfMessages before after
+    → KeepsOthers requests before id → KeepsOthers requests after id
+others_as requests before after id same keeps =
+    record {
+      others = λ i other. stands_as before after i (request_at i requests)
+          (same_of_messages before after i same) (keeps.others i other);
+      none = keeps.none;
+      unanswered = ap (message_for id) same.accepted ∙ keeps.unanswered;
+    }
+
+-- of a request that is to be answered,
+to_answer_as : (before after : EndLog) (id : ℕ) (request : Request) → IsSameOfMessages before after
+    → IsToAnswer before id request → IsToAnswer after id request
+to_answer_as before after id request same is =
+    let parts = ap (parts_on id) same.handed in
+    record {
+      whole = ap ends parts ∙ is.whole;
+      fits = ap is_too_large_body parts ∙ is.fits;
+      head = is.head;
+      end_of_head = is.end_of_head;
+      parts = is.parts;
+      came = parts ∙ is.came;
+      request_is = is.request_is;
+    }
+
+-- and of what is kept by what is to be done.
+pub kept_same_next : (requests : Requests) (before after : EndLog) (next : Next)
+    → IsSameOfMessages before after → KeepsNext requests before next
+    → KeepsNext requests after next
+unfolding KeepsNext
+kept_same_next requests before after nexts.Again same keeps =
+    kept_same requests before after same keeps
+kept_same_next requests before after nexts.Done same keeps =
+    kept_same requests before after same keeps
+kept_same_next requests before after (nexts.Answer id request) same keeps = (
+  others_as requests before after id same keeps.0,
+  to_answer_as before after id request same keeps.1,
+)
+kept_same_next requests before after (nexts.Reset id) same keeps = (
+  others_as requests before after id same keeps.0,
+  ap (λ (handed : List Handed). is_too_large_body (parts_on id handed)) same.handed ∙ keeps.1,
+)

@@ -1,0 +1,245 @@
+-- What a server's end hands out of a request, and where.
+use Rattle.std.proofs.Common.{◌≡◌, ◌≢◌, ℕ, Bool, true, false, if◌then◌else◌, List, [], ◌∷◌, ◌++◌}
+use Rattle.std.proofs.Common.{Option, Some, None, refl, sym, ap, ◌∙◌, subst, append-nil}
+use Rattle.std.proofs.lemmas.Bool.{ne_eqb, eq-eqb}
+use Rattle.std.specs.List.{Contains}
+use Rattle.std.specs.Prelude.{◌==◌}
+use Rattle.hpack.specs.declared.types.field.Field.{Field}
+use Rattle.h2_frame.specs.declared.code.Code.{Code}
+use Rattle.h2_log.specs.declared.role.Role.TheVariants.{Server}
+use Rattle.h2_log.specs.Acts.{Refuse}
+use Rattle.h2_log.specs.Events.{Event, ResetEvent}
+use Rattle.h2_log.specs.Log.{Log}
+use Rattle.h2_log.specs.LogCalls.{with_call}
+use Rattle.h2_log.specs.Settings.{is_server}
+use Rattle.h2_message.specs.declared.reading.Reads.{Reads}
+use Rattle.h2_message.specs.declared.reading.Reads.TheVariants.{Requests, Responses}
+use Rattle.h2_message.specs.declared.reading.Place.{Place}
+use Rattle.h2_message.specs.Phases.{ends}
+use Rattle.h2_message.specs.Reading.{Part, FieldsPart, OctetsPart, IsReadable}
+use Rattle.h2_pair.proofs.FaultsInvariant.{first_in, later_in}
+use Rattle.h2_ends.specs.Ends.{EndLog, EndAnswer, EndTook, Handed, HeadHanded}
+use Rattle.h2_ends.specs.Ends.{BodyHanded, TrailersHanded, Passed, asked_head, handed_as}
+use Rattle.h2_ends.specs.Ends.{handed_at, message_for, part_on, parts_on, reads_on}
+use Rattle.h2_ends.specs.EndTakes.{EndMayTake, AnswersRefused, fails, hands_nothing, passes}
+use Rattle.h2_ends.specs.EndTakes.{hands_out, refuses, runs_out_of_memory}
+use Rattle.h2_engines.specs.ServerHistories.{WasReset}
+use Rattle.h2_engines.proofs.NextParts.{place_first, place_later, no_octets_first, goes_with}
+use Rattle.h2_engines.proofs.SameRequests.{SameOn}
+use Rattle.h2_engines.proofs.TakeMessages.{KeepsCalls}
+
+-- What a server's end may hand out: the head of a request where nothing of it has come; octets and
+-- trailers after that, where it hasn't ended; or what is no part of a request.
+pub data HandsOut (end : EndLog) : Handed → Type 0 where
+  hands_head : (id : ℕ) (list : List Field) (last : Bool) → parts_on id end.handed ≡ []
+      → HandsOut end (HeadHanded id list last)
+  hands_body : (id : ℕ) (octets : List ℕ) (last : Bool) → parts_on id end.handed ≢ []
+      → ends (parts_on id end.handed) ≡ false → HandsOut end (BodyHanded id octets last)
+  hands_trailers : (id : ℕ) (list : List Field) → parts_on id end.handed ≢ []
+      → ends (parts_on id end.handed) ≡ false → HandsOut end (TrailersHanded id list)
+  hands_event : (event : Event) → HandsOut end (Passed event)
+
+-- How a part of a request is handed out.
+as_head : (id : ℕ) (list : List Field) (last : Bool)
+    → handed_as Requests [] id (FieldsPart list, last) ≡ HeadHanded id list last
+unfolding handed_as handed_at
+as_head id list last =
+    ap (λ (place : Place). handed_at place id list last) (place_first list)
+
+as_trailers : (first : Part × Bool) (parts : List (Part × Bool)) (id : ℕ) (list : List Field)
+    (last : Bool) → IsReadable Requests ((first ∷ parts) ++ (FieldsPart list, last) ∷ [])
+    → handed_as Requests (first ∷ parts) id (FieldsPart list, last) ≡ TrailersHanded id list
+unfolding handed_as handed_at
+as_trailers first parts id list last readable =
+    ap (λ (place : Place). handed_at place id list last)
+    (place_later first parts list last readable)
+
+as_body : (reads : Reads) (parts : List (Part × Bool)) (id : ℕ) (octets : List ℕ) (last : Bool)
+    → BodyHanded id octets last ≡ handed_as reads parts id (OctetsPart octets, last)
+unfolding handed_as
+as_body reads parts id octets last = refl
+
+some_parts : (parts : List (Part × Bool)) (first : Part × Bool) (rest : List (Part × Bool))
+    → parts ≡ first ∷ rest → parts ≢ []
+some_parts parts first rest are none = absurd (cc)
+
+hands_part : (end : EndLog) (id : ℕ) (parts : List (Part × Bool)) (part : Part × Bool)
+    → parts_on id end.handed ≡ parts → IsReadable Requests (parts ++ part ∷ [])
+    → HandsOut end (handed_as Requests parts id part)
+hands_part end id [] (FieldsPart list, last) are readable =
+    subst (HandsOut end) (sym (as_head id list last)) (hands_head id list last are)
+hands_part end id [] (OctetsPart octets, last) are readable =
+    absurd (no_octets_first octets last readable)
+hands_part end id (first ∷ parts) (FieldsPart list, last) are readable =
+    subst (HandsOut end) (sym (as_trailers first parts id list last readable))
+    (hands_trailers id list (some_parts _ first parts are)
+    (ap ends are ∙ goes_with (first ∷ parts) (FieldsPart list, last) readable))
+hands_part end id (first ∷ parts) (OctetsPart octets, last) are readable =
+    subst (HandsOut end) (as_body Requests (first ∷ parts) id octets last)
+    (hands_body id octets last (some_parts _ first parts are)
+    (ap ends are ∙ goes_with (first ∷ parts) (OctetsPart octets, last) readable))
+
+-- A server reads requests.
+reads_requests : (end : EndLog) (id : ℕ) → end.log.role ≡ Server → reads_on end id ≡ Requests
+unfolding reads_on
+reads_requests end id role =
+    ap (λ (b : Bool). if b then Requests
+    else Responses (asked_head (message_for id end.accepted))) (ap is_server role)
+
+hands_as_read : (end : EndLog) (id : ℕ) (part : Part × Bool) (reads : Reads) → reads ≡ Requests
+    → IsReadable reads (parts_on id end.handed ++ part ∷ [])
+    → HandsOut end (handed_as reads (parts_on id end.handed) id part)
+hands_as_read end id part reads same readable =
+    subst (λ (one : Reads). HandsOut end (handed_as one (parts_on id end.handed) id part))
+    (sym same) (hands_part end id (parts_on id end.handed) part refl
+    (subst (λ (one : Reads). IsReadable one (parts_on id end.handed ++ part ∷ [])) same readable))
+
+-- So it is with what a call of `take` hands out.
+hands_refused : (end after : EndLog) (log : Log) (count n id : ℕ) (handed : Handed)
+    (failed : Option Code)
+    → AnswersRefused end log n id (EndTook count (Some handed)) after failed
+    → HandsOut end handed
+unfolding AnswersRefused
+hands_refused end after log count n id handed None refused =
+    let said = refused.0 in
+    let is : handed ≡ Passed (ResetEvent id 1 true) = cc in
+    subst (HandsOut end) (sym is) (hands_event (ResetEvent id 1 true))
+hands_refused end after log count n id handed (Some code) refused =
+    let wrong = refused.0 in absurd (cc)
+
+hands_by : (end after : EndLog) (piece : List ℕ) (count : ℕ) (handed : Handed)
+    (answer : EndAnswer) → end.log.role ≡ Server → EndTook count (Some handed) ≡ answer
+    → EndMayTake end piece answer after → HandsOut end handed
+hands_by end after piece count handed answer role named (fails code log takes same now) =
+    absurd (cc)
+hands_by end after piece count handed answer role named (hands_nothing n log takes same now) =
+    absurd (cc)
+hands_by end after piece count handed answer role named
+    (passes n event log takes none same now) =
+    let is : handed ≡ Passed event = cc in
+    subst (HandsOut end) (sym is) (hands_event event)
+hands_by end after piece count handed answer role named
+    (hands_out n event log takes id part reported readable same now) =
+    let is : handed ≡ handed_as (reads_on end id) (parts_on id end.handed) id part = cc in
+    subst (HandsOut end) (sym is)
+    (hands_as_read end id part (reads_on end id) (reads_requests end id role) readable)
+hands_by end after piece count handed answer role named
+    (refuses n event log takes id part reported broken refused may answers) =
+    hands_refused end after (with_call log (Refuse id 1) refused) count n id handed
+    (with_call log (Refuse id 1) refused).failed
+    (subst (λ (one : EndAnswer). AnswersRefused end (with_call log (Refuse id 1) refused) n id
+    one after (with_call log (Refuse id 1) refused).failed) (sym named) answers)
+hands_by end after piece count handed answer role named
+    (runs_out_of_memory n id list last log takes is_role none readable refused may same now) =
+    absurd (cc)
+
+pub server_hands : (end after : EndLog) (piece : List ℕ) (count : ℕ) (handed : Handed)
+    → end.log.role ≡ Server → EndMayTake end piece (EndTook count (Some handed)) after
+    → HandsOut end handed
+server_hands end after piece count handed role may =
+    hands_by end after piece count handed (EndTook count (Some handed)) role refl may
+
+-- One part of a request was handed out on a stream, and nothing on others.
+pub record Hands (end after : EndLog) (id : ℕ) (part : Part × Bool) : Type 0 where
+  pub parts : parts_on id after.handed ≡ parts_on id end.handed ++ part ∷ []
+  pub message : message_for id after.accepted ≡ message_for id end.accepted
+  pub resets : WasReset end id → WasReset after id
+  pub calls : KeepsCalls end.log after.log
+  pub others : (i : ℕ) → i ≢ id → SameOn end after i
+
+-- The end has handed out just this.
+pub record HandedOne (end after : EndLog) (one : Handed) : Type 0 where
+  pub handed : after.handed ≡ one ∷ end.handed
+  pub accepted : after.accepted ≡ end.accepted
+  pub calls : KeepsCalls end.log after.log
+
+parts_with : (end after : EndLog) (one : Handed) (i : ℕ) (more : List (Part × Bool))
+    → HandedOne end after one → part_on i one ≡ more
+    → parts_on i after.handed ≡ parts_on i end.handed ++ more
+unfolding parts_on
+parts_with end after one i more hands is =
+    ap (parts_on i) hands.handed
+    ∙ ap (λ (part : List (Part × Bool)). parts_on i end.handed ++ part) is
+
+resets_with : (end after : EndLog) (one : Handed) (i : ℕ) → HandedOne end after one
+    → WasReset end i → WasReset after i
+resets_with end after one i hands reset = (
+  reset.0,
+  reset.1,
+  subst (λ (all : List Handed). Contains all (Passed (ResetEvent i reset.0 reset.1)))
+      (sym hands.handed) (later_in one end.handed _ reset.2),
+)
+
+pub same_besides : (end after : EndLog) (one : Handed) (i : ℕ) → HandedOne end after one
+    → part_on i one ≡ [] → SameOn end after i
+same_besides end after one i hands none =
+    record {
+      parts = parts_with end after one i [] hands none ∙ append-nil (parts_on i end.handed);
+      message = ap (message_for i) hands.accepted;
+      resets = resets_with end after one i hands;
+      calls = hands.calls;
+    }
+
+hands_one : (end after : EndLog) (one : Handed) (id : ℕ) (part : Part × Bool)
+    → HandedOne end after one → part_on id one ≡ part ∷ []
+    → ((i : ℕ) → i ≢ id → part_on i one ≡ []) → Hands end after id part
+hands_one end after one id part hands here there =
+    record {
+      parts = parts_with end after one id (part ∷ []) hands here;
+      message = ap (message_for id) hands.accepted;
+      resets = resets_with end after one id hands;
+      calls = hands.calls;
+      others = λ i other. same_besides end after one i hands (there i other);
+    }
+
+-- A stream is itself, and no other one.
+here_is : (id : ℕ) (part : Part × Bool)
+    → (if id == id then part ∷ [] else []) ≡ part ∷ []
+here_is id part = ap (λ (b : Bool). if b then part ∷ [] else []) (eq-eqb id id refl)
+
+there_is : (id i : ℕ) (part : Part × Bool) → i ≢ id
+    → (if id == i then part ∷ [] else []) ≡ []
+there_is id i part other =
+    ap (λ (b : Bool). if b then part ∷ [] else []) (ne_eqb id i (λ same. other (sym same)))
+
+-- So it is with a head, octets and trailers.
+pub head_hands : (end after : EndLog) (id : ℕ) (list : List Field) (last : Bool)
+    → HandedOne end after (HeadHanded id list last) → Hands end after id (FieldsPart list, last)
+unfolding part_on
+head_hands end after id list last hands =
+    hands_one end after (HeadHanded id list last) id (FieldsPart list, last) hands
+    (here_is id (FieldsPart list, last))
+    (λ i other. there_is id i (FieldsPart list, last) other)
+
+pub body_hands : (end after : EndLog) (id : ℕ) (octets : List ℕ) (last : Bool)
+    → HandedOne end after (BodyHanded id octets last)
+    → Hands end after id (OctetsPart octets, last)
+unfolding part_on
+body_hands end after id octets last hands =
+    hands_one end after (BodyHanded id octets last) id (OctetsPart octets, last) hands
+    (here_is id (OctetsPart octets, last))
+    (λ i other. there_is id i (OctetsPart octets, last) other)
+
+pub trailers_hands : (end after : EndLog) (id : ℕ) (list : List Field)
+    → HandedOne end after (TrailersHanded id list) → Hands end after id (FieldsPart list, true)
+unfolding part_on
+trailers_hands end after id list hands =
+    hands_one end after (TrailersHanded id list) id (FieldsPart list, true) hands
+    (here_is id (FieldsPart list, true))
+    (λ i other. there_is id i (FieldsPart list, true) other)
+
+-- An event is no part of a request.
+pub event_besides : (end after : EndLog) (event : Event) (i : ℕ)
+    → HandedOne end after (Passed event) → SameOn end after i
+unfolding part_on
+event_besides end after event i hands = same_besides end after (Passed event) i hands refl
+
+-- A reset that was handed out.
+pub reset_now : (end after : EndLog) (id code : ℕ) (ours : Bool)
+    → HandedOne end after (Passed (ResetEvent id code ours)) → WasReset after id
+reset_now end after id code ours hands = (
+  code,
+  ours,
+  subst (λ (all : List Handed). Contains all (Passed (ResetEvent id code ours)))
+      (sym hands.handed) (first_in (Passed (ResetEvent id code ours)) end.handed),
+)

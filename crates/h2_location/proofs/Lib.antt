@@ -1,0 +1,4 @@
+pub mod EmptyLists
+pub mod HostBrackets
+pub mod Names
+pub mod examples

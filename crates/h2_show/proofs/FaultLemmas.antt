@@ -1,0 +1,249 @@
+-- What is printed of a fault, and at the end.
+use Rattle.std.proofs.Common.{◌≡◌, ◌≢◌, ℕ, ◌==◌, not, ◌&&◌, Bool, false}
+use Rattle.std.proofs.Common.{if◌then◌else◌, List, [], ◌∷◌, ◌++◌, length, take, drop}
+use Rattle.std.proofs.Common.{Option, Some, None, refl, sym, ◌∙◌, ap, subst, arith, inl, inr}
+use Rattle.std.proofs.Common.{append_assoc, append-nil, length-append}
+use Rattle.std.specs.Option.{is_some}
+use Rattle.std.proofs.lemmas.Bool.Decides.{nat_tests}
+use Rattle.std.proofs.lemmas.List.{take-append-le, take-append-drop}
+use Rattle.std.proofs.Math.Seq.{take-append_seam}
+use Rattle.h2_frame.specs.declared.code.Code.{Code}
+use Rattle.h2_frame.specs.declared.code.Code.TheVariants.{ProtocolError}
+use Rattle.h2_frame.specs.Frames.{Frame}
+use Rattle.h2_wire.specs.declared.fault.WireFault.{WireFault}
+use Rattle.h2_wire.specs.declared.fault.WireFault.TheVariants as faults
+use Rattle.h2_wire.specs.Streams.{Limits, Frames, WireFaultAt, EndsWithFault, expected_preface}
+use Rattle.h2_wire.specs.Streams.{IsSound}
+use Rattle.h2_wire.specs.Cutter.{CutterState, CutterRepresents, CutterFaults, saturated}
+use Rattle.h2_block.specs.Grouping.{Begun}
+use Rattle.h2_show.specs.declared.blocks.Blocks.{Blocks}
+use Rattle.h2_show.specs.declared.blocks.BlockError.TheVariants as errors
+use Rattle.h2_show.specs.declared.viewer.ShowError.TheVariants.{Wire, Block}
+use Rattle.h2_show.specs.declared.status.Status.{Status}
+use Rattle.h2_show.specs.declared.status.Status.TheVariants.{Good, Fault}
+use Rattle.h2_show.specs.Blocks.{EndsWithBlockError}
+use Rattle.h2_show.specs.Lines.{fault_line, rest_line, unfinished_line}
+use Rattle.h2_show.specs.Shown.{preface_lines, ShowsFrames, Shows, is_complete, ends_inside_frame}
+use Rattle.h2_show.specs.Shown.{ends_inside_block, has_wire_fault, has_block_error}
+use Rattle.h2_show.specs.Printed.{BlocksShow, due_line, ViewerShows, error_lines, end_lines}
+use Rattle.h2_show.specs.Printed.{ViewerPrints, ShowsAfter}
+use Rattle.h2_show.proofs.PrefaceLemmas.{whole_preface, opened_lines, wrong_lines, preface_state}
+use Rattle.h2_show.proofs.PrefaceLemmas.{inside_lines}
+use Rattle.h2_show.proofs.PrintedLemmas.{settle}
+
+-- the frames so far are shown
+frames_shown : (blocks : Blocks) (frames : List Frame) (lines : List ℕ)
+    → BlocksShow blocks frames lines → ShowsFrames frames blocks.gather.begun lines
+frames_shown blocks frames lines shows =
+    record {
+      items = shows.items;
+      complete = shows.complete;
+      left = shows.left;
+      table = blocks.decoder.table;
+      first = shows.first;
+      joined = shows.joined;
+      shown = shows.shown;
+      unfinished = shows.unfinished;
+      all = shows.all;
+    }
+
+-- an octet at fault is so with octets after it
+at_append : (expects : Bool) (limits : Limits) (stream more : List ℕ) (frames : List Frame)
+    (place : ℕ) (fault : WireFault) → WireFaultAt expects limits stream frames place fault
+    → WireFaultAt expects limits (stream ++ more) frames place fault
+at_append expects limits stream more frames place fault at =
+    let same : take place (stream ++ more) ≡ take place stream =
+    take-append-le place stream more at.within in
+    record {
+      within = simp length-append (let within = at.within in omega arith);
+      made = subst (λ (octets : List ℕ). EndsWithFault expects limits frames octets fault)
+          (sym same) at.made;
+    }
+
+-- a stream whose prefix is sound begins with what is expected
+sound_lines : (expects : Bool) (limits : Limits) (frames : List Frame) (part rest stream : List ℕ)
+    → IsSound expects limits frames part → stream ≡ part ++ rest
+    → preface_lines expects stream ≡ whole_preface expects
+sound_lines expects limits frames part rest stream sound joined =
+    ap (preface_lines expects)
+    (joined ∙ ap (λ (octets : List ℕ). octets ++ rest) sound.opened
+    ∙ append_assoc (expected_preface expects) sound.body rest)
+    ∙ opened_lines expects (sound.body ++ rest)
+
+-- the whole output of a fault after the preface
+settled_fault : (cutter : CutterState) (blocks : Blocks) (due expects : Bool) (limits : Limits)
+    (stream output all fault : List ℕ)
+    → (shows : ViewerShows cutter blocks due expects limits stream output)
+    → preface_lines expects all ≡ whole_preface expects
+    → output ++ (due_line due ++ fault) ≡ preface_lines expects all ++ shows.lines ++ fault
+settled_fault cutter blocks due expects limits stream output all fault shows whole =
+    sym (append_assoc output (due_line due) fault)
+    ∙ ap (λ (some : List ℕ). some ++ fault)
+    (settle cutter blocks due expects limits stream output shows)
+    ∙ ap (λ (some : List ℕ). (some ++ shows.lines) ++ fault) (sym whole)
+    ∙ simp append_assoc
+
+-- the whole output of a wrong octet of the preface
+unsettled_fault : (cutter : CutterState) (blocks : Blocks) (due expects : Bool) (limits : Limits)
+    (stream output more fault : List ℕ)
+    → (shows : ViewerShows cutter blocks due expects limits stream output)
+    → preface_lines expects (stream ++ more) ≡ []
+    → output ++ fault ≡ preface_lines expects (stream ++ more) ++ shows.lines ++ fault
+unsettled_fault cutter blocks due expects limits stream output more fault shows none =
+    let before : preface_lines expects stream ≡ preface_lines expects (stream ++ more) =
+    elim (preface_state expects limits cutter stream shows.frames shows.cut) [
+      | inl inside ↦
+          ap (λ (expected : Bool). preface_lines expected stream) inside.1
+          ∙ inside_lines stream inside.3 ∙ sym none
+      | inr past ↦
+          ap (preface_lines expects) past.1.1 ∙ opened_lines expects past.1.0
+          ∙ sym (opened_lines expects (past.1.0 ++ more))
+          ∙ ap (preface_lines expects) (sym (ap (λ (octets : List ℕ). octets ++ more) past.1.1
+          ∙ append_assoc (expected_preface expects) past.1.0 more))
+    ] in
+    ap (λ (some : List ℕ). some ++ fault) shows.all
+    ∙ ap (λ (some : List ℕ). (some ++ shows.lines) ++ fault) before
+    ∙ simp append_assoc
+
+-- a prefix that is taken, what is left of it, and what follows
+taken : (part last rest : List ℕ) (place : ℕ) (stream : List ℕ) → take place stream ≡ part ++ last
+    → stream ≡ part ++ (last ++ drop place stream)
+taken part last rest place stream joined =
+    sym (take-append-drop place stream)
+    ∙ ap (λ (octets : List ℕ). octets ++ drop place stream) joined
+    ∙ append_assoc part last (drop place stream)
+
+-- a fault that the cutter met
+pub wire_shows : (fault : WireFault) (cutter new_cutter : CutterState) (blocks : Blocks)
+    (due expects : Bool) (limits : Limits) (stream output piece more : List ℕ)
+    → fault ≢ faults.Memory
+    → ViewerShows cutter blocks due expects limits stream output
+    → CutterFaults cutter piece fault new_cutter
+    → Shows expects limits ((stream ++ piece) ++ more) Fault
+    (output ++ error_lines (Wire fault) new_cutter.place due)
+wire_shows faults.Memory cutter new_cutter blocks due expects limits stream output piece more sound
+    shows found = absurd (sound refl)
+wire_shows faults.BadPreface cutter new_cutter blocks due expects limits stream output piece more
+    sound shows found =
+    let all : List ℕ = (stream ++ piece) ++ more in
+    let (place, first, at) = found.at expects limits stream shows.frames shows.cut in
+    let after = at_append expects limits (stream ++ piece) more shows.frames place
+    faults.BadPreface first in
+    let none : preface_lines expects all ≡ [] =
+    wrong_lines expects all shows.frames place after.made in
+    let joined : all ≡ stream ++ (piece ++ more) = append_assoc stream piece more in
+    has_wire_fault shows.frames blocks.gather.begun place faults.BadPreface shows.lines after
+    (frames_shown blocks shows.frames shows.lines shows.blocks_show) refl
+    (ap (λ (where_at : ℕ). output ++ fault_line ProtocolError where_at) at
+    ∙ unsettled_fault cutter blocks due expects limits stream output (piece ++ more)
+    (fault_line ProtocolError (saturated place)) shows
+    (ap (preface_lines expects) (sym joined) ∙ none)
+    ∙ ap (λ (octets : List ℕ). preface_lines expects octets ++ shows.lines
+    ++ fault_line ProtocolError (saturated place)) (sym joined))
+wire_shows (faults.HeadFault code) cutter new_cutter blocks due expects limits stream output piece
+    more sound shows found =
+    let all : List ℕ = (stream ++ piece) ++ more in
+    let (place, first, at) = found.at expects limits stream shows.frames shows.cut in
+    let after = at_append expects limits (stream ++ piece) more shows.frames place
+    (faults.HeadFault code) first in
+    has_wire_fault shows.frames blocks.gather.begun place (faults.HeadFault code) shows.lines after
+    (frames_shown blocks shows.frames shows.lines shows.blocks_show) refl
+    (ap (λ (where_at : ℕ). output ++ (due_line due ++ fault_line code where_at)) at
+    ∙ settled_fault cutter blocks due expects limits stream output all
+    (fault_line code (saturated place)) shows
+    (sound_lines expects limits shows.frames after.made.part _ all after.made.sound
+    (taken after.made.part after.made.last [] place all after.made.joined)))
+wire_shows (faults.PayloadFault code) cutter new_cutter blocks due expects limits stream output
+    piece more sound shows found =
+    let all : List ℕ = (stream ++ piece) ++ more in
+    let (place, first, at) = found.at expects limits stream shows.frames shows.cut in
+    let after = at_append expects limits (stream ++ piece) more shows.frames place
+    (faults.PayloadFault code) first in
+    has_wire_fault shows.frames blocks.gather.begun place (faults.PayloadFault code) shows.lines
+    after (frames_shown blocks shows.frames shows.lines shows.blocks_show) refl
+    (ap (λ (where_at : ℕ). output ++ (due_line due ++ fault_line code where_at)) at
+    ∙ settled_fault cutter blocks due expects limits stream output all
+    (fault_line code (saturated place)) shows
+    (sound_lines expects limits shows.frames after.made.part _ all after.made.sound
+    (taken after.made.part after.made.last [] place all after.made.joined)))
+
+-- a frame that the blocks don't take
+pub block_shows : (code : Code) (cutter new_cutter : CutterState) (blocks : Blocks)
+    (due expects : Bool) (limits : Limits) (stream output prefix rest all : List ℕ)
+    (frame : Frame)
+    → (shows : ViewerShows cutter blocks due expects limits stream output)
+    → CutterRepresents new_cutter expects limits prefix (shows.frames ++ frame ∷ [])
+    → new_cutter.unparsed ≡ [] → all ≡ prefix ++ rest
+    → EndsWithBlockError (shows.frames ++ frame ∷ []) code
+    → Shows expects limits all Fault
+    (output ++ error_lines (Block (errors.Fault code)) new_cutter.place due)
+block_shows code cutter new_cutter blocks due expects limits stream output prefix rest all frame
+    shows cut nothing joined error =
+    let whole : preface_lines expects all ≡ whole_preface expects =
+    elim (preface_state expects limits new_cutter prefix (shows.frames ++ frame ∷ []) cut) [
+      | inl inside ↦ absurd (
+          let long : length (shows.frames ++ frame ∷ []) ≡ 0 = ap length inside.2 in
+          omega (arith, length-append shows.frames (frame ∷ [])))
+      | inr past ↦
+          ap (preface_lines expects) (joined
+          ∙ ap (λ (octets : List ℕ). octets ++ rest) past.1.1
+          ∙ append_assoc (expected_preface expects) past.1.0 rest)
+          ∙ opened_lines expects (past.1.0 ++ rest)
+    ] in
+    let same : take (length prefix) all ≡ prefix =
+    ap (take (length prefix)) joined ∙ take-append_seam prefix rest in
+    has_block_error shows.frames frame blocks.gather.begun (length prefix) code shows.lines
+    (rw joined (simp length-append (omega arith)))
+    (subst (λ (octets : List ℕ). Frames expects limits octets (shows.frames ++ frame ∷ []) [])
+    (sym same) (rw nothing at cut.split))
+    error (frames_shown blocks shows.frames shows.lines shows.blocks_show) refl
+    (ap (λ (where_at : ℕ). output ++ (due_line due ++ fault_line code where_at)) cut.place
+    ∙ settled_fault cutter blocks due expects limits stream output all
+    (fault_line code (saturated (length prefix))) shows whole)
+
+-- what the end of the input makes of the output
+end_shows : (unparsed : List ℕ) (cutter : CutterState) (blocks : Blocks) (due expects : Bool)
+    (limits : Limits) (stream output : List ℕ) (status : Status) → cutter.unparsed ≡ unparsed
+    → ViewerShows cutter blocks due expects limits stream output
+    → status ≡ (if length unparsed == 0 && not (is_some blocks.gather.begun) then Good else Fault)
+    → Shows expects limits stream status
+    (output ++ end_lines (length unparsed) (is_some blocks.gather.begun))
+end_shows (first ∷ others) cutter blocks due expects limits stream output status is shows known =
+    let some : (length (first ∷ others) == 0) ≡ false = grind (arith, nat_tests) in
+    ends_inside_frame shows.frames (first ∷ others) blocks.gather.begun shows.lines
+    (subst (λ (octets : List ℕ). Frames expects limits stream shows.frames octets) is
+    shows.cut.split) (λ none. (cc))
+    (frames_shown blocks shows.frames shows.lines shows.blocks_show) (rw some at known)
+    (rw some (ap (λ (text : List ℕ). text ++ rest_line (length (first ∷ others))) shows.all
+    ∙ simp append_assoc))
+end_shows [] cutter blocks due expects limits stream output status is shows known =
+    let reading = subst (λ (octets : List ℕ). Frames expects limits stream shows.frames octets) is
+    shows.cut.split in
+    by blocks.gather.begun reading
+    (frames_shown blocks shows.frames shows.lines shows.blocks_show) known
+  where
+    by : (begun : Option Begun) → Frames expects limits stream shows.frames []
+        → ShowsFrames shows.frames begun shows.lines
+        → status ≡ (if not (is_some begun) then Good else Fault)
+        → Shows expects limits stream status (output ++ end_lines 0 (is_some begun))
+    by None reading frames known =
+        is_complete shows.frames shows.lines reading frames known
+        (append-nil output ∙ shows.all)
+    by (Some begun) reading frames known =
+        ends_inside_block shows.frames begun shows.lines reading frames known
+        (ap (λ (text : List ℕ). text ++ unfinished_line) shows.all ∙ simp append_assoc)
+
+-- after octets that were shown the end of the input shows all of them
+pub end_shows_after : (cutter new_cutter : CutterState) (blocks new_blocks : Blocks)
+    (due new_due : Bool) (octets printed : List ℕ) (status : Status)
+    → ViewerPrints cutter blocks due octets new_cutter new_blocks new_due printed
+    → status ≡ (if length new_cutter.unparsed == 0 && not (is_some new_blocks.gather.begun)
+    then Good else Fault)
+    → ShowsAfter cutter blocks due octets status
+    (printed ++ end_lines (length new_cutter.unparsed) (is_some new_blocks.gather.begun))
+end_shows_after cutter new_cutter blocks new_blocks due new_due octets printed status prints known
+    expects limits stream output shows =
+    subst (λ (text : List ℕ). Shows expects limits (stream ++ octets) status text)
+    (append_assoc output printed _)
+    (end_shows new_cutter.unparsed new_cutter new_blocks new_due expects limits (stream ++ octets)
+    (output ++ printed) status refl (prints expects limits stream output shows) known)

@@ -1,0 +1,256 @@
+-- What an input prints, piece by piece.
+use Rattle.std.proofs.Common.{◌≡◌, ℕ, ◌==◌, not, ◌&&◌, Bool, if◌then◌else◌, List, [], ◌∷◌, ◌++◌}
+use Rattle.std.proofs.Common.{length}
+use Rattle.std.proofs.Common.{take, Option, Some, None, IfSome, refl, sym, ◌∙◌, ap, subst}
+use Rattle.std.proofs.Common.{append_assoc, append-nil, option_map, Result, Ok, Err, IfOk, IsOk}
+use Rattle.std.proofs.KnownBytes.{Appends-trans, Appends-kept, Consumes-trans, Consumes-whole}
+use Rattle.std.specs.Option.{is_some}
+use Rattle.std.specs.declared.io.buffered.BufWriter.{BufWriter}
+use Rattle.std.specs.Io.Buffered.{writer_buffer, writer_contents, writer_inner}
+use Rattle.std.specs.Io.KnownBytes.{Appends, Consumes, IsAtEnd, Keeps, append_known}
+use Rattle.hex.specs.Hex.{decode_of}
+use Rattle.h2_wire.specs.Cutter.{CutterState}
+use Rattle.h2_show.specs.declared.blocks.Blocks.{Blocks}
+use Rattle.h2_show.specs.declared.options.Side.{Side}
+use Rattle.h2_show.specs.declared.show.Lent.{Lent}
+use Rattle.h2_show.specs.declared.show.Shown.{Shown}
+use Rattle.h2_show.specs.declared.status.Status.{Status}
+use Rattle.h2_show.specs.declared.status.Status.TheVariants.{Good, Fault}
+use Rattle.h2_show.specs.declared.viewer.ShowError.{ShowError}
+use Rattle.h2_show.specs.Printed.{ViewerShows, ViewerPrints, ViewerFailsWith, ShowsAfter, end_lines}
+use Rattle.h2_show.specs.Printed.{error_lines, ShowsText}
+use Rattle.h2_show.specs.Hexadecimal.{without_blanks}
+use Rattle.h2_show.specs.Report.{begins_with_preface, first_limits, StatusReportsOctets}
+use Rattle.h2_show.specs.Report.{StatusReportsText}
+use Rattle.h2_show.specs.Shown.{Shows, ShowsOctets}
+use Rattle.h2_show.proofs.FaultLemmas.{end_shows_after}
+
+-- what holds of the octets with whatever follows them, of all that a reader had
+consumed_all : (before after : Option (List ℕ)) (octets : List ℕ) (P : List ℕ → Type 0)
+    → Consumes before after octets → ((left : List ℕ) → P (octets ++ left)) → IfSome before P
+consumed_all None after octets P read holds = tt
+consumed_all (Some all) None octets P read holds = absurd read
+consumed_all (Some all) (Some left) octets P read holds = subst P (sym read) (holds left)
+
+-- after octets that were shown, a fault in those that follow shows all, whatever follows them
+fails_after : (cutter mid new_cutter : CutterState) (blocks mid_blocks : Blocks)
+    (due mid_due new_due : Bool) (octets piece left one two : List ℕ) (error : ShowError)
+    (status : Status)
+    → ViewerPrints cutter blocks due octets mid mid_blocks mid_due one
+    → ViewerFailsWith mid mid_blocks mid_due piece error new_cutter new_due two
+    → status ≡ Fault
+    → ShowsAfter cutter blocks due ((octets ++ piece) ++ left) status
+    ((one ++ two) ++ error_lines error new_cutter.place new_due)
+fails_after cutter mid new_cutter blocks mid_blocks due mid_due new_due octets piece left one two
+    error status prints fails is = λ expects limits stream output shows.
+    let lines : List ℕ = error_lines error new_cutter.place new_due in
+    let same : ((stream ++ octets) ++ piece) ++ left ≡ stream ++ ((octets ++ piece) ++ left) =
+    simp append_assoc in
+    let alike : ((output ++ one) ++ two) ++ lines ≡ output ++ ((one ++ two) ++ lines) =
+    simp append_assoc in
+    subst (λ (ended : Status). Shows expects limits (stream ++ ((octets ++ piece) ++ left)) ended
+    (output ++ ((one ++ two) ++ lines))) (sym is)
+    (subst (λ (all : List ℕ). Shows expects limits all Fault (output ++ ((one ++ two) ++ lines)))
+    same
+    (subst (λ (text : List ℕ). Shows expects limits (((stream ++ octets) ++ piece) ++ left) Fault
+    text) alike
+    (fails expects limits (stream ++ octets) (output ++ one) left
+    (prints expects limits stream output shows))))
+
+-- the end of the input
+pub end_shows_all : (cutter new_cutter : CutterState) (blocks new_blocks : Blocks)
+    (due new_due : Bool) (before middle after start text ended : Option (List ℕ))
+    (octets buffer printed : List ℕ) (count : ℕ) (status : Status)
+    → Consumes before middle octets → Consumes middle after (take count buffer) → count ≡ 0
+    → IsAtEnd after → Appends start text printed
+    → ViewerPrints cutter blocks due octets new_cutter new_blocks new_due printed
+    → status ≡ (if length new_cutter.unparsed == 0 && not (is_some new_blocks.gather.begun)
+    then Good else Fault)
+    → Appends text ended
+    (end_lines (length new_cutter.unparsed) (is_some new_blocks.gather.begun))
+    → IfSome before (λ all. (lines : List ℕ) × ShowsAfter cutter blocks due all status lines
+    × Appends start ended lines)
+end_shows_all cutter new_cutter blocks new_blocks due new_due before middle after start text ended
+    octets buffer printed count status read last none at_end written prints known ending =
+    let nothing : Consumes middle after [] =
+    subst (λ (some : ℕ). Consumes middle after (take some buffer)) none last in
+    let all : Consumes before after octets =
+    subst (λ (some : List ℕ). Consumes before after some) (append-nil octets)
+    (Consumes-trans before middle after octets [] read nothing) in
+    Consumes-whole before after octets (λ all. (lines : List ℕ)
+    × ShowsAfter cutter blocks due all status lines × Appends start ended lines) all at_end (
+      printed ++ end_lines (length new_cutter.unparsed) (is_some new_blocks.gather.begun),
+      end_shows_after cutter new_cutter blocks new_blocks due new_due octets printed status prints
+          known,
+      Appends-trans start text ended printed _ written ending,
+    )
+
+-- a fault in a piece
+pub error_shows_all : (cutter mid new_cutter : CutterState) (blocks mid_blocks : Blocks)
+    (due mid_due new_due : Bool) (before after start text middle ended : Option (List ℕ))
+    (octets piece one two : List ℕ) (error : ShowError) (status : Status)
+    → Consumes before after (octets ++ piece) → Appends start text one
+    → ViewerPrints cutter blocks due octets mid mid_blocks mid_due one
+    → Appends text middle two
+    → ViewerFailsWith mid mid_blocks mid_due piece error new_cutter new_due two
+    → status ≡ Fault → Appends middle ended (error_lines error new_cutter.place new_due)
+    → IfSome before (λ all. (lines : List ℕ) × ShowsAfter cutter blocks due all status lines
+    × Appends start ended lines)
+error_shows_all cutter mid new_cutter blocks mid_blocks due mid_due new_due before after start text
+    middle ended octets piece one two error status read written prints more fails is last =
+    consumed_all before after (octets ++ piece) (λ all. (lines : List ℕ)
+    × ShowsAfter cutter blocks due all status lines × Appends start ended lines) read (λ left. (
+      (one ++ two) ++ error_lines error new_cutter.place new_due,
+      fails_after cutter mid new_cutter blocks mid_blocks due mid_due new_due octets piece left one
+          two error status prints fails is,
+      Appends-trans start middle ended (one ++ two) _
+          (Appends-trans start text middle one two written more) last,
+    ))
+
+-- a fault in octets that are shown all at once
+pub error_shown : (from : Side) (cutter new_cutter : CutterState) (blocks : Blocks)
+    (due new_due : Bool) (start text ended : Option (List ℕ)) (octets printed : List ℕ)
+    (error : ShowError) (status : Status)
+    → ViewerShows cutter blocks due (begins_with_preface from) first_limits [] []
+    → Appends start text printed
+    → ViewerFailsWith cutter blocks due octets error new_cutter new_due printed
+    → status ≡ Fault → Appends text ended (error_lines error new_cutter.place new_due)
+    → (lines : List ℕ) × ShowsOctets from octets status lines × Appends start ended lines
+error_shown from cutter new_cutter blocks due new_due start text ended octets printed error status
+    shows written fails is last = (
+      printed ++ error_lines error new_cutter.place new_due,
+      subst (λ (reported : Status). ShowsOctets from octets reported
+          (printed ++ error_lines error new_cutter.place new_due)) (sym is)
+          (subst (λ (all : List ℕ). ShowsOctets from all Fault
+          (printed ++ error_lines error new_cutter.place new_due)) (append-nil octets)
+          (fails (begins_with_preface from) first_limits [] [] [] shows)),
+      Appends-trans start text ended printed _ written last,
+    )
+
+-- the end of octets that are shown all at once
+pub end_shown : (from : Side) (cutter new_cutter : CutterState) (blocks new_blocks : Blocks)
+    (due new_due : Bool) (start text ended : Option (List ℕ)) (octets printed : List ℕ)
+    (status : Status)
+    → ViewerShows cutter blocks due (begins_with_preface from) first_limits [] []
+    → Appends start text printed
+    → ViewerPrints cutter blocks due octets new_cutter new_blocks new_due printed
+    → status ≡ (if length new_cutter.unparsed == 0 && not (is_some new_blocks.gather.begun)
+    then Good else Fault)
+    → Appends text ended
+    (end_lines (length new_cutter.unparsed) (is_some new_blocks.gather.begun))
+    → (lines : List ℕ) × ShowsOctets from octets status lines × Appends start ended lines
+end_shown from cutter new_cutter blocks new_blocks due new_due start text ended octets printed
+    status shows written prints known last = (
+      printed ++ end_lines (length new_cutter.unparsed) (is_some new_blocks.gather.begun),
+      end_shows_after cutter new_cutter blocks new_blocks due new_due octets printed status prints
+          known (begins_with_preface from) first_limits [] [] shows,
+      Appends-trans start text ended printed _ written last,
+    )
+
+-- after no octets the octets alone are shown
+pub octets_shown : {E : Type 0} (from : Side) (cutter : CutterState) (blocks : Blocks) (due : Bool)
+    (before start ended : Option (List ℕ)) (result : Result Shown E)
+    → ViewerShows cutter blocks due (begins_with_preface from) first_limits [] []
+    → IfOk result (λ shown. IfSome before (λ octets. (lines : List ℕ)
+    × ShowsAfter cutter blocks due octets shown.status lines × Appends start ended lines))
+    → IfOk result (λ shown. IfSome before (λ octets. (lines : List ℕ)
+    × ShowsOctets from octets shown.status lines × Appends start ended lines))
+octets_shown from cutter blocks due before start ended (Err error) shows shown = tt
+octets_shown from cutter blocks due None start ended (Ok some) shows shown = tt
+octets_shown from cutter blocks due (Some octets) start ended (Ok some) shows shown = (
+  shown.0,
+  shown.1 (begins_with_preface from) first_limits [] [] shows,
+  shown.2,
+)
+
+-- what the lines show of text, by the octets that it gives
+pub text_shown : (from : Side) (before start ended : Option (List ℕ)) (octets : List ℕ)
+    (status : Status)
+    → IfSome before (λ text. decode_of (without_blanks text) ≡ Ok octets)
+    → (lines : List ℕ) × ShowsOctets from octets status lines × Appends start ended lines
+    → IfSome before (λ text. (lines : List ℕ) × ShowsText from text status lines
+    × Appends start ended lines)
+text_shown from None start ended octets status decoded shown = tt
+text_shown from (Some text) start ended octets status decoded shown =
+    (shown.0, (octets, decoded, shown.1), shown.2)
+
+pub text_reported : (from : Side) (before : Option (List ℕ)) (octets : List ℕ) (status : Status)
+    → IfSome before (λ text. decode_of (without_blanks text) ≡ Ok octets)
+    → StatusReportsOctets from octets status
+    → IfSome before (λ text. StatusReportsText from text status)
+text_reported from None octets status decoded reports = tt
+text_reported from (Some text) octets status decoded reports = (octets, decoded, reports)
+
+-- lines that are appended stay so where a flush keeps what is known
+pub kept_shown : {E : Type 0} (P : List ℕ → Status → List ℕ → Type 0)
+    (before start text ended : Option (List ℕ)) (result : Result Shown E)
+    → IfOk result (λ shown. IfSome before (λ given. (lines : List ℕ) × P given shown.status lines
+    × Appends start text lines))
+    → Keeps text ended
+    → IfOk result (λ shown. IfSome before (λ given. (lines : List ℕ) × P given shown.status lines
+    × Appends start ended lines))
+kept_shown P before start text ended (Err error) shown same = tt
+kept_shown P None start text ended (Ok some) shown same = tt
+kept_shown P (Some given) start text ended (Ok some) shown same =
+    (shown.0, shown.1, Appends-kept start text ended shown.0 shown.2 same)
+
+-- Lines that a buffer over a lent writer has appended, all of them written, are appended to the
+-- writer, since its name is the same.
+lent_appended : (start ended final : Option (List ℕ)) (name new_name : ℕ) (lines : List ℕ)
+    → (new_name ≡ name → final ≡ ended)
+    → Appends (append_known (option_map (λ known. name ∷ known) start) [])
+    (append_known (option_map (λ known. new_name ∷ known) ended) []) lines
+    → Appends start final lines
+lent_appended None ended final name new_name lines returns appended = tt
+lent_appended (Some known) None final name new_name lines returns appended = absurd appended
+lent_appended (Some known) (Some other) final name new_name lines returns appended =
+    let same : new_name ∷ (other ++ []) ≡ name ∷ ((known ++ []) ++ lines) = appended in
+    let alike : new_name ≡ name = cc in
+    let text : other ++ [] ≡ (known ++ []) ++ lines = cc in
+    rw (returns alike)
+    (sym (append-nil other) ∙ text ∙ ap (λ (some : List ℕ). some ++ lines) (append-nil known))
+
+-- what a lent writer holds, after the name of the reference
+abbrev lent_contents : {W : Type 0} → (W → Option (List ℕ)) → Lent W → Option (List ℕ)
+lent_contents contents lent = option_map (λ known. lent.out.ghost_name ∷ known)
+    (contents lent.out.now)
+
+buffered : {T A : Type 0} (contents : T → Option (List ℕ)) (writer : BufWriter T A) (inner : T)
+    → writer_inner writer ≡ inner → writer_buffer writer ≡ []
+    → writer_contents contents writer ≡ append_known (contents inner) []
+buffered contents writer inner same empty = λ i. append_known (contents (same i)) (empty i)
+
+-- what a buffer over a lent writer has shown, all of it written, the writer shows
+pub lent_shown : {W A E : Type 0} (contents : W → Option (List ℕ))
+    (P : List ℕ → Status → List ℕ → Type 0) (before : Option (List ℕ))
+    (first last : BufWriter (Lent W) A) (old_lent new_lent : Lent W) (start final : W)
+    (result : Result Shown E)
+    → IfOk result (λ shown. IfSome before (λ given. (lines : List ℕ) × P given shown.status lines
+    × Appends (writer_contents (lent_contents contents) first)
+    (writer_contents (lent_contents contents) last) lines))
+    → writer_inner first ≡ old_lent → writer_buffer first ≡ [] → old_lent.out.now ≡ start
+    → writer_inner last ≡ new_lent → (IsOk result → writer_buffer last ≡ [])
+    → (new_lent.out.ghost_name ≡ old_lent.out.ghost_name → final ≡ new_lent.out.now)
+    → IfOk result (λ shown. IfSome before (λ given. (lines : List ℕ) × P given shown.status lines
+    × Appends (contents start) (contents final) lines))
+lent_shown contents P before first last old_lent new_lent start final (Err error) shown one two
+    three four five six = tt
+lent_shown contents P None first last old_lent new_lent start final (Ok some) shown one two three
+    four five six = tt
+lent_shown contents P (Some given) first last old_lent new_lent start final (Ok some) shown is_old
+    empty starts is_new written returns =
+    let begins = buffered (lent_contents contents) first old_lent is_old empty in
+    let ends = buffered (lent_contents contents) last new_lent is_new (written refl) in
+    let appended : Appends (append_known (lent_contents contents old_lent) [])
+    (append_known (lent_contents contents new_lent) []) shown.0 =
+    subst (λ (old : Option (List ℕ)). Appends old
+    (append_known (lent_contents contents new_lent) []) shown.0) begins
+    (subst (λ (new : Option (List ℕ)). Appends
+    (writer_contents (lent_contents contents) first) new shown.0) ends shown.2) in (
+      shown.0,
+      shown.1,
+      subst (λ (old : Option (List ℕ)). Appends old (contents final) shown.0) (ap contents starts)
+          (lent_appended (contents old_lent.out.now) (contents new_lent.out.now) (contents final)
+          old_lent.out.ghost_name new_lent.out.ghost_name shown.0
+          (λ same. ap contents (returns same)) appended),
+    )

@@ -1,0 +1,244 @@
+-- How the lines are put together.
+use Rattle.std.proofs.Common.{◌≡◌, ℕ, ◌+◌, ◌-◌, ◌/◌, ◌<◌, ◌≤◌, not, Bool, true, false}
+use Rattle.std.proofs.Common.{◌%◌, if◌then◌else◌, List, [], ◌∷◌, ◌++◌, length, take, drop, get_or}
+use Rattle.std.proofs.Common.{flat_map}
+use Rattle.std.proofs.Common.{length-take, position, Option, Some, None, refl, sym, ◌∙◌, ap, subst}
+use Rattle.std.proofs.Common.{arith}
+use Rattle.std.proofs.Common.{append_assoc, append-nil, suc, zero, codes, decimal, ◌*◌, ◌^◌}
+use Rattle.std.proofs.KnownBytes.{Appends-trans}
+use Rattle.std.proofs.Math.Seq.{drop-cons}
+use Rattle.std.proofs.lemmas.Bool.{not-true, not-false}
+use Rattle.std.proofs.lemmas.Bool.Decides.{nat_tests}
+use Rattle.std.proofs.lemmas.Grind.{common_steps, flat_map-append}
+use Rattle.std.proofs.lemmas.List.{drop_all, take_rest, take-append-drop, take_more, get_or-take}
+use Rattle.std.proofs.lemmas.List.Quantifiers.{position-Some}
+use Rattle.std.proofs.lemmas.List.Sums.{fails_before_first}
+use Rattle.std.specs.Io.KnownBytes.{Appends}
+use Rattle.std.specs.List.{position_or_len}
+use Rattle.std.specs.Fmt.{digits, format_spec, padded_integral}
+use Rattle.std.proofs.lemmas.Fmt.{decimal_digit, hex_byte}
+use Rattle.h2_frame.specs.Frames.{Reset, Settings, Ping, GoAway, WindowUpdate}
+use Rattle.h2_frame.specs.Pairs.{pairs_in, pairs_of}
+use Rattle.h2_show.specs.Lines.{hex_digit, hex_octet, is_plain, shown_octet, shown_octets, flag_word}
+use Rattle.h2_show.specs.Lines.{pair_words}
+use Rattle.h2_show.specs.Lines.{frame_words}
+
+-- whether an octet is escaped
+abbrev is_escaped : ℕ → Bool
+is_escaped octet = not (is_plain octet)
+
+shown_as_it_is : (octet : ℕ) → is_escaped octet ≡ false → shown_octet octet ≡ octet ∷ []
+shown_as_it_is octet plain =
+    let known : is_plain octet ≡ true = not-false (is_plain octet) plain in
+    ap (λ (b : Bool). if b then octet ∷ [] else 92 ∷ 120 ∷ hex_octet octet) known
+
+shown_escaped : (octet : ℕ) → is_escaped octet ≡ true
+    → shown_octet octet ≡ 92 ∷ 120 ∷ hex_octet octet
+shown_escaped octet escaped =
+    let known : is_plain octet ≡ false = not-true (is_plain octet) escaped in
+    ap (λ (b : Bool). if b then octet ∷ [] else 92 ∷ 120 ∷ hex_octet octet) known
+
+-- octets of which none is escaped
+shown_plain : (octets : List ℕ)
+    → ((k : ℕ) → k < length octets → is_escaped (get_or octets k 0) ≡ false)
+    → shown_octets octets ≡ octets
+shown_plain [] plain = refl
+shown_plain (octet ∷ octets) plain =
+    rw (shown_as_it_is octet (plain 0 (omega arith)))
+    (ap (λ (others : List ℕ). octet ∷ others)
+    (shown_plain octets (λ k within. plain (suc k) (omega arith))))
+
+-- octets where no place is found
+pub shown_unescaped : (octets : List ℕ) → position (λ octet. not (is_plain octet)) octets ≡ None
+    → shown_octets octets ≡ octets
+shown_unescaped octets none =
+    let all : length octets ≤ position_or_len is_escaped octets =
+    grind (arith, nat_tests, common_steps) in
+    shown_plain octets (λ k within. fails_before_first is_escaped octets k 0 (omega arith))
+
+-- octets up to the first that is escaped, and what follows it
+shown_first : (octets : List ℕ) (count : ℕ) → count < length octets
+    → is_escaped (get_or octets count 0) ≡ true
+    → ((k : ℕ) → k < count → is_escaped (get_or octets k 0) ≡ false)
+    → shown_octets (take (count + 1) octets)
+    ≡ take count octets ++ (92 ∷ 120 ∷ hex_octet (get_or octets count 0))
+shown_first octets count within escaped plain =
+    let before : shown_octets (take count octets) ≡ take count octets =
+    shown_plain (take count octets) (λ k lower.
+    let small : k < count = omega (arith, simp length-take at lower) in
+    rw get_or-take (plain k (omega arith))) in
+    ap shown_octets (take_more octets count 0 within)
+    ∙ flat_map-append shown_octet (take count octets) (get_or octets count 0 ∷ [])
+    ∙ (λ i. before i ++ (append-nil (shown_octet (get_or octets count 0))
+    ∙ shown_escaped (get_or octets count 0) escaped) i)
+
+-- a turn of writing octets: those as they are, and one that is escaped
+pub text_step : (octets prefix rest : List ℕ) (count : ℕ) (escape : List ℕ)
+    (start before middle after : Option (List ℕ))
+    → octets ≡ prefix ++ rest → Appends start before (shown_octets prefix)
+    → position (λ octet. not (is_plain octet)) rest ≡ Some count
+    → Appends before middle (take count rest)
+    → escape ≡ 92 ∷ 120 ∷ hex_octet (get_or rest count 0) → Appends middle after escape
+    → (shown : List ℕ)
+    × (octets ≡ shown ++ take (length rest - (count + 1)) (drop (count + 1) rest))
+    × Appends start after (shown_octets shown)
+text_step octets prefix rest count escape start before middle after joined shown found plain is
+    escaped =
+    let place = position-Some is_escaped rest count 0 found in
+    let more = shown_first rest count place.0 place.1 place.2 in
+    let turn : Appends before after (shown_octets (take (count + 1) rest)) =
+    rw more (Appends-trans before middle after (take count rest) _ plain
+    (subst (λ (octets : List ℕ). Appends middle after octets) is escaped)) in (
+      prefix ++ take (count + 1) rest,
+      joined
+          ∙ ap (λ (others : List ℕ). prefix ++ others) (sym (take-append-drop (count + 1) rest))
+          ∙ sym (append_assoc prefix (take (count + 1) rest) (drop (count + 1) rest))
+          ∙ ap (λ (others : List ℕ). (prefix ++ take (count + 1) rest) ++ others)
+          (sym (take_rest rest (count + 1))),
+      rw (flat_map-append shown_octet prefix (take (count + 1) rest))
+          (Appends-trans start before after _ _ shown turn),
+    )
+
+-- the last turn, where none of the rest is escaped
+pub text_end : (octets prefix rest : List ℕ) (start before after : Option (List ℕ))
+    → octets ≡ prefix ++ rest → Appends start before (shown_octets prefix)
+    → position (λ octet. not (is_plain octet)) rest ≡ None → Appends before after rest
+    → Appends start after (shown_octets octets)
+text_end octets prefix rest start before after joined shown none last =
+    subst (λ (text : List ℕ). Appends start after text)
+    (ap (λ (text : List ℕ). shown_octets prefix ++ text) (sym (shown_unescaped rest none))
+    ∙ sym (flat_map-append shown_octet prefix rest) ∙ ap shown_octets (sym joined))
+    (Appends-trans start before after _ rest shown last)
+
+-- the next octet in hexadecimal, and those after it
+hexadecimal_from : (octets : List ℕ) (index : ℕ) → index < length octets
+    → flat_map hex_octet (drop index octets)
+    ≡ hex_digit (get_or octets index 0 / 16) ∷ hex_digit (get_or octets index 0 % 16)
+    ∷ flat_map hex_octet (drop (suc index) octets)
+hexadecimal_from octets index within =
+    ap (flat_map hex_octet) (drop-cons octets index 0 within)
+
+-- eight octets in hexadecimal
+pub eight_in_hexadecimal : (octets : List ℕ) → length octets ≡ 8
+    → flat_map hex_octet octets
+    ≡ hex_digit (get_or octets 0 0 / 16) ∷ hex_digit (get_or octets 0 0 % 16)
+    ∷ hex_digit (get_or octets 1 0 / 16) ∷ hex_digit (get_or octets 1 0 % 16)
+    ∷ hex_digit (get_or octets 2 0 / 16) ∷ hex_digit (get_or octets 2 0 % 16)
+    ∷ hex_digit (get_or octets 3 0 / 16) ∷ hex_digit (get_or octets 3 0 % 16)
+    ∷ hex_digit (get_or octets 4 0 / 16) ∷ hex_digit (get_or octets 4 0 % 16)
+    ∷ hex_digit (get_or octets 5 0 / 16) ∷ hex_digit (get_or octets 5 0 % 16)
+    ∷ hex_digit (get_or octets 6 0 / 16) ∷ hex_digit (get_or octets 6 0 % 16)
+    ∷ hex_digit (get_or octets 7 0 / 16) ∷ hex_digit (get_or octets 7 0 % 16) ∷ []
+eight_in_hexadecimal octets size =
+    hexadecimal_from octets 0 (omega arith) ∙ ap (λ (rest : List ℕ).
+    hex_digit (get_or octets 0 0 / 16) ∷ hex_digit (get_or octets 0 0 % 16) ∷ rest) (
+    hexadecimal_from octets 1 (omega arith) ∙ ap (λ (rest : List ℕ).
+    hex_digit (get_or octets 1 0 / 16) ∷ hex_digit (get_or octets 1 0 % 16) ∷ rest) (
+    hexadecimal_from octets 2 (omega arith) ∙ ap (λ (rest : List ℕ).
+    hex_digit (get_or octets 2 0 / 16) ∷ hex_digit (get_or octets 2 0 % 16) ∷ rest) (
+    hexadecimal_from octets 3 (omega arith) ∙ ap (λ (rest : List ℕ).
+    hex_digit (get_or octets 3 0 / 16) ∷ hex_digit (get_or octets 3 0 % 16) ∷ rest) (
+    hexadecimal_from octets 4 (omega arith) ∙ ap (λ (rest : List ℕ).
+    hex_digit (get_or octets 4 0 / 16) ∷ hex_digit (get_or octets 4 0 % 16) ∷ rest) (
+    hexadecimal_from octets 5 (omega arith) ∙ ap (λ (rest : List ℕ).
+    hex_digit (get_or octets 5 0 / 16) ∷ hex_digit (get_or octets 5 0 % 16) ∷ rest) (
+    hexadecimal_from octets 6 (omega arith) ∙ ap (λ (rest : List ℕ).
+    hex_digit (get_or octets 6 0 / 16) ∷ hex_digit (get_or octets 6 0 % 16) ∷ rest) (
+    hexadecimal_from octets 7 (omega arith) ∙ ap (λ (rest : List ℕ).
+    hex_digit (get_or octets 7 0 / 16) ∷ hex_digit (get_or octets 7 0 % 16) ∷ rest) (
+    ap (flat_map hex_octet) (drop_all 8 octets (omega arith))))))))))
+
+-- the words of the frames whose lengths or streams are fixed
+
+two_words : (name space stream count word value : List ℕ)
+    → (name ++ space ++ stream ++ space ++ count) ++ word ++ value
+    ≡ name ++ (space ++ (stream ++ (space ++ (count ++ (word ++ value)))))
+two_words name space stream count word value = simp append_assoc
+
+pub reset_words : (stream code : ℕ)
+    → codes "RST_STREAM " ++ (decimal stream ++ (codes " 4 code=" ++ decimal code))
+    ≡ frame_words (Reset stream code)
+unfolding frame_words
+reset_words stream code =
+    ap (λ (count : List ℕ). codes "RST_STREAM " ++ (decimal stream ++ (codes " " ++ (count
+    ++ (codes " code=" ++ decimal code)))))
+    (sym (decimal_digit 4 (omega arith)))
+    ∙ sym (two_words (codes "RST_STREAM") (codes " ") (decimal stream) (decimal 4)
+    (codes " code=") (decimal code))
+
+pub window_words : (stream increment : ℕ)
+    → codes "WINDOW_UPDATE " ++ (decimal stream ++ (codes " 4 add=" ++ decimal increment))
+    ≡ frame_words (WindowUpdate stream increment)
+unfolding frame_words
+window_words stream increment =
+    ap (λ (count : List ℕ). codes "WINDOW_UPDATE " ++ (decimal stream ++ (codes " " ++ (count
+    ++ (codes " add=" ++ decimal increment)))))
+    (sym (decimal_digit 4 (omega arith)))
+    ∙ sym (two_words (codes "WINDOW_UPDATE") (codes " ") (decimal stream) (decimal 4)
+    (codes " add=") (decimal increment))
+
+three_words : (name space stream count first second third : List ℕ)
+    → (name ++ space ++ stream ++ space ++ count) ++ first ++ second ++ third
+    ≡ name ++ (space ++ (stream ++ (space ++ (count ++ (first ++ (second ++ third))))))
+three_words name space stream count first second third = simp append_assoc
+
+pub ping_words : (ack : Bool) (octets : List ℕ)
+    → codes "PING 0 8" ++ (flag_word ack (codes "ack") ++ (codes " " ++ flat_map hex_octet octets))
+    ≡ frame_words (Ping ack octets)
+unfolding frame_words
+ping_words ack octets =
+    ap (λ (stream : List ℕ). codes "PING " ++ (stream ++ (codes " 8" ++ (flag_word ack (codes "ack")
+    ++ (codes " " ++ flat_map hex_octet octets)))))
+    (sym (decimal_digit 0 (omega arith)))
+    ∙ ap (λ (count : List ℕ). codes "PING " ++ (decimal 0 ++ (codes " " ++ (count
+    ++ (flag_word ack (codes "ack") ++ (codes " " ++ flat_map hex_octet octets))))))
+    (sym (decimal_digit 8 (omega arith)))
+    ∙ sym (three_words (codes "PING") (codes " ") (decimal 0) (decimal 8)
+    (flag_word ack (codes "ack")) (codes " ") (flat_map hex_octet octets))
+
+six_words : (name space stream count first second third fourth fifth sixth : List ℕ)
+    → (name ++ space ++ stream ++ space ++ count) ++ first ++ second ++ third ++ fourth ++ fifth
+    ++ sixth
+    ≡ name ++ (space ++ (stream ++ (space ++ (count ++ (first ++ (second ++ (third ++ (fourth
+    ++ (fifth ++ sixth)))))))))
+six_words name space stream count first second third fourth fifth sixth = simp append_assoc
+
+pub goaway_words : (last code : ℕ) (debug : List ℕ)
+    → codes "GOAWAY 0 " ++ (decimal (8 + length debug) ++ (codes " last=" ++ (decimal last
+    ++ (codes " code=" ++ (decimal code ++ (codes " debug=" ++ decimal (length debug)))))))
+    ≡ frame_words (GoAway last code debug)
+unfolding frame_words
+goaway_words last code debug =
+    ap (λ (stream : List ℕ). codes "GOAWAY " ++ (stream ++ (codes " "
+    ++ (decimal (8 + length debug) ++ (codes " last=" ++ (decimal last
+    ++ (codes " code=" ++ (decimal code ++ (codes " debug=" ++ decimal (length debug))))))))))
+    (sym (decimal_digit 0 (omega arith)))
+    ∙ sym (six_words (codes "GOAWAY") (codes " ") (decimal 0) (decimal (8 + length debug))
+    (codes " last=") (decimal last) (codes " code=") (decimal code) (codes " debug=")
+    (decimal (length debug)))
+
+one_word : (name space stream count first pairs : List ℕ)
+    → (name ++ space ++ stream ++ space ++ count) ++ first ++ pairs
+    ≡ (name ++ (space ++ (stream ++ (space ++ (count ++ first))))) ++ pairs
+one_word name space stream count first pairs = simp append_assoc
+
+pub settings_words : (ack : Bool) (pairs : List (ℕ × ℕ))
+    → (codes "SETTINGS 0 " ++ (decimal (6 * length pairs) ++ flag_word ack (codes "ack")))
+    ++ pair_words pairs ≡ frame_words (Settings ack pairs)
+unfolding frame_words
+settings_words ack pairs =
+    ap (λ (stream : List ℕ). (codes "SETTINGS " ++ (stream ++ (codes " "
+    ++ (decimal (6 * length pairs) ++ flag_word ack (codes "ack"))))) ++ pair_words pairs)
+    (sym (decimal_digit 0 (omega arith)))
+    ∙ sym (one_word (codes "SETTINGS") (codes " ") (decimal 0) (decimal (6 * length pairs))
+    (flag_word ack (codes "ack")) (pair_words pairs))
+
+-- how many pairs there are
+length-pairs_in : (count : ℕ) (octets : List ℕ) → length (pairs_in count octets) ≡ count
+unfolding pairs_in
+length-pairs_in zero octets = refl
+length-pairs_in (suc count) octets = ap suc (length-pairs_in count (drop 6 octets))
+
+-- the octets of the pairs are no more than the octets that they lie in
+pub pairs_fit : (octets : List ℕ) → 6 * length (pairs_of octets) ≤ length octets
+pairs_fit octets = rw (length-pairs_in (length octets / 6) octets) (omega arith)

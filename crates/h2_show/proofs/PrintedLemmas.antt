@@ -1,0 +1,173 @@
+-- What is printed of a piece, frame by frame.
+use Rattle.std.proofs.Common.{◌≡◌, ℕ, ◌+◌, ◌<◌, not, ◌&&◌, Bool, true, false}
+use Rattle.std.proofs.Common.{if◌then◌else◌, List, [], ◌∷◌, ◌++◌, length, flat_map}
+use Rattle.std.proofs.Common.{refl, sym, ◌∙◌, ap, subst, arith, inl, inr}
+use Rattle.std.proofs.Common.{append_assoc, append-nil, length-append}
+use Rattle.h2_frame.specs.Frames.{Frame}
+use Rattle.h2_wire.specs.Streams.{Limits, expected_preface, preface}
+use Rattle.h2_wire.specs.Cutter.{CutterState, CutterRepresents, CutterContinues}
+use Rattle.h2_block.specs.Grouping.{Item, alone, block}
+use Rattle.hpack.specs.Tables.{Entries}
+use Rattle.h2_show.specs.declared.blocks.Blocks.{Blocks}
+use Rattle.h2_show.specs.Lines.{frame_line, preface_line}
+use Rattle.h2_show.specs.Shown.{AreShown, preface_lines}
+use Rattle.h2_show.specs.Printed.{BlocksShow, due_line, ViewerShows}
+use Rattle.h2_show.proofs.PrefaceLemmas.{whole_preface, opened_lines, inside_lines, preface_state}
+
+-- where lists that are joined are nothing, each is
+nothing_joined : {A : Type 0} (first second : List A) → first ++ second ≡ []
+    → (first ≡ []) × (second ≡ [])
+nothing_joined [] second none = (refl, none)
+nothing_joined (one ∷ first) second none = absurd (cc)
+
+-- no frames have no lines
+nothing_shown : (table after : Entries) (items : List Item) (frames : List Frame) (lines : List ℕ)
+    → frames ≡ [] → AreShown table items frames after lines → lines ≡ []
+nothing_shown table after [] frames lines none (all, same, empty) = empty
+nothing_shown table after (alone frame ∷ items) frames lines none
+    (following, text, joined, is, all, one) =
+    absurd (let wrong : [] ≡ frame ∷ following = sym none ∙ joined in cc)
+nothing_shown table after (block stream end octets ∷ items) frames lines none
+    (first, following, text, fields, next, joined, is, decoded, all, one) =
+    let empty : first ≡ [] = (nothing_joined first following (sym joined ∙ none)).0 in
+    elim is.0 [
+      | inl single ↦ absurd (let wrong = sym empty ∙ single.one in cc)
+      | inr ended ↦ absurd (let wrong =
+          (nothing_joined ended.preceding _ (sym (sym empty ∙ ended.ended))).1 in cc)
+    ]
+
+no_lines : (blocks : Blocks) (frames : List Frame) (lines : List ℕ)
+    → BlocksShow blocks frames lines → frames ≡ [] → lines ≡ []
+no_lines blocks frames lines shows none =
+    let parts = nothing_joined shows.complete shows.left (sym shows.joined ∙ none) in
+    let first : shows.first ≡ [] =
+    nothing_shown _ _ shows.items shows.complete shows.first parts.0 shows.shown in
+    shows.all ∙ (λ i. first i ++ flat_map frame_line (parts.1 i))
+
+-- the line of the preface, where it is due, is what is missing
+pub settle : (cutter : CutterState) (blocks : Blocks) (due expects : Bool) (limits : Limits)
+    (stream output : List ℕ) → (shows : ViewerShows cutter blocks due expects limits stream output)
+    → output ++ due_line due ≡ whole_preface expects ++ shows.lines
+settle cutter blocks due expects limits stream output shows =
+    elim (preface_state expects limits cutter stream shows.frames shows.cut) [
+      | inl inside ↦
+          let empty : shows.lines ≡ [] =
+          no_lines blocks shows.frames shows.lines shows.blocks_show inside.2 in
+          let known : due ≡ true = shows.is_due ∙ inside.0 in
+          let none : preface_lines expects stream ≡ [] =
+          ap (λ (expected : Bool). preface_lines expected stream) inside.1
+          ∙ inside_lines stream inside.3 in
+          ap (λ (text : List ℕ). text ++ due_line due) shows.all
+          ∙ (λ i. (none i ++ empty i) ++ due_line (known i))
+          ∙ sym (append-nil preface_line)
+          ∙ (λ i. whole_preface (sym inside.1 i) ++ sym empty i)
+      | inr past ↦
+          let known : due ≡ false = shows.is_due ∙ past.0 in
+          let whole : preface_lines expects stream ≡ whole_preface expects =
+          ap (preface_lines expects) past.1.1 ∙ opened_lines expects past.1.0 in
+          ap (λ (text : List ℕ). text ++ due_line due) shows.all
+          ∙ (λ i. (whole i ++ shows.lines) ++ due_line (known i))
+          ∙ append-nil (whole_preface expects ++ shows.lines)
+    ]
+
+-- a call that answers a frame, which the blocks take
+pub show_frame : (cutter new_cutter : CutterState) (blocks new_blocks : Blocks)
+    (due expects : Bool) (limits : Limits) (stream output used : List ℕ) (frame : Frame)
+    (listed : List ℕ) → ViewerShows cutter blocks due expects limits stream output
+    → CutterContinues cutter used (frame ∷ []) new_cutter
+    → ((frames : List Frame) (lines : List ℕ) → BlocksShow blocks frames lines
+    → BlocksShow new_blocks (frames ++ frame ∷ []) (lines ++ (frame_line frame ++ listed)))
+    → ViewerShows new_cutter new_blocks false expects limits (stream ++ used)
+    (output ++ (due_line due ++ (frame_line frame ++ listed)))
+show_frame cutter new_cutter blocks new_blocks due expects limits stream output used frame listed
+    shows cuts takes =
+    let cut = cuts.represents expects limits stream shows.frames shows.cut in
+    let text : List ℕ = frame_line frame ++ listed in
+    elim (preface_state expects limits new_cutter (stream ++ used) (shows.frames ++ frame ∷ [])
+    cut) [
+      | inl inside ↦ absurd (let wrong =
+          (nothing_joined shows.frames (frame ∷ []) inside.2).1 in cc)
+      | inr past ↦ record {
+        frames = shows.frames ++ frame ∷ [];
+        lines = shows.lines ++ text;
+        cut = cut;
+        blocks_show = takes shows.frames shows.lines shows.blocks_show;
+        is_due = sym past.0;
+        all = sym (append_assoc output (due_line due) text)
+            ∙ ap (λ (some : List ℕ). some ++ text)
+            (settle cutter blocks due expects limits stream output shows)
+            ∙ append_assoc (whole_preface expects) shows.lines text
+            ∙ ap (λ (some : List ℕ). some ++ (shows.lines ++ text))
+            (sym (ap (preface_lines expects) past.1.1 ∙ opened_lines expects past.1.0));
+      }
+    ]
+
+and_true : (one : Bool) → (one && true) ≡ one
+and_true true = refl
+and_true false = refl
+
+and_false : (one : Bool) → (one && false) ≡ false
+and_false true = refl
+and_false false = refl
+
+-- a call that answers no frame, and what of the preface is complete after it
+pub show_nothing : (past : Bool) (cutter new_cutter : CutterState) (blocks : Blocks)
+    (due expects : Bool) (limits : Limits) (stream output used : List ℕ)
+    → past ≡ not new_cutter.in_preface
+    → ViewerShows cutter blocks due expects limits stream output
+    → CutterContinues cutter used [] new_cutter
+    → ViewerShows new_cutter blocks (if past then false else due) expects limits (stream ++ used)
+    (output ++ due_line (due && past))
+unfolding expected_preface preface
+show_nothing past cutter new_cutter blocks due expects limits stream output used known shows cuts =
+    let cut : CutterRepresents new_cutter expects limits (stream ++ used) shows.frames =
+    subst (λ (frames : List Frame). CutterRepresents new_cutter expects limits (stream ++ used)
+    frames) (append-nil shows.frames)
+    (cuts.represents expects limits stream shows.frames shows.cut) in
+    elim (preface_state expects limits new_cutter (stream ++ used) shows.frames cut) [
+      | inl inside ↦
+          let short : length (stream ++ used) < 24 = inside.3 in
+          let lower : length stream < 24 = omega (arith, simp length-append at short) in
+          let not_past : past ≡ false = known ∙ ap not inside.0 in
+          let before : preface_lines expects stream ≡ [] =
+          ap (λ (expected : Bool). preface_lines expected stream) inside.1
+          ∙ inside_lines stream lower in
+          let after : preface_lines expects (stream ++ used) ≡ [] =
+          ap (λ (expected : Bool). preface_lines expected (stream ++ used)) inside.1
+          ∙ inside_lines (stream ++ used) short in
+          let still : due ≡ true = shows.is_due ∙ elim (preface_state expects limits cutter stream
+          shows.frames shows.cut) [
+            | inl first ↦ first.0
+            | inr begun ↦ absurd (
+                let whole : length stream ≡ 24 + length begun.1.0 =
+                ap length (begun.1.1 ∙ ap (λ (expected : Bool). expected_preface expected
+                ++ begun.1.0) inside.1) ∙ length-append (expected_preface true) begun.1.0 in
+                omega arith)
+          ] in
+          record {
+            frames = shows.frames;
+            lines = shows.lines;
+            cut = cut;
+            blocks_show = shows.blocks_show;
+            is_due = ap (λ (some : Bool). if some then false else due) not_past ∙ still
+                ∙ sym inside.0;
+            all = ap (λ (some : Bool). output ++ due_line some)
+                (ap (λ (some : Bool). due && some) not_past ∙ and_false due)
+                ∙ append-nil output ∙ shows.all
+                ∙ ap (λ (some : List ℕ). some ++ shows.lines) (before ∙ sym after);
+          }
+      | inr begun ↦
+          let is_past : past ≡ true = known ∙ ap not begun.0 in
+          record {
+            frames = shows.frames;
+            lines = shows.lines;
+            cut = cut;
+            blocks_show = shows.blocks_show;
+            is_due = ap (λ (some : Bool). if some then false else due) is_past ∙ sym begun.0;
+            all = ap (λ (some : Bool). output ++ due_line some)
+                (ap (λ (some : Bool). due && some) is_past ∙ and_true due)
+                ∙ settle cutter blocks due expects limits stream output shows
+                ∙ ap (λ (some : List ℕ). some ++ shows.lines)
+                (sym (ap (preface_lines expects) begun.1.1 ∙ opened_lines expects begun.1.0));
+          }
+    ]

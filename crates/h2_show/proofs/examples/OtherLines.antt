@@ -1,0 +1,85 @@
+-- Lines of fields, of the preface, of faults and of ends, written out.
+use Rattle.std.proofs.Common.{◌≡◌, List, ℕ, [], ◌∷◌, ◌++◌, true, false, codes, refl}
+use Rattle.std.proofs.Common.{ap, nat_le, if◌then◌else◌, flat_map}
+use Rattle.std.specs.Fmt.{digits}
+use Rattle.h2_frame.specs.declared.code.Code.TheVariants.{FrameSizeError, EnhanceYourCalm}
+use Rattle.hpack.specs.declared.types.field.Field.{Field}
+use Rattle.hpack.specs.Lists.{list_size}
+use Rattle.h2_wire.specs.Streams.{expected_preface, preface}
+use Rattle.h2_show.specs.Lines.{field_line, list_lines, fault_line, rest_line, unfinished_line}
+use Rattle.h2_show.specs.Printed.{end_lines}
+use Rattle.h2_show.specs.Shown.{preface_lines}
+
+plain_field : field_line (record { name = codes ":path"; value = codes "/"; sensitive = false })
+    ≡ codes "  :path: /\n"
+plain_field = refl
+
+sensitive_field : field_line (record { name = codes "a"; value = []; sensitive = true })
+    ≡ codes "  !a: \n"
+sensitive_field = refl
+
+-- octets that aren't printable, the backslash, and the first and last that are printable
+escaped_field : field_line (record {
+  name = 0x00 ∷ 0x5c ∷ 0x7f ∷ 0xff ∷ [];
+  value = 0x1f ∷ 0x20 ∷ 0x7e ∷ 0x80 ∷ [];
+  sensitive = false;
+}) ≡ codes "  \\x00\\x5c\\x7f\\xff: \\x1f ~\\x80\n"
+escaped_field = refl
+
+two_fields : list_lines (record { name = codes "a"; value = codes "b"; sensitive = false }
+    ∷ record { name = codes "c"; value = codes "d"; sensitive = true } ∷ [])
+    ≡ codes "  a: b\n  !c: d\n"
+two_fields = refl
+
+no_fields : list_lines [] ≡ []
+no_fields = refl
+
+-- a list is shown to its limit, and not one above it
+at_the_limit : (fields : List Field) → list_size fields ≡ 65536
+    → list_lines fields ≡ flat_map field_line fields
+at_the_limit fields size =
+    ap (λ (count : ℕ). if nat_le count 65536 then flat_map field_line fields
+    else codes "  list too large\n") size
+
+above_the_limit : (fields : List Field) → list_size fields ≡ 65537
+    → list_lines fields ≡ codes "  list too large\n"
+above_the_limit fields size =
+    ap (λ (count : ℕ). if nat_le count 65536 then flat_map field_line fields
+    else codes "  list too large\n") size
+
+fault : fault_line FrameSizeError 48 ≡ codes "fault FRAME_SIZE_ERROR at 48\n"
+unfolding digits
+fault = refl
+
+fault_of_a_block : fault_line EnhanceYourCalm 65598 ≡ codes "fault ENHANCE_YOUR_CALM at 65598\n"
+unfolding digits
+fault_of_a_block = refl
+
+rest : rest_line 12 ≡ codes "rest 12\n"
+unfolding digits
+rest = refl
+
+unfinished : unfinished_line ≡ codes "unfinished block\n"
+unfinished = refl
+
+ends : end_lines 0 false ≡ []
+ends = refl
+
+ends_in_a_frame_of_a_block : end_lines 3 true ≡ codes "rest 3\n"
+unfolding digits
+ends_in_a_frame_of_a_block = refl
+
+ends_in_a_block : end_lines 0 true ≡ codes "unfinished block\n"
+ends_in_a_block = refl
+
+whole_preface : preface_lines true (codes "PRI * HTTP/2.0\r\n\r\nSM\r\n\r\n" ++ 0 ∷ [])
+    ≡ codes "preface\n"
+unfolding expected_preface preface
+whole_preface = refl
+
+most_of_the_preface : preface_lines true (codes "PRI * HTTP/2.0\r\n\r\nSM\r\n\r") ≡ []
+unfolding expected_preface preface
+most_of_the_preface = refl
+
+none_expected : preface_lines false (codes "PRI * HTTP/2.0\r\n\r\nSM\r\n\r\n") ≡ []
+none_expected = refl

@@ -1,0 +1,14 @@
+-- The pairs so far are written, and the others are to come.
+use Rattle.std.proofs.Common.{◌≡◌, ◌++◌}
+use Rattle.std.specs.Fmt.{HasWritten, IsPlainFormatter}
+use Rattle.h2_frame.specs.Pairs.{pairs_left}
+use Rattle.h2_show.specs.Lines.{pair_words}
+use Rattle.h2_show.proofs.lines.write_settings.Given as goal
+
+abbrev pub invariant-loop-id : goal.invariant-loop-id
+invariant-loop-id g l =
+    record {
+      written : IsPlainFormatter l.initial.f
+          → HasWritten g.W.Write.write_str_gives l.initial.f (pair_words l.yielded) l.f;
+      left : l.yielded ++ pairs_left l.id-iterator ≡ pairs_left l.initial.id-iterator;
+    }

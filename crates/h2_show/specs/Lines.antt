@@ -1,0 +1,135 @@
+-- The lines of `h2 show`, as octets: what README's tour and `h2 show --help` say in words.
+use Rattle.std.specs.Prelude.{ℕ, ◌+◌, ◌*◌, ◌/◌, ◌%◌, ◌==◌, nat_lt, nat_le, not, ◌&&◌, Bool}
+use Rattle.std.specs.Prelude.{true, false, if◌then◌else◌, List, [], ◌∷◌, ◌++◌, length, codes}
+use Rattle.std.specs.Prelude.{decimal}
+use Rattle.std.specs.Prelude.{flat_map, Option, Some, None}
+use Rattle.std.specs.Option.{is_some}
+use Rattle.hpack.specs.declared.types.field.Field.{Field}
+use Rattle.hpack.specs.declared.types.field.FieldRef.{FieldRef}
+use Rattle.hpack.specs.declared.types.field.List.{List as AnsweredList}
+use Rattle.hpack.specs.declared.types.field.List.TheVariants.{Whole, TooLarge}
+use Rattle.hpack.specs.Lists.{list_size}
+use Rattle.h2_frame.specs.declared.code.Code.{Code}
+use Rattle.h2_frame.specs.Codes.{name_of}
+use Rattle.h2_frame.specs.Frames.{Frame, Data, Headers, Priority, Reset, Settings, Ping, GoAway}
+use Rattle.h2_frame.specs.Frames.{WindowUpdate, Continuation, Unknown}
+
+-- a number below 16 as a hexadecimal digit
+abbrev pub hex_digit : ℕ → ℕ
+hex_digit number = if nat_lt number 10 then 48 + number else 87 + number
+
+-- an octet as two hexadecimal digits
+abbrev pub hex_octet : ℕ → List ℕ
+hex_octet octet = hex_digit (octet / 16) ∷ hex_digit (octet % 16) ∷ []
+
+-- whether an octet is shown as it is: printable ASCII, but for the backslash
+abbrev pub is_plain : ℕ → Bool
+is_plain octet = nat_le 32 octet && nat_le octet 126 && not (octet == 92)
+
+-- an octet as it is, or as `\x` and two hexadecimal digits
+abbrev pub shown_octet : ℕ → List ℕ
+shown_octet octet = if is_plain octet then octet ∷ [] else 92 ∷ 120 ∷ hex_octet octet
+
+abbrev pub shown_octets : List ℕ → List ℕ
+shown_octets octets = flat_map shown_octet octets
+
+-- the line of a field: two spaces, `!` where it is never indexed, the name, a colon and a space,
+-- and the value
+abbrev pub field_line : Field → List ℕ
+field_line field =
+    (if field.sensitive then codes "  !" else codes "  ") ++ shown_octets field.name
+    ++ codes ": " ++ shown_octets field.value ++ codes "\n"
+
+-- the greatest size of a list that is shown (own)
+abbrev pub show_list_limit : ℕ
+show_list_limit = 65536
+
+-- the lines of a block's fields, or that there are too many
+abbrev pub list_lines : List Field → List ℕ
+list_lines fields =
+    if nat_le (list_size fields) show_list_limit then flat_map field_line fields
+    else codes "  list too large\n"
+
+-- a lent field, without where its octets lie
+abbrev pub field_of : FieldRef → Field
+field_of field =
+    record { name = field.name.now; value = field.value.now; sensitive = field.sensitive }
+
+-- the lines of a list, as a decoder answers it
+abbrev pub answered_lines : AnsweredList → List ℕ
+answered_lines (Whole fields) = flat_map field_line fields.items
+answered_lines TooLarge = codes "  list too large\n"
+
+-- a space and the word of a flag, where the flag is set
+abbrev pub flag_word : Bool → (word : List ℕ) → List ℕ
+flag_word true word = codes " " ++ word
+flag_word false word = []
+
+-- a space and how much padding there is, where there is a pad length
+abbrev pub pad_word : Option ℕ → List ℕ
+pad_word None = []
+pad_word (Some pad) = codes " pad=" ++ decimal pad
+
+-- how many octets of a payload are the pad length and the padding
+abbrev pub pad_octets : Option ℕ → ℕ
+pad_octets None = 0
+pad_octets (Some pad) = pad + 1
+
+-- the pairs of SETTINGS, in order
+abbrev pub pair_words : List (ℕ × ℕ) → List ℕ
+pair_words pairs =
+    flat_map (λ pair. codes " " ++ decimal pair.0 ++ codes "=" ++ decimal pair.1) pairs
+
+-- the type of a frame, its stream and how many octets its payload has
+abbrev pub frame_head : (name : List ℕ) → (stream octets : ℕ) → List ℕ
+frame_head name stream octets = name ++ codes " " ++ decimal stream ++ codes " " ++ decimal octets
+
+-- the words of a frame, which one space divides; numbers are decimal, but the octets of a PING
+unfoldable pub frame_words : Frame → List ℕ
+frame_words (Data stream end octets pad) =
+    frame_head (codes "DATA") stream (length octets + pad_octets pad)
+    ++ flag_word end (codes "end") ++ pad_word pad
+frame_words (Headers stream end whole fragment pad priority) =
+    frame_head (codes "HEADERS") stream
+    (length fragment + pad_octets pad + (if is_some priority then 5 else 0))
+    ++ flag_word end (codes "end") ++ flag_word whole (codes "whole") ++ pad_word pad
+    ++ flag_word (is_some priority) (codes "priority")
+frame_words (Priority stream octets) = frame_head (codes "PRIORITY") stream 5
+frame_words (Reset stream code) =
+    frame_head (codes "RST_STREAM") stream 4 ++ codes " code=" ++ decimal code
+frame_words (Settings ack pairs) =
+    frame_head (codes "SETTINGS") 0 (6 * length pairs) ++ flag_word ack (codes "ack")
+    ++ pair_words pairs
+frame_words (Ping ack octets) =
+    frame_head (codes "PING") 0 8 ++ flag_word ack (codes "ack") ++ codes " "
+    ++ flat_map hex_octet octets
+frame_words (GoAway last code debug) =
+    frame_head (codes "GOAWAY") 0 (8 + length debug) ++ codes " last=" ++ decimal last
+    ++ codes " code=" ++ decimal code ++ codes " debug=" ++ decimal (length debug)
+frame_words (WindowUpdate stream increment) =
+    frame_head (codes "WINDOW_UPDATE") stream 4 ++ codes " add=" ++ decimal increment
+frame_words (Continuation stream whole fragment) =
+    frame_head (codes "CONTINUATION") stream (length fragment) ++ flag_word whole (codes "whole")
+frame_words (Unknown kind flags stream payload) =
+    frame_head (codes "KIND" ++ decimal kind) stream (length payload) ++ codes " flags="
+    ++ decimal flags
+
+abbrev pub frame_line : Frame → List ℕ
+frame_line frame = frame_words frame ++ codes "\n"
+
+-- the line of the preface, which comes first where it is expected and complete
+abbrev pub preface_line : List ℕ
+preface_line = codes "preface\n"
+
+-- the line of a fault: its code, and the number of the octet that is at fault, from 1 on
+abbrev pub fault_line : Code → (place : ℕ) → List ℕ
+fault_line code place =
+    codes "fault " ++ name_of code ++ codes " at " ++ decimal place ++ codes "\n"
+
+-- the line of the octets that are left of a frame or of the preface
+abbrev pub rest_line : (count : ℕ) → List ℕ
+rest_line count = codes "rest " ++ decimal count ++ codes "\n"
+
+-- the line of a block that has begun and isn't complete
+abbrev pub unfinished_line : List ℕ
+unfinished_line = codes "unfinished block\n"

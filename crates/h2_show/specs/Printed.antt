@@ -1,0 +1,108 @@
+-- What a viewer has printed so far, and what a piece, an error and the end add to it.
+use Rattle.std.specs.Prelude.{◌≡◌, ℕ, ◌==◌, not, Bool, false, if◌then◌else◌, List, [], ◌++◌}
+use Rattle.std.specs.Prelude.{flat_map, Option, Some, None, Ok}
+use Rattle.hex.specs.Hex.{decode_of}
+use Rattle.hpack.specs.declared.types.field.List.{List as AnsweredList}
+use Rattle.h2_frame.specs.declared.code.Code.TheVariants.{ProtocolError}
+use Rattle.h2_frame.specs.Frames.{Frame}
+use Rattle.h2_wire.specs.declared.fault.WireFault.TheVariants as faults
+use Rattle.h2_wire.specs.Cutter.{CutterState, CutterRepresents}
+use Rattle.h2_wire.specs.Streams.{Limits}
+use Rattle.h2_block.specs.Grouping.{Item, IsLeft}
+use Rattle.h2_show.specs.declared.blocks.Blocks.{Blocks}
+use Rattle.h2_show.specs.declared.blocks.BlockError.TheVariants as errors
+use Rattle.h2_show.specs.declared.options.Side.{Side}
+use Rattle.h2_show.specs.declared.status.Status.{Status}
+use Rattle.h2_show.specs.declared.status.Status.TheVariants.{Fault}
+use Rattle.h2_show.specs.declared.viewer.ShowError.{ShowError}
+use Rattle.h2_show.specs.declared.viewer.ShowError.TheVariants.{Wire, Block, Output}
+use Rattle.h2_show.specs.Blocks.{first_table, show_table_limit}
+use Rattle.h2_show.specs.Lines.{frame_line, answered_lines, preface_line, fault_line, rest_line}
+use Rattle.h2_show.specs.Lines.{unfinished_line}
+use Rattle.h2_show.specs.Hexadecimal.{without_blanks}
+use Rattle.h2_show.specs.Shown.{AreShown, preface_lines, Shows, ShowsOctets}
+
+-- The blocks represent the frames so far, which these lines show.
+pub record BlocksShow (blocks : Blocks) (frames : List Frame) (lines : List ℕ) : Type 0 where
+  pub grouping : blocks.gather.fault ≡ None
+  pub decoding : blocks.decoder.failed ≡ false
+  pub limit : blocks.decoder.limit ≡ show_table_limit
+  pub items : List Item
+  pub complete : List Frame
+  pub left : List Frame
+  pub first : List ℕ
+  pub joined : frames ≡ complete ++ left
+  pub shown : AreShown first_table items complete blocks.decoder.table first
+  pub unfinished : IsLeft blocks.gather.begun left
+  pub all : lines ≡ first ++ flat_map frame_line left
+
+-- the lines of the list of the block that a frame ends, where it ends one
+abbrev pub block_lines : Option AnsweredList → List ℕ
+block_lines None = []
+block_lines (Some list) = answered_lines list
+
+-- the line of the preface, where it is still to be printed
+abbrev pub due_line : Bool → List ℕ
+due_line due = if due then preface_line else []
+
+-- The viewer represents the stream so far, and this is the whole output for it; the preface's line
+-- is still to be printed where the preface isn't complete.
+pub record ViewerShows (cutter : CutterState) (blocks : Blocks) (due : Bool) (expects : Bool)
+    (limits : Limits) (stream output : List ℕ) : Type 0 where
+  pub frames : List Frame
+  pub lines : List ℕ
+  pub cut : CutterRepresents cutter expects limits stream frames
+  pub blocks_show : BlocksShow blocks frames lines
+  pub is_due : due ≡ cutter.in_preface
+  pub all : output ≡ preface_lines expects stream ++ lines
+
+-- All octets were used, and this was printed: if the viewer had shown `stream`, it has now shown
+-- `stream ++ octets`.
+abbrev pub ViewerPrints : CutterState → Blocks → (due : Bool) → List ℕ → CutterState → Blocks
+    → (new_due : Bool) → (printed : List ℕ) → Type 0
+ViewerPrints cutter blocks due octets new_cutter new_blocks new_due printed =
+    (expects : Bool) (limits : Limits) (stream output : List ℕ)
+    → ViewerShows cutter blocks due expects limits stream output
+    → ViewerShows new_cutter new_blocks new_due expects limits (stream ++ octets)
+    (output ++ printed)
+
+-- what is printed of an error: the line of the preface where the octets before the fault complete
+-- it, and the line of the fault
+abbrev pub error_lines : ShowError → (place : ℕ) → (due : Bool) → List ℕ
+error_lines (Wire faults.BadPreface) place due = fault_line ProtocolError place
+error_lines (Wire (faults.HeadFault code)) place due = due_line due ++ fault_line code place
+error_lines (Wire (faults.PayloadFault code)) place due = due_line due ++ fault_line code place
+error_lines (Wire faults.Memory) place due = []
+error_lines (Block (errors.Fault code)) place due = due_line due ++ fault_line code place
+error_lines (Block errors.Memory) place due = []
+error_lines (Output error) place due = []
+
+-- what is printed at the end of the input, by how many octets are left and whether a block has
+-- begun
+abbrev pub end_lines : (count : ℕ) → (inside : Bool) → List ℕ
+end_lines count inside =
+    if not (count == 0) then rest_line count else if inside then unfinished_line else []
+
+-- If the viewer had shown `stream`, then with what was printed and the lines of the error all of
+-- `stream ++ octets` is shown, whatever follows it.
+abbrev pub ViewerFailsWith : CutterState → Blocks → (due : Bool) → List ℕ → ShowError → CutterState
+    → (new_due : Bool) → (printed : List ℕ) → Type 0
+ViewerFailsWith cutter blocks due octets error new_cutter new_due printed =
+    (expects : Bool) (limits : Limits) (stream output more : List ℕ)
+    → ViewerShows cutter blocks due expects limits stream output
+    → Shows expects limits ((stream ++ octets) ++ more) Fault
+    ((output ++ printed) ++ error_lines error new_cutter.place new_due)
+
+-- If the viewer had shown `stream`, all of `stream ++ octets` is shown with what was printed.
+abbrev pub ShowsAfter : CutterState → Blocks → (due : Bool) → List ℕ → Status
+    → (printed : List ℕ) → Type 0
+ShowsAfter cutter blocks due octets status printed =
+    (expects : Bool) (limits : Limits) (stream output : List ℕ)
+    → ViewerShows cutter blocks due expects limits stream output
+    → Shows expects limits (stream ++ octets) status (output ++ printed)
+
+-- what `show` prints of text that gives the octets in hexadecimal
+abbrev pub ShowsText : Side → List ℕ → Status → (printed : List ℕ) → Type 0
+ShowsText from text status printed =
+    (octets : List ℕ) × (decode_of (without_blanks text) ≡ Ok octets)
+    × ShowsOctets from octets status printed

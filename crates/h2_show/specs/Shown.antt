@@ -1,0 +1,100 @@
+-- What `h2 show` prints of a stream, and the status with it.
+use Rattle.std.specs.Prelude.{◌≡◌, ◌≢◌, ℕ, ◌≤◌, ◌&&◌, bytes_eq, Bool, if◌then◌else◌, List, []}
+use Rattle.std.specs.Prelude.{◌∷◌, ◌++◌, length, take, flat_map, Option, Some, None, Ok, MatchBool}
+use Rattle.hex.specs.Hex.{decode_of}
+use Rattle.hpack.specs.declared.types.field.Field.{Field}
+use Rattle.hpack.specs.Tables.{Entries}
+use Rattle.hpack.specs.Blocks.{Block}
+use Rattle.h2_frame.specs.declared.code.Code.{Code}
+use Rattle.h2_frame.specs.Frames.{Frame}
+use Rattle.h2_wire.specs.declared.fault.WireFault.{WireFault}
+use Rattle.h2_wire.specs.Cutter.{saturated}
+use Rattle.h2_wire.specs.Faults.{wire_fault_code}
+use Rattle.h2_wire.specs.Streams.{Limits, Frames, WireFaultAt, expected_preface}
+use Rattle.h2_block.specs.Grouping.{Item, alone, block, IsItem, IsLeft, Begun}
+use Rattle.h2_show.specs.declared.options.ShowOptions.{ShowOptions}
+use Rattle.h2_show.specs.declared.options.Side.{Side}
+use Rattle.h2_show.specs.declared.status.Status.{Status}
+use Rattle.h2_show.specs.declared.status.Status.TheVariants.{Good, Fault}
+use Rattle.h2_show.specs.Blocks.{EndsWithBlockError, first_table, show_table_limit}
+use Rattle.h2_show.specs.Hexadecimal.{without_blanks}
+use Rattle.h2_show.specs.Report.{begins_with_preface, first_limits}
+use Rattle.h2_show.specs.Lines.{frame_line, list_lines, preface_line, fault_line, rest_line}
+use Rattle.h2_show.specs.Lines.{unfinished_line}
+
+-- These lines show the frames of the items: each frame has its line, and under the frame that ends
+-- a block stand its fields, decoded with the table as the blocks before have left it.
+abbrev pub AreShown : (table : Entries) → List Item → List Frame → (after : Entries)
+    → (lines : List ℕ) → Type 0
+AreShown table [] frames after lines = (frames ≡ []) × (after ≡ table) × (lines ≡ [])
+AreShown table (alone frame ∷ items) frames after lines =
+    (others : List Frame) × (rest : List ℕ) × (frames ≡ frame ∷ others)
+    × IsItem (alone frame) (frame ∷ []) × (lines ≡ frame_line frame ++ rest)
+    × AreShown table items others after rest
+AreShown table (block stream end octets ∷ items) frames after lines =
+    (first others : List Frame) × (rest : List ℕ) × (fields : List Field) × (next : Entries)
+    × (frames ≡ first ++ others) × IsItem (block stream end octets) first
+    × Block table show_table_limit octets fields next
+    × (lines ≡ flat_map frame_line first ++ list_lines fields ++ rest)
+    × AreShown next items others after rest
+
+-- These lines show the frames so far, the last of which may have begun a block that isn't complete.
+pub record ShowsFrames (frames : List Frame) (begun : Option Begun) (lines : List ℕ) : Type 0 where
+  pub items : List Item
+  pub complete : List Frame
+  pub left : List Frame
+  pub table : Entries
+  pub first : List ℕ
+  pub joined : frames ≡ complete ++ left
+  pub shown : AreShown first_table items complete table first
+  pub unfinished : IsLeft begun left
+  pub all : lines ≡ first ++ flat_map frame_line left
+
+-- The line of the preface comes first, where it is expected and the stream begins with it.
+abbrev pub preface_lines : (expects : Bool) → (stream : List ℕ) → List ℕ
+preface_lines expects stream =
+    if expects && bytes_eq (take 24 stream) (expected_preface expects) then preface_line else []
+
+-- The whole output for a stream, and the status: complete frames to its end, and complete blocks;
+-- an end inside the preface, a frame or a block; or an octet at fault, or a frame that is, after
+-- the frames before it.
+pub data Shows (expects : Bool) (limits : Limits) (stream : List ℕ) (status : Status)
+    (output : List ℕ) : Type 0 where
+  is_complete : (frames : List Frame) (lines : List ℕ) → Frames expects limits stream frames []
+      → ShowsFrames frames None lines → status ≡ Good
+      → output ≡ preface_lines expects stream ++ lines → Shows expects limits stream status output
+  ends_inside_frame : (frames : List Frame) (unparsed : List ℕ) (begun : Option Begun)
+      (lines : List ℕ) → Frames expects limits stream frames unparsed → unparsed ≢ []
+      → ShowsFrames frames begun lines → status ≡ Fault
+      → output ≡ preface_lines expects stream ++ lines ++ rest_line (length unparsed)
+      → Shows expects limits stream status output
+  ends_inside_block : (frames : List Frame) (begun : Begun) (lines : List ℕ)
+      → Frames expects limits stream frames [] → ShowsFrames frames (Some begun) lines
+      → status ≡ Fault → output ≡ preface_lines expects stream ++ lines ++ unfinished_line
+      → Shows expects limits stream status output
+  has_wire_fault : (frames : List Frame) (begun : Option Begun) (place : ℕ) (fault : WireFault)
+      (lines : List ℕ) → WireFaultAt expects limits stream frames place fault
+      → ShowsFrames frames begun lines → status ≡ Fault
+      → output ≡ preface_lines expects stream ++ lines
+      ++ fault_line (wire_fault_code fault) (saturated place)
+      → Shows expects limits stream status output
+  has_block_error : (frames : List Frame) (last : Frame) (begun : Option Begun) (place : ℕ)
+      (code : Code) (lines : List ℕ) → place ≤ length stream
+      → Frames expects limits (take place stream) (frames ++ last ∷ []) []
+      → EndsWithBlockError (frames ++ last ∷ []) code → ShowsFrames frames begun lines
+      → status ≡ Fault
+      → output ≡ preface_lines expects stream ++ lines ++ fault_line code (saturated place)
+      → Shows expects limits stream status output
+
+-- what `show` prints of the octets that an end sent
+abbrev pub ShowsOctets : Side → List ℕ → Status → (output : List ℕ) → Type 0
+ShowsOctets from octets status output =
+    Shows (begins_with_preface from) first_limits octets status output
+
+-- of an input: its octets, or those that it gives in hexadecimal
+abbrev pub ShowsInput : ShowOptions → List ℕ → Status → (output : List ℕ) → Type 0
+ShowsInput options given status output =
+    MatchBool options.hex
+    ((octets : List ℕ) × (decode_of (without_blanks given) ≡ Ok octets)
+    × ShowsOctets options.from octets status output)
+    (ShowsOctets options.from given status output)

@@ -1,0 +1,75 @@
+//! Laws of streams of frames, and of the field blocks in them, each the contract of a function that
+//! does nothing: what a longer stream has beside a shorter one, and that each stream and each list
+//! of frames can be read, or has a fault (RFC 9113, sections 3.4, 4.1 and 4.3).
+#![tactic(auto)]
+
+ghost use Rattle.std.specs.Prelude.{◌≡◌, ◌⊎◌, ℕ, ◌+◌, ◌++◌, Bool, List, length, drop};
+ghost use Rattle.std.specs.Prelude.{Option, None};
+ghost use Rattle.h2_frame.specs.Heads.{head_of, form_fault};
+ghost use Rattle.h2_frame.specs.Frames.{Frame, Encodes, payload_fault};
+ghost use Rattle.h2_wire.specs.declared.fault.WireFault.{WireFault};
+ghost use Rattle.h2_wire.specs.Streams.{Limits, Frames, WireFaultAt};
+ghost use Rattle.h2_block.specs.declared.fault.BlockFault.{BlockFault};
+ghost use Rattle.h2_block.specs.Grouping.{Item, Begun, Groups, GroupingFaultAt};
+
+#[cfg(test)]
+mod tests;
+
+/// Octets that encode a frame have no fault: neither their head, whose form is checked whatever the
+/// limit is, nor their payload.
+pub fn frames_have_no_fault()
+    ensures head { (frame : Frame) (octets : List ℕ) → Encodes frame octets
+        → form_fault (head_of octets) ≡ None }
+    ensures payload { (frame : Frame) (octets : List ℕ) → Encodes frame octets
+        → payload_fault (head_of octets) (drop 9 octets) ≡ None }
+{}
+
+/// Octets without a fault, as many as their head asks for, encode a frame.
+pub fn octets_without_fault_are_a_frame()
+    ensures { (octets : List ℕ) → length octets ≡ 9 + (head_of octets).length
+        → form_fault (head_of octets) ≡ None
+        → payload_fault (head_of octets) (drop 9 octets) ≡ None
+        → (frame : Frame) × Encodes frame octets }
+{}
+
+/// The frames of a stream are the first of those of a longer one.
+pub fn frames_continue()
+    ensures { (expects : Bool) (limits : Limits) (stream more : List ℕ) (frames others : List Frame)
+        (unparsed other : List ℕ)
+        → Frames expects limits stream frames unparsed
+        → Frames expects limits (stream ++ more) others other
+        → (following : List Frame) × (others ≡ frames ++ following) }
+{}
+
+/// The frames of a stream are the first of those before the fault of a longer one.
+pub fn frames_before_a_fault_continue()
+    ensures { (expects : Bool) (limits : Limits) (stream more : List ℕ) (frames others : List Frame)
+        (unparsed : List ℕ) (place : ℕ) (fault : WireFault)
+        → Frames expects limits stream frames unparsed
+        → WireFaultAt expects limits (stream ++ more) others place fault
+        → (following : List Frame) × (others ≡ frames ++ following) }
+{}
+
+/// Each stream has a reading, or a fault.
+pub fn reading_or_fault()
+    ensures { (expects : Bool) (limits : Limits) (stream : List ℕ)
+        → ((frames : List Frame) × (unparsed : List ℕ)
+        × Frames expects limits stream frames unparsed)
+        ⊎ ((frames : List Frame) × (place : ℕ) × (fault : WireFault)
+        × WireFaultAt expects limits stream frames place fault) }
+{}
+
+/// The items of frames are the first of those of more frames.
+pub fn items_continue()
+    ensures { (frames more : List Frame) (items others : List Item) (begun other : Option Begun)
+        → Groups frames items begun → Groups (frames ++ more) others other
+        → (following : List Item) × (others ≡ items ++ following) }
+{}
+
+/// Each list of frames has a grouping, or a fault at one of its frames.
+pub fn grouping_or_fault()
+    ensures { (frames : List Frame)
+        → ((items : List Item) × (begun : Option Begun) × Groups frames items begun)
+        ⊎ ((first others : List Frame) × (items : List Item) × (fault : BlockFault)
+        × (frames ≡ first ++ others) × GroupingFaultAt first items fault) }
+{}

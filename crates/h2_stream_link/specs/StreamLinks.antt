@@ -1,0 +1,41 @@
+-- What the calls of a link over a stream make of the stream, and of the octets that are held.
+use Rattle.std.specs.Prelude.{◌≡◌, ◌≤◌, ◌<◌, ℕ, List, [], length, take, drop}
+use Rattle.std.specs.Prelude.{Option, Result, Ok, Err}
+use Rattle.std.specs.Io.KnownBytes.{Appends, Consumes, IsAtEnd, append_known}
+use Rattle.h2_link.specs.declared.link.LinkFault.{LinkFault}
+use Rattle.h2_stream_link.specs.declared.stream_link.StreamLink.{StreamLink}
+
+-- the octets that a link has taken: what its stream holds, where that is known, and what is held
+abbrev pub octets_taken : {S : Type 0} → (S → Option (List ℕ)) → StreamLink S → Option (List ℕ)
+octets_taken contents link = append_known (contents link.stream) link.held.items
+
+-- Some first octets of those held were sent, or none or all, and the others are held.
+pub record SendsFirst (before after : Option (List ℕ)) (held held_now : List ℕ) : Type 0 where
+  pub count : ℕ
+  pub within : count ≤ length held
+  pub sent : Appends before after (take count held)
+  pub unsent : held_now ≡ drop count held
+
+-- All octets held were sent; or sending has failed, and some octets are still held.
+abbrev pub Sends : (before after : Option (List ℕ)) → Result (Unit {0}) LinkFault
+    → (held held_now : List ℕ) → Type 0
+Sends before after (Ok done) held held_now = Appends before after held × (held_now ≡ [])
+Sends before after (Err fault) held held_now =
+    SendsFirst before after held held_now × (0 < length held_now)
+
+-- All octets held were sent, and the next ones of the stream were then read to the front of the
+-- buffer: none only at its end, or where there was no room.
+pub record ReadsNext {S : Type 0} (contents remaining : S → Option (List ℕ)) (before after : S)
+    (held : List ℕ) (count : ℕ) (buffer : List ℕ) : Type 0 where
+  pub between : S
+  pub sent : Appends (contents before) (contents between) held
+  pub next : Consumes (remaining between) (remaining after) (take count buffer)
+  pub end : count ≡ 0 → 0 < length buffer → IsAtEnd (remaining after)
+
+-- A read sent all octets held before it; one that failed sent some first ones, or none or all.
+abbrev pub Reads : {S : Type 0} → (contents remaining : S → Option (List ℕ)) → (before after : S)
+    → Result ℕ LinkFault → (held held_now buffer : List ℕ) → Type 0
+Reads contents remaining before after (Ok count) held held_now buffer =
+    ReadsNext contents remaining before after held count buffer × (held_now ≡ [])
+Reads {S = S} contents remaining before after (Err fault) held held_now buffer =
+    (between : S) × SendsFirst (contents before) (contents between) held held_now

@@ -1,0 +1,3 @@
+pub mod WordLemmas
+pub mod InputLemmas
+pub mod SocketLemmas
