@@ -89,14 +89,15 @@ get_app = with_rule (named_app (codes "get")) (required_rule (codes "URL"))
 abbrev pub loop_app : App
 loop_app = with_rule (named_app (codes "loop")) (number_rule (codes "N") 0 1048576)
 
+-- `h2` with any words: it has a version
+abbrev pub named_program : App
+named_program = on_top (λ s. record s { no_binary_name = true; has_version = true })
+    (new_app (codes "h2"))
+
 -- `h2 COMMAND`, with no command yet: it has a version, and no words ask for help
 abbrev pub bare_program : App
-bare_program = on_top (λ s. record s {
-  no_binary_name = true;
-  has_version = true;
-  subcommand_required = true;
-  arg_required_else_help = true;
-}) (new_app (codes "h2"))
+bare_program = on_top (λ s. record s { subcommand_required = true; arg_required_else_help = true })
+    named_program
 
 -- the program with its commands
 abbrev pub program_app : SideNames → SideNames → App

@@ -1,12 +1,49 @@
-//! The options that `show` and `replay` share.
+//! What the commands share.
 
-ghost use Rattle.std.specs.Prelude.{◌≡◌, false};
-ghost use Rattle.clap.specs.Words.{first_of, found_of, one_of, rows_of, rule_of};
-ghost use Rattle.h2_args.specs.Commands.{IsSideRule, hex_rule};
+ghost use Rattle.std.specs.Prelude.{◌≡◌, IfOk, false};
+ghost use Rattle.clap.specs.Words.{app_of, first_of, found_of, one_of, rows_of, rule_of};
+ghost use Rattle.h2_args.specs.Commands.{IsSideRule, hex_rule, named_app};
 ghost use Rattle.h2_args.specs.Words.{is_named, is_set};
 
-use clap::{Arg, ArgAction, ArgMatches};
-use std::alloc::Global;
+use clap::{Arg, ArgAction, ArgMatches, Command};
+use std::alloc::{AllocError, Global};
+
+/// What a command is called, and what its help says.
+#[derive(Clone, Copy)]
+pub(super) struct CommandText<'a> {
+    /// The program's name, and the command's.
+    pub(super) called: &'a str,
+    /// What it does.
+    pub(super) about: &'a str,
+    /// Which words it takes.
+    pub(super) usage: &'a str,
+    /// What it prints, how it ends, and an example.
+    pub(super) more: &'a str,
+}
+
+/// A command of this name with no arguments yet.
+pub(super) fn named_command<'a>(
+    alloc: Global,
+    name: &'a str,
+    text: CommandText<'a>,
+) -> Result<Command<'a>, AllocError>
+    ensures { IfOk result (λ command. app_of command ≡ named_app name.entry.now) }
+{
+    let command = Command::new(alloc, name)
+        .no_binary_name(true)
+        .bin_name(text.called)?;
+    Ok(with_help(command, text))
+}
+
+// The command with its help. A proof about a longer chain of calls takes much longer.
+fn with_help<'a>(command: Command<'a>, text: CommandText<'a>) -> Command<'a>
+    ensures { app_of result ≡ app_of command.entry }
+{
+    command
+        .about(text.about)
+        .override_usage(text.usage)
+        .after_help(text.more)
+}
 
 /// The name of the flag: the input is hexadecimal text.
 pub(super) const HEX: &str = "hex";

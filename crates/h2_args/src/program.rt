@@ -2,7 +2,7 @@
 
 ghost use Rattle.std.specs.Prelude.{◌≡◌, IfErr, IfOk, OnOk, map, string_bytes};
 ghost use Rattle.clap.specs.Words.{app_of};
-ghost use Rattle.h2_args.specs.Commands.{IsProgram, bare_program};
+ghost use Rattle.h2_args.specs.Commands.{IsProgram, bare_program, named_program};
 ghost use Rattle.h2_args.specs.Words.{ProgramWordsFail, ProgramWordsPass};
 
 use crate::replay::replay_command;
@@ -41,12 +41,20 @@ fn program_command<'a>(alloc: Global) -> Result<Command<'a>, AllocError>
 fn bare_program<'a>(alloc: Global) -> Result<Command<'a>, AllocError>
     ensures { IfOk result (λ command. app_of command ≡ bare_program) }
 {
-    let program = Command::new(alloc, "h2")
-        .bin_name("h2")?
-        .about("Shows, replays, serves and fetches HTTP/2 over cleartext")
-        .version("0.1.0")
-        .no_binary_name(true)
+    let program = named_program(alloc)?
         .subcommand_required(true)
         .arg_required_else_help(true);
+    Ok(program)
+}
+
+// The program, which any words may follow.
+fn named_program<'a>(alloc: Global) -> Result<Command<'a>, AllocError>
+    ensures { IfOk result (λ command. app_of command ≡ named_program) }
+{
+    let program = Command::new(alloc, "h2")
+        .no_binary_name(true)
+        .bin_name("h2")?
+        .about("Shows, replays, serves and fetches HTTP/2 over cleartext")
+        .version("0.1.0");
     Ok(program)
 }

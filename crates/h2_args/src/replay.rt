@@ -5,7 +5,7 @@ ghost use Rattle.clap.specs.Words.{app_of, found_of, rows_of};
 ghost use Rattle.h2_args.specs.Commands.{IsReplayCommand};
 ghost use Rattle.h2_args.specs.Words.{ReplayWordsFail, ReplayWordsGive, replay_options_in};
 
-use crate::options::{HEX, hex_arg, is_named, is_set, side_arg};
+use crate::options::{CommandText, HEX, hex_arg, is_named, is_set, named_command, side_arg};
 use clap::{ArgMatches, Command, Error};
 use h2_events::{ReplayOptions, Role};
 use std::alloc::{AllocError, Global};
@@ -95,13 +95,13 @@ server, whose peer begins with the preface, or client
 pub(super) fn replay_command<'a>(alloc: Global) -> Result<Command<'a>, AllocError>
     ensures { IfOk result (λ command. IsReplayCommand (app_of command)) }
 {
-    let role = side_arg(alloc, AS, "server", AS_HELP);
-    Command::new(alloc, "replay")
-        .no_binary_name(true)
-        .bin_name("h2 replay")?
-        .about("Hands a stream to one end of a connection, and prints its events")
-        .override_usage("h2 replay [OPTIONS] < FILE")
-        .after_help(EVENTS_AND_STATUSES)
+    let text = CommandText {
+        called: "h2 replay",
+        about: "Hands a stream to one end of a connection, and prints its events",
+        usage: "h2 replay [OPTIONS] < FILE",
+        more: EVENTS_AND_STATUSES,
+    };
+    named_command(alloc, "replay", text)?
         .arg(hex_arg(alloc))?
-        .arg(role)
+        .arg(side_arg(alloc, AS, "server", AS_HELP))
 }

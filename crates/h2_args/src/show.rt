@@ -5,7 +5,7 @@ ghost use Rattle.clap.specs.Words.{app_of, found_of, rows_of};
 ghost use Rattle.h2_args.specs.Commands.{IsShowCommand};
 ghost use Rattle.h2_args.specs.Words.{ShowWordsFail, ShowWordsGive, show_options_in};
 
-use crate::options::{HEX, hex_arg, is_named, is_set, side_arg};
+use crate::options::{CommandText, HEX, hex_arg, is_named, is_set, named_command, side_arg};
 use clap::{ArgMatches, Command, Error};
 use h2_show::{ShowOptions, Side};
 use std::alloc::{AllocError, Global};
@@ -76,13 +76,13 @@ preface, or server [default: client]";
 pub(super) fn show_command<'a>(alloc: Global) -> Result<Command<'a>, AllocError>
     ensures { IfOk result (λ command. IsShowCommand (app_of command)) }
 {
-    let from = side_arg(alloc, FROM, "client", FROM_HELP);
-    Command::new(alloc, "show")
-        .no_binary_name(true)
-        .bin_name("h2 show")?
-        .about("Prints the frames of a stream and the header fields of its blocks")
-        .override_usage("h2 show [OPTIONS] < FILE")
-        .after_help(LINES_AND_STATUSES)
+    let text = CommandText {
+        called: "h2 show",
+        about: "Prints the frames of a stream and the header fields of its blocks",
+        usage: "h2 show [OPTIONS] < FILE",
+        more: LINES_AND_STATUSES,
+    };
+    named_command(alloc, "show", text)?
         .arg(hex_arg(alloc))?
-        .arg(from)
+        .arg(side_arg(alloc, FROM, "client", FROM_HELP))
 }

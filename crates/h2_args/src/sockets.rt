@@ -7,6 +7,7 @@ ghost use Rattle.h2_args.specs.Commands.{with_numbers};
 ghost use Rattle.h2_args.specs.Words.{get_faults, loop_faults, octets_of, serve_faults};
 ghost use Rattle.h2_args.specs.Words.{serve_options_of, url_of};
 
+use crate::options::{CommandText, named_command};
 use clap::builder::ValueParser;
 use clap::{Arg, ArgAction, Command, Error, value_parser};
 use std::alloc::{AllocError, Global};
@@ -86,11 +87,19 @@ pub fn loop_args(alloc: Global, words: &[String]) -> Result<u32, Error>
 
 const PORT: &str = "PORT";
 
+const PORT_HELP: &str = "The port of 127.0.0.1, 1 to 65535";
+
 const COUNT: &str = "COUNT";
+
+const COUNT_HELP: &str = "How many connections are served, 1 to 65535";
 
 const URL: &str = "URL";
 
+const URL_HELP: &str = "http://HOST:PORT/PATH?QUERY";
+
 const OCTETS: &str = "N";
+
+const OCTETS_HELP: &str = "How many octets are posted, 0 to 1048576";
 
 /// What `serve` answers, how it ends, and an example.
 const SERVED_AND_STATUSES: &str =
@@ -211,51 +220,39 @@ fn lengths<'a>() -> ValueParser<'a>
 pub(super) fn serve_command<'a>(alloc: Global) -> Result<Command<'a>, AllocError>
     ensures { IfOk result (λ command. app_of command ≡ serve_app) }
 {
-    let port = number_arg(alloc, PORT, counts(), "The port of 127.0.0.1, 1 to 65535");
-    let count = number_arg(
-        alloc,
-        COUNT,
-        counts(),
-        "How many connections are served, 1 to 65535",
-    );
-    Command::new(alloc, "serve")
-        .no_binary_name(true)
-        .bin_name("h2 serve")?
-        .about("Answers requests at a port, each with what it asked")
-        .override_usage("h2 serve PORT COUNT")
-        .after_help(SERVED_AND_STATUSES)
-        .arg(port)?
-        .arg(count)
+    let text = CommandText {
+        called: "h2 serve",
+        about: "Answers requests at a port, each with what it asked",
+        usage: "h2 serve PORT COUNT",
+        more: SERVED_AND_STATUSES,
+    };
+    named_command(alloc, "serve", text)?
+        .arg(number_arg(alloc, PORT, counts(), PORT_HELP))?
+        .arg(number_arg(alloc, COUNT, counts(), COUNT_HELP))
 }
 
 /// The command as clap has it.
 pub(super) fn get_command<'a>(alloc: Global) -> Result<Command<'a>, AllocError>
     ensures { IfOk result (λ command. app_of command ≡ get_app) }
 {
-    Command::new(alloc, "get")
-        .no_binary_name(true)
-        .bin_name("h2 get")?
-        .about("Fetches a URL, and prints the status and the body")
-        .override_usage("h2 get URL")
-        .after_help(FETCHED_AND_STATUSES)
-        .arg(required_arg(alloc, URL, "http://HOST:PORT/PATH?QUERY"))
+    let text = CommandText {
+        called: "h2 get",
+        about: "Fetches a URL, and prints the status and the body",
+        usage: "h2 get URL",
+        more: FETCHED_AND_STATUSES,
+    };
+    named_command(alloc, "get", text)?.arg(required_arg(alloc, URL, URL_HELP))
 }
 
 /// The command as clap has it.
 pub(super) fn loop_command<'a>(alloc: Global) -> Result<Command<'a>, AllocError>
     ensures { IfOk result (λ command. app_of command ≡ loop_app) }
 {
-    let octets = number_arg(
-        alloc,
-        OCTETS,
-        lengths(),
-        "How many octets are posted, 0 to 1048576",
-    );
-    Command::new(alloc, "loop")
-        .no_binary_name(true)
-        .bin_name("h2 loop")?
-        .about("Posts octets from a client to a server in one process")
-        .override_usage("h2 loop N")
-        .after_help(LOOPED_AND_STATUSES)
-        .arg(octets)
+    let text = CommandText {
+        called: "h2 loop",
+        about: "Posts octets from a client to a server in one process",
+        usage: "h2 loop N",
+        more: LOOPED_AND_STATUSES,
+    };
+    named_command(alloc, "loop", text)?.arg(number_arg(alloc, OCTETS, lengths(), OCTETS_HELP))
 }

@@ -10,8 +10,6 @@ mod gathered;
 mod laws;
 mod partial_block;
 mod spreading;
-#[cfg(test)]
-mod tests;
 
 pub use fault::BlockFault;
 pub use gather::Gather;

@@ -3,8 +3,6 @@
 
 mod config;
 mod ranges;
-#[cfg(test)]
-mod tests;
 
 pub use config::{BadConfig, Config};
 pub use ranges::values_in_range;

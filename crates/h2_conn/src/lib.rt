@@ -12,8 +12,6 @@ mod happened;
 mod inner;
 mod readers;
 mod taking;
-#[cfg(test)]
-mod tests;
 mod waiting;
 
 pub use conn::Conn;

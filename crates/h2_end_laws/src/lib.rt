@@ -9,8 +9,6 @@ mod reads;
 mod replays;
 mod streams;
 mod takes;
-#[cfg(test)]
-mod tests;
 mod writes;
 
 pub use activity::{

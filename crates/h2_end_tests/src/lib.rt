@@ -1,8 +1,8 @@
-//! Worked examples of a client and a server, through their public calls.
-//!
-//! They stand in a crate of their own, so that the gate proves a client and a server once for them,
-//! and not once more with their tests. The crate has nothing else.
+//! What no case says of an end: that each law can be called, and that the README's server and
+//! client answer. The crate has nothing else, so that the gate proves the crates it tests once.
 #![tactic(auto)]
 
 #[cfg(test)]
-mod tests;
+mod laws;
+#[cfg(test)]
+mod uses;

@@ -1,16 +1,9 @@
-//! Worked examples of whole connections: octets in, an answer and octets out. Expected octets are
-//! those of RFC 9113's layouts and of RFC 7541's encodings.
+//! Refused allocations, laws, `Debug`, and a list of acts that is run.
 //!
-//! Tests are proved as well: lists of octets and answers are data that a few functions walk.
+//! `rt try --test --fail-alloc N`, by which the allocation N is refused, passes those of refused
+//! allocations for each N.
 
-mod bodies;
-mod frames;
-mod links;
-mod many;
-mod messages;
-mod octets;
-mod requests;
-mod responses;
-mod runs;
-mod sending;
-mod together;
+mod acts;
+mod engines;
+mod joined;
+mod shown;

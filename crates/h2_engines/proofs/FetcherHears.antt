@@ -1,5 +1,5 @@
 -- What a client's end hands out of its response, and what is kept of that.
-use Rattle.std.proofs.Common.{◌≡◌, ℕ, Bool, true, false}
+use Rattle.std.proofs.Common.{◌≡◌, ◌⊎◌, ℕ, Bool, true, false}
 use Rattle.std.proofs.Common.{if◌then◌else◌, List, [], ◌∷◌, ◌++◌, length, Option, Some, None}
 use Rattle.std.proofs.Common.{option_map, Ok, Err, refl, sym, ap, ◌∙◌, subst, inl, inr}
 use Rattle.hpack.specs.declared.types.field.Field.{Field}
@@ -29,8 +29,8 @@ use Rattle.h2_ends.specs.Represents.{EndTakes}
 use Rattle.h2_link.specs.declared.error.LinkError.{LinkError}
 use Rattle.h2_link.specs.declared.error.LinkError.TheVariants as errors
 use Rattle.h2_engines.specs.declared.fetcher.Coming.{Coming}
-use Rattle.h2_engines.specs.declared.fetcher.Fetching.{Fetching}
-use Rattle.h2_engines.specs.declared.fetcher.Fetching.TheVariants as goes
+use Rattle.h2_engines.specs.declared.request.Next.{Next}
+use Rattle.h2_engines.specs.declared.request.Next.TheVariants as goes
 use Rattle.h2_engines.specs.Fetches.{refused_stream}
 use Rattle.h2_engines.specs.ClientSteps.{ClientHears, FetchedSo, KeepsResponse, ErrsFetching}
 use Rattle.h2_engines.specs.ClientSteps.{NotesPart}
@@ -133,7 +133,7 @@ handed_on id handed now one is = ap (parts_on id) is
 
 -- So much is kept of the response, by how it goes on.
 keeps_by : (end : EndLog) (id : ℕ) (coming : Coming) (parts : List (Part × Bool)) (whole : Bool)
-    (next : Fetching) → parts_on id end.handed ≡ parts → KeepsSoFar coming parts whole
+    (next : Next) → parts_on id end.handed ≡ parts → KeepsSoFar coming parts whole
     → next ≡ (if whole then goes.Whole else goes.Again) → KeepsResponse end id coming next
 unfolding KeepsResponse
 keeps_by end id coming parts true next are keeps is =
@@ -158,19 +158,18 @@ took_none end after piece taken none may =
     (ap (option_map event_handed) none) may
 
 -- Nothing was handed out: the fetch goes on, or is done with the piece.
-keeps_none : (end after : EndLog) (id : ℕ) (coming : Coming) (next : Fetching)
-    → after.handed ≡ end.handed → (next ≡ goes.Whole → ⊥)
+keeps_none : (end after : EndLog) (id : ℕ) (coming : Coming) (next : Next)
+    → after.handed ≡ end.handed → (next ≡ goes.Again) ⊎ (next ≡ goes.Done)
     → HasCome coming (parts_on id end.handed) → KeepsResponse after id coming next
 unfolding KeepsResponse
-keeps_none end after id coming goes.Again same other come =
-    subst (λ (handed : List Handed). HasCome coming (parts_on id handed)) (sym same) come
-keeps_none end after id coming goes.Done same other come =
-    subst (λ (handed : List Handed). HasCome coming (parts_on id handed)) (sym same) come
-keeps_none end after id coming goes.Whole same other come = absurd (other refl)
+keeps_none end after id coming next same (inl again) come =
+    rw again (subst (λ (handed : List Handed). HasCome coming (parts_on id handed)) (sym same) come)
+keeps_none end after id coming next same (inr done) come =
+    rw done (subst (λ (handed : List Handed). HasCome coming (parts_on id handed)) (sym same) come)
 
 pub heard_nothing : (old new : End) (id : ℕ) (coming : Coming) (piece : List ℕ)
-    (taken : EndTaken) (next : Fetching) → taken.event ≡ None → (next ≡ goes.Whole → ⊥)
-    → (next ≡ goes.Done → taken.used ≡ length piece) → EndTakes old piece (Ok taken) new
+    (taken : EndTaken) (next : Next) → taken.event ≡ None
+    → (next ≡ goes.Again) ⊎ (next ≡ goes.Done) → (next ≡ goes.Done → taken.used ≡ length piece) → EndTakes old piece (Ok taken) new
     → ClientHears old new id coming coming piece
     (Ok (record { used = taken.used; next = next }))
 unfolding FetchedSo
@@ -181,14 +180,14 @@ heard_nothing old new id coming piece taken next none other all takes values end
     let says = taken_says end piece (EndTook taken.used None) after took in
     (after, now, (None, took, keeps_none end after id coming next says.handed other come, all))
 
-not_done : (whole : Bool) (next : Fetching) {A : Type 0}
+not_done : (whole : Bool) (next : Next) {A : Type 0}
     → next ≡ (if whole then goes.Whole else goes.Again) → next ≡ goes.Done → A
 not_done true next is done = cc
 not_done false next is done = cc
 
 -- A part was noted: the fetch goes on, or the response is whole.
 pub heard_part : (old new : End) (id : ℕ) (before coming : Coming) (piece : List ℕ)
-    (taken : EndTaken) (event : EndEvent) (whole : Bool) (next : Fetching)
+    (taken : EndTaken) (event : EndEvent) (whole : Bool) (next : Next)
     → taken.event ≡ Some event → next ≡ (if whole then goes.Whole else goes.Again)
     → NotesPart id before coming (event_handed event) whole → EndTakes old piece (Ok taken) new
     → ClientHears old new id before coming piece

@@ -16,8 +16,9 @@ use Rattle.h2_ends.specs.Ends.{EndLog}
 use Rattle.h2_ends.specs.EndTakes.{end_with_log}
 use Rattle.h2_ends.specs.Represents.{EndRepresents, EndAnswers}
 use Rattle.h2_engines.specs.Failures.{error_after}
-use Rattle.h2_engines.specs.Linked.{Traffic, HasGiven, IsLinked, StallsWriting}
-use Rattle.h2_engines.specs.ServerSteps.{IsSameOfMessages, TookBy}
+use Rattle.h2_engines.specs.Linked.{Traffic, IsLinked}
+use Rattle.h2_engines.specs.Machines.{WritesOut}
+use Rattle.h2_engines.specs.ServerSteps.{IsSameOfMessages}
 use Rattle.h2_engines.proofs.ResponderOutput.{put_out_failed, refused_failed, put_out_octets}
 use Rattle.h2_engines.proofs.ResponderOutput.{given_more, none_put}
 use Rattle.h2_engines.proofs.ResponderEnds.{same_itself, same_twice, same_by_call, given_within}
@@ -43,19 +44,6 @@ pub record WritesOn (P : EndLog → Type 0) (values : Values) (start now : Traff
   pub same : IsSameOfMessages before after
   pub linked : IsLinked start now after.log unused
   pub turns : rounds + length before.log.turns ≤ length after.log.turns
-
--- The end was written out, or as far as it went, in a turn at least.
-pub record WritesOut (P : EndLog → Type 0) (values : Values) (start now : Traffic)
-    (before : EndLog) (new : End) (unused : List ℕ) (result : Result (Unit {0}) LinkError) : Type 0
-  where
-    pub after : EndLog
-    pub happened : P after
-    pub represents : EndRepresents values new after
-    pub same : IsSameOfMessages before after
-    pub given : HasGiven start now after.log unused
-    pub taken : TookBy start now after.log result
-    pub turns : length before.log.turns < length after.log.turns
-    pub stalls : StallsWriting now after result
 
 -- Nothing was written yet.
 pub writes_nothing : (P : EndLog → Type 0) (values : Values) (start now : Traffic)

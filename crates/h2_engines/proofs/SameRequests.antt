@@ -123,6 +123,7 @@ kept_same_next requests before after nexts.Again same keeps =
     kept_same requests before after same keeps
 kept_same_next requests before after nexts.Done same keeps =
     kept_same requests before after same keeps
+kept_same_next requests before after nexts.Whole same keeps = absurd keeps
 kept_same_next requests before after (nexts.Answer id request) same keeps = (
   others_as requests before after id same keeps.0,
   to_answer_as before after id request same keeps.1,

@@ -1,6 +1,7 @@
 -- What calls and octets that were taken leave of the input and the output of a log.
 use Rattle.std.proofs.Common.{◌≡◌, ◌≢◌, ◌≤◌, ℕ, List, [], ◌++◌, length, take, refl, sym, ap, ◌∙◌}
-use Rattle.std.proofs.Common.{append_assoc, append-nil}
+use Rattle.std.proofs.Common.{append_assoc, append-nil, subst}
+use Rattle.std.specs.Io.KnownBytes.{Appends}
 use Rattle.std.proofs.lemmas.List.{take-append-le}
 use Rattle.h2_log.specs.declared.refusal.Refusal.{Refusal}
 use Rattle.h2_log.specs.Acts.{Act, Answer, Refuse, PutOut, OutOfMemory, Refused}
@@ -16,6 +17,7 @@ use Rattle.h2_pair.specs.Pairs.{given_out}
 use Rattle.h2_pair.proofs.LogOutput.{gives_call}
 use Rattle.h2_pair.proofs.StepCalls.{call_given}
 use Rattle.h2_pair.proofs.StepsOfLogs.{step_adds, IsNoCall}
+use Rattle.h2_engines.specs.Linked.{Traffic, IsLinked}
 
 -- Octets were added to the output, and as many were given out.
 pub record Writes (before after : Log) : Type 0 where
@@ -110,7 +112,7 @@ goes_twice one two three a b =
 
 -- A call fails nothing, unless memory was refused to one that can't be refused, or it refuses a
 -- stream.
-items_failed : (log : Log) (act : Act) (answer : Answer)
+pub items_failed : (log : Log) (act : Act) (answer : Answer)
     → (with_items log act answer).failed ≡ log.failed
 unfolding with_items
 items_failed log act answer = unreturned_failed _ _ ∙ sent_failed _ _
@@ -144,4 +146,16 @@ refused_goes log act refusal =
       writes = record { octets = []; written = sym (append-nil log.written); given = refl };
       input = refl;
       failed = refl;
+    }
+
+-- The end goes on over the link.
+pub goes_links : (start now : Traffic) (before after : Log) (unused : List ℕ)
+    → before.given ≤ length before.written → GoesOn before after
+    → IsLinked start now before unused → IsLinked start now after unused
+goes_links start now before after unused within goes linked =
+    record {
+      given = subst (λ (input : List ℕ). Appends start.given now.given (input ++ unused))
+          (sym goes.input) linked.given;
+      taken = subst (Appends start.taken now.taken)
+          (sym (writes_given before after within goes.writes)) linked.taken;
     }

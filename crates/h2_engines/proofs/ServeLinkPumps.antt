@@ -17,6 +17,12 @@ use Rattle.h2_engines.specs.ServerSteps.{IsSameOfMessages}
 use Rattle.h2_engines.proofs.TakeMessages.{KeepsCalls, keeps_by_call}
 use Rattle.h2_engines.proofs.ServeLinkLogs.{GoesOn, goes_none, goes_twice, call_goes, refused_goes}
 
+-- Where this may have happened at an end, it may also have pumped.
+abbrev pub MayPumpOn : (EndLog → Type 0) → Type 0
+MayPumpOn P =
+    (end after : EndLog) (result : Result ℕ EndRefusal) → P end → MayPump end result after
+    → P after
+
 -- Nothing was accepted and handed out, and the connection goes on.
 pub record StaysOn (before after : EndLog) : Type 0 where
   pub goes : GoesOn before.log after.log
@@ -33,7 +39,7 @@ stays_none end =
       calls = λ act answer was. was;
     }
 
-stays_twice : (one two three : EndLog) → StaysOn one two → StaysOn two three → StaysOn one three
+pub stays_twice : (one two three : EndLog) → StaysOn one two → StaysOn two three → StaysOn one three
 stays_twice one two three a b =
     record {
       goes = goes_twice one.log two.log three.log a.goes b.goes;
@@ -42,7 +48,7 @@ stays_twice one two three a b =
       calls = λ act answer was. b.calls act answer (a.calls act answer was);
     }
 
-stays_as : (before after : EndLog) → after ≡ before → StaysOn before after
+pub stays_as : (before after : EndLog) → after ≡ before → StaysOn before after
 stays_as before after same = subst (λ (one : EndLog). StaysOn before one) (sym same)
     (stays_none before)
 

@@ -1,11 +1,10 @@
 -- What is given back and sent before output is put out, and what that leaves.
 use Rattle.std.proofs.Common.{◌≡◌, ◌≢◌, ◌≤◌, true, false, length, Option, Some, None, is_some}
-use Rattle.std.proofs.Common.{Result, Ok, Err, refl, sym, ◌∙◌, subst}
+use Rattle.std.proofs.Common.{Result, Ok, Err, refl, sym, ap, ◌∙◌, subst, arith}
 use Rattle.h2_frame.specs.declared.code.Code.{Code}
 use Rattle.h2_log.specs.declared.refusal.Refusal.TheVariants as reasons
 use Rattle.h2_log.specs.Acts.{Values}
 use Rattle.h2_log.specs.Log.{Log}
-use Rattle.h2_message.specs.Messages.{SentMessage}
 use Rattle.h2_conn.specs.declared.conn.Conn.{Conn}
 use Rattle.h2_conn.specs.Conn.{ConnRepresents}
 use Rattle.h2_pair.specs.Pairs.{given_out}
@@ -16,18 +15,17 @@ use Rattle.h2_ends.specs.Ends.{EndLog}
 use Rattle.h2_ends.specs.EndCalls.{MayReleaseAll}
 use Rattle.h2_link.specs.declared.error.LinkError.{LinkError}
 use Rattle.h2_link.specs.declared.error.LinkError.TheVariants as errors
-use Rattle.h2_engines.specs.ClientHistories as client
-use Rattle.h2_engines.specs.ClientHistories.{IsFetching}
-use Rattle.h2_engines.specs.ServerHistories as server
-use Rattle.h2_engines.specs.ServerHistories.{IsResponding}
+use Rattle.h2_engines.specs.Machines.{Kept, Course, Happens}
 use Rattle.h2_engines.specs.ServerSteps.{IsSameOfMessages, ReleasesSome, PumpsSome, EndsAfter}
 use Rattle.h2_engines.specs.ServerSteps.{EndsRelease}
 use Rattle.h2_engines.specs.WithoutLink.{HasSent, has_failed, sends, releases_no_more}
 use Rattle.h2_engines.specs.WithoutLink.{sends_no_more, SendsWaiting}
-use Rattle.h2_engines.proofs.ResponderEnds.{same_itself, same_twice}
+use Rattle.h2_engines.proofs.MachineLaws.{pumps_at, releases_at}
 use Rattle.h2_engines.proofs.ResponderStalls.{pump_ends}
-use Rattle.h2_engines.proofs.ServeLinkLogs.{GoesOn, goes_none, goes_twice, writes_given}
-use Rattle.h2_engines.proofs.ServeLinkPumps.{released_stays, pumped_stays, stays_same}
+use Rattle.h2_engines.proofs.ServeLinkLogs.{writes_given}
+use Rattle.h2_engines.proofs.ServeLinkPumps.{StaysOn, released_stays, pumped_stays, stays_same}
+use Rattle.h2_engines.proofs.ServeLinkPumps.{stays_as, stays_twice}
+use Rattle.h2_engines.proofs.TurnsPassed.{turns_of_pump, turns_of_release}
 
 -- What `failed` answers of any log that the connection represents.
 abbrev pub ReadsFailed : Conn → Option Code → Type 0
@@ -35,7 +33,7 @@ ReadsFailed conn failed =
     (values : Values) (log : Log) → ConnRepresents values conn log → failed ≡ log.failed
 
 -- Once the connection has failed, nothing is sent;
-some_failed : (failed : Option Code) → is_some failed ≡ true → failed ≢ None
+pub some_failed : (failed : Option Code) → is_some failed ≡ true → failed ≢ None
 some_failed None some none = cc
 some_failed (Some code) some none = cc
 
@@ -48,18 +46,24 @@ failed_sends old failed done reads some values end represents = (
       (reads values end.log represents.streams.conn ∙ none)) refl,
 )
 
-none_failed : (failed : Option Code) → is_some failed ≡ false → failed ≡ None
+pub none_failed : (failed : Option Code) → is_some failed ≡ false → failed ≡ None
 none_failed None up = refl
 none_failed (Some code) up = cc
 
-is_up : (conn : Conn) (failed : Option Code) (values : Values) (log : Log)
+pub is_up : (conn : Conn) (failed : Option Code) (values : Values) (log : Log)
     → ReadsFailed conn failed → is_some failed ≡ false → ConnRepresents values conn log
     → log.failed ≡ None
 is_up conn failed values log reads up represents =
     sym (reads values log represents) ∙ none_failed failed up
 
+pub is_down : (conn : Conn) (failed : Option Code) (values : Values) (log : Log)
+    → ReadsFailed conn failed → is_some failed ≡ true → ConnRepresents values conn log
+    → log.failed ≢ None
+is_down conn failed values log reads some represents none =
+    some_failed failed some (reads values log represents ∙ none)
+
 -- and while it is up, a release is refused only when out of memory.
-release_memory : (end : EndLog) (answer : Result (Unit {0}) EndRefusal) (after : EndLog)
+pub release_memory : (end : EndLog) (answer : Result (Unit {0}) EndRefusal) (after : EndLog)
     (error : LinkError) → end.log.failed ≡ None → MayReleaseAll end answer after
     → EndsRelease answer (Err error) → error ≡ errors.Memory
 unfolding MayReleaseAll EndsRelease EndsAfter
@@ -118,79 +122,57 @@ sends_so old middle new failed done (Err error) reads none released pumped =
     not_sent old middle new failed done error reads none released pumped
 
 -- The connection goes on, and nothing of a message has happened.
-record Leaves (before after : EndLog) : Type 0 where
-  goes : GoesOn before.log after.log
-  same : IsSameOfMessages before after
-
-leaves_none : (before after : EndLog) → after ≡ before → Leaves before after
-leaves_none before after now =
-    subst (Leaves before) (sym now)
-    (record { goes = goes_none before.log; same = same_itself before })
-
-leaves_released : (before after : EndLog) (released : Result (Unit {0}) EndRefusal)
-    → MayReleaseAll before released after → Leaves before after
-leaves_released before after released may =
-    let stays = released_stays before released after may in
-    record { goes = stays.goes; same = stays_same before after stays }
-
-leaves : (before after : EndLog) (result : Result (Unit {0}) LinkError)
-    → HasSent before after result → Leaves before after
-leaves before after result (has_failed failed same) = leaves_none before after same
-leaves before after result (sends middle released sent up may then) =
-    let first = leaves_released before middle released may in
-    let stays = pumped_stays middle sent after then in
-    record {
-      goes = goes_twice before.log middle.log after.log first.goes stays.goes;
-      same = same_twice before middle after first.same (stays_same middle after stays);
-    }
-leaves before after result (releases_no_more released error is up may) =
-    leaves_released before after released may
-leaves before after result (sends_no_more middle released sent error is up may then) =
-    let first = leaves_released before middle released may in
-    let stays = pumped_stays middle sent after then in
-    record {
-      goes = goes_twice before.log middle.log after.log first.goes stays.goes;
-      same = same_twice before middle after first.same (stays_same middle after stays);
-    }
+pub sent_stays : (before after : EndLog) (result : Result (Unit {0}) LinkError)
+    → HasSent before after result → StaysOn before after
+sent_stays before after result (has_failed failed same) = stays_as before after same
+sent_stays before after result (sends middle released sent up may then) =
+    stays_twice before middle after (released_stays before released middle may)
+    (pumped_stays middle sent after then)
+sent_stays before after result (releases_no_more released error is up may) =
+    released_stays before released after may
+sent_stays before after result (sends_no_more middle released sent error is up may then) =
+    stays_twice before middle after (released_stays before released middle may)
+    (pumped_stays middle sent after then)
 
 pub sent_same : (before after : EndLog) (result : Result (Unit {0}) LinkError)
     → HasSent before after result → IsSameOfMessages before after
-unfolding leaves
-sent_same before after result sent = (leaves before after result sent).same
+sent_same before after result sent = stays_same before after (sent_stays before after result sent)
 
 pub sent_given : (before after : EndLog) (result : Result (Unit {0}) LinkError)
     → before.log.given ≤ length before.log.written → HasSent before after result
     → given_out after.log ≡ given_out before.log
 sent_given before after result within sent =
-    writes_given before.log after.log within (leaves before after result sent).goes.writes
+    writes_given before.log after.log within (sent_stays before after result sent).goes.writes
+
+-- No turn is undone.
+pub sent_turns : (before after : EndLog) (result : Result (Unit {0}) LinkError)
+    → HasSent before after result → length before.log.turns ≤ length after.log.turns
+sent_turns before after result (has_failed failed same) =
+    let all = ap (λ (one : EndLog). length one.log.turns) same in omega (arith, all)
+sent_turns before after result (sends middle released sent up may then) =
+    omega (arith, turns_of_release before middle released may, turns_of_pump middle after sent then)
+sent_turns before after result (releases_no_more released error is up may) =
+    turns_of_release before after released may
+sent_turns before after result (sends_no_more middle released sent error is up may then) =
+    omega (arith, turns_of_release before middle released may, turns_of_pump middle after sent then)
 
 pub sent_error : (before after : EndLog) (error : LinkError) → HasSent before after (Err error)
     → error ≡ errors.Memory
 sent_error before after error (releases_no_more released is same up may) = same
 sent_error before after error (sends_no_more middle released sent is same up may then) = same
 
--- It may have happened at a server, and at a client.
-pub server_sends : (values : Values) (before after : EndLog) (result : Result (Unit {0}) LinkError)
-    → IsResponding values before → HasSent before after result → IsResponding values after
-server_sends values before after result was (has_failed failed same) =
-    subst (IsResponding values) (sym same) was
-server_sends values before after result was (sends middle released sent up may then) =
-    server.pumps (server.releases was released may) sent then
-server_sends values before after result was (releases_no_more released error is up may) =
-    server.releases was released may
-server_sends values before after result was
+-- It may have happened at a machine.
+pub sends_at : (course : Course) (kept : Kept) (before after : EndLog)
+    (result : Result (Unit {0}) LinkError) → Happens course kept before
+    → HasSent before after result → Happens course kept after
+sends_at course kept before after result was (has_failed failed same) =
+    subst (Happens course kept) (sym same) was
+sends_at course kept before after result was (sends middle released sent up may then) =
+    pumps_at course kept middle after sent (releases_at course kept before middle released was may)
+    then
+sends_at course kept before after result was (releases_no_more released error is up may) =
+    releases_at course kept before after released was may
+sends_at course kept before after result was
     (sends_no_more middle released sent error is up may then) =
-    server.pumps (server.releases was released may) sent then
-
-pub client_sends : (values : Values) (message : SentMessage) (before after : EndLog)
-    (result : Result (Unit {0}) LinkError) → IsFetching values message before
-    → HasSent before after result → IsFetching values message after
-client_sends values message before after result was (has_failed failed same) =
-    subst (IsFetching values message) (sym same) was
-client_sends values message before after result was (sends middle released sent up may then) =
-    client.pumps (client.releases was released may) sent then
-client_sends values message before after result was (releases_no_more released error is up may) =
-    client.releases was released may
-client_sends values message before after result was
-    (sends_no_more middle released sent error is up may then) =
-    client.pumps (client.releases was released may) sent then
+    pumps_at course kept middle after sent (releases_at course kept before middle released was may)
+    then

@@ -11,6 +11,11 @@ abbrev pub failures_at_end : {A : Type 0} → ℕ → Result A LinkError → ℕ
 failures_at_end failures (Err errors.Device) = failures + 1
 failures_at_end failures result = failures
 
+-- the same of an error alone
+abbrev pub failures_by : ℕ → LinkError → ℕ
+failures_by failures errors.Device = failures + 1
+failures_by failures error = failures
+
 -- N4 is answered only where the link has met the end of its input.
 abbrev pub CutsOffAtEnd : {A : Type 0} → Result A LinkError → (ended : Bool) → Type 0
 CutsOffAtEnd (Err errors.CutOff) ended = ended ≡ true

@@ -8,4 +8,5 @@ pub mod Linked
 pub mod ServerHistories
 pub mod Serves
 pub mod ServerSteps
+pub mod Machines
 pub mod WithoutLink

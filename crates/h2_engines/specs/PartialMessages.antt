@@ -65,6 +65,7 @@ KeepsNext requests end (nexts.Answer id request) =
     KeepsOthers requests end id × IsToAnswer end id request
 KeepsNext requests end (nexts.Reset id) =
     KeepsOthers requests end id × (is_too_large_body (parts_on id end.handed) ≡ true)
+KeepsNext requests end nexts.Whole = ⊥
 KeepsNext requests end next = KeepsRequests requests end
 
 -- Of one stream this is kept now, and of the others what was.

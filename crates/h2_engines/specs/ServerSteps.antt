@@ -1,5 +1,5 @@
 -- What the steps of a server over a link do: the calls of its end, and what goes over the link.
-use Rattle.std.specs.Prelude.{◌≡◌, ◌≢◌, ◌+◌, ◌-◌, ◌^◌, ◌≤◌, ◌<◌, ℕ, List, []}
+use Rattle.std.specs.Prelude.{◌≡◌, ◌≢◌, ◌+◌, ◌-◌, ◌^◌, ◌≤◌, ℕ, List}
 use Rattle.std.specs.Prelude.{length, Option, None}
 use Rattle.std.specs.Prelude.{Result, Ok, Err}
 use Rattle.std.specs.List.{Contains}
@@ -24,14 +24,12 @@ use Rattle.h2_link.specs.declared.error.LinkError.{LinkError}
 use Rattle.h2_link.specs.declared.error.LinkError.TheVariants as errors
 use Rattle.h2_engines.specs.declared.request.Next.TheVariants as nexts
 use Rattle.h2_engines.specs.declared.request.Requests.{Requests}
-use Rattle.h2_engines.specs.declared.responder.Heard.{Heard}
-use Rattle.h2_engines.specs.declared.responder.Responder.{Responder}
-use Rattle.h2_engines.specs.Linked.{Traffic, HasGiven, IsLinked, HasTakenAll, HasTakenFirst}
-use Rattle.h2_engines.specs.Linked.{IsLinkedInPart, StallsWriting}
+use Rattle.h2_engines.specs.declared.machine.Heard.{Heard}
+use Rattle.h2_engines.specs.Linked.{Traffic, HasTakenAll, HasTakenFirst}
 use Rattle.h2_engines.specs.Failures.{error_after}
-use Rattle.h2_engines.specs.PartialMessages.{KeepsRequests, NotesTaken}
-use Rattle.h2_engines.specs.ServerHistories.{IsResponding, calm}
-use Rattle.h2_engines.specs.Serves.{EndsServingSo, IsAtRest, IsCutOff, SendsAll}
+use Rattle.h2_engines.specs.PartialMessages.{NotesTaken}
+use Rattle.h2_engines.specs.ServerHistories.{calm}
+use Rattle.h2_engines.specs.Serves.{IsAtRest, IsCutOff}
 
 -- how a connection ends that has failed with this code
 abbrev pub error_with : Code → LinkError
@@ -57,33 +55,6 @@ pub record IsWrittenOut (start now : Traffic) (log : Log) : Type 0 where
 abbrev pub TookBy : {A : Type 0} → (start now : Traffic) → Log → Result A LinkError → Type 0
 TookBy start now log (Ok value) = IsWrittenOut start now log
 TookBy start now log (Err error) = HasTakenFirst start now log
-
--- Whatever has happened at the server and over the link: what waits is written, in a turn at least.
-pub record WritesFor (values : Values) (start now : Traffic) (before : EndLog) (new : End)
-    (unused : List ℕ) (result : Result (Unit {0}) LinkError) : Type 0 where
-  pub after : EndLog
-  pub responding : IsResponding values after
-  pub represents : EndRepresents values new after
-  pub same : IsSameOfMessages before after
-  pub given : HasGiven start now after.log unused
-  pub taken : TookBy start now after.log result
-  pub turns : length before.log.turns < length after.log.turns
-  pub stalls : StallsWriting now after result
-
-abbrev pub ServerWrites : (before now : Traffic) → (old new : End) → Result (Unit {0}) LinkError
-    → Type 0
-ServerWrites before now old new result =
-    (values : Values) (start : Traffic) (end : EndLog) (unused : List ℕ)
-    → EndRepresents values old end → IsResponding values end
-    → IsLinked start before end.log unused → WritesFor values start now end new unused result
-
--- The same while the connection is up.
-abbrev pub ServerSends : (before now : Traffic) → (old new : End) → Result (Unit {0}) LinkError
-    → Type 0
-ServerSends before now old new result =
-    (values : Values) (start : Traffic) (end : EndLog) (unused : List ℕ)
-    → EndRepresents values old end → IsResponding values end → end.log.failed ≡ None
-    → IsLinked start before end.log unused → WritesFor values start now end new unused result
 
 -- why a call of `take` ends the connection: it has failed; or there was no memory to keep what was
 -- handed out
@@ -151,34 +122,6 @@ ServerResets old new id result =
     → (answer : Answer) × MayAnswer end.log (ResetStream id calm) answer
     × EndRepresents values new (end_with_log end (with_call end.log (ResetStream id calm) answer))
     × ResetSo answer result
-
--- A server over a link, at which this has happened: these octets that the link gave were not used
--- yet, and of each request that isn't whole it keeps what it needs.
-pub record IsServing (values : Values) (start now : Traffic) (responder : Responder) (end : EndLog)
-    (unused : List ℕ) : Type 0 where
-  pub responding : IsResponding values end
-  pub represents : EndRepresents values responder.server.end end
-  pub linked : IsLinked start now end.log unused
-  pub up : end.log.failed ≡ None
-  pub keeps : KeepsRequests responder.requests end
-  pub count : responder.answered ≡ length end.accepted
-
--- How the serving of a piece ends. It meets no end of the input.
-unfoldable pub ReceivesSo : Values → (start now : Traffic) → Responder → EndLog
-    → Result (Unit {0}) LinkError → Type 0
-ReceivesSo values start now responder after (Ok done) =
-    IsServing values start now responder after []
-ReceivesSo values start now responder after (Err error) =
-    IsResponding values after × SendsAll after × IsLinkedInPart start now after.log
-    × EndsServingSo start now after (Err error) × (error ≢ errors.CutOff)
-
-abbrev pub ServerReceives : (before now : Traffic) → (old new : Responder) → List ℕ
-    → Result (Unit {0}) LinkError → Type 0
-ServerReceives before now old new piece result =
-    (values : Values) (start : Traffic) (end : EndLog)
-    → IsServing values start before old end piece
-    → (after : EndLog) × (length end.log.turns ≤ length after.log.turns)
-    × ReceivesSo values start now new after result
 
 -- A call of an end ends the connection only where it was refused, and as the refusal says.
 unfoldable pub EndsAfter : {A : Type 0} → Result A EndRefusal → Result (Unit {0}) LinkError → Type 0

@@ -1,9 +1,9 @@
-//! Copies of what is lent, and room for input.
+//! Copies of what is lent, room for input, and what stands for a link where there is none.
 
 ghost use Rattle.std.specs.Prelude.{◌≡◌, IfOk, IfErr, length};
 
 use h2_ends::{Field, FieldList};
-use h2_link::LinkError;
+use h2_link::{LinkError, MemoryLink};
 use std::alloc::{AllocError, Global};
 
 /// A copy of a list of fields.
@@ -32,4 +32,12 @@ pub(crate) fn room_for_input(alloc: Global) -> Result<Vec<u8>, LinkError>
         Ok(room) => Ok(room),
         Err(_) => Err(LinkError::Memory),
     }
+}
+
+/// Where octets are handed over, this stands for a link: nothing is read of it, and nothing written
+/// to it.
+pub(crate) fn no_link(alloc: Global) -> MemoryLink
+    ensures { result.failures ≡ 0 }
+{
+    MemoryLink::new(alloc, Vec::new(alloc))
 }

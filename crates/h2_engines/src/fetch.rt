@@ -5,11 +5,10 @@ ghost use Rattle.h2_config.specs.ConfigValues.{values_of};
 ghost use Rattle.h2_message.specs.Values.{message_value};
 ghost use Rattle.h2_engines.specs.Failures.{CutsOffAtEnd, failures_at_end};
 ghost use Rattle.h2_engines.specs.Fetches.{Fetches};
-ghost use Rattle.h2_engines.specs.ClientSteps.{ClientReceives};
 ghost use Rattle.h2_engines.specs.Linked.{traffic};
 
-use crate::copies::room_for_input;
-use crate::fetcher::{Fetched, Fetcher, Fetching, hear};
+use crate::fetcher::{Fetched, Fetcher};
+use crate::machine::drive;
 use h2_ends::{Config, Message};
 use h2_link::{Link, LinkError};
 use std::alloc::Global;
@@ -37,63 +36,9 @@ pub fn fetch_link<L: Link>(
     ensures failures { L.faults link.new ≡ failures_at_end (L.faults link.old) result }
 {
     let mut fetcher = Fetcher::new(alloc, config, message)?;
-    let mut input = room_for_input(alloc)?;
-    for _ in 0..u64::MAX {
-        fetcher.send(link)?;
-        let is_whole = match link.read(&mut input) {
-            Ok(0) => return Err(LinkError::CutOff),
-            Ok(count) => fetcher.receive(link, &input[..count])?,
-            Err(_) => return Err(LinkError::Device),
-        };
-        if is_whole {
-            return fetcher.into_fetched();
-        }
-        fetcher.release()?;
-        fetcher.pump()?;
+    let is_whole = drive(&mut fetcher, link)?;
+    if is_whole {
+        return fetcher.into_fetched();
     }
-    Err(LinkError::NoProgress)
-}
-
-impl Fetcher {
-    /// Takes octets, and answers whether the response is whole. Once the connection has failed all
-    /// that waits is written.
-    fn receive<L: Link>(&mut self, link: &mut L, piece: &[u8]) -> Result<bool, LinkError>
-        requires { L.faults link.old < 2 ^ 64 - 1 }
-        ensures receives { ClientReceives
-            (traffic (L.given link.old) (L.taken link.old) (L.stalled link.old))
-            (traffic (L.given link.new) (L.taken link.new) (L.stalled link.new))
-            self.old self.new piece.now result }
-        ensures failures { L.faults link.new ≡ failures_at_end (L.faults link.old) result }
-    {
-        let mut used = 0usize;
-        for _ in 0..u64::MAX {
-            let heard = hear(
-                self.alloc,
-                &mut self.client,
-                self.id,
-                &mut self.coming,
-                &piece[used..],
-            );
-            match heard {
-                Ok(heard) => {
-                    used += heard.used;
-                    match heard.next {
-                        Fetching::Again => {}
-                        Fetching::Done => return Ok(false),
-                        Fetching::Whole => {
-                            self.whole = true;
-                            return Ok(true);
-                        }
-                    }
-                }
-                Err(error) => {
-                    if self.client.conn().failed().is_some() {
-                        self.write_out(link)?;
-                    }
-                    return Err(error);
-                }
-            }
-        }
-        Err(LinkError::NoProgress)
-    }
+    Err(LinkError::CutOff)
 }

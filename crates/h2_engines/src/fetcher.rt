@@ -1,26 +1,24 @@
 //! A client that fetches one response.
 
-ghost use Rattle.std.specs.Prelude.{◌≡◌, ◌≤◌, ◌<◌, ◌-◌, ◌^◌, IfOk, IfErr, OnErr, OnOk, Err, None};
-ghost use Rattle.std.specs.Prelude.{◌⊎◌, true, false, length};
+ghost use Rattle.std.specs.Prelude.{◌≡◌, ◌≤◌, ◌⊎◌, true, false, IfOk, IfErr, OnErr, OnOk};
+ghost use Rattle.std.specs.Prelude.{Ok, Err, None, length};
 ghost use Rattle.h2_config.specs.ConfigValues.{values_of};
 ghost use Rattle.h2_message.specs.Values.{message_value};
 ghost use Rattle.h2_ends.specs.Loans.{event_handed};
-ghost use Rattle.h2_engines.specs.Failures.{EndsWriting, IsOfCall, IsOfClient, failures_at_end};
+ghost use Rattle.h2_engines.specs.Failures.{IsOfClient};
 ghost use Rattle.h2_engines.specs.Fetches.{IsNotAccepted};
-ghost use Rattle.h2_engines.specs.ClientSteps.{ClientHears, ClientSends, ClientWrites};
-ghost use Rattle.h2_engines.specs.ClientSteps.{HasRequested};
-ghost use Rattle.h2_engines.specs.ClientSteps.{IsFetchedOf, NotesPart};
-ghost use Rattle.h2_engines.specs.Linked.{traffic};
-ghost use Rattle.h2_engines.specs.ServerSteps.{PumpsSome, ReleasesSome};
+ghost use Rattle.h2_engines.specs.ClientSteps.{ClientHears, HasRequested, IsFetchedOf, NotesPart};
+ghost use Rattle.h2_engines.specs.Machines.{Fetching};
+ghost use Rattle.h2_engines.specs.WithoutLink.{ClientPutsOut, ClientTakesIn};
 
-use crate::copies::copy_list;
+use crate::copies::{copy_list, no_link};
 use crate::errors::{error_of_code, error_of_refusal};
+use crate::machine::{Heard, Machine, put_out, take_all};
+use crate::request::Next;
+use h2_conn::Conn;
 use h2_ends::{Client, Config, EndEvent, EndRefusal, Field, Message, Refusal};
-use h2_link::{Link, LinkError, write_all};
+use h2_link::LinkError;
 use std::alloc::{AllocError, Global};
-
-/// So much output waits that the connection takes no more (own).
-const FULL_OUTPUT: usize = 65_536;
 
 /// REFUSED_STREAM (RFC 9113, section 7): what a request that was not processed ends with.
 const REFUSED_STREAM: u32 = 7;
@@ -58,28 +56,6 @@ pub struct Fetcher {
     pub(crate) coming: Coming,
     /// Whether the response is whole.
     pub(crate) whole: bool,
-    /// Room for output.
-    pub(crate) output: Vec<u8>,
-}
-
-/// How a fetch goes on.
-#[derive(Clone, Copy, Debug, PartialEq, Eq)]
-pub(crate) enum Fetching {
-    /// More may be handed out.
-    Again,
-    /// All octets were used, and nothing is handed out.
-    Done,
-    /// The response is whole.
-    Whole,
-}
-
-/// What a call of `take` made of a piece.
-#[derive(Clone, Copy)]
-pub(crate) struct Heard {
-    /// So many octets were used.
-    pub(crate) used: usize,
-    /// How it goes on.
-    pub(crate) next: Fetching,
 }
 
 impl Coming {
@@ -130,6 +106,7 @@ impl Fetcher {
     pub fn new(alloc: Global, config: Config, message: Message) -> Result<Fetcher, LinkError>
         ensures ok { IfOk result (λ fetcher. HasRequested (values_of config)
             (message_value message) fetcher) }
+        ensures unfinished { IfOk result (λ fetcher. fetcher.whole ≡ false) }
         ensures refused { IfErr result (λ error. IsNotAccepted (values_of config)
             (message_value message) (Err error)) }
         ensures err { IfErr result IsOfClient }
@@ -149,7 +126,6 @@ impl Fetcher {
                     trailers: None,
                 },
                 whole: false,
-                output: Vec::new(alloc),
             }),
             Err((_, EndRefusal::BadMessage(_))) => Err(LinkError::Refused),
             Err((_, EndRefusal::Conn(Refusal::ListTooLarge))) => Err(LinkError::Refused),
@@ -188,80 +164,85 @@ impl Fetcher {
         }
     }
 
-    /// Gives back all that is owed. What a full output holds back is given back later.
-    pub(crate) fn release(&mut self) -> Result<(), LinkError>
-        ensures releases { ReleasesSome self.old.client.end self.new.client.end result }
-        ensures id { self.new.id ≡ self.old.id }
-        ensures coming { self.new.coming ≡ self.old.coming }
-        ensures whole { self.new.whole ≡ self.old.whole }
-        ensures err { IfErr result IsOfCall }
+    /// Takes octets of a piece, and answers whether the response is whole: all of them where it
+    /// isn't, and none of those after its end where it is. Once it is whole, none are taken.
+    ///
+    /// # Errors
+    ///
+    /// N2 where the connection failed, whose GOAWAY waits; N3 where an allocation was refused; N5
+    /// after 2^64 - 1 rounds; N6 where the stream was reset, by either end, or was not processed.
+    pub fn take_in(&mut self, piece: &[u8]) -> Result<bool, LinkError>
+        ensures takes { ClientTakesIn self.old self.new piece.now result }
+        ensures whole { self.old.whole ≡ true → (result ≡ Ok true) × (self.new ≡ self.old) }
+        ensures err { IfErr result IsOfClient }
     {
-        match self.client.release_all() {
-            Ok(()) | Err(EndRefusal::Conn(Refusal::OutputFull)) => Ok(()),
-            Err(refusal) => Err(error_of_refusal(refusal)),
+        if self.whole {
+            return Ok(true);
         }
+        let mut link = no_link(self.alloc);
+        take_all(self, &mut link, false, piece)
     }
 
-    /// Sends what waits of the request, as windows allow.
-    pub(crate) fn pump(&mut self) -> Result<(), LinkError>
-        ensures pumps { PumpsSome self.old.client.end self.new.client.end result }
-        ensures id { self.new.id ≡ self.old.id }
-        ensures coming { self.new.coming ≡ self.old.coming }
-        ensures whole { self.new.whole ≡ self.old.whole }
-        ensures err { IfErr result IsOfCall }
+    /// Gives back all that is owed, sends what waits of the request as windows allow, and appends
+    /// at most `count` octets of the output to `out`: fewer only where no more wait. Answers how
+    /// many. Once the connection has failed it puts out what waits, GOAWAY last.
+    ///
+    /// # Errors
+    ///
+    /// N3 where an allocation was refused; then nothing is appended.
+    pub fn put_out(&mut self, count: usize, out: &mut Vec<u8>) -> Result<usize, LinkError>
+        ensures puts { ClientPutsOut self.old self.new count out.old.items out.new.items result }
+        ensures err { IfErr result IsOfClient }
     {
-        match self.client.pump() {
-            Ok(_) => Ok(()),
-            Err(refusal) => Err(error_of_refusal(refusal)),
-        }
+        put_out(self, count, out)
+    }
+}
+
+impl Machine for Fetcher {
+    ghost held = { λ fetcher. record {
+      end = fetcher.client.end;
+      kept = Fetching fetcher.id fetcher.coming fetcher.whole;
+    } };
+
+    ghost serves = { false };
+
+    fn alloc(&self) -> Global {
+        self.alloc
     }
 
-    /// Writes all output that waits.
-    pub(crate) fn write_out<L: Link>(&mut self, link: &mut L) -> Result<(), LinkError>
-        requires { L.faults link.old < 2 ^ 64 - 1 }
-        ensures writes { ClientWrites
-            (traffic (L.given link.old) (L.taken link.old) (L.stalled link.old))
-            (traffic (L.given link.new) (L.taken link.new) (L.stalled link.new))
-            self.old.client.end self.new.client.end result }
-        ensures id { self.new.id ≡ self.old.id }
-        ensures coming { self.new.coming ≡ self.old.coming }
-        ensures whole { self.new.whole ≡ self.old.whole }
-        ensures failures { L.faults link.new ≡ failures_at_end (L.faults link.old) result }
-        ensures err { IfErr result EndsWriting }
-    {
-        for _ in 0..u64::MAX {
-            self.output.clear();
-            match self.client.put_out(usize::MAX, &mut self.output) {
-                Ok(0) => return Ok(()),
-                Ok(_) => write_all(link, &self.output)?,
-                Err(refusal) => return Err(error_of_refusal(EndRefusal::Conn(refusal))),
-            }
-        }
-        Err(LinkError::NoProgress)
+    fn conn(&self) -> &Conn {
+        self.client.conn()
     }
 
-    /// Writes all that waits, and what more can be sent where the output was full.
-    pub(crate) fn send<L: Link>(&mut self, link: &mut L) -> Result<(), LinkError>
-        requires { L.faults link.old < 2 ^ 64 - 1 }
-        ensures writes { ClientSends
-            (traffic (L.given link.old) (L.taken link.old) (L.stalled link.old))
-            (traffic (L.given link.new) (L.taken link.new) (L.stalled link.new))
-            self.old.client.end self.new.client.end result }
-        ensures id { self.new.id ≡ self.old.id }
-        ensures coming { self.new.coming ≡ self.old.coming }
-        ensures whole { self.new.whole ≡ self.old.whole }
-        ensures failures { L.faults link.new ≡ failures_at_end (L.faults link.old) result }
-        ensures err { IfErr result EndsWriting }
-    {
-        for _ in 0..u64::MAX {
-            let is_full = self.client.conn().waiting() >= FULL_OUTPUT;
-            self.write_out(link)?;
-            if !is_full {
-                return Ok(());
-            }
-            self.pump()?;
+    fn take(&mut self, piece: &[u8]) -> Result<Heard, LinkError> {
+        let heard = hear(
+            self.alloc,
+            &mut self.client,
+            self.id,
+            &mut self.coming,
+            piece,
+        )?;
+        if let Next::Whole = heard.next {
+            self.whole = true;
+            return Ok(heard);
         }
-        Err(LinkError::NoProgress)
+        Ok(heard)
+    }
+
+    fn act(&mut self, _due: Next) -> Result<(), LinkError> {
+        Ok(())
+    }
+
+    fn pump(&mut self) -> Result<usize, EndRefusal> {
+        self.client.pump()
+    }
+
+    fn release_all(&mut self) -> Result<(), EndRefusal> {
+        self.client.release_all()
+    }
+
+    fn give_out(&mut self, count: usize, out: &mut Vec<u8>) -> Result<usize, Refusal> {
+        self.client.put_out(count, out)
     }
 }
 
@@ -281,26 +262,37 @@ pub(crate) fn hear(
     match client.take(piece) {
         Ok(taken) => {
             let used = taken.used;
-            let next = match taken.event {
-                None if used < piece.len() => Fetching::Again,
-                None => Fetching::Done,
+            match taken.event {
+                None if used < piece.len() => Ok(Heard {
+                    used,
+                    next: Next::Again,
+                }),
+                None => Ok(Heard {
+                    used,
+                    next: Next::Done,
+                }),
                 Some(
                     EndEvent::Reset {
                         id: stream,
                         code,
                         ..
                     },
-                ) if stream == id => return Err(LinkError::Reset(code)),
+                ) if stream == id => Err(LinkError::Reset(code)),
                 Some(EndEvent::Unprocessed { id: stream }) if stream == id => {
-                    return Err(LinkError::Reset(REFUSED_STREAM));
+                    Err(LinkError::Reset(REFUSED_STREAM))
                 }
                 Some(event) => match coming.note(alloc, id, event) {
-                    Ok(true) => Fetching::Whole,
-                    Ok(false) => Fetching::Again,
-                    Err(_) => return Err(LinkError::Memory),
+                    Ok(true) => Ok(Heard {
+                        used,
+                        next: Next::Whole,
+                    }),
+                    Ok(false) => Ok(Heard {
+                        used,
+                        next: Next::Again,
+                    }),
+                    Err(_) => Err(LinkError::Memory),
                 },
-            };
-            Ok(Heard { used, next })
+            }
         }
         Err(fault) => Err(error_of_code(fault.code)),
     }

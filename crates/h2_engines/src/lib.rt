@@ -9,10 +9,10 @@ mod copies;
 mod errors;
 mod fetch;
 mod fetcher;
+mod machine;
 mod request;
 mod responder;
 mod serve;
-mod without_link;
 
 pub use fetch::fetch_link;
 pub use fetcher::{Fetched, Fetcher};

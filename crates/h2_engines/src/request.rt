@@ -32,6 +32,8 @@ pub(crate) enum Next {
     Again,
     /// All octets were used, and nothing is handed out.
     Done,
+    /// A response is whole.
+    Whole,
     /// A request is whole: it is to be answered.
     Answer { id: u32, request: Request },
     /// A request is too large: its stream is to be reset.

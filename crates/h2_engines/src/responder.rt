@@ -1,27 +1,24 @@
 //! A server that answers each whole request with what it asked.
 
-ghost use Rattle.std.specs.Prelude.{◌≡◌, ◌≤◌, ◌<◌, ◌-◌, ◌^◌, [], IfOk, IfErr, length};
+ghost use Rattle.std.specs.Prelude.{◌≡◌, ◌≤◌, ◌<◌, ◌^◌, [], IfOk, IfErr, length, true};
 ghost use Rattle.h2_config.specs.ConfigValues.{values_of};
 ghost use Rattle.h2_log.specs.declared.role.Role.TheVariants as roles;
 ghost use Rattle.h2_ends.specs.Represents.{EndRepresents, new_end};
 ghost use Rattle.h2_engines.specs.Answers.{answer_with};
-ghost use Rattle.h2_engines.specs.Failures.{EndsWriting, IsOfCall, IsOfServer};
-ghost use Rattle.h2_engines.specs.Failures.{failures_at_end};
-ghost use Rattle.h2_engines.specs.Linked.{traffic};
+ghost use Rattle.h2_engines.specs.Failures.{IsOfCall, IsOfServer};
+ghost use Rattle.h2_engines.specs.Machines.{Serving};
 ghost use Rattle.h2_engines.specs.ServerSteps.{ServerAnswers, ServerFinishes, ServerHears};
-ghost use Rattle.h2_engines.specs.ServerSteps.{ServerResets, ServerSends, ServerWrites, PumpsSome};
-ghost use Rattle.h2_engines.specs.ServerSteps.{ReleasesSome};
-ghost use Rattle.h2_engines.specs.ServerSteps.{counted_answer};
-ghost use Rattle.h2_engines.specs.WithoutLink.{IsServingAlone};
+ghost use Rattle.h2_engines.specs.ServerSteps.{ServerResets, counted_answer};
+ghost use Rattle.h2_engines.specs.WithoutLink.{IsServingAlone, ServerPutsOut, ServerTakesIn};
 
+use crate::copies::no_link;
 use crate::errors::{error_of_code, error_of_refusal};
+use crate::machine::{Heard, Machine, put_out, take_all};
 use crate::request::{Next, Request, Requests};
+use h2_conn::Conn;
 use h2_ends::{Config, EndRefusal, Refusal, Server};
-use h2_link::{Link, LinkError, write_all};
+use h2_link::LinkError;
 use std::alloc::Global;
-
-/// So much output waits that the connection takes no more (own).
-const FULL_OUTPUT: usize = 65_536;
 
 /// A server that answers each whole request with its method, a space, its path, a line end and its
 /// body. An answer to HEAD has neither body nor `content-length`. A stream whose request has a body
@@ -33,17 +30,6 @@ pub struct Responder {
     pub(crate) requests: Requests,
     /// How many requests were answered.
     pub(crate) answered: u32,
-    /// Room for output.
-    pub(crate) output: Vec<u8>,
-}
-
-/// What a call of `take` made of a piece.
-#[derive(Drop)]
-pub(crate) struct Heard {
-    /// So many octets were used.
-    pub(crate) used: usize,
-    /// What is to be done.
-    pub(crate) next: Next,
 }
 
 impl Responder {
@@ -69,7 +55,6 @@ impl Responder {
             server,
             requests: Requests::new(alloc),
             answered: 0,
-            output: Vec::new(alloc),
         })
     }
 
@@ -141,76 +126,36 @@ impl Responder {
         }
     }
 
-    /// Gives back all that is owed. What a full output holds back is given back later.
-    pub(crate) fn release(&mut self) -> Result<(), LinkError>
-        ensures releases { ReleasesSome self.old.server.end self.new.server.end result }
-        ensures answered { self.new.answered ≡ self.old.answered }
-        ensures requests { self.new.requests ≡ self.old.requests }
-        ensures err { IfErr result IsOfCall }
+    /// Takes all octets of a piece, and answers the requests that are whole with them.
+    ///
+    /// # Errors
+    ///
+    /// N2 where the connection failed, whose GOAWAY waits, or where no stream can be reset any
+    /// more, with 11; N3 where an allocation was refused; N5 where so much output waits that a
+    /// request can't be answered, and after 2^64 - 1 rounds or 2^32 - 1 answers.
+    pub fn take_in(&mut self, piece: &[u8]) -> Result<(), LinkError>
+        ensures takes { ServerTakesIn self.old self.new piece.now result }
+        ensures err { IfErr result IsOfServer }
     {
-        match self.server.release_all() {
-            Ok(()) | Err(EndRefusal::Conn(Refusal::OutputFull)) => Ok(()),
-            Err(refusal) => Err(error_of_refusal(refusal)),
-        }
+        let mut link = no_link(self.alloc);
+        take_all(self, &mut link, false, piece)?;
+        Ok(())
     }
 
-    /// Sends what waits of answers, as windows allow.
-    pub(crate) fn pump(&mut self) -> Result<(), LinkError>
-        ensures pumps { PumpsSome self.old.server.end self.new.server.end result }
+    /// Gives back all that is owed, sends what waits of answers as windows allow, and appends at
+    /// most `count` octets of the output to `out`: fewer only where no more wait. Answers how many.
+    /// Once the connection has failed it puts out what waits, GOAWAY last.
+    ///
+    /// # Errors
+    ///
+    /// N3 where an allocation was refused; then nothing is appended.
+    pub fn put_out(&mut self, count: usize, out: &mut Vec<u8>) -> Result<usize, LinkError>
+        ensures puts { ServerPutsOut self.old self.new count out.old.items out.new.items result }
         ensures answered { self.new.answered ≡ self.old.answered }
         ensures requests { self.new.requests ≡ self.old.requests }
-        ensures err { IfErr result IsOfCall }
+        ensures err { IfErr result IsOfServer }
     {
-        match self.server.pump() {
-            Ok(_) => Ok(()),
-            Err(refusal) => Err(error_of_refusal(refusal)),
-        }
-    }
-
-    /// Writes all output that waits.
-    pub(crate) fn write_out<L: Link>(&mut self, link: &mut L) -> Result<(), LinkError>
-        requires { L.faults link.old < 2 ^ 64 - 1 }
-        ensures writes { ServerWrites
-            (traffic (L.given link.old) (L.taken link.old) (L.stalled link.old))
-            (traffic (L.given link.new) (L.taken link.new) (L.stalled link.new))
-            self.old.server.end self.new.server.end result }
-        ensures answered { self.new.answered ≡ self.old.answered }
-        ensures requests { self.new.requests ≡ self.old.requests }
-        ensures failures { L.faults link.new ≡ failures_at_end (L.faults link.old) result }
-        ensures err { IfErr result EndsWriting }
-    {
-        for _ in 0..u64::MAX {
-            self.output.clear();
-            match self.server.put_out(usize::MAX, &mut self.output) {
-                Ok(0) => return Ok(()),
-                Ok(_) => write_all(link, &self.output)?,
-                Err(refusal) => return Err(error_of_refusal(EndRefusal::Conn(refusal))),
-            }
-        }
-        Err(LinkError::NoProgress)
-    }
-
-    /// Writes all that waits, and what more can be sent where the output was full.
-    pub(crate) fn send<L: Link>(&mut self, link: &mut L) -> Result<(), LinkError>
-        requires { L.faults link.old < 2 ^ 64 - 1 }
-        ensures writes { ServerSends
-            (traffic (L.given link.old) (L.taken link.old) (L.stalled link.old))
-            (traffic (L.given link.new) (L.taken link.new) (L.stalled link.new))
-            self.old.server.end self.new.server.end result }
-        ensures answered { self.new.answered ≡ self.old.answered }
-        ensures requests { self.new.requests ≡ self.old.requests }
-        ensures failures { L.faults link.new ≡ failures_at_end (L.faults link.old) result }
-        ensures err { IfErr result EndsWriting }
-    {
-        for _ in 0..u64::MAX {
-            let is_full = self.server.conn().waiting() >= FULL_OUTPUT;
-            self.write_out(link)?;
-            if !is_full {
-                return Ok(());
-            }
-            self.pump()?;
-        }
-        Err(LinkError::NoProgress)
+        put_out(self, count, out)
     }
 
     /// How many requests were answered, once the input has ended.
@@ -219,7 +164,8 @@ impl Responder {
     ///
     /// N4 where it has ended inside the preface or a frame, or a stream is active.
     pub(crate) fn finish(&self) -> Result<u32, LinkError>
-        ensures { ServerFinishes self.now.server.end self.now.answered result }
+        ensures finishes { ServerFinishes self.now.server.end self.now.answered result }
+        ensures err { IfErr result (λ error. error ≡ LinkError.CutOff) }
     {
         let conn = self.server.conn();
         if conn.held() > 0 || conn.next_live(0).is_some() {
@@ -231,3 +177,44 @@ impl Responder {
 
 /// ENHANCE_YOUR_CALM (RFC 9113, section 7).
 const ENHANCE_YOUR_CALM: u32 = 11;
+
+impl Machine for Responder {
+    ghost held = { λ responder. record {
+      end = responder.server.end;
+      kept = Serving responder.requests responder.answered;
+    } };
+
+    ghost serves = { true };
+
+    fn alloc(&self) -> Global {
+        self.alloc
+    }
+
+    fn conn(&self) -> &Conn {
+        self.server.conn()
+    }
+
+    fn take(&mut self, piece: &[u8]) -> Result<Heard, LinkError> {
+        self.hear(piece)
+    }
+
+    fn act(&mut self, due: Next) -> Result<(), LinkError> {
+        match due {
+            Next::Answer { id, request } => self.answer(id, request),
+            Next::Reset { id } => self.reset(id),
+            _ => Ok(()),
+        }
+    }
+
+    fn pump(&mut self) -> Result<usize, EndRefusal> {
+        self.server.pump()
+    }
+
+    fn release_all(&mut self) -> Result<(), EndRefusal> {
+        self.server.release_all()
+    }
+
+    fn give_out(&mut self, count: usize, out: &mut Vec<u8>) -> Result<usize, Refusal> {
+        self.server.put_out(count, out)
+    }
+}

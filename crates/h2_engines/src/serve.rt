@@ -5,10 +5,8 @@ ghost use Rattle.h2_config.specs.ConfigValues.{values_of};
 ghost use Rattle.h2_engines.specs.Failures.{CutsOffAtEnd, EndsServing, failures_at_end};
 ghost use Rattle.h2_engines.specs.Linked.{traffic};
 ghost use Rattle.h2_engines.specs.Serves.{Serves};
-ghost use Rattle.h2_engines.specs.ServerSteps.{ServerReceives};
 
-use crate::copies::room_for_input;
-use crate::request::Next;
+use crate::machine::drive;
 use crate::responder::Responder;
 use h2_ends::Config;
 use h2_link::{Link, LinkError};
@@ -37,56 +35,6 @@ pub fn serve_link<L: Link>(alloc: Global, link: &mut L, config: Config) -> Resul
     ensures err { IfErr result EndsServing }
 {
     let mut responder = Responder::new(alloc, config)?;
-    let mut input = room_for_input(alloc)?;
-    for _ in 0..u64::MAX {
-        responder.send(link)?;
-        match link.read(&mut input) {
-            Ok(0) => return responder.finish(),
-            Ok(count) => responder.receive(link, &input[..count])?,
-            Err(_) => return Err(LinkError::Device),
-        }
-        responder.release()?;
-        responder.pump()?;
-    }
-    Err(LinkError::NoProgress)
-}
-
-impl Responder {
-    /// Takes octets, and answers the requests that are whole. All that waits is written before each
-    /// answer and each reset, and where the octets end the connection: its GOAWAY goes last.
-    fn receive<L: Link>(&mut self, link: &mut L, piece: &[u8]) -> Result<(), LinkError>
-        requires { L.faults link.old < 2 ^ 64 - 1 }
-        ensures receives { ServerReceives
-            (traffic (L.given link.old) (L.taken link.old) (L.stalled link.old))
-            (traffic (L.given link.new) (L.taken link.new) (L.stalled link.new))
-            self.old self.new piece.now result }
-        ensures failures { L.faults link.new ≡ failures_at_end (L.faults link.old) result }
-        ensures err { IfErr result EndsServing }
-    {
-        let mut used = 0usize;
-        for _ in 0..u64::MAX {
-            match self.hear(&piece[used..]) {
-                Ok(heard) => {
-                    used += heard.used;
-                    match heard.next {
-                        Next::Again => {}
-                        Next::Done => return Ok(()),
-                        Next::Answer { id, request } => {
-                            self.write_out(link)?;
-                            self.answer(id, request)?;
-                        }
-                        Next::Reset { id } => {
-                            self.write_out(link)?;
-                            self.reset(id)?;
-                        }
-                    }
-                }
-                Err(error) => {
-                    self.write_out(link)?;
-                    return Err(error);
-                }
-            }
-        }
-        Err(LinkError::NoProgress)
-    }
+    drive(&mut responder, link)?;
+    responder.finish()
 }

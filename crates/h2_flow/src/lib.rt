@@ -5,8 +5,6 @@
 mod fault;
 mod settings;
 mod stream_state;
-#[cfg(test)]
-mod tests;
 mod window;
 
 pub use fault::{BadSetting, Closed, Exceeded, Overflow};

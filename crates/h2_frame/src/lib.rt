@@ -18,8 +18,6 @@ mod owned;
 mod pairs;
 mod payload;
 mod reading;
-#[cfg(test)]
-mod tests;
 mod writing;
 
 pub use code::Code;

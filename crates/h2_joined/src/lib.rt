@@ -14,8 +14,6 @@ mod laws;
 mod octets;
 mod pipe;
 mod running;
-#[cfg(test)]
-mod tests;
 
 pub use act::{Acted, JointAct, Side};
 pub use h2_ends::{

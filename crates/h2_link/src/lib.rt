@@ -4,8 +4,6 @@
 mod error;
 mod link;
 mod memory;
-#[cfg(test)]
-mod tests;
 mod writing;
 
 pub use error::LinkError;

@@ -2,7 +2,5 @@
 #![tactic(auto)]
 
 mod location;
-#[cfg(test)]
-mod tests;
 
 pub use location::{Location, TargetFault, target};

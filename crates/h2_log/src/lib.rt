@@ -8,8 +8,6 @@
 mod refusal;
 mod role;
 mod streams;
-#[cfg(test)]
-mod tests;
 
 pub use refusal::Refusal;
 pub use role::Role;

@@ -7,8 +7,6 @@ mod origins;
 mod output;
 mod states;
 mod tables;
-#[cfg(test)]
-mod tests;
 mod turns;
 mod windows;
 

@@ -6,8 +6,6 @@
 mod answers;
 mod bounds;
 mod machine;
-#[cfg(test)]
-mod tests;
 mod windows;
 
 pub use answers::{frames_are_taken_alike, machines_answer_alike};

@@ -61,25 +61,30 @@ pub(crate) fn cut_rounds(
 }
 
 fn cut_round(alloc: Global, octets: &[u8], piece: usize, counts: &mut Counts) -> Result<(), Stop> {
+    let decoder = Decoder::new(alloc, 4_096)?;
     let mut reader = Reader {
         cutter: Cutter::new(alloc, 16_384, true),
         gather: Gather::new(alloc),
-        decoder: Decoder::new(alloc, 4_096)?,
+        decoder,
         list: FieldList::new(alloc),
     };
-    let mut uncut = octets;
-    for _ in 0..octets.len() {
-        if uncut.is_empty() {
-            break;
-        }
-        let (one, following) = uncut.split_at_checked(piece).unwrap_or((uncut, &[]));
-        uncut = following;
-        reader.take_piece(one, counts)?;
-    }
-    Ok(())
+    reader.take_all(octets, piece, counts)
 }
 
 impl Reader {
+    fn take_all(&mut self, octets: &[u8], piece: usize, counts: &mut Counts) -> Result<(), Stop> {
+        let mut uncut = octets;
+        for _ in 0..octets.len() {
+            if uncut.is_empty() {
+                break;
+            }
+            let (one, following) = uncut.split_at_checked(piece).unwrap_or((uncut, &[]));
+            uncut = following;
+            self.take_piece(one, counts)?;
+        }
+        Ok(())
+    }
+
     fn take_piece(&mut self, piece: &[u8], counts: &mut Counts) -> Result<(), Stop> {
         let mut used = 0;
         for _ in 0..piece.len() {

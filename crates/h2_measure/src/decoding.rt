@@ -20,21 +20,31 @@ pub(crate) fn decode_rounds(alloc: Global, blocks: &[u8], rounds: u32, counts: &
 
 fn decode_round(alloc: Global, blocks: &[u8], counts: &mut Counts) -> Result<(), Fault> {
     let mut decoder = Decoder::new(alloc, MAXIMUM)?;
+    decode_blocks(&mut decoder, blocks, counts)
+}
+
+fn decode_blocks(decoder: &mut Decoder, blocks: &[u8], counts: &mut Counts) -> Result<(), Fault> {
     let mut unread = blocks;
     for _ in 0..blocks.len() {
         let Some((block, following)) = text(unread) else {
             break;
         };
         unread = following;
-        if let List::Whole(fields) = decoder.decode(block, u32::MAX)? {
-            for field in &fields {
-                counts.add_one();
-                counts.add_octets(field.name.as_slice().len());
-                counts.add_octets(field.value.as_slice().len());
-            }
-        }
+        let list = decoder.decode(block, u32::MAX)?;
+        count_fields(&list, counts);
     }
     Ok(())
+}
+
+/// Counts the fields of a list, and their octets.
+fn count_fields(list: &List, counts: &mut Counts) {
+    if let List::Whole(fields) = list {
+        for field in fields {
+            counts.add_one();
+            counts.add_octets(field.name.as_slice().len());
+            counts.add_octets(field.value.as_slice().len());
+        }
+    }
 }
 
 /// Decodes the blocks so many times, into a list that is kept.
@@ -60,6 +70,15 @@ fn decode_into_round(
     counts: &mut Counts,
 ) -> Result<(), Fault> {
     let mut decoder = Decoder::new(alloc, MAXIMUM)?;
+    decode_blocks_into(&mut decoder, blocks, list, counts)
+}
+
+fn decode_blocks_into(
+    decoder: &mut Decoder,
+    blocks: &[u8],
+    list: &mut FieldList,
+    counts: &mut Counts,
+) -> Result<(), Fault> {
     let mut unread = blocks;
     for _ in 0..blocks.len() {
         let Some((block, following)) = text(unread) else {
@@ -67,14 +86,19 @@ fn decode_into_round(
         };
         unread = following;
         if let Decoded::Whole = decoder.decode_into(block, u32::MAX, list)? {
-            for place in 0..list.len() {
-                if let Some(field) = list.get(place) {
-                    counts.add_one();
-                    counts.add_octets(field.name.len());
-                    counts.add_octets(field.value.len());
-                }
-            }
+            count_list(list, counts);
         }
     }
     Ok(())
+}
+
+/// Counts the fields of a list that is kept, and their octets.
+fn count_list(list: &FieldList, counts: &mut Counts) {
+    for place in 0..list.len() {
+        if let Some(field) = list.get(place) {
+            counts.add_one();
+            counts.add_octets(field.name.len());
+            counts.add_octets(field.value.len());
+        }
+    }
 }

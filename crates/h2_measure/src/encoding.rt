@@ -23,14 +23,18 @@ struct Encodable {
 
 /// Encodes the lists so many times.
 pub(crate) fn encode_rounds(alloc: Global, lists: &[u8], rounds: u32, counts: &mut Counts) -> i32 {
-    let Ok(lists) = read_lists(alloc, lists) else {
-        return 1;
-    };
+    match read_lists(alloc, lists) {
+        Ok(lists) => encode_lists(alloc, &lists, rounds, counts),
+        Err(_) => 1,
+    }
+}
+
+fn encode_lists(alloc: Global, lists: &[Encodable], rounds: u32, counts: &mut Counts) -> i32 {
     let Ok(mut block) = Vec::with_capacity(alloc, BLOCK_ROOM) else {
         return 1;
     };
     for _ in 0..rounds {
-        if encode_round(alloc, &lists, &mut block, counts).is_err() {
+        if encode_round(alloc, lists, &mut block, counts).is_err() {
             return 1;
         }
     }
@@ -44,6 +48,15 @@ fn encode_round(
     counts: &mut Counts,
 ) -> Result<(), Fault> {
     let mut encoder = Encoder::new(alloc, MAXIMUM)?;
+    encode_each(&mut encoder, lists, block, counts)
+}
+
+fn encode_each(
+    encoder: &mut Encoder,
+    lists: &[Encodable],
+    block: &mut Vec<u8>,
+    counts: &mut Counts,
+) -> Result<(), Fault> {
     for list in lists {
         block.clear();
         encoder.encode(list.fields.as_slice(), block)?;
@@ -70,26 +83,45 @@ pub(crate) fn write_blocks(alloc: Global, lists: &[u8], blocks: &mut [u8]) -> us
 fn encode_all(alloc: Global, lists: &[u8]) -> Result<Vec<u8>, Fault> {
     let lists = read_lists(alloc, lists)?;
     let mut encoder = Encoder::new(alloc, MAXIMUM)?;
-    let mut block = Vec::new(alloc);
+    encode_blocks(alloc, &mut encoder, &lists)
+}
+
+fn encode_blocks(
+    alloc: Global,
+    encoder: &mut Encoder,
+    lists: &[Encodable],
+) -> Result<Vec<u8>, Fault> {
     let mut octets = Vec::new(alloc);
-    for list in &lists {
-        block.clear();
-        encoder.encode(list.fields.as_slice(), &mut block)?;
-        let size = (block.len() as u64).to_be_bytes();
-        octets.extend_from_slice(&size[4..])?;
-        octets.extend_from_slice(&block)?;
+    for list in lists {
+        add_block(alloc, encoder, list, &mut octets)?;
     }
     Ok(octets)
+}
+
+/// Adds the size of a list's block, and the block.
+fn add_block(
+    alloc: Global,
+    encoder: &mut Encoder,
+    list: &Encodable,
+    octets: &mut Vec<u8>,
+) -> Result<(), Fault> {
+    let mut block = Vec::new(alloc);
+    encoder.encode(list.fields.as_slice(), &mut block)?;
+    let size = (block.len() as u64).to_be_bytes();
+    octets.extend_from_slice(&size[4..])?;
+    octets.extend_from_slice(&block)?;
+    Ok(())
 }
 
 fn read_lists(alloc: Global, lists: &[u8]) -> Result<Vec<Encodable>, Fault> {
     let mut all = Vec::new(alloc);
     let mut unread = lists;
     for _ in 0..lists.len() {
-        let Some((fields, following)) = read_list(alloc, unread)? else {
+        let Some((count, following)) = number(unread) else {
             break;
         };
-        unread = following;
+        let mut fields = Vec::new(alloc);
+        unread = read_fields(alloc, count, following, &mut fields)?;
         if list_size(&fields) >= 1 << 35 {
             break;
         }
@@ -98,12 +130,14 @@ fn read_lists(alloc: Global, lists: &[u8]) -> Result<Vec<Encodable>, Fault> {
     Ok(all)
 }
 
-fn read_list(alloc: Global, octets: &[u8]) -> Result<Option<(Vec<Field>, &[u8])>, Fault> {
-    let Some((count, following)) = number(octets) else {
-        return Ok(None);
-    };
-    let mut fields = Vec::new(alloc);
-    let mut unread = following;
+/// Adds so many fields, and answers what follows them.
+fn read_fields<'a>(
+    alloc: Global,
+    count: u32,
+    octets: &'a [u8],
+    fields: &mut Vec<Field>,
+) -> Result<&'a [u8], Fault> {
+    let mut unread = octets;
     for _ in 0..count {
         let Some((name, after_name)) = text(unread) else {
             break;
@@ -114,5 +148,5 @@ fn read_list(alloc: Global, octets: &[u8]) -> Result<Option<(Vec<Field>, &[u8])>
         unread = following;
         fields.push(Field::copy_of(alloc, name, value, false)?)?;
     }
-    Ok(Some((fields, unread)))
+    Ok(unread)
 }

@@ -1,16 +1,12 @@
 //! The calls of `bench/measure.h` over the crates, for a driver in C (see `bench/README.md`).
 #![tactic(auto)]
 
-mod client;
 mod counts;
 mod cutting;
 mod decoding;
 mod encoding;
 mod input;
-mod server;
 mod serving;
-#[cfg(test)]
-mod tests;
 
 use counts::Counts;
 use std::alloc::Global;
@@ -83,7 +79,7 @@ pub extern "C" fn measure_serve(
 pub extern "C" fn measure_server(alloc: Global, octets: &[u8], counts: &mut Counts) -> i32 {
     let mut from = octets;
     let mut to = Vec::new(alloc);
-    let served = server::serve(alloc, &mut from, &mut to);
+    let served = h2_uses::serve(alloc, &mut from, &mut to);
     counts.add_octets(to.len());
     if served.is_err() { 1 } else { 0 }
 }
@@ -94,7 +90,7 @@ pub extern "C" fn measure_server(alloc: Global, octets: &[u8], counts: &mut Coun
 pub extern "C" fn measure_client(alloc: Global, octets: &[u8], counts: &mut Counts) -> i32 {
     let mut from = octets;
     let mut to = Vec::new(alloc);
-    match client::get(alloc, &mut from, &mut to) {
+    match h2_uses::get(alloc, &mut from, &mut to) {
         Ok(response) if response.end => {
             counts.add_octets(response.body.len());
             0

@@ -11,6 +11,13 @@ const BODY: usize = 1_000;
 /// Room for the output of a piece.
 const OUTPUT_ROOM: usize = 1 << 18;
 
+/// The fields of each answer.
+const HEAD: [(&[u8], &[u8]); 3] = [
+    (b":status", b"200"),
+    (b"content-type", b"text/plain"),
+    (b"content-length", b"1000"),
+];
+
 /// An allocation of so many octets shows the driver when to look at what is held.
 const MARK: usize = 0x00BE_1C0E;
 
@@ -69,22 +76,14 @@ pub(crate) fn serve_octets(alloc: Global, octets: &[u8], piece: usize, counts: &
 
 fn serve(alloc: Global, octets: &[u8], piece: usize, counts: &mut Counts) -> Result<(), Stop> {
     let mut answers = Answers::new(alloc)?;
+    answers.serve(alloc, octets, piece, counts)
+}
+
+/// A server's end.
+fn new_conn(alloc: Global) -> Result<Box<Conn>, Stop> {
     let config = Config::new(4_096, 65_535, 1_000)?;
-    mark(alloc)?;
-    let Ok(mut conn) = Box::new(alloc, Conn::server(alloc, config)?) else {
-        return Err(Stop::Memory);
-    };
-    let mut unserved = octets;
-    for _ in 0..octets.len() {
-        if unserved.is_empty() {
-            break;
-        }
-        let (one, following) = unserved.split_at_checked(piece).unwrap_or((unserved, &[]));
-        unserved = following;
-        answers.take_piece(&mut conn, one, counts)?;
-    }
-    mark(alloc)?;
-    Ok(())
+    let conn = Conn::server(alloc, config)?;
+    Box::new(alloc, conn).map_err(|_| Stop::Memory)
 }
 
 /// Shows the driver when to look.
@@ -93,17 +92,55 @@ fn mark(alloc: Global) -> Result<(), AllocError> {
     Ok(())
 }
 
+/// Those fields, owned.
+fn answer_head(alloc: Global) -> Result<Vec<Field>, AllocError> {
+    let mut head = Vec::new(alloc);
+    for (name, value) in HEAD {
+        head.push(Field::copy_of(alloc, name, value, false)?)?;
+    }
+    Ok(head)
+}
+
 impl Answers {
     fn new(alloc: Global) -> Result<Answers, AllocError> {
-        let mut head = Vec::new(alloc);
-        head.push(Field::copy_of(alloc, b":status", b"200", false)?)?;
-        head.push(Field::copy_of(alloc, b"content-type", b"text/plain", false)?)?;
-        head.push(Field::copy_of(alloc, b"content-length", b"1000", false)?)?;
-        Ok(Answers {
-            head,
-            body: vec![in alloc; 0x61u8; BODY]?,
-            output: Vec::with_capacity(alloc, OUTPUT_ROOM)?,
-        })
+        let body = vec![in alloc; 0x61u8; BODY]?;
+        let output = Vec::with_capacity(alloc, OUTPUT_ROOM)?;
+        let head = answer_head(alloc)?;
+        Ok(Answers { head, body, output })
+    }
+
+    /// Serves the octets at a new end. The driver looks before it is made, and at last.
+    fn serve(
+        &mut self,
+        alloc: Global,
+        octets: &[u8],
+        piece: usize,
+        counts: &mut Counts,
+    ) -> Result<(), Stop> {
+        mark(alloc)?;
+        let mut conn = new_conn(alloc)?;
+        self.take_all(alloc, &mut conn, octets, piece, counts)
+    }
+
+    fn take_all(
+        &mut self,
+        alloc: Global,
+        conn: &mut Conn,
+        octets: &[u8],
+        piece: usize,
+        counts: &mut Counts,
+    ) -> Result<(), Stop> {
+        let mut unserved = octets;
+        for _ in 0..octets.len() {
+            if unserved.is_empty() {
+                break;
+            }
+            let (one, following) = unserved.split_at_checked(piece).unwrap_or((unserved, &[]));
+            unserved = following;
+            self.take_piece(conn, one, counts)?;
+        }
+        mark(alloc)?;
+        Ok(())
     }
 
     /// Takes a piece, answers the requests that end in it, and puts out.
@@ -123,15 +160,28 @@ impl Answers {
             match taken.event {
                 Some(Event::Fields { id, end: true, .. }) => self.answer(conn, id, counts)?,
                 Some(Event::Data { id, flow, end, .. }) => {
-                    conn.release(id, flow)?;
-                    if end {
-                        self.answer(conn, id, counts)?;
-                    }
+                    self.take_data(conn, id, flow, end, counts)?;
                 }
                 _ => {}
             }
         }
         self.put_out(conn, counts)
+    }
+
+    /// Releases what DATA has taken, and answers the request that it ends.
+    fn take_data(
+        &mut self,
+        conn: &mut Conn,
+        id: u32,
+        flow: u32,
+        end: bool,
+        counts: &mut Counts,
+    ) -> Result<(), Stop> {
+        conn.release(id, flow)?;
+        if end {
+            self.answer(conn, id, counts)?;
+        }
+        Ok(())
     }
 
     /// Answers a request, and puts the answer out.

@@ -16,8 +16,6 @@ mod message;
 mod octets;
 mod reading;
 mod scan;
-#[cfg(test)]
-mod tests;
 mod verdict;
 
 pub use checks::{check_request, check_response};

@@ -5,7 +5,5 @@
 mod data_head;
 mod last_frame;
 mod output;
-#[cfg(test)]
-mod tests;
 
 pub use output::Output;

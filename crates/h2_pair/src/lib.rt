@@ -7,8 +7,6 @@ mod faults;
 mod heard;
 mod steps;
 mod tables;
-#[cfg(test)]
-mod tests;
 mod windows;
 
 pub use carried::{all_arrives, items_are_carried, logs_of_a_pair, octets_are_carried};

@@ -11,8 +11,6 @@ mod events;
 mod laws;
 mod run;
 mod taking;
-#[cfg(test)]
-mod tests;
 mod turns;
 mod waiting;
 

@@ -15,8 +15,6 @@ mod lines;
 mod options;
 mod show;
 mod status;
-#[cfg(test)]
-mod tests;
 mod viewer;
 
 pub use failure::Failure;

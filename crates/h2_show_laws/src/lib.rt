@@ -9,9 +9,6 @@ ghost use Rattle.h2_show.specs.declared.status.Status.TheVariants.{Good, Fault};
 ghost use Rattle.h2_show.specs.Report.{StatusReports, StatusReportsInput};
 ghost use Rattle.h2_show.specs.Shown.{Shows, ShowsInput};
 
-#[cfg(test)]
-mod tests;
-
 /// A stream has one output and one status: they are determined by its octets.
 pub fn one_output()
     ensures { (expects : Bool) (limits : Limits) (stream : List ℕ) (status other : Status)

@@ -8,8 +8,6 @@ mod ending;
 mod get;
 mod loopback;
 mod serving;
-#[cfg(test)]
-mod tests;
 
 pub use ending::{report, status_of};
 pub use get::{get_location, get_over, phrase, print_response};

@@ -12,9 +12,6 @@ ghost use Rattle.h2_wire.specs.Streams.{Limits, Frames, WireFaultAt};
 ghost use Rattle.h2_block.specs.declared.fault.BlockFault.{BlockFault};
 ghost use Rattle.h2_block.specs.Grouping.{Item, Begun, Groups, GroupingFaultAt};
 
-#[cfg(test)]
-mod tests;
-
 /// Octets that encode a frame have no fault: neither their head, whose form is checked whatever the
 /// limit is, nor their payload.
 pub fn frames_have_no_fault()

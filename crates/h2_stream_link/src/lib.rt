@@ -3,7 +3,5 @@
 
 mod sending;
 mod stream_link;
-#[cfg(test)]
-mod tests;
 
 pub use stream_link::StreamLink;

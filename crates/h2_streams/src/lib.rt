@@ -4,8 +4,6 @@
 
 mod entry;
 mod table;
-#[cfg(test)]
-mod tests;
 
 pub use entry::{Entry, Stream};
 pub use table::StreamTable;

@@ -9,8 +9,6 @@ mod program;
 mod replay;
 mod show;
 mod sockets;
-#[cfg(test)]
-mod tests;
 
 pub use program::{no_words, run};
 pub use replay::cmd_replay;

@@ -13,8 +13,6 @@ mod cutter;
 mod fault;
 mod laws;
 mod preface;
-#[cfg(test)]
-mod tests;
 
 pub use cut::{Advance, Complete, Cut};
 pub use cutter::Cutter;

@@ -10,8 +10,6 @@ mod decode;
 mod encode;
 mod laws;
 mod table;
-#[cfg(test)]
-mod tests;
 mod types;
 
 pub use decode::decoder::Decoder;

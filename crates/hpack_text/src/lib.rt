@@ -10,8 +10,6 @@ mod huffman;
 mod integers;
 mod laws;
 mod strings;
-#[cfg(test)]
-mod tests;
 
 pub use fault::TextFault;
 pub use huffman::{huff_len, huff_read, huff_step, huff_write};

@@ -1,7 +1,7 @@
 -- By the lemmas on what a client hears.
-use Rattle.std.proofs.Common.{refl, ap, arith, false, true}
+use Rattle.std.proofs.Common.{refl, ap, arith, false, true, inl, inr}
 use Rattle.h2_ends.specs.Loans.{event_handed}
-use Rattle.h2_engines.specs.declared.fetcher.Fetching.TheVariants as goes
+use Rattle.h2_engines.specs.declared.request.Next.TheVariants as goes
 use Rattle.h2_engines.proofs.FetcherHears.{heard_nothing, heard_part, heard_error, heard_fault}
 use Rattle.h2_engines.proofs.FetcherHears.{errs_memory, errs_reset, errs_unprocessed}
 use Rattle.h2_engines.proofs.fetcher.hear.Goals as goal
@@ -33,13 +33,13 @@ returns-in-Err-note-clause-hears c =
 pub returns-then-used-piece-clause-hears : goal.returns-then-used-piece-clause-hears
 returns-then-used-piece-clause-hears c =
     heard_nothing c.args.client.now.end c.take.follows.lender-at-none.end c.args.id
-    c.args.coming.now c.args.piece.now c.in-Ok.taken goes.Again (cc) (λ wrong. cc)
+    c.args.coming.now c.args.piece.now c.in-Ok.taken goes.Again (cc) (inl refl)
     (λ done. cc) (rw c.in-Ok.is at c.take.follows.holds-at-none)
 
 pub returns-else-used-piece-clause-hears : goal.returns-else-used-piece-clause-hears
 returns-else-used-piece-clause-hears c =
     heard_nothing c.args.client.now.end c.take.follows.lender-at-none.end c.args.id
-    c.args.coming.now c.args.piece.now c.in-Ok.taken goes.Done (cc) (λ wrong. cc)
+    c.args.coming.now c.args.piece.now c.in-Ok.taken goes.Done (cc) (inr refl)
     (λ done. omega (arith, c.in-Ok.ensures.used, c.if-used-piece.false))
     (rw c.in-Ok.is at c.take.follows.holds-at-none)
 

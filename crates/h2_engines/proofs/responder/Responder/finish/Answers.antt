@@ -7,8 +7,8 @@ use Rattle.h2_engines.proofs.responder.Responder.finish.Goals.{
   then-held-gt0-via-else-held-gt0+then-is_some,
 }
 
-pub returns-then-held-gt0 : goal.returns-then-held-gt0
-returns-then-held-gt0 c values end is =
+pub returns-then-held-gt0-clause-finishes : goal.returns-then-held-gt0-clause-finishes
+returns-then-held-gt0-clause-finishes c values end is =
     elim c.then-held-gt0.branch [
       | then-held-gt0-via-then-held-gt0 w ↦
           let reads = rw c.conn-conn.ensures at c.held.ensures in
@@ -21,8 +21,8 @@ returns-then-held-gt0 c values end is =
           (sym w.is_some.ensures ∙ w.if-is_some.true)
     ]
 
-pub returns : goal.returns
-returns c values end is =
+pub returns-clause-finishes : goal.returns-clause-finishes
+returns-clause-finishes c values end is =
     let holds = rw c.conn-conn.ensures at c.held.ensures in
     let reads = rw c.conn-conn.ensures at c.next_live.ensures.number in
     finishes_at_rest end c.args.self.now.answered c.held.result c.next_live.result

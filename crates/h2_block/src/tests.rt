@@ -1,3 +1,0 @@
-//! Blocks in frames by examples.
-
-mod blocks;

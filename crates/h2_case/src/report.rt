@@ -1,0 +1,87 @@
+//! What is printed of cases.
+
+use crate::case::{Case, CaseError, is_same};
+use std::fmt;
+use std::io::{self, Write};
+
+/// How many cases there are, and how many of them differ.
+#[derive(Clone, Copy, Default)]
+pub struct Counts {
+    cases: u64,
+    differ: u64,
+}
+
+impl Counts {
+    /// The sum of two counts.
+    pub fn and(self, other: Counts) -> Counts {
+        Counts {
+            cases: self.cases.saturating_add(other.cases),
+            differ: self.differ.saturating_add(other.differ),
+        }
+    }
+
+    /// These counts; where there are no cases, one that differs.
+    pub fn or_empty(self) -> Counts {
+        if self.cases == 0 { ONE_DIFFERS } else { self }
+    }
+
+    /// Whether there are cases, and none differs.
+    pub fn is_good(self) -> bool {
+        self.cases > 0 && self.differ == 0
+    }
+}
+
+impl fmt::Display for Counts {
+    fn fmt<W: fmt::Write>(&self, f: &mut fmt::Formatter<W>) -> fmt::Result {
+        write!(f, "{} cases, {} differ", self.cases, self.differ)
+    }
+}
+
+// One case, which differs.
+const ONE_DIFFERS: Counts = Counts {
+    cases: 1,
+    differ: 1,
+};
+
+/// Prints that a file can't be read as cases, which counts as one that differs.
+pub fn report_file<W: Write>(file: &str, out: &mut W) -> io::Result<Counts> {
+    writeln!(
+        out,
+        "{file}: it has no cases, or a line before the first command"
+    )?;
+    Ok(ONE_DIFFERS)
+}
+
+/// Prints where a case differs from its answers, if it does.
+pub fn report_case<W: Write>(
+    file: &str,
+    case: &Case,
+    answers: &[Result<String, CaseError>],
+    out: &mut W,
+) -> io::Result<Counts> {
+    for (place, step) in case.steps.iter().enumerate() {
+        match answers.get(place) {
+            Some(Ok(answer)) if is_same(answer, &step.wanted) => {}
+            found => {
+                writeln!(out, "{file}: case {}", case.name)?;
+                writeln!(out, "> {}", step.command)?;
+                writeln!(out, "wanted:")?;
+                write!(out, "{}", step.wanted)?;
+                writeln!(out, "came:")?;
+                match found {
+                    Some(Ok(answer)) => write!(out, "{answer}")?,
+                    Some(Err(CaseError::Unread)) => writeln!(out, "the command can't be read")?,
+                    _ => writeln!(out, "memory was refused")?,
+                }
+                return Ok(ONE_DIFFERS);
+            }
+        }
+    }
+    if case.steps.is_empty() {
+        return report_file(file, out);
+    }
+    Ok(Counts {
+        cases: 1,
+        differ: 0,
+    })
+}

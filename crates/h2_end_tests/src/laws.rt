@@ -1,0 +1,20 @@
+//! Laws are functions that do nothing: each is called.
+
+use h2_ends::sent_parts_are_readable;
+use h2_message::sent_messages_are_well_read;
+use h2_replay::{
+    calls_of_a_replay, events_of_a_replay, fault_of_a_replay, output_of_a_replay,
+    turns_are_of_the_log, windows_of_a_replay,
+};
+
+#[test]
+fn laws_are_called() {
+    sent_messages_are_well_read();
+    sent_parts_are_readable();
+    turns_are_of_the_log();
+    output_of_a_replay();
+    events_of_a_replay();
+    fault_of_a_replay();
+    calls_of_a_replay();
+    windows_of_a_replay();
+}

@@ -1,0 +1,155 @@
+//! A list of acts that is run, and laws of two joined ends.
+
+use super::acts::acts;
+use h2_joined::{
+    Acted, Code, Config, EndRefusal, Joined, JointAct, JointEvent, Refusal, Side,
+    connection_windows_are_conserved, handed_out_is_a_prefix, header_tables_are_in_step, headline,
+    joined_ends_are_a_pair, no_fault_is_reported, quiet_ends_have_all, run,
+    stream_windows_are_conserved,
+};
+use std::alloc::{AllocError, Global};
+
+/// What is seen of an end.
+type Half = (usize, usize, usize, Option<Code>);
+
+/// How many messages an end has accepted, how much it has handed out, how many octets are on its
+/// pipe, and with what it has failed.
+fn half_of(joined: &Joined, side: Side) -> Half {
+    let conn = match side {
+        Side::Client => joined.client().conn(),
+        Side::Server => joined.server().conn(),
+    };
+    (
+        joined.accepted(side).len(),
+        joined.handed(side).len(),
+        joined.piped(side),
+        conn.failed(),
+    )
+}
+
+/// Whether the acts have done this: the request was handed out whole, and of the response the head.
+fn are_done(joined: &Joined) -> bool {
+    let server = matches!(
+        joined.handed(Side::Server),
+        [JointEvent::Head {
+            id: 1,
+            end: true,
+            ..
+        }]
+    );
+    let client = matches!(
+        joined.handed(Side::Client),
+        [
+            JointEvent::Acked,
+            JointEvent::Head {
+                id: 1,
+                end: false,
+                ..
+            }
+        ]
+    );
+    server
+        && client
+        && half_of(joined, Side::Client) == (1, 2, 5, None)
+        && half_of(joined, Side::Server) == (1, 1, 10, None)
+        && !joined.quiet()
+}
+
+/// Whether two new ends have done the acts.
+fn runs(alloc: Global) -> Result<bool, AllocError> {
+    let acts = acts(alloc)?;
+    let joined = run(alloc, Config::default(), Config::default(), &acts)?;
+    Ok(are_done(&joined))
+}
+
+/// Whether two new ends that do nothing are as new.
+fn runs_nothing(alloc: Global) -> Result<bool, AllocError> {
+    let joined = run(alloc, Config::default(), Config::default(), &[])?;
+    Ok(
+        half_of(&joined, Side::Client) == (0, 0, 0, None)
+            && half_of(&joined, Side::Server) == (0, 0, 0, None),
+    )
+}
+
+/// Whether an act that comes after a failure of its end is answered as it must be: octets that are
+/// delivered to an end that has failed stay on the pipe, and its calls are refused.
+fn is_closed(act: &JointAct, acted: Acted) -> bool {
+    match act {
+        JointAct::Deliver { .. } => acted == Acted::Failed(Code::InternalError),
+        JointAct::Move { .. } => matches!(acted, Acted::Count(_)),
+        JointAct::Respond { .. } => true,
+        _ => acted == Acted::Refused(EndRefusal::Conn(Refusal::Closed)),
+    }
+}
+
+/// Whether an end has failed, and an act of it is answered as it must be then.
+fn makes(joined: &mut Joined, act: &JointAct, side: Side, stopped: &mut bool) -> bool {
+    let before = (half_of(joined, Side::Client), half_of(joined, Side::Server));
+    let failed = half_of(joined, side).3.is_some();
+    let acted = joined.act(act);
+    let after = (half_of(joined, Side::Client), half_of(joined, Side::Server));
+    if *stopped {
+        return acted == Acted::Memory && before == after;
+    }
+    if acted == Acted::Memory && matches!(act, JointAct::Deliver { .. }) {
+        *stopped = true;
+    }
+    let refused = matches!(acted, Acted::Refused(_));
+    (!failed || is_closed(act, acted)) && (!refused || before == after)
+}
+
+/// The end whose act this is.
+fn side_of(act: &JointAct) -> Side {
+    match act {
+        JointAct::Request(_) => Side::Client,
+        JointAct::Respond { .. } => Side::Server,
+        JointAct::Move { from: side, .. }
+        | JointAct::Deliver { to: side, .. }
+        | JointAct::Pump(side)
+        | JointAct::ReleaseAll(side)
+        | JointAct::Reset { side, .. }
+        | JointAct::Ping { side, .. }
+        | JointAct::GoAway(side)
+        | JointAct::ChangeSettings { side, .. } => *side,
+    }
+}
+
+/// Whether two new ends do the acts twice, each of which is answered as it must be once an end has
+/// failed, or once a delivery has found no memory.
+fn plays(alloc: Global) -> Result<bool, AllocError> {
+    let acts = acts(alloc)?;
+    let mut joined = Joined::new(alloc, Config::default(), Config::default())?;
+    let mut stopped = false;
+    let mut holds = true;
+    for act in acts.iter().chain(acts.iter()) {
+        holds = makes(&mut joined, act, side_of(act), &mut stopped) && holds;
+    }
+    Ok(holds)
+}
+
+#[test]
+fn a_list_of_acts(rt: HostRuntime) {
+    assert!(rt; runs(rt.alloc()).unwrap_or(false));
+}
+
+#[test]
+fn no_acts(rt: HostRuntime) {
+    assert!(rt; runs_nothing(rt.alloc()).unwrap_or(false));
+}
+
+#[test]
+fn a_refused_allocation_at_joined_ends(rt: HostRuntime) {
+    assert!(rt; plays(rt.alloc()).unwrap_or(true));
+}
+
+#[test]
+fn laws_are_called() {
+    connection_windows_are_conserved();
+    handed_out_is_a_prefix();
+    header_tables_are_in_step();
+    headline();
+    joined_ends_are_a_pair();
+    no_fault_is_reported();
+    quiet_ends_have_all();
+    stream_windows_are_conserved();
+}

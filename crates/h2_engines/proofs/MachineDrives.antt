@@ -1,0 +1,276 @@
+-- What each round of a machine that is driven over a link makes of it: what waits is written, octets
+-- are read and taken, and credit is returned.
+use Rattle.std.proofs.Common.{◌≡◌, ◌≤◌, ℕ, ◌+◌, ◌-◌, ◌^◌, Bool, true, false, List, [], ◌++◌}
+use Rattle.std.proofs.Common.{length, take, Option, Result, Ok, Err, refl, sym, ap, ◌∙◌, subst}
+use Rattle.std.proofs.Common.{append-nil, inr, arith}
+use Rattle.std.proofs.Math.Seq.{take-append_seam}
+use Rattle.std.specs.Io.KnownBytes.{Appends}
+use Rattle.std.proofs.KnownBytes.{Appends-trans}
+use Rattle.h2_log.specs.Log.{Log}
+use Rattle.h2_pair.specs.Pairs.{given_out}
+use Rattle.h2_ends.specs.Ends.{EndLog}
+use Rattle.h2_link.specs.declared.error.LinkError.{LinkError}
+use Rattle.h2_link.specs.declared.error.LinkError.TheVariants as errors
+use Rattle.h2_link.specs.Links.{ended_after}
+use Rattle.h2_engines.specs.declared.request.Next.TheVariants as nexts
+use Rattle.h2_engines.specs.Failures.{EndsWriting, failures_at_end}
+use Rattle.h2_engines.specs.Linked.{Traffic, IsLinked, HasTakenAll}
+use Rattle.h2_engines.specs.Machines.{Held, Course, Happens, IsDriven, lacks_memory}
+use Rattle.h2_engines.specs.Machines.{link_fails, has_stalled, WritesOut, SendsWhileUp, TakenSo}
+use Rattle.h2_engines.specs.Machines.{Takes, DrivenSo, Drives}
+use Rattle.h2_engines.specs.WithoutLink.{SendsWaiting}
+use Rattle.h2_engines.proofs.MachineLaws.{holds_again, stays_driven, ends_going}
+use Rattle.h2_engines.proofs.MachineTakes.{written_driven, ends_unwritten}
+use Rattle.h2_engines.proofs.WithoutLinkSends.{sends_at, sent_stays, sent_turns, sent_error}
+
+-- What the loop keeps: the machine is driven, these octets weren't used yet, and in each round a
+-- turn has passed at least. What more is to hold at each read and at the end, as that the output is
+-- full or nothing that waits could go, has its place here.
+pub record IsGoing (course : Course) (now : Traffic) (held : Held) (unused : List ℕ)
+    (rounds : ℕ) : Type 0 where
+  pub end : EndLog
+  pub turns : rounds ≤ length end.log.turns
+  pub driven : IsDriven course now held end unused nexts.Again
+
+-- Whatever had happened at first, it goes on now.
+abbrev pub DrivesOn : (before now : Traffic) → (old new : Held) → (unused : List ℕ)
+    → (rounds : ℕ) → Type 0
+DrivesOn before now old new unused rounds =
+    (course : Course) (end : EndLog) → IsDriven course before old end [] nexts.Again
+    → IsGoing course now new unused rounds
+
+-- The same, where the link took the whole output.
+pub record IsSent (course : Course) (now : Traffic) (held : Held) (rounds : ℕ) : Type 0 where
+  pub going : IsGoing course now held [] rounds
+  pub all : HasTakenAll course.start now going.end.log
+
+abbrev pub SentOn : (before now : Traffic) → (old new : Held) → (rounds : ℕ) → Type 0
+SentOn before now old new rounds =
+    (course : Course) (end : EndLog) → IsDriven course before old end [] nexts.Again
+    → IsSent course now new rounds
+
+-- At first it is driven;
+pub drives_first : (now : Traffic) (held : Held) → DrivesOn now now held held [] 0
+drives_first now held course end is = record { end = end; turns = omega arith; driven = is }
+
+-- it ends early where it goes on,
+pub going_ends : (before now : Traffic) (old new : Held) (unused : List ℕ) (rounds : ℕ)
+    (error : LinkError) → error ≡ errors.Memory → DrivesOn before now old new unused rounds
+    → Drives before now old new (Err error)
+unfolding DrivenSo
+going_ends before now old new unused rounds error memory on course end is =
+    let go = on course end is in (
+      go.end,
+      ends_going true course now new go.end unused error go.driven (lacks_memory memory),
+    )
+
+pub no_round : (before now : Traffic) (old new : Held) (unused : List ℕ) (rounds : ℕ)
+    → 2 ^ 64 - 1 ≤ rounds → DrivesOn before now old new unused rounds
+    → Drives before now old new (Err errors.NoProgress)
+unfolding DrivenSo
+no_round before now old new unused rounds all on course end is =
+    let go = on course end is in
+    let out : 2 ^ 64 - 1 ≤ length go.end.log.turns = omega (arith, all, go.turns) in (
+      go.end,
+      ends_going true course now new go.end unused errors.NoProgress go.driven
+          (has_stalled refl (inr out)),
+    )
+
+-- What waits is written,
+pub sent_on : (before middle now : Traffic) (old self new : Held) (rounds : ℕ) (done : Unit {0})
+    → new.kept ≡ self.kept → DrivesOn before middle old self [] rounds
+    → SendsWhileUp middle now self new (Ok done) → SentOn before now old new (rounds + 1)
+sent_on before middle now old self new rounds done kept on sends course end is =
+    let go = on course end is in
+    let wrote : WritesOut (Happens course self.kept) course.values course.start now go.end new.end []
+    (Ok done) = sends course go.end [] go.driven.represents go.driven.happened go.driven.up
+    go.driven.linked in
+    record {
+      going = record {
+        end = wrote.after;
+        turns = omega (arith, go.turns, wrote.turns);
+        driven = written_driven course middle now self new go.end [] nexts.Again done go.driven kept
+            wrote;
+      };
+      all = wrote.taken.taken;
+    }
+
+-- or can't be.
+pub sent_last : (before middle now : Traffic) (old self new : Held) (rounds : ℕ)
+    (error : LinkError) → new.kept ≡ self.kept → DrivesOn before middle old self [] rounds
+    → SendsWhileUp middle now self new (Err error) → EndsWriting error
+    → Drives before now old new (Err error)
+unfolding DrivenSo
+sent_last before middle now old self new rounds error kept on sends writing course end is =
+    let go = on course end is in
+    let wrote : WritesOut (Happens course self.kept) course.values course.start now go.end new.end []
+    (Err error) = sends course go.end [] go.driven.represents go.driven.happened go.driven.up
+    go.driven.linked in (
+      wrote.after,
+      ends_unwritten course now self new go.end [] error kept wrote writing
+          (holds_again course.message self.kept go.end error go.driven.keeps),
+    )
+
+-- The link gives octets, and takes none.
+appends_as : (one two : Option (List ℕ)) (octets is : List ℕ) → octets ≡ is
+    → Appends one two octets → Appends one two is
+appends_as one two octets is same appends = subst (Appends one two) same appends
+
+read_links : (start before now : Traffic) (log : Log) (octets : List ℕ)
+    → IsLinked start before log [] → Appends before.given now.given octets
+    → Appends before.taken now.taken [] → IsLinked start now log octets
+read_links start before now log octets linked gives takes =
+    record {
+      given = appends_as start.given now.given ((log.input ++ []) ++ octets) (log.input ++ octets)
+          (ap (λ (input : List ℕ). input ++ octets) (append-nil log.input))
+          (Appends-trans start.given before.given now.given (log.input ++ []) octets
+          linked.given gives);
+      taken = appends_as start.taken now.taken (given_out log ++ []) (given_out log)
+          (append-nil (given_out log))
+          (Appends-trans start.taken before.taken now.taken (given_out log) [] linked.taken
+          takes);
+    }
+
+read_driven : (course : Course) (before now : Traffic) (held : Held) (end : EndLog)
+    (octets : List ℕ) → IsDriven course before held end [] nexts.Again
+    → Appends before.given now.given octets → Appends before.taken now.taken []
+    → IsDriven course now held end octets nexts.Again
+read_driven course before now held end octets is gives takes =
+    record {
+      happened = is.happened;
+      represents = is.represents;
+      linked = read_links course.start before now end.log octets is.linked gives takes;
+      up = is.up;
+      keeps = is.keeps;
+    }
+
+pub read_on : (before middle now : Traffic) (old self : Held) (octets : List ℕ) (rounds : ℕ)
+    → SentOn before middle old self rounds → Appends middle.given now.given octets
+    → Appends middle.taken now.taken [] → DrivesOn before now old self octets rounds
+read_on before middle now old self octets rounds sent gives takes course end is =
+    let so = sent course end is in
+    record {
+      end = so.going.end;
+      turns = so.going.turns;
+      driven = read_driven course middle now self so.going.end octets so.going.driven gives takes;
+    }
+
+-- It gives none, at the end of the input,
+pub read_ends : (before middle now : Traffic) (old self : Held) (rounds : ℕ)
+    → SentOn before middle old self rounds → Appends middle.given now.given []
+    → Appends middle.taken now.taken [] → Drives before now old self (Ok false)
+unfolding DrivenSo
+read_ends before middle now old self rounds sent gives takes course end is =
+    let so = sent course end is in
+    let log = so.going.end.log in (
+      so.going.end,
+      (
+        read_driven course middle now self so.going.end [] so.going.driven gives takes,
+        appends_as course.start.taken now.taken (log.written ++ []) log.written
+            (append-nil log.written)
+            (Appends-trans course.start.taken middle.taken now.taken log.written [] so.all takes),
+      ),
+    )
+
+-- or where a read has failed.
+pub read_fails : (before middle now : Traffic) (old self : Held) (rounds : ℕ)
+    → SentOn before middle old self rounds → Appends middle.given now.given []
+    → Appends middle.taken now.taken [] → Drives before now old self (Err errors.Device)
+unfolding DrivenSo
+read_fails before middle now old self rounds sent gives takes course end is =
+    let so = sent course end is in (
+      so.going.end,
+      ends_going true course now self so.going.end [] errors.Device
+          (read_driven course middle now self so.going.end [] so.going.driven gives takes)
+          (link_fails refl refl),
+    )
+
+-- A piece is taken,
+pub taken_on : (before middle now : Traffic) (old self new : Held) (piece : List ℕ) (rounds : ℕ)
+    (whole : Bool) → whole ≡ false → DrivesOn before middle old self piece rounds
+    → Takes true middle now self new piece (Ok whole) → DrivesOn before now old new [] rounds
+unfolding TakenSo
+taken_on before middle now old self new piece rounds whole not on takes course end is =
+    let go = on course end is in
+    let so = subst (λ (one : Bool). Takes true middle now self new piece (Ok one)) not takes course
+    middle go.end go.driven in
+    record { end = so.0; turns = omega (arith, go.turns, so.1); driven = so.2 }
+
+-- up to the end of a response that is whole,
+pub taken_whole : (before middle now : Traffic) (old self new : Held) (piece : List ℕ)
+    (rounds : ℕ) (whole : Bool) → whole ≡ true → DrivesOn before middle old self piece rounds
+    → Takes true middle now self new piece (Ok whole) → Drives before now old new (Ok true)
+unfolding TakenSo DrivenSo
+taken_whole before middle now old self new piece rounds whole said on takes course end is =
+    let go = on course end is in
+    let so = subst (λ (one : Bool). Takes true middle now self new piece (Ok one)) said takes course
+    middle go.end go.driven in
+    let driven : (unused : List ℕ) × IsDriven course now new so.0 unused nexts.Whole = so.2 in
+    (so.0, driven)
+
+-- or with it the machine ends.
+pub taken_last : (before middle now : Traffic) (old self new : Held) (piece : List ℕ)
+    (rounds : ℕ) (error : LinkError) → DrivesOn before middle old self piece rounds
+    → Takes true middle now self new piece (Err error) → Drives before now old new (Err error)
+unfolding TakenSo DrivenSo
+taken_last before middle now old self new piece rounds error on takes course end is =
+    let go = on course end is in
+    let so = takes course middle go.end go.driven in
+    (so.0, so.2)
+
+-- Credit is returned, and what waits of messages is sent,
+pub waiting_on : (before now : Traffic) (old self new : Held) (unused : List ℕ) (rounds : ℕ)
+    (result : Result (Unit {0}) LinkError) → new.kept ≡ self.kept
+    → DrivesOn before now old self unused rounds → SendsWaiting self.end new.end result
+    → DrivesOn before now old new unused rounds
+waiting_on before now old self new unused rounds result kept on sends course end is =
+    let go = on course end is in
+    let sent = sends course.values go.end go.driven.represents in
+    record {
+      end = sent.0;
+      turns = omega (arith, go.turns, sent_turns go.end sent.0 result sent.2);
+      driven = stays_driven course now self new go.end sent.0 unused nexts.Again go.driven kept
+          (sent_stays go.end sent.0 result sent.2)
+          (sends_at course self.kept go.end sent.0 result go.driven.happened sent.2) sent.1;
+    }
+
+-- or there is no memory for that.
+pub waiting_last : (before now : Traffic) (old self new : Held) (unused : List ℕ) (rounds : ℕ)
+    (error : LinkError) → new.kept ≡ self.kept → DrivesOn before now old self unused rounds
+    → SendsWaiting self.end new.end (Err error) → Drives before now old new (Err error)
+unfolding DrivenSo
+waiting_last before now old self new unused rounds error kept on sends course end is =
+    let go = on course end is in
+    let sent = sends course.values go.end go.driven.represents in
+    let memory = sent_error go.end sent.0 error sent.2 in
+    let then = waiting_on before now old self new unused rounds (Err error) kept on sends course end
+    is in
+    (then.end, ends_going true course now new then.end unused error then.driven (lacks_memory memory))
+
+-- What the link gave of a buffer: nothing,
+pub gives_none : (one two : Option (List ℕ)) (buffer : List ℕ) (count : ℕ) → count ≡ 0
+    → Appends one two (take count buffer) → Appends one two []
+gives_none one two buffer count none gives =
+    subst (λ (n : ℕ). Appends one two (take n buffer)) none gives
+
+-- or the first octets of what was lent to it.
+pub gives_piece : (one two : Option (List ℕ)) (count size : ℕ) (buffer others octets : List ℕ)
+    → octets ≡ take size (buffer ++ others) → length buffer ≡ size
+    → Appends one two (take count buffer) → Appends one two (take count octets)
+gives_piece one two count size buffer others octets is all gives =
+    let same : octets ≡ buffer =
+    is ∙ ap (λ (n : ℕ). take n (buffer ++ others)) (sym all) ∙ take-append_seam buffer others in
+    subst (λ (list : List ℕ). Appends one two (take count list)) (sym same) gives
+
+-- A read with room that gives nothing has met the end of the input.
+pub meets_end : (before now : Bool) (room count : ℕ) → now ≡ ended_after before room (Ok count)
+    → count ≡ 0 → room ≡ 16384 → now ≡ true
+meets_end before now room count is none all =
+    is ∙ ap (λ (n : ℕ). ended_after before n (Ok count)) all
+    ∙ ap (λ (n : ℕ). ended_after before 16384 (Ok n)) none
+
+-- How often the link has failed doesn't depend on what else is answered.
+pub failures_same : (A B : Type 0) (failures : ℕ) (error : LinkError)
+    → failures_at_end {A = A} failures (Err error) ≡ failures_at_end {A = B} failures (Err error)
+failures_same A B failures errors.Device = refl
+failures_same A B failures error = refl

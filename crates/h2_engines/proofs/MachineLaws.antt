@@ -1,0 +1,212 @@
+-- What stays of a machine where nothing of messages has happened at its end, and what may happen
+-- there.
+use Rattle.std.proofs.Common.{◌≡◌, ◌≢◌, ℕ, Bool, true, false, List, length, Result}
+use Rattle.std.proofs.Common.{Err, refl, sym, ap, ◌∙◌, subst}
+use Rattle.h2_message.specs.Messages.{SentMessage}
+use Rattle.h2_message.specs.Phases.{ends}
+use Rattle.h2_ends.specs.declared.refusal.EndRefusal.{EndRefusal}
+use Rattle.h2_ends.specs.Ends.{EndLog, Handed, message_for, parts_on}
+use Rattle.h2_ends.specs.EndCalls.{MayReleaseAll}
+use Rattle.h2_ends.specs.Represents.{EndRepresents}
+use Rattle.h2_link.specs.declared.error.LinkError.{LinkError}
+use Rattle.h2_link.specs.declared.error.LinkError.TheVariants as errors
+use Rattle.h2_engines.specs.declared.request.Next.{Next}
+use Rattle.h2_engines.specs.declared.request.Next.TheVariants as nexts
+use Rattle.h2_engines.specs.ClientHistories as client
+use Rattle.h2_engines.specs.Failures.{EndsWriting, IsOfCall}
+use Rattle.h2_engines.specs.Fetches.{EndsUnfinished}
+use Rattle.h2_engines.specs.Linked.{Traffic, IsLinked, StallsWriting}
+use Rattle.h2_engines.specs.Machines.{Kept, Serving, Fetching, Held, Course, Happens, Keeps}
+use Rattle.h2_engines.specs.Machines.{IsDriven, IsOf, MayEnd, Holds, IsDue, EndsFor, lacks_memory}
+use Rattle.h2_engines.specs.Machines.{link_fails, has_stalled, HasEnded}
+use Rattle.h2_engines.specs.PartialMessages.{HasCome, IsWhole}
+use Rattle.h2_engines.specs.ServerHistories as server
+use Rattle.h2_engines.specs.ServerSteps.{IsSameOfMessages}
+use Rattle.h2_engines.proofs.FetchLinkParts.{come_not_whole}
+use Rattle.h2_engines.proofs.ResponderEnds.{given_first, given_within}
+use Rattle.h2_engines.proofs.ResponderWrites.{MayPutOut}
+use Rattle.h2_engines.proofs.SameRequests.{kept_same_next}
+use Rattle.h2_engines.proofs.ServeLinkLogs.{goes_links}
+use Rattle.h2_engines.proofs.ServeLinkPumps.{StaysOn, stays_same}
+use Rattle.h2_engines.proofs.ServeLinkPumps.{MayPumpOn}
+
+-- Whatever has happened at a machine, output may be put out then, what waits sent, and what is owed
+-- given back.
+pub puts_at : (course : Course) (kept : Kept) → MayPutOut (Happens course kept)
+puts_at course (Serving requests answered) end count answer was typed may =
+    server.gives_out was count answer typed may
+puts_at course (Fetching id coming whole) end count answer was typed may =
+    client.gives_out was count answer typed may
+
+pub pumps_at : (course : Course) (kept : Kept) → MayPumpOn (Happens course kept)
+pumps_at course (Serving requests answered) end after result was may =
+    server.pumps was result may
+pumps_at course (Fetching id coming whole) end after result was may = client.pumps was result may
+
+pub releases_at : (course : Course) (kept : Kept) (end after : EndLog)
+    (result : Result (Unit {0}) EndRefusal) → Happens course kept end
+    → MayReleaseAll end result after → Happens course kept after
+releases_at course (Serving requests answered) end after result was may =
+    server.releases was result may
+releases_at course (Fetching id coming whole) end after result was may =
+    client.releases was result may
+
+-- It has happened whatever is kept, where that is the same.
+pub happened_as : (course : Course) (old new : Kept) (end : EndLog) → new ≡ old
+    → Happens course old end → Happens course new end
+happened_as course old new end same was =
+    subst (λ (kept : Kept). Happens course kept end) (sym same) was
+
+-- What is kept holds still where nothing of messages has happened,
+pub keeps_same : (message : SentMessage) (kept : Kept) (before after : EndLog) (next : Next)
+    → IsSameOfMessages before after → Keeps message kept before next
+    → Keeps message kept after next
+unfolding Keeps
+keeps_same message (Serving requests answered) before after next same keeps = (
+  kept_same_next requests before after next same keeps.0,
+  keeps.1 ∙ ap length (sym same.accepted),
+)
+keeps_same message (Fetching id coming whole) before after nexts.Whole same keeps = (
+  ap (message_for id) same.accepted ∙ keeps.0,
+  subst (λ (handed : List Handed). IsWhole coming (parts_on id handed)) (sym same.handed) keeps.1,
+  keeps.2,
+)
+keeps_same message (Fetching id coming whole) before after (nexts.Answer stream request) same keeps
+    = absurd keeps
+keeps_same message (Fetching id coming whole) before after (nexts.Reset stream) same keeps =
+    absurd keeps
+keeps_same message (Fetching id coming whole) before after next same keeps = (
+  ap (message_for id) same.accepted ∙ keeps.0,
+  subst (λ (handed : List Handed). HasCome coming (parts_on id handed)) (sym same.handed) keeps.1,
+  keeps.2,
+)
+
+-- and so does what holds of an early end.
+unfinished_same : (before after : EndLog) (id : ℕ) (error : LinkError)
+    → after.handed ≡ before.handed → EndsUnfinished before id (Err error)
+    → EndsUnfinished after id (Err error)
+unfinished_same before after id errors.Memory same is = tt
+unfinished_same before after id error same is =
+    ap (λ (handed : List Handed). ends (parts_on id handed)) same ∙ is
+
+pub holds_same : (message : SentMessage) (kept : Kept) (before after : EndLog) (error : LinkError)
+    → IsSameOfMessages before after → Holds message kept before error
+    → Holds message kept after error
+holds_same message (Serving requests answered) before after error same holds = tt
+holds_same message (Fetching id coming whole) before after error same holds = (
+  ap (message_for id) same.accepted ∙ holds.0,
+  unfinished_same before after id error same.handed holds.1,
+)
+
+-- It holds whenever a machine goes on,
+pub unfinished : (end : EndLog) (id : ℕ) (error : LinkError) → ends (parts_on id end.handed) ≡ false
+    → EndsUnfinished end id (Err error)
+unfinished end id errors.Memory is = tt
+unfinished end id error is = is
+
+pub holds_again : (message : SentMessage) (kept : Kept) (end : EndLog) (error : LinkError)
+    → Keeps message kept end nexts.Again → Holds message kept end error
+unfolding Keeps
+holds_again message (Serving requests answered) end error keeps = tt
+holds_again message (Fetching id coming whole) end error keeps =
+    (keeps.0, unfinished end id error (come_not_whole coming (parts_on id end.handed) keeps.1))
+
+-- or something is due.
+pub holds_due : (message : SentMessage) (kept : Kept) (end : EndLog) (due : Next)
+    (error : LinkError) → IsDue due → Keeps message kept end due → Holds message kept end error
+unfolding Keeps
+holds_due message (Serving requests answered) end due error is keeps = tt
+holds_due message (Fetching id coming whole) end (nexts.Answer stream request) error is keeps =
+    absurd keeps
+holds_due message (Fetching id coming whole) end (nexts.Reset stream) error is keeps = absurd keeps
+holds_due message (Fetching id coming whole) end due error is keeps = absurd is
+
+-- What is neither to be gone on with, nor done, nor whole, is due.
+pub is_due : (next : Next) → next ≢ nexts.Again → next ≢ nexts.Done → next ≢ nexts.Whole
+    → IsDue next
+is_due nexts.Again again done whole = absurd (again refl)
+is_due nexts.Done again done whole = absurd (done refl)
+is_due nexts.Whole again done whole = absurd (whole refl)
+is_due (nexts.Answer id request) again done whole = tt
+is_due (nexts.Reset id) again done whole = tt
+
+-- After a call at which nothing of messages has happened a machine is driven on.
+pub stays_driven : (course : Course) (now : Traffic) (old new : Held) (end after : EndLog)
+    (unused : List ℕ) (next : Next) → IsDriven course now old end unused next
+    → new.kept ≡ old.kept → StaysOn end after → Happens course old.kept after
+    → EndRepresents course.values new.end after → IsDriven course now new after unused next
+stays_driven course now old new end after unused next is kept stays happened represents =
+    record {
+      happened = happened_as course old.kept new.kept after kept happened;
+      represents = represents;
+      linked = goes_links course.start now end.log after.log unused
+          (given_within course.values old.end end is.represents) stays.goes is.linked;
+      up = stays.goes.failed ∙ is.up;
+      keeps = subst (λ (one : Kept). Keeps course.message one after next) (sym kept)
+          (keeps_same course.message old.kept end after next (stays_same end after stays) is.keeps);
+    }
+
+-- A machine ends early, and its link took all that was given out.
+pub ends_linked : (writes : Bool) (course : Course) (now : Traffic) (held : Held) (end : EndLog)
+    (unused : List ℕ) (error : LinkError) → Happens course held.kept end
+    → EndRepresents course.values held.end end → IsLinked course.start now end.log unused
+    → Holds course.message held.kept end error
+    → EndsFor writes course.start now held.kept end error
+    → HasEnded writes course now held end error
+ends_linked writes course now held end unused error happened represents linked holds why =
+    record {
+      happened = happened;
+      represents = represents;
+      unused = unused;
+      given = linked.given;
+      taken = given_first course.start now end.log linked.taken;
+      alone = λ none. linked;
+      holds = holds;
+      why = why;
+    }
+
+pub ends_going : (writes : Bool) (course : Course) (now : Traffic) (held : Held) (end : EndLog)
+    (unused : List ℕ) (error : LinkError) → IsDriven course now held end unused nexts.Again
+    → EndsFor writes course.start now held.kept end error
+    → HasEnded writes course now held end error
+ends_going writes course now held end unused error is why =
+    ends_linked writes course now held end unused error is.happened is.represents is.linked
+    (holds_again course.message held.kept end error is.keeps) why
+
+-- What writes ends it so.
+pub writing_ends : (start now : Traffic) (kept : Kept) (end : EndLog) (error : LinkError)
+    → EndsWriting error → StallsWriting {A = Unit {0}} now end (Err error)
+    → EndsFor true start now kept end error
+writing_ends start now kept end errors.Device is stalls = link_fails refl refl
+writing_ends start now kept end errors.Memory is stalls = lacks_memory refl
+writing_ends start now kept end errors.NoProgress is stalls = has_stalled refl stalls
+writing_ends start now kept end error is stalls = absurd is
+
+-- What ends a machine by itself, or a call of its end, or what writes, may end it over a link.
+pub may_end : (writes serves : Bool) (error : LinkError) → IsOf serves error
+    → MayEnd writes serves error
+may_end true serves errors.Device is = tt
+may_end true serves errors.Memory is = is
+may_end true serves errors.CutOff is = is
+may_end true serves errors.NoProgress is = is
+may_end true serves (errors.Stream number) is = is
+may_end true serves (errors.Reset number) is = is
+may_end true serves errors.Refused is = is
+may_end false serves error is = is
+
+pub may_end_call : (writes serves : Bool) (error : LinkError) → IsOfCall error
+    → MayEnd writes serves error
+may_end_call writes true errors.Memory is = may_end writes true errors.Memory tt
+may_end_call writes false errors.Memory is = may_end writes false errors.Memory tt
+may_end_call writes true errors.NoProgress is = may_end writes true errors.NoProgress tt
+may_end_call writes false errors.NoProgress is = may_end writes false errors.NoProgress tt
+may_end_call writes serves error is = absurd is
+
+pub may_end_writing : (serves : Bool) (error : LinkError) → EndsWriting error
+    → MayEnd true serves error
+may_end_writing serves errors.Device is = tt
+may_end_writing true errors.Memory is = tt
+may_end_writing false errors.Memory is = tt
+may_end_writing true errors.NoProgress is = tt
+may_end_writing false errors.NoProgress is = tt
+may_end_writing serves error is = absurd is

@@ -1,0 +1,109 @@
+-- A server and a client as machines, and what stands for a link where there is none.
+use Rattle.std.proofs.Common.{◌≡◌, ◌≢◌, List, ℕ, [], ◌++◌, Bool, true, false, Some, None}
+use Rattle.std.proofs.Common.{Result, Ok, Err, refl, sym, ap, ◌∙◌}
+use Rattle.std.specs.Prelude.{IfErr}
+use Rattle.h2_frame.specs.declared.code.Code.{Code}
+use Rattle.h2_frame.specs.declared.code.Code.TheVariants.{InternalError}
+use Rattle.h2_log.specs.Log.{Log}
+use Rattle.h2_message.specs.Messages.{SentMessage}
+use Rattle.h2_pair.specs.Pairs.{given_out}
+use Rattle.h2_ends.specs.Ends.{EndLog}
+use Rattle.h2_link.specs.declared.error.LinkError.{LinkError}
+use Rattle.h2_link.specs.declared.error.LinkError.TheVariants as errors
+use Rattle.h2_engines.specs.declared.fetcher.Fetcher.{Fetcher}
+use Rattle.h2_engines.specs.declared.responder.Responder.{Responder}
+use Rattle.h2_engines.specs.Linked.{Traffic, traffic, IsLinked, IsLinkedInPart}
+use Rattle.h2_engines.specs.Failures.{CutsOffAtEnd, failures_at_end, failures_by}
+use Rattle.h2_engines.specs.Machines.{Held, Kept, Serving, Fetching, EndsFor, lacks_memory}
+use Rattle.h2_engines.specs.Machines.{link_fails, has_failed, has_stalled, stops_itself, MeetsEnd}
+use Rattle.h2_engines.specs.Machines.{cannot_reset, counts_no_more, answer_refused, reset_refused}
+use Rattle.h2_engines.specs.ServerSteps.{error_with}
+use Rattle.h2_engines.specs.WithoutLink.{UsesPiece}
+use Rattle.h2_engines.proofs.MachineTakes.{failures_err}
+use Rattle.h2_engines.proofs.ResponderEnds.{given_first}
+
+-- the two machines
+abbrev pub server_held : Responder → Held
+server_held responder = record {
+  end = responder.server.end;
+  kept = Serving responder.requests responder.answered;
+}
+
+abbrev pub client_held : Fetcher → Held
+client_held fetcher = record {
+  end = fetcher.client.end;
+  kept = Fetching fetcher.id fetcher.coming fetcher.whole;
+}
+
+-- a server has no message of its own
+abbrev pub no_message : SentMessage
+no_message = record { head = []; body = []; trailers = None }
+
+-- a link of which nothing has gone; and one that has given the piece, and taken what was given out
+abbrev pub begun : Traffic
+begun = traffic (Some []) (Some []) false
+
+abbrev pub carried : EndLog → List ℕ → Traffic
+carried end piece = traffic (Some (end.log.input ++ piece)) (Some (given_out end.log)) false
+
+pub links_alone : (end : EndLog) (piece : List ℕ)
+    → IsLinked begun (carried end piece) end.log piece
+links_alone end piece = record { given = refl; taken = refl }
+
+-- So much of the piece was used.
+pub uses_alone : (end : EndLog) (after : Log) (piece unused : List ℕ)
+    → IsLinked begun (carried end piece) after unused → UsesPiece end.log after piece unused
+uses_alone end after piece unused linked =
+    record { input = linked.given; given = sym linked.taken }
+
+-- Where the link took all that was given out, it took the first octets of the output.
+pub all_in_part : (start now : Traffic) (log : Log) (unused : List ℕ)
+    → IsLinked start now log unused → IsLinkedInPart start now log
+all_in_part start now log unused linked =
+    record {
+      unused = unused;
+      given = linked.given;
+      taken = given_first start now log linked.taken;
+    }
+
+-- What ends a machine early is not the end of its input.
+code_goes : (code : Code) → error_with code ≢ errors.CutOff
+code_goes InternalError same = cc
+code_goes code same = cc
+
+pub goes_for : (writes : Bool) (start now : Traffic) (kept : Kept) (end : EndLog)
+    (error : LinkError) → EndsFor writes start now kept end error → error ≢ errors.CutOff
+goes_for writes start now kept end error (lacks_memory is) same = cc
+goes_for writes start now kept end error (link_fails is said) same = cc
+goes_for writes start now kept end error (has_failed code failed is taken) same =
+    code_goes code (sym is ∙ same)
+goes_for writes start now kept end error (has_stalled is stalled) same = cc
+goes_for writes start now (Serving requests answered) end error
+    (stops_itself (cannot_reset number is cannot)) same = cc
+goes_for writes start now (Serving requests answered) end error
+    (stops_itself (counts_no_more is most)) same = cc
+goes_for writes start now (Serving requests answered) end error
+    (stops_itself (answer_refused is before id message refusal whole asked may other after)) same =
+    cc
+goes_for writes start now (Serving requests answered) end error
+    (stops_itself (reset_refused is id refusal large refused other after)) same = cc
+goes_for writes start now (Fetching id coming whole) end error (stops_itself (number, is, dropped))
+    same = cc
+
+pub not_cut : (A : Type 0) (error : LinkError) (ended : Bool) → error ≢ errors.CutOff
+    → CutsOffAtEnd {A = A} (Err error) ended
+not_cut A errors.CutOff ended goes = absurd (goes refl)
+not_cut A error ended goes = tt
+
+-- Where a machine isn't whole once it was driven, the end of the input is met.
+pub met : (whole ended : Bool) → whole ≡ false → MeetsEnd (Ok whole) ended → ended ≡ true
+met true ended not is = absurd (cc)
+met false ended not is = is
+
+-- Only a failed call of the link counts as such.
+pub fails_none : (A : Type 0) (failures : ℕ) (is : LinkError) (result : Result A LinkError)
+    → failures_by failures is ≡ failures → IfErr result (λ error. error ≡ is)
+    → failures ≡ failures_at_end failures result
+fails_none A failures is (Ok value) none same = refl
+fails_none A failures is (Err error) none same =
+    sym none ∙ ap (failures_by failures) (sym same) ∙ sym (failures_err A failures error)

@@ -1,0 +1,306 @@
+-- What drives a server or a client, over a link or over octets that it is handed, makes of it.
+use Rattle.std.specs.Prelude.{◌≡◌, ◌≢◌, ◌⊎◌, ◌≤◌, ◌<◌, ◌-◌, ◌^◌, ℕ, Bool, true, false, List}
+use Rattle.std.specs.Prelude.{[], length, drop, Some, None, Result, Ok, Err}
+use Rattle.std.specs.List.{Contains}
+use Rattle.h2_frame.specs.declared.code.Code.{Code}
+use Rattle.h2_log.specs.declared.refusal.Refusal.{Refusal}
+use Rattle.h2_log.specs.declared.refusal.Refusal.TheVariants.{OutputFull, TooManyResets}
+use Rattle.h2_log.specs.Acts.{Values, ResetStream, Refused}
+use Rattle.h2_log.specs.Log.{waiting}
+use Rattle.h2_message.specs.Messages.{SentMessage}
+use Rattle.h2_message.specs.Phases.{ends}
+use Rattle.h2_ends.specs.declared.end.End.{End}
+use Rattle.h2_ends.specs.declared.refusal.EndRefusal.{EndRefusal}
+use Rattle.h2_ends.specs.declared.refusal.EndRefusal.TheVariants.{Conn}
+use Rattle.h2_ends.specs.Ends.{EndLog, message_for, parts_on}
+use Rattle.h2_ends.specs.EndCalls.{MayRespond}
+use Rattle.h2_ends.specs.Represents.{EndRepresents}
+use Rattle.h2_link.specs.declared.error.LinkError.{LinkError}
+use Rattle.h2_link.specs.declared.error.LinkError.TheVariants as errors
+use Rattle.h2_engines.specs.declared.fetcher.Coming.{Coming}
+use Rattle.h2_engines.specs.declared.machine.Heard.{Heard}
+use Rattle.h2_engines.specs.declared.request.Next.{Next}
+use Rattle.h2_engines.specs.declared.request.Next.TheVariants as nexts
+use Rattle.h2_engines.specs.declared.request.Requests.{Requests}
+use Rattle.h2_engines.specs.Answers.{answer_to, is_too_large_body}
+use Rattle.h2_engines.specs.ClientHistories.{IsFetching}
+use Rattle.h2_engines.specs.Failures.{IsOfClient, IsOfServer, error_after}
+use Rattle.h2_engines.specs.Fetches.{EndsUnfinished, WasDropped}
+use Rattle.h2_engines.specs.Linked.{Traffic, HasGiven, IsLinked, HasStalled, HasTakenAll}
+use Rattle.h2_engines.specs.Linked.{HasTakenFirst, StallsWriting}
+use Rattle.h2_engines.specs.PartialMessages.{KeepsNext, HasCome, IsWhole}
+use Rattle.h2_engines.specs.ServerHistories.{IsResponding, calm}
+use Rattle.h2_engines.specs.Serves.{CannotReset}
+use Rattle.h2_engines.specs.ServerSteps.{IsSameOfMessages, TookBy, error_with}
+use Rattle.h2_engines.specs.WithoutLink.{PutOutSo}
+
+-- what a machine keeps beside its end: a server the requests that aren't whole, and how many it has
+-- answered; a client the stream of its request, what has come of the response, and whether it is
+-- whole
+pub data Kept : Type 0 where
+  Serving : (requests : Requests) → (answered : ℕ) → Kept
+  Fetching : (id : ℕ) → (coming : Coming) → (whole : Bool) → Kept
+
+-- a machine
+pub record Held : Type 0 where
+  pub end : End
+  pub kept : Kept
+
+-- what is driven: an end with these values, a client with this message; and what its link had given
+-- and taken at the start
+pub record Course : Type 0 where
+  pub values : Values
+  pub message : SentMessage
+  pub start : Traffic
+
+-- What may have happened at the end of a machine.
+abbrev pub Happens : Course → Kept → EndLog → Type 0
+Happens course (Serving requests answered) end = IsResponding course.values end
+Happens course (Fetching id coming whole) end = IsFetching course.values course.message end
+
+-- What a machine keeps of what has happened while the connection is up, by what is to be done.
+unfoldable pub Keeps : SentMessage → Kept → EndLog → Next → Type 0
+Keeps message (Serving requests answered) end next =
+    KeepsNext requests end next × (answered ≡ length end.accepted)
+Keeps message (Fetching id coming whole) end nexts.Whole =
+    (message_for id end.accepted ≡ Some message) × IsWhole coming (parts_on id end.handed)
+    × (whole ≡ true)
+Keeps message (Fetching id coming whole) end (nexts.Answer stream request) = ⊥
+Keeps message (Fetching id coming whole) end (nexts.Reset stream) = ⊥
+Keeps message (Fetching id coming whole) end next =
+    (message_for id end.accepted ≡ Some message) × HasCome coming (parts_on id end.handed)
+    × (whole ≡ false)
+
+-- A machine that is driven, at which this has happened and that is to be done: the connection is
+-- up, and these octets that the link gave were not used yet.
+pub record IsDriven (course : Course) (now : Traffic) (held : Held) (end : EndLog)
+    (unused : List ℕ) (next : Next) : Type 0 where
+  pub happened : Happens course held.kept end
+  pub represents : EndRepresents course.values held.end end
+  pub linked : IsLinked course.start now end.log unused
+  pub up : end.log.failed ≡ None
+  pub keeps : Keeps course.message held.kept end next
+
+-- The machine is a server, or a client, and ends so by itself.
+abbrev pub IsOf : (serves : Bool) → LinkError → Type 0
+IsOf true error = IsOfServer error
+IsOf false error = IsOfClient error
+
+-- Where it is driven over a link, that may fail.
+abbrev pub MayEnd : (writes serves : Bool) → LinkError → Type 0
+MayEnd true serves errors.Device = Unit {0}
+MayEnd writes serves error = IsOf serves error
+
+-- what holds of a client that ends early: its message was accepted, and its response isn't whole,
+-- unless memory was refused
+abbrev pub Holds : SentMessage → Kept → EndLog → LinkError → Type 0
+Holds message (Serving requests answered) end error = Unit {0}
+Holds message (Fetching id coming whole) end error =
+    (message_for id end.accepted ≡ Some message) × EndsUnfinished end id (Err error)
+
+-- Why a server ends by itself: it can't reset a stream any more; it can count no more answers; or
+-- its end has refused an answer or a reset, though memory was there. Where all output was written
+-- before, no answer is refused since that is full.
+pub data ServerStops (writes : Bool) (end : EndLog) (error : LinkError) : Type 0 where
+  cannot_reset : (number : ℕ) → error ≡ errors.Stream number → CannotReset end number
+      → ServerStops writes end error
+  counts_no_more : error ≡ errors.NoProgress → 2 ^ 32 - 1 ≤ length end.accepted
+      → ServerStops writes end error
+  answer_refused : error ≡ errors.NoProgress → (before : EndLog) (id : ℕ) (message : SentMessage)
+      (refusal : EndRefusal) → ends (parts_on id before.handed) ≡ true
+      → answer_to (parts_on id before.handed) ≡ Some message
+      → MayRespond before id message (Err refusal) end
+      → (writes ≡ true → refusal ≢ Conn OutputFull)
+      → error_after refusal ≡ errors.NoProgress → ServerStops writes end error
+  reset_refused : error ≡ errors.NoProgress → (id : ℕ) (refusal : Refusal)
+      → is_too_large_body (parts_on id end.handed) ≡ true
+      → Contains end.log.calls (ResetStream id calm, Refused refusal) → refusal ≢ TooManyResets
+      → error_after (Conn refusal) ≡ errors.NoProgress → ServerStops writes end error
+
+-- Why a machine ends by itself; a client since the stream of its request was dropped.
+abbrev pub StopsItself : (writes : Bool) → Kept → EndLog → LinkError → Type 0
+StopsItself writes (Serving requests answered) end error = ServerStops writes end error
+StopsItself writes (Fetching id coming whole) end error =
+    (number : ℕ) × (error ≡ errors.Reset number) × WasDropped end id number
+
+-- Why a machine that is driven ends early.
+pub data EndsFor (writes : Bool) (start now : Traffic) (kept : Kept) (end : EndLog)
+    (error : LinkError) : Type 0 where
+  lacks_memory : error ≡ errors.Memory → EndsFor writes start now kept end error
+  link_fails : error ≡ errors.Device → writes ≡ true → EndsFor writes start now kept end error
+  has_failed : (code : Code) → end.log.failed ≡ Some code → error ≡ error_with code
+      → (writes ≡ true → HasTakenAll start now end.log) → EndsFor writes start now kept end error
+  has_stalled : error ≡ errors.NoProgress → HasStalled now end
+      → EndsFor writes start now kept end error
+  stops_itself : StopsItself writes kept end error → EndsFor writes start now kept end error
+
+-- A machine that is driven has ended early. Without a link nothing is written.
+pub record HasEnded (writes : Bool) (course : Course) (now : Traffic) (held : Held) (end : EndLog)
+    (error : LinkError) : Type 0 where
+  pub happened : Happens course held.kept end
+  pub represents : EndRepresents course.values held.end end
+  pub unused : List ℕ
+  pub given : HasGiven course.start now end.log unused
+  pub taken : HasTakenFirst course.start now end.log
+  pub alone : writes ≡ false → IsLinked course.start now end.log unused
+  pub holds : Holds course.message held.kept end error
+  pub why : EndsFor writes course.start now held.kept end error
+
+-- Why a machine can't hear on: the connection has failed, before its response is whole; or it is up
+-- and memory was refused, or the machine ends by itself.
+pub data HearsNoMore (message : SentMessage) (kept : Kept) (end : EndLog) (error : LinkError) :
+    Type 0 where
+  fails : (code : Code) → end.log.failed ≡ Some code → error ≡ error_with code
+      → ((other : LinkError) → Holds message kept end other) → HearsNoMore message kept end error
+  gives_up : end.log.failed ≡ None → Holds message kept end error
+      → (error ≡ errors.Memory) ⊎ ((writes : Bool) → StopsItself writes kept end error)
+      → HearsNoMore message kept end error
+
+pub record HasHeardLast (course : Course) (now : Traffic) (held : Held) (end : EndLog)
+    (error : LinkError) : Type 0 where
+  pub happened : Happens course held.kept end
+  pub represents : EndRepresents course.values held.end end
+  pub unused : List ℕ
+  pub linked : IsLinked course.start now end.log unused
+  pub why : HearsNoMore course.message held.kept end error
+
+-- what was made of octets that were handed to a call of `take`
+unfoldable pub HearsSo : Course → (now : Traffic) → (before : EndLog) → (piece : List ℕ) → Held
+    → EndLog → Result Heard LinkError → Type 0
+HearsSo course now before piece held after (Ok heard) =
+    IsDriven course now held after (drop heard.used piece) heard.next
+    × (length before.log.turns < length after.log.turns)
+    × (heard.next ≡ nexts.Done → heard.used ≡ length piece)
+HearsSo course now before piece held after (Err error) =
+    HasHeardLast course now held after error × (length before.log.turns ≤ length after.log.turns)
+
+abbrev pub Hears : (old new : Held) → List ℕ → Result Heard LinkError → Type 0
+Hears old new piece result =
+    (course : Course) (now : Traffic) (end : EndLog)
+    → IsDriven course now old end piece nexts.Again
+    → (after : EndLog) × HearsSo course now end piece new after result
+
+-- what is due: an answer, or a reset
+abbrev pub IsDue : Next → Type 0
+IsDue (nexts.Answer id request) = Unit {0}
+IsDue (nexts.Reset id) = Unit {0}
+IsDue next = ⊥
+
+-- what was made of it, where all output was written before if that is said
+unfoldable pub ActedSo : (writes : Bool) → Course → (now : Traffic) → Held → EndLog
+    → (unused : List ℕ) → Result (Unit {0}) LinkError → Type 0
+ActedSo writes course now held after unused (Ok done) =
+    IsDriven course now held after unused nexts.Again
+ActedSo writes course now held after unused (Err error) =
+    HasEnded writes course now held after error
+
+abbrev pub Acts : (old new : Held) → Next → Result (Unit {0}) LinkError → Type 0
+Acts old new due result =
+    (writes : Bool) (course : Course) (now : Traffic) (end : EndLog) (unused : List ℕ)
+    → IsDue due → (writes ≡ true → waiting end.log ≡ 0)
+    → IsDriven course now old end unused due
+    → (after : EndLog) × (length end.log.turns ≤ length after.log.turns)
+    × ActedSo writes course now new after unused result
+
+-- The end was written out, or as far as it went, in a turn at least.
+pub record WritesOut (P : EndLog → Type 0) (values : Values) (start now : Traffic)
+    (before : EndLog) (new : End) (unused : List ℕ) (result : Result (Unit {0}) LinkError) : Type 0
+  where
+    pub after : EndLog
+    pub happened : P after
+    pub represents : EndRepresents values new after
+    pub same : IsSameOfMessages before after
+    pub given : HasGiven start now after.log unused
+    pub taken : TookBy start now after.log result
+    pub turns : length before.log.turns < length after.log.turns
+    pub stalls : StallsWriting now after result
+
+-- Whatever has happened at the end of a machine and over the link, what waits is written.
+abbrev pub WritesWaiting : (before now : Traffic) → (old new : Held) → Result (Unit {0}) LinkError
+    → Type 0
+WritesWaiting before now old new result =
+    (course : Course) (end : EndLog) (unused : List ℕ) → EndRepresents course.values old.end end
+    → Happens course old.kept end → IsLinked course.start before end.log unused
+    → WritesOut (Happens course old.kept) course.values course.start now end new.end unused result
+
+-- The same while the connection is up.
+abbrev pub SendsWhileUp : (before now : Traffic) → (old new : Held) → Result (Unit {0}) LinkError
+    → Type 0
+SendsWhileUp before now old new result =
+    (course : Course) (end : EndLog) (unused : List ℕ) → EndRepresents course.values old.end end
+    → Happens course old.kept end → end.log.failed ≡ None
+    → IsLinked course.start before end.log unused
+    → WritesOut (Happens course old.kept) course.values course.start now end new.end unused result
+
+-- what the link has given and taken; without one, that is whatever it was
+abbrev pub flow : (writes : Bool) → (real base : Traffic) → Traffic
+flow true real base = real
+flow false real base = base
+
+-- What is due is done, over a link once all that waits is written.
+abbrev pub Does : (writes : Bool) → (before now : Traffic) → (old new : Held) → Next
+    → Result (Unit {0}) LinkError → Type 0
+Does writes before now old new due result =
+    (course : Course) (base : Traffic) (end : EndLog) (unused : List ℕ) → IsDue due
+    → IsDriven course (flow writes before base) old end unused due
+    → (after : EndLog) × (length end.log.turns ≤ length after.log.turns)
+    × ActedSo writes course (flow writes now base) new after unused result
+
+-- What can't hear on ends so.
+abbrev pub EndsEarly : (writes : Bool) → (before now : Traffic) → (old new : Held)
+    → (error result : LinkError) → Type 0
+EndsEarly writes before now old new error result =
+    (course : Course) (base : Traffic) (end : EndLog)
+    → HasHeardLast course (flow writes before base) old end error
+    → (after : EndLog) × (length end.log.turns ≤ length after.log.turns)
+    × HasEnded writes course (flow writes now base) new after result
+
+-- how the taking of a piece ends: with nothing left of it, with a response that is whole, or early
+unfoldable pub TakenSo : (writes : Bool) → Course → (now : Traffic) → Held → EndLog
+    → Result Bool LinkError → Type 0
+TakenSo writes course now held after (Ok false) = IsDriven course now held after [] nexts.Again
+TakenSo writes course now held after (Ok true) =
+    (unused : List ℕ) × IsDriven course now held after unused nexts.Whole
+TakenSo writes course now held after (Err error) = HasEnded writes course now held after error
+
+abbrev pub Takes : (writes : Bool) → (before now : Traffic) → (old new : Held) → (piece : List ℕ)
+    → Result Bool LinkError → Type 0
+Takes writes before now old new piece result =
+    (course : Course) (base : Traffic) (end : EndLog)
+    → IsDriven course (flow writes before base) old end piece nexts.Again
+    → (after : EndLog) × (length end.log.turns ≤ length after.log.turns)
+    × TakenSo writes course (flow writes now base) new after result
+
+-- how the driving over a link ends: where its input has ended, all was used and all is written
+unfoldable pub DrivenSo : Course → (now : Traffic) → Held → EndLog → Result Bool LinkError → Type 0
+DrivenSo course now held after (Ok false) =
+    IsDriven course now held after [] nexts.Again × HasTakenAll course.start now after.log
+DrivenSo course now held after (Ok true) =
+    (unused : List ℕ) × IsDriven course now held after unused nexts.Whole
+DrivenSo course now held after (Err error) = HasEnded true course now held after error
+
+-- The input has ended, where a response isn't whole.
+abbrev pub MeetsEnd : Result Bool LinkError → (ended : Bool) → Type 0
+MeetsEnd (Ok false) ended = ended ≡ true
+MeetsEnd result ended = Unit {0}
+
+abbrev pub Drives : (before now : Traffic) → (old new : Held) → Result Bool LinkError → Type 0
+Drives before now old new result =
+    (course : Course) (end : EndLog) → IsDriven course before old end [] nexts.Again
+    → (after : EndLog) × DrivenSo course now new after result
+
+-- What an end has put out, where nothing else has happened.
+pub record HasPutOut (P : EndLog → Type 0) (values : Values) (new : End) (end : EndLog) (count : ℕ)
+    (before now : List ℕ) (result : Result ℕ LinkError) : Type 0 where
+  pub after : EndLog
+  pub happened : P after
+  pub represents : EndRepresents values new after
+  pub same : IsSameOfMessages end after
+  pub so : PutOutSo end after count before now result
+
+abbrev pub PutsWaiting : (old new : Held) → ℕ → (before now : List ℕ) → Result ℕ LinkError
+    → Type 0
+PutsWaiting old new count before now result =
+    (course : Course) (end : EndLog) → EndRepresents course.values old.end end
+    → Happens course old.kept end
+    → HasPutOut (Happens course old.kept) course.values new.end end count before now result

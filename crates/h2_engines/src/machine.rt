@@ -1,0 +1,294 @@
+//! What drives a server or a client, over a link or over octets that it is handed.
+
+ghost use Rattle.std.specs.Prelude.{◌≡◌, ◌≤◌, ◌<◌, ◌-◌, ◌^◌, Bool, true, length};
+ghost use Rattle.std.specs.Prelude.{IfOk, IfErr, OnErr, OnOk};
+ghost use Rattle.h2_log.specs.Acts.{PutOut, Count};
+ghost use Rattle.h2_conn.specs.Conn.{GivesOut, answer_by};
+ghost use Rattle.h2_ends.specs.Represents.{EndAnswers, EndPumps, EndReleases};
+ghost use Rattle.h2_engines.specs.Failures.{EndsWriting, IsOfCall, failures_at_end, failures_by};
+ghost use Rattle.h2_engines.specs.Linked.{traffic};
+ghost use Rattle.h2_engines.specs.Machines.{Held, Hears, Acts, IsOf, MayEnd, Does, EndsEarly};
+ghost use Rattle.h2_engines.specs.Machines.{Takes};
+ghost use Rattle.h2_engines.specs.Machines.{Drives, MeetsEnd, WritesWaiting, SendsWhileUp};
+ghost use Rattle.h2_engines.specs.Machines.{PutsWaiting};
+ghost use Rattle.h2_engines.specs.ServerSteps.{PumpsSome, ReleasesSome};
+ghost use Rattle.h2_engines.specs.WithoutLink.{SendsWaiting};
+
+use crate::copies::room_for_input;
+use crate::errors::error_of_refusal;
+use crate::request::Next;
+use h2_conn::Conn;
+use h2_ends::{EndRefusal, Refusal};
+use h2_link::{Link, LinkError, write_all};
+use std::alloc::Global;
+
+/// So much output waits that the connection takes no more (own).
+const FULL_OUTPUT: usize = 65_536;
+
+/// What a machine made of a piece.
+#[derive(Drop)]
+pub(crate) struct Heard {
+    /// So many octets were used.
+    pub(crate) used: usize,
+    /// What is to be done.
+    pub(crate) next: Next,
+}
+
+/// A server or a client that is driven: it takes octets, says what is to be done, and puts octets
+/// out.
+pub(crate) trait Machine {
+    /// Its end, and what it keeps beside that.
+    ghost held: { Self → Held };
+
+    /// Whether it is a server.
+    ghost serves: { Bool };
+
+    /// Where its memory comes from.
+    fn alloc(&self) -> Global;
+
+    /// Its connection.
+    fn conn(&self) -> &Conn
+        ensures { result.now ≡ (held self.now).end.conn };
+
+    /// Hands octets to `take` once, and keeps what is handed out.
+    fn take(&mut self, piece: &[u8]) -> Result<Heard, LinkError>
+        ensures hears { Hears (held self.old) (held self.new) piece.now result }
+        ensures within { IfOk result (λ heard. heard.used ≤ length piece.now) }
+        ensures err { IfErr result (IsOf serves) };
+
+    /// Makes an answer or a reset that is due.
+    fn act(&mut self, due: Next) -> Result<(), LinkError>
+        ensures acts { Acts (held self.old) (held self.new) due result }
+        ensures err { IfErr result (IsOf serves) };
+
+    /// Sends what waits of messages, as windows allow.
+    fn pump(&mut self) -> Result<usize, EndRefusal>
+        ensures pumps { EndPumps (held self.old).end result (held self.new).end }
+        ensures kept { (held self.new).kept ≡ (held self.old).kept };
+
+    /// Gives back all that is owed.
+    fn release_all(&mut self) -> Result<(), EndRefusal>
+        ensures releases { EndReleases (held self.old).end result (held self.new).end }
+        ensures kept { (held self.new).kept ≡ (held self.old).kept };
+
+    /// Appends at most so many octets of the output.
+    fn give_out(&mut self, count: usize, out: &mut Vec<u8>) -> Result<usize, Refusal>
+        ensures answers { EndAnswers (held self.old).end (PutOut count)
+            (answer_by (λ given. Count given) result) (held self.new).end }
+        ensures ok { IfOk result (λ given. GivesOut (held self.old).end.conn count given
+            out.old.items out.new.items) }
+        ensures err { OnErr result (out.new.items ≡ out.old.items) }
+        ensures kept { (held self.new).kept ≡ (held self.old).kept };
+}
+
+/// Gives back all that is owed. What a full output holds back is given back later.
+fn release<M: Machine>(machine: &mut M) -> Result<(), LinkError>
+    ensures releases { ReleasesSome (M.held machine.old).end (M.held machine.new).end result }
+    ensures kept { (M.held machine.new).kept ≡ (M.held machine.old).kept }
+    ensures err { IfErr result IsOfCall }
+{
+    match machine.release_all() {
+        Ok(()) | Err(EndRefusal::Conn(Refusal::OutputFull)) => Ok(()),
+        Err(refusal) => Err(error_of_refusal(refusal)),
+    }
+}
+
+/// Sends what waits of messages, as windows allow.
+fn pump<M: Machine>(machine: &mut M) -> Result<(), LinkError>
+    ensures pumps { PumpsSome (M.held machine.old).end (M.held machine.new).end result }
+    ensures kept { (M.held machine.new).kept ≡ (M.held machine.old).kept }
+    ensures err { IfErr result IsOfCall }
+{
+    match machine.pump() {
+        Ok(_) => Ok(()),
+        Err(refusal) => Err(error_of_refusal(refusal)),
+    }
+}
+
+/// Writes all output that waits.
+fn write_out<M: Machine, L: Link>(machine: &mut M, link: &mut L) -> Result<(), LinkError>
+    requires { L.faults link.old < 2 ^ 64 - 1 }
+    ensures writes { WritesWaiting
+        (traffic (L.given link.old) (L.taken link.old) (L.stalled link.old))
+        (traffic (L.given link.new) (L.taken link.new) (L.stalled link.new))
+        (M.held machine.old) (M.held machine.new) result }
+    ensures kept { (M.held machine.new).kept ≡ (M.held machine.old).kept }
+    ensures failures { L.faults link.new ≡ failures_at_end (L.faults link.old) result }
+    ensures err { IfErr result EndsWriting }
+{
+    for _ in 0..u64::MAX {
+        let mut output = Vec::new(machine.alloc());
+        match machine.give_out(usize::MAX, &mut output) {
+            Ok(0) => return Ok(()),
+            Ok(_) => write_all(link, &output)?,
+            Err(refusal) => return Err(error_of_refusal(EndRefusal::Conn(refusal))),
+        }
+    }
+    Err(LinkError::NoProgress)
+}
+
+/// Writes all that waits, and what more can be sent where the output was full.
+fn send<M: Machine, L: Link>(machine: &mut M, link: &mut L) -> Result<(), LinkError>
+    requires { L.faults link.old < 2 ^ 64 - 1 }
+    ensures sends { SendsWhileUp
+        (traffic (L.given link.old) (L.taken link.old) (L.stalled link.old))
+        (traffic (L.given link.new) (L.taken link.new) (L.stalled link.new))
+        (M.held machine.old) (M.held machine.new) result }
+    ensures kept { (M.held machine.new).kept ≡ (M.held machine.old).kept }
+    ensures failures { L.faults link.new ≡ failures_at_end (L.faults link.old) result }
+    ensures err { IfErr result EndsWriting }
+{
+    for _ in 0..u64::MAX {
+        let is_full = machine.conn().waiting() >= FULL_OUTPUT;
+        write_out(machine, link)?;
+        if !is_full {
+            return Ok(());
+        }
+        pump(machine)?;
+    }
+    Err(LinkError::NoProgress)
+}
+
+/// Does what is due, once all that waits is written, where it is written to a link.
+fn do_due<M: Machine, L: Link>(
+    machine: &mut M,
+    link: &mut L,
+    writes: bool,
+    due: Next,
+) -> Result<(), LinkError>
+    requires { L.faults link.old < 2 ^ 64 - 1 }
+    ensures does { Does writes
+        (traffic (L.given link.old) (L.taken link.old) (L.stalled link.old))
+        (traffic (L.given link.new) (L.taken link.new) (L.stalled link.new))
+        (M.held machine.old) (M.held machine.new) due result }
+    ensures failures { L.faults link.new ≡ failures_at_end (L.faults link.old) result }
+    ensures err { IfErr result (MayEnd writes M.serves) }
+{
+    if writes {
+        write_out(machine, link)?;
+        return machine.act(due);
+    }
+    machine.act(due)
+}
+
+/// Ends what can't hear on. Where the connection has failed, all that waits is written to the link.
+fn end_early<M: Machine, L: Link>(
+    machine: &mut M,
+    link: &mut L,
+    writes: bool,
+    error: LinkError,
+) -> LinkError
+    requires fits { L.faults link.old < 2 ^ 64 - 1 }
+    requires is { IsOf M.serves error }
+    ensures ends { EndsEarly writes
+        (traffic (L.given link.old) (L.taken link.old) (L.stalled link.old))
+        (traffic (L.given link.new) (L.taken link.new) (L.stalled link.new))
+        (M.held machine.old) (M.held machine.new) error result }
+    ensures failures { L.faults link.new ≡ failures_by (L.faults link.old) result }
+    ensures err { MayEnd writes M.serves result }
+{
+    if !writes {
+        return error;
+    }
+    if machine.conn().failed().is_some() {
+        return match write_out(machine, link) {
+            Ok(()) => error,
+            Err(unwritten) => unwritten,
+        };
+    }
+    error
+}
+
+/// Takes octets of a piece, and does what is due: all of them; or, where that answers so, those up
+/// to the end of a response that is whole. All that waits is written to the link, if that is said,
+/// before each answer and each reset, and where the octets end the connection.
+pub(crate) fn take_all<M: Machine, L: Link>(
+    machine: &mut M,
+    link: &mut L,
+    writes: bool,
+    piece: &[u8],
+) -> Result<bool, LinkError>
+    requires { L.faults link.old < 2 ^ 64 - 1 }
+    ensures takes { Takes writes
+        (traffic (L.given link.old) (L.taken link.old) (L.stalled link.old))
+        (traffic (L.given link.new) (L.taken link.new) (L.stalled link.new))
+        (M.held machine.old) (M.held machine.new) piece.now result }
+    ensures failures { L.faults link.new ≡ failures_at_end (L.faults link.old) result }
+    ensures err { IfErr result (MayEnd writes M.serves) }
+{
+    let mut used = 0usize;
+    for _ in 0..u64::MAX {
+        match machine.take(&piece[used..]) {
+            Ok(heard) => {
+                used += heard.used;
+                match heard.next {
+                    Next::Again => {}
+                    Next::Done => return Ok(false),
+                    Next::Whole => return Ok(true),
+                    due => do_due(machine, link, writes, due)?,
+                }
+            }
+            Err(error) => return Err(end_early(machine, link, writes, error)),
+        }
+    }
+    Err(LinkError::NoProgress)
+}
+
+/// Drives a machine over a link until its response is whole, or the input has ended: answers
+/// whether it is whole.
+pub(crate) fn drive<M: Machine, L: Link>(machine: &mut M, link: &mut L) -> Result<bool, LinkError>
+    requires { L.faults link.old < 2 ^ 64 - 1 }
+    ensures drives { Drives
+        (traffic (L.given link.old) (L.taken link.old) (L.stalled link.old))
+        (traffic (L.given link.new) (L.taken link.new) (L.stalled link.new))
+        (M.held machine.old) (M.held machine.new) result }
+    ensures ended { MeetsEnd result (L.ended link.new) }
+    ensures failures { L.faults link.new ≡ failures_at_end (L.faults link.old) result }
+    ensures err { IfErr result (MayEnd true M.serves) }
+{
+    let mut input = room_for_input(machine.alloc())?;
+    for _ in 0..u64::MAX {
+        send(machine, link)?;
+        let is_whole = match link.read(&mut input) {
+            Ok(0) => return Ok(false),
+            Ok(count) => take_all(machine, link, true, &input[..count])?,
+            Err(_) => return Err(LinkError::Device),
+        };
+        if is_whole {
+            return Ok(true);
+        }
+        send_waiting(machine)?;
+    }
+    Err(LinkError::NoProgress)
+}
+
+/// Gives back all that is owed and sends what waits of messages, while the connection is up.
+fn send_waiting<M: Machine>(machine: &mut M) -> Result<(), LinkError>
+    ensures sends { SendsWaiting (M.held machine.old).end (M.held machine.new).end result }
+    ensures kept { (M.held machine.new).kept ≡ (M.held machine.old).kept }
+    ensures err { IfErr result IsOfCall }
+{
+    if machine.conn().failed().is_some() {
+        return Ok(());
+    }
+    release(machine)?;
+    pump(machine)
+}
+
+/// Sends what waits, and appends at most so many octets of the output.
+pub(crate) fn put_out<M: Machine>(
+    machine: &mut M,
+    count: usize,
+    out: &mut Vec<u8>,
+) -> Result<usize, LinkError>
+    ensures puts { PutsWaiting (M.held machine.old) (M.held machine.new) count out.old.items
+        out.new.items result }
+    ensures kept { (M.held machine.new).kept ≡ (M.held machine.old).kept }
+    ensures err { IfErr result IsOfCall }
+{
+    send_waiting(machine)?;
+    match machine.give_out(count, out) {
+        Ok(given) => Ok(given),
+        Err(refusal) => Err(error_of_refusal(EndRefusal::Conn(refusal))),
+    }
+}

@@ -1,0 +1,14 @@
+//! What answers the commands of cases of the layers below an end: texts, field blocks, frames,
+//! streams, settings and windows. `h2_cases` checks them.
+#![tactic(auto)]
+
+pub mod block;
+mod coders;
+pub mod flow;
+pub mod frame;
+mod frames;
+pub mod hpack_blocks;
+mod tables;
+pub mod text;
+mod text_again;
+pub mod wire;

@@ -1,0 +1,17 @@
+//! What the program's libraries do over readers, writers, streams and links that fail, and over
+//! sockets.
+//!
+//! Tests are proved as well: small functions answer whether a row holds.
+
+mod devices;
+mod fetching;
+mod library;
+mod links;
+mod long;
+mod recorder;
+mod replaying;
+mod serving;
+mod showing;
+mod sockets;
+mod streams;
+mod words;

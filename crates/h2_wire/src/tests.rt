@@ -1,4 +1,0 @@
-//! Streams by examples.
-
-mod lending;
-mod streams;
