@@ -155,7 +155,8 @@ def said_of(output, names):
     told = {it: how for it, how in statuses(output).items() for name in names if it in named(output, name)}
     if told and all(how.startswith(("proved", "assumed")) for how in told.values()):
         return False
-    errors = [it for it in map(ERROR.match, output.split("\n")) if it and not NAMES.search(it[0])]
+    lines = [it for it in output.split("\n") if not NAMES.search(it) and not LIMITS.search(it)]
+    errors = [it for it in map(ERROR.match, lines) if it]
     for printed, how in told.items():
         folder = "/".join(["proofs", *printed.split("::")[1:], ""])
         is_own = how.startswith("not proved") and any(it[1].startswith(folder) for it in errors)

@@ -133,16 +133,24 @@ fn an_acknowledgment_of_settings(rt: HostRuntime) {
     assert!(rt; is_acknowledgment_added(rt.alloc()));
 }
 
-/// Whether DATA of stream 1 is added, for which room is made.
-pub(crate) fn adds_data(output: &mut Output, octets: &[u8], end: bool) -> bool
+/// Whether DATA of a stream is added, for which room is made.
+fn adds_data_of(output: &mut Output, stream: u32, octets: &[u8], end: bool) -> bool
     requires up { output.old.ended ≡ false }
     ensures { output.new.ended ≡ false }
 {
     if octets.len() >= 1 << 24 || output.reserve(9 + octets.len()).is_err() {
         return false;
     }
-    output.add_data(1, octets, end);
+    output.add_data(stream, octets, end);
     true
+}
+
+/// Whether DATA of stream 1 is added, for which room is made.
+pub(crate) fn adds_data(output: &mut Output, octets: &[u8], end: bool) -> bool
+    requires up { output.old.ended ≡ false }
+    ensures { output.new.ended ≡ false }
+{
+    adds_data_of(output, 1, octets, end)
 }
 
 // Whether DATA is added, and given out as these octets.
@@ -171,10 +179,9 @@ fn is_long_data_given(alloc: Global) -> bool {
     let (Ok(octets), Ok(mut output)) = (vec![in alloc; b'x'; 0x01_02_03], Output::new(alloc)) else {
         return false;
     };
-    if octets.len() != 0x01_02_03 || output.reserve(0x01_02_0c).is_err() {
+    if !adds_data_of(&mut output, 0x7f_fe_fd_fc, &octets, false) {
         return false;
     }
-    output.add_data(0x7f_fe_fd_fc, &octets, false);
     let mut out = Vec::new(alloc);
     output.put_out(9, &mut out) == Ok(9)
         && out.as_slice() == b"\x01\x02\x03\x00\x00\x7f\xfe\xfd\xfc".as_slice()

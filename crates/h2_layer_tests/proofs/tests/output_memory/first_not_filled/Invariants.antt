@@ -3,4 +3,4 @@ use Rattle.std.proofs.Common.{◌≡◌, false}
 use Rattle.h2_layer_tests.proofs.tests.output_memory.first_not_filled.Given as goal
 
 abbrev pub invariant-loop-round : goal.invariant-loop-round
-invariant-loop-round g l = l.output.ended ≡ false
+invariant-loop-round l = l.output.ended ≡ false
