@@ -150,8 +150,8 @@ fn add_frames_above(octets: &mut Vec<u8>, frames: &[u8], more: u32) -> Result<()
         let Some((head, payload)) = others.split_first_chunk::<9>() else {
             break;
         };
-        let [a, b, c, kind, flags, id @ ..] = *head;
-        let id = u32::from_be_bytes(id).wrapping_add(more);
+        let [a, b, c, kind, flags, d, e, f, g] = *head;
+        let id = u32::from_be_bytes([d, e, f, g]).wrapping_add(more);
         let len = (a as usize) * 65_536 + (b as usize) * 256 + c as usize;
         let (Some(payload), Some(next)) = (payload.get(..len), payload.get(len..)) else {
             break;

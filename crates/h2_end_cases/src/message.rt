@@ -17,7 +17,7 @@ use h2_case::fields::read_fields;
 use h2_case::messages::read_message;
 use h2_case::words::Words;
 use h2_message::{Malformed, Place, Reading, Reads, asks_head, check_request, check_response};
-use hpack::{Decoder, Encoder, FieldList};
+use hpack::{Decoder, Encoder, FieldList, list_size};
 use std::alloc::Global;
 
 // The line of a check.
@@ -51,6 +51,9 @@ fn read_list(alloc: Global, text: &str) -> Result<FieldList, CaseError> {
     };
     let mut block = Vec::new(alloc);
     let mut list = FieldList::new(alloc);
+    if list_size(&fields) >= 1 << 35 {
+        return Err(CaseError::Unread);
+    }
     if encoder.encode(&fields, &mut block).is_err()
         || decoder.decode_into(&block, 65_536, &mut list).is_err()
     {
