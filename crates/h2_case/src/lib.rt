@@ -1,9 +1,11 @@
-//! Cases, which are files: how they are read, the words, octets, fields and messages in them, and
-//! what is printed of those that differ. `h2_cases` checks them.
+//! Cases, which are files: how they are read, the words, octets, fields and messages in them, what
+//! is printed of those that differ, and what answers the commands of cases of the layers below an
+//! end. `h2_cases` checks them.
 #![tactic(auto)]
 
 pub mod case;
 pub mod fields;
+pub mod layers;
 pub mod messages;
 pub mod octets;
 pub mod report;

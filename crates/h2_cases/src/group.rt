@@ -2,9 +2,8 @@
 
 use crate::{location, program};
 use h2_case::case::{Case, CaseError};
-use h2_end_cases::{conn, end, message};
-use h2_layer_cases::{block, flow, frame, hpack_blocks, text, wire};
-use h2_pair_cases::{engine, pair};
+use h2_case::layers::{block, flow, frame, hpack_blocks, text, wire};
+use h2_end_cases::{conn, end, engine, message, pair};
 use std::alloc::Global;
 use std::net::Net;
 

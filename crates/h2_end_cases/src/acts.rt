@@ -25,7 +25,7 @@ pub(crate) fn read_values(words: &mut Words<'_>) -> Result<(u32, u32, u32), Case
     Ok((table_limit, initial_window, max_streams))
 }
 
-// The eight octets of a PING.
+/// The eight octets of a PING.
 pub(crate) fn read_ping(alloc: Global, words: &mut Words<'_>) -> Result<[u8; 8], CaseError> {
     let octets = read_octets(alloc, words.rest())?;
     match octets.as_slice() {
@@ -34,8 +34,8 @@ pub(crate) fn read_ping(alloc: Global, words: &mut Words<'_>) -> Result<[u8; 8],
     }
 }
 
-// The settings that a command names.
-fn read_config(words: &mut Words<'_>) -> Result<Config, CaseError> {
+/// The settings that a command names.
+pub(crate) fn read_config(words: &mut Words<'_>) -> Result<Config, CaseError> {
     let (table_limit, initial_window, max_streams) = read_values(words)?;
     match Config::new(table_limit, initial_window, max_streams) {
         Ok(config) => Ok(config),

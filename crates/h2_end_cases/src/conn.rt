@@ -169,6 +169,9 @@ impl State {
         let mut text = String::new(self.alloc);
         let mut words = Words::of(&step.command);
         let name = words.word()?;
+        if self.conn.is_none() && name != "new" {
+            return Err(CaseError::Unread);
+        }
         match name {
             "new" => self.begin(&mut words, &mut text)?,
             "take" => self.take(&mut words, &mut text)?,
@@ -187,16 +190,22 @@ impl State {
                 add_replay(self.alloc, self.role, self.config, acts, &mut text)?;
             }
             _ => {
-                if !self.read(name, words, &mut text)? {
+                if !self.read(name, &mut words, &mut text)? {
                     self.call(name, &mut words, &mut text)?;
                 }
             }
         }
+        words.end()?;
         Ok(text)
     }
 
     // Adds what a reader of this name answers; whether there is one.
-    fn read(&self, name: &str, mut words: Words<'_>, text: &mut String) -> Result<bool, CaseError> {
+    fn read(
+        &self,
+        name: &str,
+        words: &mut Words<'_>,
+        text: &mut String,
+    ) -> Result<bool, CaseError> {
         let Some(conn) = &self.conn else {
             return Err(CaseError::Unread);
         };
@@ -244,14 +253,13 @@ pub(crate) fn drop_out(out: &[u8], text: &mut String) -> Result<(), CaseError> {
 fn read_stream(
     conn: &Conn,
     name: &str,
-    mut words: Words<'_>,
+    words: &mut Words<'_>,
     text: &mut String,
 ) -> Result<bool, CaseError> {
     if !matches!(name, "room" | "owed" | "next_live" | "is_active") {
         return Ok(false);
     }
     let id = words.number()?;
-    words.end()?;
     match name {
         "room" => add_option(text, conn.room(id))?,
         "owed" => write!(text, "{}\n", conn.owed(id))?,

@@ -18,7 +18,7 @@
 //! longer than 160 and no command has repeated octets, in two at each place. An answer that differs
 //! then is said. A case with `serve each` or `ask each` is done once.
 
-use crate::acts::{read_ping, read_values};
+use crate::acts::{read_config, read_ping};
 use crate::answers::{Notes, add_answer, add_option};
 use crate::conn::{drop_out, read_role};
 use crate::crowds::count_of;
@@ -30,7 +30,7 @@ use h2_case::case::{Case, CaseError, Step};
 use h2_case::messages::{add_message, read_message};
 use h2_case::octets::add_frames;
 use h2_case::words::Words;
-use h2_ends::{Config, EndRefusal, Message};
+use h2_ends::{EndRefusal, Message};
 use std::alloc::Global;
 
 /// Two ends, of which the first is spoken of.
@@ -40,15 +40,6 @@ struct State {
     cut: Cut,
     near: Option<Side>,
     far: Option<Side>,
-}
-
-// Settings that a command names.
-fn read_config(words: &mut Words<'_>) -> Result<Config, CaseError> {
-    let (table_limit, initial_window, max_streams) = read_values(words)?;
-    match Config::new(table_limit, initial_window, max_streams) {
-        Ok(config) => Ok(config),
-        Err(_) => Err(CaseError::Unread),
-    }
 }
 
 // A new end.

@@ -9,11 +9,11 @@
 //!   of the block's octets its payload is. That what was written before stays as it is, and that
 //!   the frames are gathered to the block again, is seen to.
 
-use crate::frames::{add_frame, add_last, cut_frame, read_frame};
+use crate::case::{Case, CaseError, Step, add_line};
+use crate::layers::frames::{add_frame, add_last, cut_frame, read_frame};
+use crate::octets::{add_hex, add_octets, read_octets};
+use crate::words::Words;
 use h2_block::{Gather, Gathered, spread};
-use h2_case::case::{Case, CaseError, Step, add_line};
-use h2_case::octets::{add_hex, add_octets, read_octets};
-use h2_case::words::Words;
 use h2_frame::{FrameRef, write};
 use std::alloc::{AllocError, Global};
 
@@ -177,7 +177,7 @@ fn answer(alloc: Global, gather: &mut Gather, step: &Step) -> Result<String, Cas
     let mut words = Words::of(&step.command);
     match words.word()? {
         "take" => take(alloc, gather, words.rest()),
-        "new" => {
+        "new" if words.end().is_ok() => {
             *gather = Gather::new(alloc);
             Ok(String::new(alloc))
         }

@@ -18,14 +18,14 @@
 //! - `each octet`: each octet for which `text` sees a difference, alone or among others.
 //! - `each length OCTET`: each length up to 300 for which it does, of this octet alone.
 
-use crate::frames::add_last;
-use crate::text_again::{
+use crate::case::{Case, CaseError, Step, add_line};
+use crate::fields::read_text;
+use crate::layers::frames::add_last;
+use crate::layers::text_again::{
     add_wrong_lengths, add_wrong_octets, huffman_of, is_again, string_of, walk_halves,
 };
-use h2_case::case::{Case, CaseError, Step, add_line};
-use h2_case::fields::read_text;
-use h2_case::octets::{add_octets, read_octets};
-use h2_case::words::Words;
+use crate::octets::{add_octets, read_octets};
+use crate::words::Words;
 use hpack_text::{
     TextFault, huff_read, huff_write, read_int, read_string, read_string_into, write_int,
     write_string,
@@ -196,8 +196,17 @@ fn append_line(alloc: Global, mut octets: Vec<u8>) -> Result<String, CaseError> 
     octets_line(alloc, &octets)
 }
 
+// Whether a text has hexadecimal digits alone, letters in lower case.
+fn is_hexadecimal(text: &str) -> bool {
+    text.chars()
+        .all(|digit| matches!(digit, '0'..='9' | 'a'..='f'))
+}
+
 // Where half octets lead.
 fn steps_line(alloc: Global, digits: &str) -> Result<String, CaseError> {
+    if !is_hexadecimal(digits) {
+        return Err(CaseError::Unread);
+    }
     let mut text = Vec::new(alloc);
     let state = walk_halves(digits, &mut text);
     let mut line = String::new(alloc);

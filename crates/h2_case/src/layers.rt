@@ -1,6 +1,5 @@
 //! What answers the commands of cases of the layers below an end: texts, field blocks, frames,
-//! streams, settings and windows. `h2_cases` checks them.
-#![tactic(auto)]
+//! streams, settings and windows.
 
 pub mod block;
 mod coders;

@@ -13,8 +13,8 @@
 //! - `config`: the values of a new end.
 //! - `config TABLE WINDOW STREAMS`: these values, or the first that is refused.
 
-use h2_case::case::{Case, CaseError, Step};
-use h2_case::words::Words;
+use crate::case::{Case, CaseError, Step};
+use crate::words::Words;
 use h2_config::{BadConfig, Config};
 use h2_flow::{Closed, Settings, StreamState, Window};
 use h2_log::Role;
@@ -205,15 +205,15 @@ fn answer(alloc: Global, state: &mut StreamState, step: &Step) -> Result<String,
         "give" => give(alloc, words),
         "shift" => shift(alloc, words),
         "config" => config(alloc, words),
-        "open" => {
+        "open" if words.end().is_ok() => {
             *state = StreamState::open();
             side_lines(alloc, state, Ok(()))
         }
-        "end_in" => {
+        "end_in" if words.end().is_ok() => {
             let answer = state.end_in();
             side_lines(alloc, state, answer)
         }
-        "end_out" => {
+        "end_out" if words.end().is_ok() => {
             let answer = state.end_out();
             side_lines(alloc, state, answer)
         }

@@ -111,6 +111,11 @@ pub(crate) fn show(
     words: &mut Words<'_>,
 ) -> Result<String, CaseError> {
     match word {
+        "output" => {
+            let mut lines = String::new(alloc);
+            add_frames(alloc, &mut lines, output)?;
+            Ok(lines)
+        }
         "written" => Ok(format!(in alloc; "{}\n", output.len())?),
         "body" => body_of(alloc, output, words.number()?),
         "frames" => frame_lines(alloc, output, words.number()?),

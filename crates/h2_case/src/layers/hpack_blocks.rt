@@ -15,11 +15,11 @@
 //! - `fill`: another decoder puts a field into the list that is kept, whose lines are the answer.
 //! - `clear`: the list that is kept is cleared.
 
-use crate::coders::{Coders, NO_LIMIT};
-use h2_case::case::{Case, CaseError, Step, add_line};
-use h2_case::fields::read_fields;
-use h2_case::octets::{add_octets, read_octets};
-use h2_case::words::Words;
+use crate::case::{Case, CaseError, Step, add_line};
+use crate::fields::read_fields;
+use crate::layers::coders::{Coders, NO_LIMIT};
+use crate::octets::{add_octets, read_octets};
+use crate::words::Words;
 use hpack::Field;
 use std::alloc::{AllocError, Global};
 
@@ -103,7 +103,9 @@ fn answer(alloc: Global, coders: &mut Coders, step: &Step) -> Result<String, Cas
     let mut words = Words::of(&step.command);
     match words.word()? {
         "new" => {
-            *coders = Coders::new(alloc, words.number()?)?;
+            let maximum = words.number()?;
+            words.end()?;
+            *coders = Coders::new(alloc, maximum)?;
             Ok(String::new(alloc))
         }
         "limits" => {
@@ -112,10 +114,14 @@ fn answer(alloc: Global, coders: &mut Coders, step: &Step) -> Result<String, Cas
         }
         "decode" => decode(alloc, coders, words),
         "encode" => encode(alloc, coders, words.rest()),
-        "numbered" => encode_numbered(alloc, coders, words.number()?),
-        "table" => coders.table(),
-        "fill" => coders.fill(),
-        "clear" => coders.clear(),
+        "numbered" => {
+            let count = words.number()?;
+            words.end()?;
+            encode_numbered(alloc, coders, count)
+        }
+        "table" if words.end().is_ok() => coders.table(),
+        "fill" if words.end().is_ok() => coders.fill(),
+        "clear" if words.end().is_ok() => coders.clear(),
         _ => Err(CaseError::Unread),
     }
 }

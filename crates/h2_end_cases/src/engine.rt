@@ -36,21 +36,13 @@ mod runs;
 mod trials;
 mod turns;
 
-use crate::pair::read_config;
+use crate::pair::{read_config, read_count};
 use h2_case::case::{Case, CaseError, Step};
-use h2_case::octets::{add_frames, read_octets};
+use h2_case::octets::read_octets;
 use h2_case::words::Words;
 use h2_engines::Config;
 use runs::{Calls, Engine, Setup};
 use std::alloc::Global;
-
-// The next word, as a number of octets.
-fn read_count(words: &mut Words<'_>) -> Result<usize, CaseError> {
-    if words.has("all") {
-        return Ok(usize::MAX);
-    }
-    words.number()
-}
 
 // The next words, as how a link reads and writes.
 fn read_calls(words: &mut Words<'_>) -> Result<Calls, CaseError> {
@@ -126,18 +118,15 @@ fn answer(setup: &mut Setup, step: &Step) -> Result<String, CaseError> {
     if set_up(setup, word, &mut words)? {
         return Ok(String::new(alloc));
     }
-    match word {
-        "serve" => run(setup, Engine::Server, &mut words),
-        "fetch" => run(setup, Engine::Client, &mut words),
-        "exchange" => trials::exchange(setup),
-        "many" => many::many(alloc, words.number()?),
-        "output" => {
-            let mut lines = String::new(alloc);
-            add_frames(alloc, &mut lines, &setup.output)?;
-            Ok(lines)
-        }
-        _ => output::show(alloc, &setup.output, word, &mut words),
-    }
+    let lines = match word {
+        "serve" => run(setup, Engine::Server, &mut words)?,
+        "fetch" => run(setup, Engine::Client, &mut words)?,
+        "exchange" => trials::exchange(setup)?,
+        "many" => many::many(alloc, words.number()?)?,
+        _ => output::show(alloc, &setup.output, word, &mut words)?,
+    };
+    words.end()?;
+    Ok(lines)
 }
 
 /// The answers to a case's commands, up to the first that has none.

@@ -29,7 +29,7 @@ mod ends;
 mod events;
 mod heard;
 
-pub(crate) use acts::read_config;
+pub(crate) use acts::{read_config, read_count};
 use ends::Pair;
 use h2_case::case::{Case, CaseError, Step, add_line};
 use h2_case::words::Words;
@@ -51,10 +51,12 @@ fn answer(
     let Some(pair) = pair.as_mut() else {
         return Err(CaseError::Unread);
     };
-    match acts::read_act(alloc, word, &mut words)? {
-        Some(act) => pair.make(&act),
-        None => pair.show(word, &mut words),
+    if let Some(act) = acts::read_act(alloc, word, &mut words)? {
+        return pair.make(&act);
     }
+    let answer = pair.show(word, &mut words)?;
+    words.end()?;
+    Ok(answer)
 }
 
 // The answers to a case's commands, up to the first that has none.

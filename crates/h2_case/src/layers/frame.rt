@@ -11,10 +11,10 @@
 //!   what was written before stays as it is, that the encoding is read as the frame again, and that
 //!   the frame as it was read, whose payload is lent, has the same encoding, is seen to.
 
-use crate::frames::{add_frame, cut_frame, read_frame};
-use h2_case::case::{Case, CaseError, Step, add_line};
-use h2_case::octets::{add_frames, read_octets};
-use h2_case::words::Words;
+use crate::case::{Case, CaseError, Step, add_line};
+use crate::layers::frames::{add_frame, cut_frame, read_frame};
+use crate::octets::{add_frames, read_octets};
+use crate::words::Words;
 use h2_frame::{
     Code, FrameRef, Head, Kind, head, head_fault, payload_fault, payload_frame, read_payload,
     write, write_ref,

@@ -1,9 +1,9 @@
 //! An encoder of field blocks, and two decoders: one makes a list of each block, the other fills a
 //! list that is kept.
 
-use crate::tables::{are_same_tables, table_lines};
-use h2_case::case::{CaseError, add_line};
-use h2_case::fields::{add_field, add_fields};
+use crate::case::{CaseError, add_line};
+use crate::fields::{add_field, add_fields};
+use crate::layers::tables::{are_same_tables, table_lines};
 use hpack::{Decoded, Decoder, Encoder, Fault, Field, FieldList, FieldRef, List, list_size};
 use std::alloc::Global;
 

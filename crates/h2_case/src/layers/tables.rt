@@ -1,7 +1,7 @@
 //! Dynamic tables: their lines, and whether two are the same.
 
-use h2_case::case::{CaseError, add_line};
-use h2_case::fields::add_field;
+use crate::case::{CaseError, add_line};
+use crate::fields::add_field;
 use hpack::{FieldRef, Table};
 use std::alloc::Global;
 

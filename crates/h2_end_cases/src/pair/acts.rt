@@ -1,8 +1,8 @@
 //! Acts, as commands have them and as they are answered.
 
+use crate::acts::read_ping;
 use h2_case::case::CaseError;
 use h2_case::messages::read_message;
-use h2_case::octets::read_octets;
 use h2_case::words::Words;
 use h2_joined::{Acted, Config, EndRefusal, JointAct, Side};
 use std::alloc::Global;
@@ -17,7 +17,7 @@ pub(crate) fn read_side(words: &mut Words<'_>) -> Result<Side, CaseError> {
 }
 
 /// The next word, as a number of octets.
-fn read_count(words: &mut Words<'_>) -> Result<usize, CaseError> {
+pub(crate) fn read_count(words: &mut Words<'_>) -> Result<usize, CaseError> {
     if words.has("all") {
         return Ok(usize::MAX);
     }
@@ -30,15 +30,6 @@ pub(crate) fn read_config(words: &mut Words<'_>) -> Result<Config, CaseError> {
     match Config::new(table, window, streams) {
         Ok(config) => Ok(config),
         Err(_) => Err(CaseError::Unread),
-    }
-}
-
-/// The octets of a PING.
-fn read_ping(alloc: Global, words: &mut Words<'_>) -> Result<[u8; 8], CaseError> {
-    let octets = read_octets(alloc, words.rest())?;
-    match octets.as_slice() {
-        [a, b, c, d, e, f, g, h] => Ok([*a, *b, *c, *d, *e, *f, *g, *h]),
-        _ => Err(CaseError::Unread),
     }
 }
 

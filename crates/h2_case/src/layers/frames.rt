@@ -14,9 +14,9 @@
 //! `end` is END_STREAM, `whole` is END_HEADERS, numbers are decimal, and octets are as
 //! [`read_octets`] reads them, or left out where there are none.
 
-use h2_case::case::CaseError;
-use h2_case::octets::{add_hex, add_octets, read_octets};
-use h2_case::words::Words;
+use crate::case::CaseError;
+use crate::octets::{add_hex, add_octets, read_octets};
+use crate::words::Words;
 use h2_frame::{Frame, FrameRef, head, head_fault, read_payload};
 use std::alloc::{AllocError, Global};
 

@@ -7,10 +7,10 @@
 //!   long one 1,000 octets a piece, and in two at the first and the last 12 places. Where the
 //!   answers differ, and where a fault isn't answered again, that is said.
 
-use crate::frames::add_frame;
-use h2_case::case::{Case, CaseError, Step, add_line};
-use h2_case::octets::read_octets;
-use h2_case::words::Words;
+use crate::case::{Case, CaseError, Step, add_line};
+use crate::layers::frames::add_frame;
+use crate::octets::read_octets;
+use crate::words::Words;
 use h2_wire::{Cutter, WireFault};
 use std::alloc::Global;
 
