@@ -1,5 +1,5 @@
 -- What handing pieces to an end makes of it, and what that reports of the octets.
-use Rattle.std.proofs.Common.{◌≡◌, ◌≢◌, ℕ, List, [], ◌∷◌, ◌++◌, map, take, drop, Option, Some, None}
+use Rattle.std.proofs.Common.{◌≡◌, ◌≢◌, ℕ, List, [], ◌∷◌, ◌++◌, take, drop, Option, Some, None}
 use Rattle.std.proofs.Common.{Result, Ok, Err, IfOk, IfSome, refl, sym, subst, append-nil}
 use Rattle.std.proofs.Common.{arith}
 use Rattle.std.specs.Io.KnownBytes.{Consumes, IsAtEnd}
@@ -12,8 +12,7 @@ use Rattle.h2_log.specs.Acts.{Values, AreInRange, TakeCalled, TakeAnswered}
 use Rattle.h2_log.specs.Log.{Log}
 use Rattle.h2_log.specs.LogCalls.{opened}
 use Rattle.h2_log.specs.LogSteps.{with_sent}
-use Rattle.h2_end_laws.specs.Takes.{Took, Failed}
-use Rattle.h2_end_laws.specs.Replays.{Take, TakesAll, is_done, goes_on, has_fault, IsReplay}
+use Rattle.h2_end_laws.specs.Replays.{TakesAll, is_done, goes_on, has_fault}
 use Rattle.h2_end_laws.specs.Replays.{starts, takes}
 use Rattle.h2_end_laws.specs.Replays.{octets_of_acts}
 use Rattle.h2_end_laws.proofs.TakeAnswers.{log_after_take}

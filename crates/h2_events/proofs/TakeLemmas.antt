@@ -1,14 +1,11 @@
 -- A piece is handed to an end call by call.
-use Rattle.std.proofs.Common.{◌≡◌, ◌≢◌, ℕ, ◌+◌, ◌-◌, ◌≤◌, List, length, take, drop, Option, Some}
+use Rattle.std.proofs.Common.{◌≡◌, ◌≢◌, ℕ, ◌+◌, ◌-◌, ◌≤◌, List, length, take, drop, Some}
 use Rattle.std.proofs.Common.{None, Ok, Err, inl, inr, refl, sym, ap, subst, ◌∙◌, arith}
 use Rattle.std.proofs.Common.{length-drop}
 use Rattle.std.proofs.lemmas.List.{take_rest, drop-drop}
 use Rattle.std.specs.Option.{option_map}
 use Rattle.h2_frame.specs.declared.code.Code.{Code}
-use Rattle.h2_frame.specs.declared.code.Code.TheVariants.{InternalError}
 use Rattle.h2_show.specs.declared.failure.Failure.TheVariants as failures
-use Rattle.h2_log.specs.Acts.{Values}
-use Rattle.h2_log.specs.Log.{Log}
 use Rattle.h2_end_laws.specs.Takes.{Took, Failed, MayTake, TakeAnswer}
 use Rattle.h2_end_laws.specs.Replays.{TakesAll, is_done, goes_on, has_fault, IsCalledAgain}
 use Rattle.h2_conn.specs.declared.conn.Conn.{Conn}

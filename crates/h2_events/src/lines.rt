@@ -1,6 +1,11 @@
 //! Events, and the octets that an end gives out, as lines of text.
 
-ghost use Rattle.std.specs.Prelude.{◌≢◌, Err};
+ghost use Rattle.std.specs.Prelude.{◌≢◌, Err, Some, flat_map, OnOk};
+ghost use Rattle.std.specs.Io.KnownBytes.{Appends};
+ghost use Rattle.h2_log.specs.Events.{PongEvent};
+ghost use Rattle.h2_conn.specs.Events.{event_value};
+ghost use Rattle.h2_show.specs.Lines.{field_line};
+ghost use Rattle.h2_events.specs.EventLines.{event_lines, end_word};
 
 use h2_conn::{Conn, Event};
 use h2_show::{Failure, PIECE, write_field};
@@ -9,9 +14,18 @@ use std::alloc::Global;
 use std::fmt;
 use std::io::{self, Write};
 
-/// Prints the line of an event, and those of its fields. The words are divided by one space, and
-/// numbers are decimal.
-pub(crate) fn write_event<W: Write>(event: Event<'_>, out: &mut W) -> io::Result<()> {
+/// Prints the line of an event, and then a line for each of its fields, as
+/// [`write_field`](h2_show::write_field) does. The words are divided by one space, and numbers are
+/// decimal; each octet of a PING is two hexadecimal digits in lower case.
+///
+/// # Errors
+///
+/// Those of the writer.
+#[tactic(auto, unfolding(crate::specs::EventLines::event_lines))]
+pub fn write_event<W: Write>(event: Event<'_>, out: &mut W) -> io::Result<()>
+    ensures { OnOk result (Appends (W.contents out.old) (W.contents out.new)
+        (event_lines (event_value event.entry))) }
+{
     match event {
         Event::Fields { id, list, end } => {
             writeln!(out, "fields {id}{}", End(end))?;
@@ -33,7 +47,7 @@ pub(crate) fn write_event<W: Write>(event: Event<'_>, out: &mut W) -> io::Result
         Event::GoAway { last, code } => writeln!(out, "goaway last={last} code={code}"),
         Event::Unprocessed { id } => writeln!(out, "unprocessed {id}"),
         Event::Acked => out.write_all(b"acked\n"),
-        Event::Pong { octets } => writeln!(out, "pong {:016x}", u64::from_be_bytes(octets)),
+        Event::Pong { octets } => write_pong(octets, out),
     }
 }
 
@@ -42,6 +56,8 @@ pub(crate) fn write_event<W: Write>(event: Event<'_>, out: &mut W) -> io::Result
 struct End(bool);
 
 impl fmt::Display for End {
+    ghost output = { λ end. Some (end_word end.0) };
+
     fn fmt<W: fmt::Write>(&self, f: &mut fmt::Formatter<W>) -> fmt::Result {
         match self.0 {
             true => write!(f, " end"),
@@ -50,13 +66,30 @@ impl fmt::Display for End {
     }
 }
 
-fn write_fields<W: Write>(list: &FieldList, out: &mut W) -> io::Result<()> {
+/// Prints the lines of the fields of a list.
+fn write_fields<W: Write>(list: &FieldList, out: &mut W) -> io::Result<()>
+    ensures { OnOk result (Appends (W.contents out.old) (W.contents out.new)
+        (flat_map field_line list.now)) }
+{
     for place in 0..list.len() {
         if let Some(field) = list.get(place) {
             write_field(field, out)?;
         }
     }
     Ok(())
+}
+
+/// Prints the line of a PING that was answered, with its octets.
+#[tactic(auto, unfolding(crate::specs::EventLines::event_lines))]
+fn write_pong<W: Write>(octets: [u8; 8], out: &mut W) -> io::Result<()>
+    ensures { OnOk result (Appends (W.contents out.old) (W.contents out.new)
+        (event_lines (PongEvent octets))) }
+{
+    out.write_all(b"pong ")?;
+    for octet in octets {
+        write!(out, "{octet:02x}")?;
+    }
+    out.write_all(b"\n")
 }
 
 /// Prints the line of all the output that waits: it is put out a piece at a time.

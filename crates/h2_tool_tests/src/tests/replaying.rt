@@ -1,9 +1,13 @@
-//! `h2 replay` to writers that take a part of the lines.
+//! `h2 replay` to writers that take a part of the lines, and the lines of the events that follow an
+//! end's own calls, which no input makes.
 
 use super::devices::{Full, Pieces};
+use h2_conn::Event;
+use h2_events::write_event;
 use h2_show::{Status, from_hex};
 use h2_tool::cmd_replay;
 use std::alloc::Global;
+use std::test::Fail;
 
 /// Octets of a client in hexadecimal, and the lines of a server that takes them.
 struct Replayed {
@@ -53,4 +57,17 @@ fn full_writers(rt: HostRuntime) {
             assert!(rt; fails(rt.alloc(), replayed, room), "{room}");
         }
     }
+}
+
+#[test]
+fn events_of_own_calls(rt: HostRuntime) -> Result<(), Fail> {
+    let mut out = Vec::new(rt.alloc());
+    write_event(Event::Unprocessed { id: 3 }, &mut out)?;
+    let octets = [0, 1, 2, 3, 4, 5, 254, 255];
+    write_event(Event::Pong { octets }, &mut out)?;
+    assert_eq!(rt;
+        out.as_slice(),
+        b"unprocessed 3\npong 000102030405feff\n".as_slice()
+    );
+    Ok(())
 }

@@ -1,5 +1,4 @@
 -- The configuration is the default one.
-use Rattle.std.proofs.Common.{subst}
 use Rattle.h2_log.specs.declared.role.Role.TheVariants.{Client, Server}
 use Rattle.h2_events.proofs.ReplayLemmas.{new_replays}
 use Rattle.h2_events.proofs.replayer.new_end.Goals as goal
