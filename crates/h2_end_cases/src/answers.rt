@@ -45,7 +45,7 @@ pub(crate) fn add_option<T: Display + Drop>(
 }
 
 /// Adds the line of each field of a list; a value of more than 64 octets is written in braces, as
-/// [`crate::octets`] writes octets.
+/// [`h2_case::octets`] writes octets.
 pub(crate) fn add_list(
     alloc: Global,
     text: &mut String,

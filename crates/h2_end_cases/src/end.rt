@@ -5,7 +5,7 @@
 //!   end of a connection ([`crate::conn`]). What is handed out is as [`crate::end_events`] says.
 //! - `start`: the peer's opening comes, with SETTINGS without values, and all output is taken away
 //!   and not shown.
-//! - `request MESSAGE`, `respond ID MESSAGE`: messages are written as [`crate::messages`] says.
+//! - `request MESSAGE`, `respond ID MESSAGE`: messages are written as [`h2_case::messages`] says.
 //!   That a refused one is handed back as it was given is looked at.
 //! - `serve each N MESSAGE`, at a client `ask each N MESSAGE`: see [`crate::crowds`].
 //! - `pump`, `release_all`, `is_quiet`; `active`: the numbers of all active streams, and

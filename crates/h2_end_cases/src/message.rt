@@ -3,7 +3,7 @@
 //! - `each octet of names N`, `each octet of values N`: which octets may not stand at which place
 //!   of a name or a value of N octets, of which the others are `a` ([`crate::each_octet`]).
 //! - `request MESSAGE`, `response MESSAGE`, `response to_head MESSAGE`: `good`, or the first rule
-//!   that the message breaks. A message is written as [`crate::messages`] says.
+//!   that the message breaks. A message is written as [`h2_case::messages`] says.
 //! - `asks HEAD`: whether the head of a request asks with HEAD.
 //! - `read requests`, `read responses`, `read responses to_head`: a message is read from its start.
 //!   Of it `fields FIELDS` and `data N`, each with `end` before the rest where it ends the stream,
