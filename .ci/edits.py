@@ -82,12 +82,17 @@ def functions_of(text):
     return found
 
 
+def without_comments(text):
+    """Returns the text of a file of a crate without blank lines and lines that are comments."""
+    return "\n".join(it for it in text.split("\n") if it.strip() and not it.lstrip().startswith(("//", "--")))
+
+
 def without_bodies(text):
     """Returns the text of a file of src/ without blank lines, comments and the bodies of functions."""
     lines = text.split("\n")
     for it in reversed(functions_of(text)):
         del lines[it.body : it.end]
-    return "\n".join(it for it in lines if it.strip() and not it.lstrip().startswith("//"))
+    return without_comments("\n".join(lines))
 
 
 def module_of(crate, file):
@@ -244,6 +249,7 @@ def self_test():
     """Tries what stands above on small texts."""
     found = functions_of(SOURCE)
     assert [it.name for it in found] == ["Gate::take", "GateFromIoFault*::from", "law", "last"], found
+    assert without_comments("-- a\n\nb -- c\n  // d\n  /// e\nf\n") == "b -- c\nf"
     bare = without_bodies(SOURCE)
     assert "self.value -= 1" not in bare and "A comment" not in bare and "Gate { value: 4 }" not in bare
     assert "ensures { result" in bare and "MOST ≡ 7" in bare and "value: u32" in bare and ") -> Gate {" in bare

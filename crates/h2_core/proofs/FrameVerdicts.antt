@@ -125,7 +125,7 @@ fresh_idle e id fresh = rw (fresh.absent, fresh.above, or_true (id % 2 == 0)) re
 pub fresh_no_stream : (e : End) (id : ℕ) → Fresh e id → stream_at e id ≡ None
 fresh_no_stream e id fresh = rw fresh.absent refl
 
--- What opens it is judged as an opening.
+-- What opens it is checked as an opening.
 pub opening_rule : (e : End) (id : ℕ) (end : Bool) (octets : List ℕ) (decoded : Decoded)
     → Fresh e id
     → by_block e id end octets decoded
@@ -414,7 +414,7 @@ idle_unopened e id idle stale =
     (is_above e id) idle) stale
     (λ opens. odd_even (id % 2) (and_parts (is_server e.role) (id % 2 == 1) opens).1)
 
--- A block on an idle number that isn't fresh, or a past one, is a fault of the connection.
+-- A block on an idle number that isn't fresh, or a closed one, is a fault of the connection.
 pub record Unwanted (e : End) (id : ℕ) (end : Bool) (octets : List ℕ) (decoded : Decoded)
     : Type 0 where
   pub fault : verdict_of (end_view e) (Some decoded) (block id end octets)

@@ -46,7 +46,7 @@ by_state : (e : End) (one : DataFrame) (pad : Option ℕ) (state : State) → Ha
 unfolding verdict_by_rules
 by_state e one pad state flow is = rw (flow, is) refl
 
--- On an idle stream it is a fault of the connection, and so it is on a past one.
+-- On an idle stream it is a fault of the connection, and so it is on a closed one.
 pub idle_data : (e : End) (one : DataFrame) (pad : Option ℕ) → HasFlow one pad
     → Idle ≡ state_at e one.stream
     → verdict_of (end_view e) None (alone (data_of one pad)) ≡ ConnectionFault ProtocolError

@@ -17,9 +17,9 @@ pub data Verdict : Type 0 where
   -- it is reported, as an event
   Reported : Verdict
 
--- DATA on a stream in this state (sections 5.1, 6.1 and 6.9.1): on an idle stream, or a past one,
--- it is a fault of the connection; so is what passes the connection's window; on a closed by this
--- end stream it is ignored; after the peer's end it is a fault of the stream; what passes the
+-- DATA on a stream in this state (sections 5.1, 6.1 and 6.9.1): on an idle stream, or a closed one,
+-- it is a fault of the connection; so is what passes the connection's window; on a stream that this
+-- end has reset it is ignored; after the peer's end it is a fault of the stream; what passes the
 -- stream's window is a fault of the connection (own); otherwise it is reported.
 unfoldable pub data_verdict : State → (passes_connection peer_ended passes_stream : Bool) → Verdict
 data_verdict Idle passes_connection peer_ended passes_stream = ConnectionFault ProtocolError
@@ -67,9 +67,10 @@ opening_verdict left full too_large =
     else if too_large then StreamFault EnhanceYourCalm else Reported
 
 -- A field block that decodes, on a stream in this state (sections 5.1, 5.1.1 and 6.2). `opens`: the
--- number is one that the peer may open. On an idle stream that the peer may not open, or a past
--- one, it is a fault of the connection; on a closed by this end one it is ignored; after the peer's
--- end, or with a list that is too large, it is a fault of the stream; otherwise it is reported.
+-- number is one that the peer may open. On an idle stream that the peer may not open, or a closed
+-- one, it is a fault of the connection; on a stream that this end has reset it is ignored; after the
+-- peer's end, or with a list that is too large, it is a fault of the stream; otherwise it is
+-- reported.
 unfoldable pub block_verdict : State → (opens left full peer_ended too_large : Bool) → Verdict
 block_verdict Idle opens left full peer_ended too_large =
     if opens then opening_verdict left full too_large else ConnectionFault ProtocolError

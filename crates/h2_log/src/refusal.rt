@@ -38,7 +38,7 @@ pub enum Refusal {
     /// C11: more is released than is owed on the stream, or nothing.
     #[error("C11 NotOwed: so much isn't owed on the stream")]
     NotOwed,
-    /// C12: a growth was refused.
+    /// C12: an allocation was refused.
     #[error("C12 Memory: out of memory")]
     Memory,
     /// C13: SETTINGS of this end await their acknowledgment.

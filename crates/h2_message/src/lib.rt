@@ -23,4 +23,5 @@ pub use hpack::{Field, FieldList, FieldRef, Octets};
 pub use laws::sent_messages_are_well_read;
 pub use malformed::Malformed;
 pub use message::{Message, asks_head};
+pub use octets::names_user;
 pub use reading::{Place, Reading, Reads};

@@ -40,7 +40,7 @@ pub enum Malformed {
     /// M11: a `content-length` is no number of 1 to 19 digits, or several differ, or the body has
     /// another length (section 8.1.1); or a response that has no content, to HEAD, 204 or 304, has
     /// a body (RFC 9110, section 6.4.1).
-    #[error("M11 BadLength: a bad content-length, or a body of another length")]
+    #[error("M11 BadLength: a bad content-length, a body of another length, or to HEAD, 204, 304")]
     BadLength,
     /// M12: the parts of a message come in another order than its own (section 8.1). A message that
     /// is to be sent has its order, so no check answers it; [`Reading`](crate::Reading) refuses

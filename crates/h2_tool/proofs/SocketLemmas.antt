@@ -17,7 +17,7 @@ use Rattle.h2_sockets.specs.Printing.{PrintsResponse, exchange_line}
 use Rattle.h2_args.specs.Words.{octets_of, url_of}
 use Rattle.h2_tool.specs.Commands.{EndsGet, EndsLoop, Gets, RefusesUrl, RefusesGet}
 
--- A fault other than of memory is no want of memory.
+-- A fault other than of memory is not for lack of memory.
 refused_so : (words : List (List ℕ)) (url : List ℕ) (fault : TargetFault)
     → url_of words ≡ Some url → IsRefusedUrl url fault → RefusesUrl fault Usage → RefusesGet words
 refused_so words url faults.Memory asked refused so = absurd (cc)

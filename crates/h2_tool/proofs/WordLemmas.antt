@@ -13,7 +13,7 @@ use Rattle.h2_tool.specs.Commands.{AnswersWords, AsksHelp, HasWrongWords, EndsSh
 use Rattle.h2_tool.specs.Commands.{EndsServe, EndsGet, EndsLoop, EndsProgram, wrong_words}
 use Rattle.h2_tool.specs.Commands.{RefusesShow, RefusesReplay, RefusesGet}
 
--- A kind of help is no want of memory.
+-- A kind of help is not for lack of memory.
 no_memory : (kind : ErrorKind) → AnswersWords kind Good → kind ≡ kinds.OutOfMemory → ⊥
 no_memory kind (inl help) out = absurd (cc)
 no_memory kind (inr version) out = absurd (cc)

@@ -67,7 +67,7 @@ impl Decoder {
         self.limit = limit;
     }
 
-    /// The dynamic table, to look at. It takes no memory.
+    /// The dynamic table, to be read. It takes no memory.
     pub fn table(&self) -> &Table
         ensures { result.now ≡ self.now.table }
     {

@@ -83,7 +83,7 @@ impl Encoder {
         self.limit = limit;
     }
 
-    /// The dynamic table, to look at. It takes no memory.
+    /// The dynamic table, to be read. It takes no memory.
     pub fn table(&self) -> &Table
         ensures { result.now ≡ self.now.table }
     {
