@@ -1,6 +1,11 @@
-//! The README's server and client, run.
+//! README's server, client and POST, run on traffic as it comes.
 
-use h2_uses::{get, serve};
+use anyhow::Result;
+use h2_ends::{Field, FieldList, Message};
+use h2_engines::MemoryLink;
+use h2_uses::{Handler, Hello, Response, get, post, response, serve};
+use std::alloc::Global;
+use std::collections::BTreeMap;
 use std::test::Fail;
 
 /// The client's preface and SETTINGS; GET on stream 1, HEAD on 3, and POST of four octets on 5.
@@ -13,28 +18,158 @@ const ASKED: &[u8] = b"PRI * HTTP/2.0\r\n\r\nSM\r\n\r\n\x00\x00\x00\x04\x00\x00\
 const ANSWERED: &[u8] = b"\x00\x00\x00\x04\x00\x00\x00\x00\x00\x00\x00\x00\x04\x01\x00\x00\x00\x00\
     \x00\x00\x01\x01\x04\x00\x00\x00\x01\x88\x00\x00\x06\x00\x01\x00\x00\x00\x01hello\n";
 
+/// The server's SETTINGS, GOAWAY that names no stream, and PING.
+const GONE: &[u8] = b"\x00\x00\x00\x04\x00\x00\x00\x00\x00\
+    \x00\x00\x08\x07\x00\x00\x00\x00\x00\x00\x00\x00\x00\x00\x00\x00\x00\
+    \x00\x00\x08\x06\x00\x00\x00\x00\x0012345678";
+
+/// The acknowledgment of that PING.
+const PONG: &[u8] = b"\x00\x00\x08\x06\x01\x00\x00\x00\x0012345678";
+
+/// What follows the server's acknowledgment where each request is answered with a body: 200 with it
+/// on stream 1, RST_STREAM with INTERNAL_ERROR on 3, which asked with HEAD, and 200 on 5.
+const RESET: &[u8] = b"\x00\x00\x04\x03\x00\x00\x00\x00\x03\x00\x00\x00\x02";
+
+/// Answers each request with a field of 1,500 octets, which no table keeps.
+#[derive(Drop)]
+struct Long;
+
+impl Handler for Long {
+    fn answer(&mut self, alloc: Global, _head: &FieldList) -> Result<Message> {
+        let mut message = response(alloc, b"200", b"")?;
+        let cookie = vec![in alloc; b'x'; 1_500]?;
+        message
+            .head
+            .push(Field::copy_of(alloc, b"set-cookie", &cookie, true)?)?;
+        Ok(message)
+    }
+}
+
+/// Answers each request with a body, HEAD too.
+#[derive(Drop)]
+struct Bodies;
+
+impl Handler for Bodies {
+    fn answer(&mut self, alloc: Global, _head: &FieldList) -> Result<Message> {
+        Ok(response(alloc, b"200", b"hello\n")?)
+    }
+}
+
+/// What a server answers to octets.
+fn answered<H: Handler>(alloc: Global, octets: &[u8], handler: &mut H) -> Result<Vec<u8>> {
+    let mut from = octets;
+    let mut to = Vec::new(alloc);
+    serve(alloc, &mut from, &mut to, handler)?;
+    Ok(to)
+}
+
+/// What a client that asks so often makes of octets, and what it sends.
+fn asked(alloc: Global, count: usize, octets: &[u8]) -> Result<(BTreeMap<u32, Response>, Vec<u8>)> {
+    let mut from = octets;
+    let mut to = Vec::new(alloc);
+    let paths = vec![in alloc; b"/".as_slice(); count]?;
+    let responses = get(alloc, &mut from, &mut to, &paths)?;
+    Ok((responses, to))
+}
+
 /// The opening of 33 octets, an acknowledgment of 9, three heads of 10, two bodies of 15, and the
 /// WINDOW_UPDATE of 13 that gives the four octets back.
-#[test]
-fn the_server_answers(rt: HostRuntime) -> Result<(), Fail> {
-    let mut from = ASKED;
-    let mut to = Vec::new(rt.alloc());
-    assert!(rt; serve(rt.alloc(), &mut from, &mut to).is_ok());
-    assert_eq!(rt; to.len(), 33 + 9 + 3 * 10 + 2 * 15 + 13);
-    Ok(())
+fn three_are_answered(alloc: Global) -> bool {
+    match answered(alloc, ASKED, &mut Hello) {
+        Ok(to) => to.len() == 33 + 9 + 3 * 10 + 2 * 15 + 13,
+        Err(_) => false,
+    }
+}
+
+/// A body that answers HEAD resets that stream alone: the answers on streams 1 and 5 have 25 octets
+/// each.
+fn a_body_to_head_resets_one_stream(alloc: Global) -> bool {
+    match answered(alloc, ASKED, &mut Bodies) {
+        Ok(to) => { to.len() == 33 + 9 + 2 * 10 + 13 + 2 * 15 + 13 && to[52..].starts_with(RESET) }
+        Err(_) => false,
+    }
+}
+
+/// How many of 100 responses with a long field are whole, where all are asked for at once.
+fn whole_of_a_hundred(alloc: Global) -> Result<usize> {
+    let (_, octets) = asked(alloc, 100, b"")?;
+    let octets = answered(alloc, &octets, &mut Long)?;
+    let (responses, _) = asked(alloc, 100, &octets)?;
+    Ok(
+        responses
+            .values()
+            .filter(|response| response.is_whole)
+            .count(),
+    )
+}
+
+/// 60 requests are over by one GOAWAY, and the PING after it, in the same piece, is answered.
+fn sixty_are_over(alloc: Global) -> bool {
+    match asked(alloc, 60, GONE) {
+        Ok((responses, to)) => {
+            to.ends_with(PONG) && responses.values().all(|response| response.is_over)
+        }
+        Err(_) => false,
+    }
+}
+
+/// Whether a response is whole, with its status and body.
+fn is_hello(one: &Response) -> bool {
+    let (status, body) = (one.status.as_slice(), one.body.as_slice());
+    one.is_whole && status == b"200".as_slice() && body == b"hello\n".as_slice()
 }
 
 /// The status and the body are kept, and the response is whole.
+fn one_is_kept(alloc: Global) -> bool {
+    match asked(alloc, 1, ANSWERED) {
+        Ok((responses, _)) => match responses.get(&1) {
+            Some(one) => is_hello(one),
+            None => false,
+        },
+        Err(_) => false,
+    }
+}
+
+/// A POST is answered with the response's body.
+fn a_post_is_answered(alloc: Global) -> Result<bool> {
+    let mut link = MemoryLink::new(alloc, Vec::from_slice(alloc, ANSWERED)?);
+    let body = Vec::from_slice(alloc, b"{\"a\": 1}")?;
+    let fetched = post(alloc, &mut link, b"localhost", b"/", body)?;
+    Ok(fetched.body.as_slice() == b"hello\n".as_slice())
+}
+
+#[test]
+fn the_server_answers(rt: HostRuntime) -> Result<(), Fail> {
+    assert!(rt; three_are_answered(rt.alloc()));
+    Ok(())
+}
+
+#[test]
+fn a_wrong_answer_resets_its_stream(rt: HostRuntime) -> Result<(), Fail> {
+    assert!(rt; a_body_to_head_resets_one_stream(rt.alloc()));
+    Ok(())
+}
+
+#[test]
+fn long_answers_all_come(rt: HostRuntime) -> Result<(), Fail> {
+    assert!(rt; matches!(whole_of_a_hundred(rt.alloc()), Ok(100)));
+    Ok(())
+}
+
+#[test]
+fn nothing_is_lost_after_goaway(rt: HostRuntime) -> Result<(), Fail> {
+    assert!(rt; sixty_are_over(rt.alloc()));
+    Ok(())
+}
+
 #[test]
 fn the_client_asks(rt: HostRuntime) -> Result<(), Fail> {
-    let mut from = ANSWERED;
-    let mut to = Vec::new(rt.alloc());
-    let Ok(response) = get(rt.alloc(), &mut from, &mut to) else {
-        assert!(rt; false);
-        return Ok(());
-    };
-    assert!(rt; response.end);
-    assert_eq!(rt; response.status.as_slice(), b"200".as_slice());
-    assert_eq!(rt; response.body.as_slice(), b"hello\n".as_slice());
+    assert!(rt; one_is_kept(rt.alloc()));
+    Ok(())
+}
+
+#[test]
+fn the_client_posts(rt: HostRuntime) -> Result<(), Fail> {
+    assert!(rt; matches!(a_post_is_answered(rt.alloc()), Ok(true)));
     Ok(())
 }

@@ -79,7 +79,7 @@ pub extern "C" fn measure_serve(
 pub extern "C" fn measure_server(alloc: Global, octets: &[u8], counts: &mut Counts) -> i32 {
     let mut from = octets;
     let mut to = Vec::new(alloc);
-    let served = h2_uses::serve(alloc, &mut from, &mut to);
+    let served = h2_uses::serve(alloc, &mut from, &mut to, &mut h2_uses::Hello);
     counts.add_octets(to.len());
     if served.is_err() { 1 } else { 0 }
 }
@@ -90,8 +90,11 @@ pub extern "C" fn measure_server(alloc: Global, octets: &[u8], counts: &mut Coun
 pub extern "C" fn measure_client(alloc: Global, octets: &[u8], counts: &mut Counts) -> i32 {
     let mut from = octets;
     let mut to = Vec::new(alloc);
-    match h2_uses::get(alloc, &mut from, &mut to) {
-        Ok(response) if response.end => {
+    let Ok(responses) = h2_uses::get(alloc, &mut from, &mut to, &[b"/".as_slice()]) else {
+        return 1;
+    };
+    match responses.get(&1) {
+        Some(response) if response.is_whole => {
             counts.add_octets(response.body.len());
             0
         }

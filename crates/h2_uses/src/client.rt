@@ -1,8 +1,10 @@
-//! A client over any reader and writer: the README's example.
+//! A client over any reader and writer.
 
+use crate::fields::{get_request, value};
 use anyhow::Result;
-use h2_ends::{Client, Config, EndEvent, Field, FieldList, Message};
+use h2_ends::{Client, Config, EndEvent, EndRefusal, Refusal};
 use std::alloc::Global;
+use std::collections::BTreeMap;
 use std::io::{Read, Write};
 
 /// A response, as far as it has come.
@@ -12,101 +14,89 @@ pub struct Response {
     pub status: Vec<u8>,
     /// The octets of its body.
     pub body: Vec<u8>,
-    /// It is whole; else its stream was reset, or the input has ended.
-    pub end: bool,
+    /// Whether it is whole.
+    pub is_whole: bool,
+    /// Whether nothing more of it comes: it is whole, its stream was reset, or the server has not
+    /// processed the request.
+    pub is_over: bool,
 }
 
-/// The fields of a GET request for `/`.
-const REQUEST: [(&[u8], &[u8]); 4] = [
-    (b":method", b"GET"),
-    (b":scheme", b"http"),
-    (b":authority", b"localhost"),
-    (b":path", b"/"),
-];
-
-/// Asks for `/` with GET, and answers what came of the response until it was over.
-pub fn get<R: Read, W: Write>(alloc: Global, from: &mut R, to: &mut W) -> Result<Response> {
+/// Asks for each path with GET, on one connection, and answers what has come by stream, 1, 3, 5 and
+/// so on, once all responses are over or the input has ended.
+pub fn get<R: Read, W: Write>(
+    alloc: Global,
+    from: &mut R,
+    to: &mut W,
+    paths: &[&[u8]],
+) -> Result<BTreeMap<u32, Response>> {
     let mut input = vec![in alloc; 0u8; 16_384]?;
+    let mut responses = BTreeMap::new(alloc);
     let mut client = Client::new(alloc, Config::default())?;
-    fetch(alloc, &mut client, &mut input, from, to)
-}
-
-/// Sends the request, and reads the response.
-fn fetch<R: Read, W: Write>(
-    alloc: Global,
-    client: &mut Client,
-    input: &mut [u8],
-    from: &mut R,
-    to: &mut W,
-) -> Result<Response> {
-    let mut response = Response::new(alloc);
-    ask(alloc, client)?;
-    read_response(alloc, client, input, from, to, &mut response)?;
-    Ok(response)
-}
-
-/// Takes what is read, a piece at a time, until the response is over.
-fn read_response<R: Read, W: Write>(
-    alloc: Global,
-    client: &mut Client,
-    input: &mut [u8],
-    from: &mut R,
-    to: &mut W,
-    response: &mut Response,
-) -> Result<()> {
-    send(alloc, client, to)?; // the preface, SETTINGS and the request
+    for path in paths {
+        ask(alloc, &mut client, path, &mut responses)?;
+    }
+    send(alloc, &mut client, to)?; // the preface, SETTINGS and the requests
     for _ in 0..u64::MAX {
-        let count = from.read(input)?;
-        let goes_on = take_piece(client, &input[..count], response);
-        let sent = send(alloc, client, to); // GOAWAY at last, where the connection failed
-        if !goes_on? || count == 0 {
+        let count = from.read(&mut input)?;
+        let taken = take_piece(alloc, &mut client, &input[..count], to, &mut responses);
+        let sent = send(alloc, &mut client, to); // GOAWAY at last, where the connection failed
+        taken?;
+        sent?;
+        if count == 0 || responses.values().all(|response| response.is_over) {
             break;
         }
-        sent?;
     }
-    Ok(())
+    Ok(responses)
 }
 
-/// Takes what was read, and keeps it; answers whether more is to come.
-fn take_piece(client: &mut Client, piece: &[u8], response: &mut Response) -> Result<bool> {
+/// Asks for a path.
+fn ask(
+    alloc: Global,
+    client: &mut Client,
+    path: &[u8],
+    responses: &mut BTreeMap<u32, Response>,
+) -> Result<()> {
+    match client.request(get_request(alloc, path)?) {
+        Ok(id) => {
+            responses.insert(id, Response::new(alloc))?;
+            Ok(())
+        }
+        Err((_, refusal)) => Err(refusal.into()),
+    }
+}
+
+/// Takes what was read, and keeps what it adds to the responses.
+fn take_piece<W: Write>(
+    alloc: Global,
+    client: &mut Client,
+    piece: &[u8],
+    to: &mut W,
+    responses: &mut BTreeMap<u32, Response>,
+) -> Result<()> {
     let mut unused = piece;
-    for _ in 0..=piece.len() {
+    for _ in 0..u64::MAX {
         let taken = client.take(unused)?;
         unused = &unused[taken.used..];
-        if let Some(event) = taken.event {
-            if !response.keep(event)? {
-                return Ok(false);
-            }
-        } else if unused.is_empty() {
-            break;
+        match taken.event {
+            Some(event) => keep(responses, event)?,
+            None if unused.is_empty() => break, // an event need not use octets
+            None => {}
         }
     }
-    client.release_all()?; // the server may send as much again
-    Ok(!response.end)
+    release(alloc, client, to)
 }
 
-/// Sends what windows let through, and writes it.
-fn send<W: Write>(alloc: Global, client: &mut Client, to: &mut W) -> Result<()> {
-    let mut output = Vec::new(alloc);
-    for _ in 0..u64::MAX {
-        if !send_some(client, &mut output, to)? {
-            break;
-        }
+/// Keeps what an event adds to the response on its stream.
+fn keep(responses: &mut BTreeMap<u32, Response>, event: EndEvent<'_>) -> Result<()> {
+    let id = match event {
+        EndEvent::Head { id, .. } | EndEvent::Body { id, .. } | EndEvent::Trailers { id, .. } => id,
+        EndEvent::Reset { id, .. } | EndEvent::Unprocessed { id } => id,
+        _ => return Ok(()),
+    };
+    match responses.get_mut(&id) {
+        Some(response) => response.keep(event),
+        None => Ok(()),
     }
-    to.flush()?;
-    Ok(())
-}
-
-/// Sends some of it; answers whether more may wait.
-fn send_some<W: Write>(client: &mut Client, output: &mut Vec<u8>, to: &mut W) -> Result<bool> {
-    let pumped = client.pump();
-    output.clear();
-    if client.put_out(usize::MAX, output)? == 0 {
-        return Ok(false);
-    }
-    to.write_all(output)?;
-    pumped?;
-    Ok(true)
 }
 
 impl Response {
@@ -114,56 +104,54 @@ impl Response {
         Response {
             status: Vec::new(alloc),
             body: Vec::new(alloc),
-            end: false,
+            is_whole: false,
+            is_over: false,
         }
     }
 
-    /// Keeps what an event adds; answers whether the stream goes on.
-    fn keep(&mut self, event: EndEvent<'_>) -> Result<bool> {
+    /// Keeps what an event adds.
+    fn keep(&mut self, event: EndEvent<'_>) -> Result<()> {
         match event {
-            EndEvent::Head { list, end, .. } => self.begin(list, end)?,
-            EndEvent::Body { bytes, end, .. } => self.add(bytes, end)?,
-            EndEvent::Trailers { .. } => self.end = true,
-            EndEvent::Reset { .. } | EndEvent::Unprocessed { .. } => return Ok(false),
-            _ => {}
+            EndEvent::Head { list, end, .. } => {
+                self.status.extend_from_slice(value(list, b":status"))?;
+                self.is_whole = end;
+            }
+            EndEvent::Body { bytes, end, .. } => {
+                self.body.extend_from_slice(bytes)?;
+                self.is_whole = end;
+            }
+            EndEvent::Trailers { .. } => self.is_whole = true,
+            _ => self.is_over = true,
         }
-        Ok(true)
-    }
-
-    /// Keeps the status, which is the first field of a response (RFC 9113, section 8.3.2).
-    fn begin(&mut self, list: &FieldList, end: bool) -> Result<()> {
-        if let Some(status) = list.get(0) {
-            self.status.extend_from_slice(status.value)?;
-        }
-        self.end = end;
-        Ok(())
-    }
-
-    /// Keeps octets of the body.
-    fn add(&mut self, bytes: &[u8], end: bool) -> Result<()> {
-        self.body.extend_from_slice(bytes)?;
-        self.end = end;
+        self.is_over = self.is_over || self.is_whole;
         Ok(())
     }
 }
 
-/// Asks for `/` with GET.
-fn ask(alloc: Global, client: &mut Client) -> Result<()> {
-    match client.request(request(alloc)?) {
-        Ok(_) => Ok(()),
-        Err((_, refusal)) => Err(refusal.into()),
+/// Lets the server send as much again. A full output is sent first: then there is room for all.
+fn release<W: Write>(alloc: Global, client: &mut Client, to: &mut W) -> Result<()> {
+    match client.release_all() {
+        Err(EndRefusal::Conn(Refusal::OutputFull)) => {
+            send(alloc, client, to)?;
+            Ok(client.release_all()?)
+        }
+        released => Ok(released?),
     }
 }
 
-/// A GET request for `/`.
-fn request(alloc: Global) -> Result<Message> {
-    let mut head = Vec::new(alloc);
-    for (name, value) in REQUEST {
-        head.push(Field::copy_of(alloc, name, value, false)?)?;
+/// Sends what windows let through, and writes all that waits.
+fn send<W: Write>(alloc: Global, client: &mut Client, to: &mut W) -> Result<()> {
+    let mut output = Vec::new(alloc);
+    for _ in 0..u64::MAX {
+        let pumped = client.pump();
+        output.clear();
+        let count = client.put_out(usize::MAX, &mut output)?;
+        to.write_all(&output)?;
+        to.flush()?;
+        pumped?; // after a fault of the connection, once its GOAWAY is written
+        if count == 0 {
+            break;
+        }
     }
-    Ok(Message {
-        head,
-        body: Vec::new(alloc),
-        trailers: None,
-    })
+    Ok(())
 }

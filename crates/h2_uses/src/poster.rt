@@ -1,0 +1,26 @@
+//! A POST over any link.
+
+ghost use Rattle.std.specs.Prelude.{◌<◌, ◌-◌, ◌^◌};
+
+use crate::fields::head_of;
+use anyhow::Result;
+use h2_engines::{Config, Fetched, Link, Message, fetch_link};
+use std::alloc::Global;
+
+/// Posts a body, and answers the response once it is whole.
+pub fn post<L: Link>(
+    alloc: Global,
+    link: &mut L,
+    authority: &[u8],
+    path: &[u8],
+    body: Vec<u8>,
+) -> Result<Fetched>
+    requires { L.faults link.old < 2 ^ 64 - 1 }
+{
+    let message = Message {
+        head: head_of(alloc, b"POST", authority, path)?,
+        body,
+        trailers: None,
+    };
+    Ok(fetch_link(alloc, link, Config::default(), message)?)
+}
