@@ -18,6 +18,13 @@ const ASKED: &[u8] = b"PRI * HTTP/2.0\r\n\r\nSM\r\n\r\n\x00\x00\x00\x04\x00\x00\
 const ANSWERED: &[u8] = b"\x00\x00\x00\x04\x00\x00\x00\x00\x00\x00\x00\x00\x04\x01\x00\x00\x00\x00\
     \x00\x00\x01\x01\x04\x00\x00\x00\x01\x88\x00\x00\x06\x00\x01\x00\x00\x00\x01hello\n";
 
+/// The client's preface and SETTINGS, and a GET request whose authority is `u@h`.
+const USER: &[u8] = b"PRI * HTTP/2.0\r\n\r\nSM\r\n\r\n\x00\x00\x00\x04\x00\x00\x00\x00\x00\
+    \x00\x00\x08\x01\x05\x00\x00\x00\x01\x82\x86\x84\x01\x03u@h";
+
+/// 400 without a body on stream 1.
+const BAD_REQUEST: &[u8] = b"\x00\x00\x01\x01\x05\x00\x00\x00\x01\x8c";
+
 /// The server's SETTINGS, GOAWAY that names no stream, and PING.
 const GONE: &[u8] = b"\x00\x00\x00\x04\x00\x00\x00\x00\x00\
     \x00\x00\x08\x07\x00\x00\x00\x00\x00\x00\x00\x00\x00\x00\x00\x00\x00\
@@ -90,6 +97,14 @@ fn a_body_to_head_resets_one_stream(alloc: Global) -> bool {
     }
 }
 
+/// A request whose authority names a user is answered with 400.
+fn a_user_is_refused(alloc: Global) -> bool {
+    match answered(alloc, USER, &mut Hello) {
+        Ok(to) => to.ends_with(BAD_REQUEST),
+        Err(_) => false,
+    }
+}
+
 /// How many of 100 responses with a long field are whole, where all are asked for at once.
 fn whole_of_a_hundred(alloc: Global) -> Result<usize> {
     let (_, octets) = asked(alloc, 100, b"")?;
@@ -147,6 +162,12 @@ fn the_server_answers(rt: HostRuntime) -> Result<(), Fail> {
 #[test]
 fn a_wrong_answer_resets_its_stream(rt: HostRuntime) -> Result<(), Fail> {
     assert!(rt; a_body_to_head_resets_one_stream(rt.alloc()));
+    Ok(())
+}
+
+#[test]
+fn no_user_is_served(rt: HostRuntime) -> Result<(), Fail> {
+    assert!(rt; a_user_is_refused(rt.alloc()));
     Ok(())
 }
 

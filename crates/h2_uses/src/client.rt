@@ -23,6 +23,11 @@ pub struct Response {
 
 /// Asks for each path with GET, on one connection, and answers what has come by stream, 1, 3, 5 and
 /// so on, once all responses are over or the input has ended.
+///
+/// # Errors
+///
+/// The connection has failed, and its GOAWAY was written; or a read, a write or an allocation has
+/// failed, or there are more paths than the server takes streams: 100 until it says so.
 pub fn get<R: Read, W: Write>(
     alloc: Global,
     from: &mut R,

@@ -8,6 +8,10 @@ use h2_engines::{Config, Fetched, Link, Message, fetch_link};
 use std::alloc::Global;
 
 /// Posts a body, and answers the response once it is whole.
+///
+/// # Errors
+///
+/// As [`fetch_link`], and where an allocation was refused.
 pub fn post<L: Link>(
     alloc: Global,
     link: &mut L,

@@ -1,7 +1,9 @@
 //! A server over any reader and writer.
 
+use crate::fields::{response, value};
 use anyhow::Result;
 use h2_ends::{Code, Config, EndEvent, EndRefusal, FieldList, Message, Refusal, Server};
+use h2_message::names_user;
 use std::alloc::Global;
 use std::io::{Read, Write};
 
@@ -15,7 +17,13 @@ pub trait Handler {
     fn answer(&mut self, alloc: Global, head: &FieldList) -> Result<Message>;
 }
 
-/// Answers each request on a connection, until its input ends.
+/// Answers each request on a connection, until its input ends; one whose authority names a user with
+/// status 400 (RFC 9113, section 8.3.1).
+///
+/// # Errors
+///
+/// The connection has failed, and its GOAWAY was written; or a read, a write, an allocation or the
+/// handler has failed, or an end refuses a call, as the 1,001st reset.
 pub fn serve<R: Read, W: Write, H: Handler>(
     alloc: Global,
     from: &mut R,
@@ -52,7 +60,7 @@ fn take_piece<W: Write, H: Handler>(
         unused = &unused[taken.used..];
         match taken.event {
             Some(EndEvent::Head { id, list, .. }) => {
-                let message = handler.answer(alloc, list)?;
+                let message = message_for(alloc, list, handler)?;
                 answer(alloc, server, id, message, to)?;
             }
             None if unused.is_empty() => break, // an event need not use octets
@@ -60,6 +68,14 @@ fn take_piece<W: Write, H: Handler>(
         }
     }
     release(alloc, server, to)
+}
+
+/// The answer to a request: the handler's, unless the authority names a user (section 8.3.1).
+fn message_for<H: Handler>(alloc: Global, head: &FieldList, handler: &mut H) -> Result<Message> {
+    if names_user(value(head, b":authority")) {
+        return Ok(response(alloc, b"400", b"")?);
+    }
+    handler.answer(alloc, head)
 }
 
 /// Answers a request. A message of ours that breaks a rule resets its stream alone.
