@@ -40,18 +40,36 @@ pub fn get<R: Read, W: Write>(
     for path in paths {
         ask(alloc, &mut client, path, &mut responses)?;
     }
-    send(alloc, &mut client, to)?; // the preface, SETTINGS and the requests
+    read_responses(alloc, &mut client, &mut input, from, to, &mut responses)?;
+    Ok(responses)
+}
+
+/// Takes what is read, a piece at a time, until the responses are over.
+fn read_responses<R: Read, W: Write>(
+    alloc: Global,
+    client: &mut Client,
+    input: &mut [u8],
+    from: &mut R,
+    to: &mut W,
+    responses: &mut BTreeMap<u32, Response>,
+) -> Result<()> {
+    send(alloc, client, to)?; // the preface, SETTINGS and the requests
     for _ in 0..u64::MAX {
-        let count = from.read(&mut input)?;
-        let taken = take_piece(alloc, &mut client, &input[..count], to, &mut responses);
-        let sent = send(alloc, &mut client, to); // GOAWAY at last, where the connection failed
+        let count = from.read(input)?;
+        let taken = take_piece(alloc, client, &input[..count], to, responses);
+        let sent = send(alloc, client, to); // GOAWAY at last, where the connection failed
         taken?;
         sent?;
-        if count == 0 || responses.values().all(|response| response.is_over) {
+        if count == 0 || are_over(responses) {
             break;
         }
     }
-    Ok(responses)
+    Ok(())
+}
+
+/// Whether all responses are over.
+fn are_over(responses: &BTreeMap<u32, Response>) -> bool {
+    responses.values().all(|response| response.is_over)
 }
 
 /// Asks for a path.

@@ -32,14 +32,26 @@ pub fn serve<R: Read, W: Write, H: Handler>(
 ) -> Result<()> {
     let mut input = vec![in alloc; 0u8; 16_384]?;
     let mut server = Server::new(alloc, Config::default())?;
-    send(alloc, &mut server, to)?; // SETTINGS
+    serve_input(alloc, &mut server, &mut input, from, to, handler)
+}
+
+/// Takes what is read, a piece at a time, and sends what there is to send after each.
+fn serve_input<R: Read, W: Write, H: Handler>(
+    alloc: Global,
+    server: &mut Server,
+    input: &mut [u8],
+    from: &mut R,
+    to: &mut W,
+    handler: &mut H,
+) -> Result<()> {
+    send(alloc, server, to)?; // SETTINGS
     for _ in 0..u64::MAX {
-        let count = from.read(&mut input)?;
+        let count = from.read(input)?;
         if count == 0 {
             break;
         }
-        let taken = take_piece(alloc, &mut server, &input[..count], to, handler);
-        let sent = send(alloc, &mut server, to); // GOAWAY at last, where the connection failed
+        let taken = take_piece(alloc, server, &input[..count], to, handler);
+        let sent = send(alloc, server, to); // GOAWAY at last, where the connection failed
         taken?;
         sent?;
     }
