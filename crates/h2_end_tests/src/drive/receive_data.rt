@@ -1,9 +1,9 @@
 //! DATA and WINDOW_UPDATE (RFC 9113, sections 6.1 and 6.9).
 
-use crate::tests::coverage::{Coverage, Mark};
-use crate::tests::frames::flow_of;
-use crate::tests::model::{GREATEST, Halt, Model, Seen, State, Stream};
-use crate::tests::receive::{failed, ignored};
+use crate::drive::coverage::{Coverage, Mark};
+use crate::drive::frames::flow_of;
+use crate::drive::model::{GREATEST, Halt, Model, Seen, State, Stream};
+use crate::drive::receive::{failed, ignored};
 
 impl Model {
     /// DATA.

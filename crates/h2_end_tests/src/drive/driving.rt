@@ -1,14 +1,14 @@
 //! The drive: connection after connection, step after step.
 
-use crate::tests::calls::Call;
-use crate::tests::choose::{Kind, Mood, config, role, stream};
-use crate::tests::choose_call::call as random_call;
-use crate::tests::choose_frame::frame as random_frame;
-use crate::tests::compare::{call, compare, compare_answers, compare_stream, take, take_part};
-use crate::tests::coverage::{Coverage, Mark};
-use crate::tests::frames::Frame;
-use crate::tests::model::{Halt, Model, Seen};
-use crate::tests::random::Random;
+use crate::drive::calls::Call;
+use crate::drive::choose::{Kind, Mood, config, role, stream};
+use crate::drive::choose_call::call as random_call;
+use crate::drive::choose_frame::frame as random_frame;
+use crate::drive::compare::{call, compare, compare_answers, compare_stream, take, take_part};
+use crate::drive::coverage::{Coverage, Mark};
+use crate::drive::frames::Frame;
+use crate::drive::model::{Halt, Model, Seen};
+use crate::drive::random::Random;
 use h2_conn::{BadConfig, Config, Conn, Refusal, Role};
 use std::alloc::{AllocError, Global};
 

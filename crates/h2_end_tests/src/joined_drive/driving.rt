@@ -1,13 +1,13 @@
 //! Lists of acts, one after another.
 
-use crate::tests::acts::{Act, Kind};
-use crate::tests::choose::{Mood, any_act, any_mood, config};
-use crate::tests::coverage::{Coverage, Row};
-use crate::tests::messages::is_message;
-use crate::tests::random::Random;
-use crate::tests::records::Records;
-use crate::tests::rules::{Seen, may_answer};
-use crate::tests::tried::Tried;
+use crate::joined_drive::acts::{Act, Kind};
+use crate::joined_drive::choose::{Mood, any_act, any_mood, config};
+use crate::joined_drive::coverage::{Coverage, Row};
+use crate::joined_drive::messages::is_message;
+use crate::joined_drive::random::Random;
+use crate::joined_drive::records::Records;
+use crate::joined_drive::rules::{Seen, may_answer};
+use crate::joined_drive::tried::Tried;
 use h2_joined::{Acted, Side};
 use std::alloc::Global;
 

@@ -1,7 +1,7 @@
 //! What an act is to answer.
 
-use crate::tests::acts::{Act, Kind, other};
-use crate::tests::records::Records;
+use crate::joined_drive::acts::{Act, Kind, other};
+use crate::joined_drive::records::Records;
 use h2_joined::{Acted, EndRefusal, Malformed, Refusal};
 
 /// What is seen of an act's end before it.

@@ -1,10 +1,10 @@
 //! Random calls.
 
-use crate::tests::blocks::OwnList;
-use crate::tests::calls::Call;
-use crate::tests::choose::{Kind, Mood, config, stream};
-use crate::tests::model::Model;
-use crate::tests::random::Random;
+use crate::drive::blocks::OwnList;
+use crate::drive::calls::Call;
+use crate::drive::choose::{Kind, Mood, config, stream};
+use crate::drive::model::Model;
+use crate::drive::random::Random;
 
 /// A list: a short one mostly, and at times a great one, or one above the limit.
 fn list(random: &mut Random) -> OwnList {

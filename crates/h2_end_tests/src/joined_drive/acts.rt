@@ -1,6 +1,6 @@
 //! Acts, as data.
 
-use crate::tests::messages::{Said, message};
+use crate::joined_drive::messages::{Said, message};
 use h2_joined::{Config, JointAct, Side};
 use std::alloc::{AllocError, Global};
 

@@ -1,8 +1,8 @@
 //! What an end makes of a call, and for what it is refused.
 
-use crate::tests::blocks::OwnList;
-use crate::tests::coverage::{Coverage, Mark};
-use crate::tests::model::{FULL, Halt, Model, RESETS, Seen, Stream};
+use crate::drive::blocks::OwnList;
+use crate::drive::coverage::{Coverage, Mark};
+use crate::drive::model::{FULL, Halt, Model, RESETS, Seen, Stream};
 use h2_conn::{Config, Refusal, Role};
 
 /// The greatest list.

@@ -1,6 +1,6 @@
 //! What an end's numbers must be.
 
-use crate::tests::blocks::{Decoding, Encoding};
+use crate::drive::blocks::{Decoding, Encoding};
 use h2_conn::{Config, Role};
 use std::alloc::{AllocError, Global};
 

@@ -1,6 +1,6 @@
 //! Heads that are given: good ones, and others that break one rule each.
 
-use crate::tests::messages::Pair;
+use crate::joined_drive::messages::Pair;
 use h2_joined::Malformed::{self, *};
 
 /// A head, and the rule that it breaks.

@@ -1,7 +1,7 @@
 //! Two joined ends that are tried: each call answers a plain value, without what its contract says,
 //! which no test needs.
 
-use crate::tests::acts::{Act, joint_act};
+use crate::joined_drive::acts::{Act, joint_act};
 use h2_joined::{Acted, Config, Conn, Joined, JointAct, Side};
 use std::alloc::Global;
 

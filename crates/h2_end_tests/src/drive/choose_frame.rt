@@ -1,9 +1,9 @@
 //! Random frames.
 
-use crate::tests::choose::{Mood, next_stream, stream};
-use crate::tests::frames::{Block, Frame, MALFORMED, Pairs};
-use crate::tests::model::{GREATEST, Model, Partial, State};
-use crate::tests::random::Random;
+use crate::drive::choose::{Mood, next_stream, stream};
+use crate::drive::frames::{Block, Frame, MALFORMED, Pairs};
+use crate::drive::model::{GREATEST, Model, Partial, State};
+use crate::drive::random::Random;
 use h2_conn::Role;
 
 /// The greatest increment.

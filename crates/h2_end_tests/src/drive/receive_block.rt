@@ -1,9 +1,9 @@
 //! Field blocks (RFC 9113, sections 4.3, 5.1 and 6.2).
 
-use crate::tests::coverage::{Coverage, Mark};
-use crate::tests::frames::Block;
-use crate::tests::model::{Halt, Model, Partial, RESETS, Seen, State, Stream};
-use crate::tests::receive::{failed, ignored};
+use crate::drive::coverage::{Coverage, Mark};
+use crate::drive::frames::Block;
+use crate::drive::model::{Halt, Model, Partial, RESETS, Seen, State, Stream};
+use crate::drive::receive::{failed, ignored};
 use h2_conn::Role;
 
 /// The greatest list, in octets of names and values and 32 more a field.

@@ -1,6 +1,6 @@
 //! A reckoning of HPACK's tables (RFC 7541, section 4), as far as the blocks here need it.
 
-use crate::tests::frames::Block;
+use crate::drive::frames::Block;
 
 /// The size of an entry of two octets (RFC 7541, section 4.1).
 const ENTRY: u32 = 34;

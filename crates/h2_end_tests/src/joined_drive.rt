@@ -11,8 +11,8 @@ mod records;
 mod rules;
 mod tried;
 
-use crate::tests::coverage::Row;
-use crate::tests::driving::{Stop, drive};
+use crate::joined_drive::coverage::Row;
+use crate::joined_drive::driving::{Stop, drive};
 use std::alloc::Global;
 
 /// What goes wrong in a thousand lists.

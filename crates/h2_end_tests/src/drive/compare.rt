@@ -1,9 +1,9 @@
 //! An end that is driven, and its numbers beside the model's.
 
-use crate::tests::blocks::OwnList;
-use crate::tests::calls::{Answer, Call};
-use crate::tests::driving::Difference;
-use crate::tests::model::{Model, Seen};
+use crate::drive::blocks::OwnList;
+use crate::drive::calls::{Answer, Call};
+use crate::drive::driving::Difference;
+use crate::drive::model::{Model, Seen};
 use h2_conn::{Config, Conn, Event, Refusal};
 use hpack::{Field, Octets};
 use std::alloc::{AllocError, Global};

@@ -1,8 +1,8 @@
 //! What an end makes of a frame (RFC 9113, sections 5.1 and 6).
 
-use crate::tests::coverage::{Coverage, Mark};
-use crate::tests::frames::Frame;
-use crate::tests::model::{Halt, Model, Seen, State};
+use crate::drive::coverage::{Coverage, Mark};
+use crate::drive::frames::Frame;
+use crate::drive::model::{Halt, Model, Seen, State};
 
 impl Model {
     /// Takes a frame.

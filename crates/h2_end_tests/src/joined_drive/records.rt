@@ -1,7 +1,7 @@
 //! Plain records of two joined ends: what was accepted, and how much of it was handed out.
 
-use crate::tests::acts::{Act, Kind, other};
-use crate::tests::messages::{Said, are_octets, are_pairs};
+use crate::joined_drive::acts::{Act, Kind, other};
+use crate::joined_drive::messages::{Said, are_octets, are_pairs};
 use h2_joined::{Acted, Field, JointEvent, Side};
 use std::alloc::Global;
 

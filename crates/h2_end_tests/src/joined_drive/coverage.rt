@@ -1,6 +1,6 @@
 //! What the lists have reached.
 
-use crate::tests::acts::Kind;
+use crate::joined_drive::acts::Kind;
 use h2_joined::{Acted, EndRefusal, JointEvent};
 
 /// Of what a number counts.

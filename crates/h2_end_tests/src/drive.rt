@@ -16,7 +16,7 @@ mod receive_block;
 mod receive_data;
 mod receive_settings;
 
-use crate::tests::driving::drive;
+use crate::drive::driving::drive;
 use std::test::Fail;
 
 /// All refusals but C12: memory is ample.

@@ -1,7 +1,7 @@
 //! What a drive does next: its moods.
 
-use crate::tests::model::Model;
-use crate::tests::random::Random;
+use crate::drive::model::Model;
+use crate::drive::random::Random;
 use h2_conn::{BadConfig, Config, Role};
 
 /// What a connection is driven to.

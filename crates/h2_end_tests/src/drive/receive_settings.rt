@@ -1,9 +1,9 @@
 //! SETTINGS (RFC 9113, section 6.5).
 
-use crate::tests::coverage::{Coverage, Mark};
-use crate::tests::frames::Pairs;
-use crate::tests::model::{GREATEST, Halt, Model, Seen};
-use crate::tests::receive::{failed, ignored};
+use crate::drive::coverage::{Coverage, Mark};
+use crate::drive::frames::Pairs;
+use crate::drive::model::{GREATEST, Halt, Model, Seen};
+use crate::drive::receive::{failed, ignored};
 use h2_conn::Role;
 
 impl Model {

@@ -1,10 +1,10 @@
 //! Random acts.
 
-use crate::tests::acts::{Act, Kind};
-use crate::tests::heads::{GOOD, Head, REQUESTS, RESPONSES, TRAILERS};
-use crate::tests::messages::Said;
-use crate::tests::random::Random;
-use crate::tests::records::Records;
+use crate::joined_drive::acts::{Act, Kind};
+use crate::joined_drive::heads::{GOOD, Head, REQUESTS, RESPONSES, TRAILERS};
+use crate::joined_drive::messages::Said;
+use crate::joined_drive::random::Random;
+use crate::joined_drive::records::Records;
 use h2_joined::{Config, Side};
 
 /// How long the bodies of a list are, and how wide its windows.
