@@ -18,7 +18,9 @@ impl Conn {
     ///
     /// # Errors
     ///
-    /// C1, C4, C5 (at a server always), C6, C7, C10 and C12, in this order. Nothing has changed.
+    /// `Closed` (C1), `TooManyStreams` (C4), `StreamsExhausted` (C5, at a server always),
+    /// `GoingAway` (C6), `OutputFull` (C7), `ListTooLarge` (C10) and `Memory` (C12), in this order.
+    /// Nothing has changed.
     pub fn open(&mut self, fields: &[Field], end: bool) -> Result<u32, Refusal>
         ensures { ConnAnswers self.old (Open fields.now end) (answer_by (λ id. Number id) result)
             self.new }
@@ -30,7 +32,8 @@ impl Conn {
     ///
     /// # Errors
     ///
-    /// C1, C2, C3, C7, C10 and C12, in this order. Nothing has changed.
+    /// `Closed` (C1), `NoSuchStream` (C2), `Ended` (C3), `OutputFull` (C7), `ListTooLarge` (C10)
+    /// and `Memory` (C12), in this order. Nothing has changed.
     pub fn fields(&mut self, id: u32, fields: &[Field], end: bool) -> Result<(), Refusal>
         ensures { ConnAnswers self.old (SendFields id fields.now end)
             (answer_by (λ done. Done) result) self.new }
@@ -44,7 +47,8 @@ impl Conn {
     ///
     /// # Errors
     ///
-    /// C1, C2, C3, C7 and C12, in this order. Nothing has changed.
+    /// `Closed` (C1), `NoSuchStream` (C2), `Ended` (C3), `OutputFull` (C7) and `Memory` (C12), in
+    /// this order. Nothing has changed.
     pub fn data(&mut self, id: u32, octets: &[u8], end: bool) -> Result<usize, Refusal>
         ensures answers { ConnAnswers self.old (SendData id octets.now end)
             (answer_by (λ count. Count count) result) self.new }
@@ -58,7 +62,8 @@ impl Conn {
     ///
     /// # Errors
     ///
-    /// C1, C2, C7, C11 and C12, in this order. Nothing has changed.
+    /// `Closed` (C1), `NoSuchStream` (C2), `OutputFull` (C7), `NotOwed` (C11) and `Memory` (C12),
+    /// in this order. Nothing has changed.
     pub fn release(&mut self, id: u32, count: u32) -> Result<(), Refusal>
         ensures { ConnAnswers self.old (Release id count) (answer_by (λ done. Done) result)
             self.new }
@@ -70,7 +75,8 @@ impl Conn {
     ///
     /// # Errors
     ///
-    /// C1, C2, C7, C9 and C12, in this order. Nothing has changed.
+    /// `Closed` (C1), `NoSuchStream` (C2), `OutputFull` (C7), `TooManyResets` (C9) and
+    /// `Memory` (C12), in this order. Nothing has changed.
     pub fn reset(&mut self, id: u32, code: u32) -> Result<(), Refusal>
         ensures { ConnAnswers self.old (ResetStream id code) (answer_by (λ done. Done) result)
             self.new }
@@ -86,7 +92,7 @@ impl Conn {
     ///
     /// # Errors
     ///
-    /// C1 and, unless the code is 2, C2. Nothing has changed.
+    /// `Closed` (C1) and, unless the code is 2, `NoSuchStream` (C2). Nothing has changed.
     pub fn refuse(&mut self, id: u32, code: u32) -> Result<(), Refusal>
         ensures { ConnShows self.old (Refuse id code) (answer_by (λ done. Done) result) self.new }
     {
@@ -97,7 +103,8 @@ impl Conn {
     ///
     /// # Errors
     ///
-    /// C1, C7, C8 and C12, in this order. Nothing has changed.
+    /// `Closed` (C1), `OutputFull` (C7), `PingWaits` (C8) and `Memory` (C12), in this order.
+    /// Nothing has changed.
     pub fn ping(&mut self, octets: [u8; 8]) -> Result<(), Refusal>
         ensures { ConnAnswers self.old (SendPing octets) (answer_by (λ done. Done) result)
             self.new }
@@ -110,7 +117,8 @@ impl Conn {
     ///
     /// # Errors
     ///
-    /// C1, C6, C7 and C12, in this order. Nothing has changed.
+    /// `Closed` (C1), `GoingAway` (C6), `OutputFull` (C7) and `Memory` (C12), in this order.
+    /// Nothing has changed.
     pub fn go_away(&mut self) -> Result<(), Refusal>
         ensures { ConnAnswers self.old SendGoAway (answer_by (λ done. Done) result) self.new }
     {
@@ -123,8 +131,9 @@ impl Conn {
     ///
     /// # Errors
     ///
-    /// C1, C7, C13 where own SETTINGS, the first included, await their acknowledgment, and C12, in
-    /// this order. Nothing has changed.
+    /// `Closed` (C1), `OutputFull` (C7), `SettingsWait` (C13) where own SETTINGS, the first
+    /// included, await their acknowledgment, and `Memory` (C12), in this order. Nothing has
+    /// changed.
     pub fn change_settings(&mut self, config: Config) -> Result<(), Refusal>
         ensures { ConnAnswers self.old (ChangeSettings (values_of config))
             (answer_by (λ done. Done) result) self.new }
@@ -138,7 +147,7 @@ impl Conn {
     ///
     /// # Errors
     ///
-    /// C12. Nothing has changed.
+    /// `Memory` (C12). Nothing has changed.
     pub fn put_out(&mut self, count: usize, out: &mut Vec<u8>) -> Result<usize, Refusal>
         ensures answers { ConnAnswers self.old (PutOut count)
             (answer_by (λ given. Count given) result) self.new }

@@ -41,7 +41,7 @@ impl Conn {
     ///
     /// # Errors
     ///
-    /// C12 where an allocation was refused.
+    /// `Memory` (C12) where an allocation was refused.
     pub fn client(alloc: Global, config: Config) -> Result<Conn, Refusal>
         ensures ok { IfOk result (λ conn. ConnRepresents (values_of config) conn
             (opened Client (values_of config))) }
@@ -56,7 +56,7 @@ impl Conn {
     ///
     /// # Errors
     ///
-    /// C12 where an allocation was refused.
+    /// `Memory` (C12) where an allocation was refused.
     pub fn server(alloc: Global, config: Config) -> Result<Conn, Refusal>
         ensures ok { IfOk result (λ conn. ConnRepresents (values_of config) conn
             (opened Server (values_of config))) }

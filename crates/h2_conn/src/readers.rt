@@ -102,8 +102,9 @@ impl Conn {
         Some(self.inner.end.next_number())
     }
 
-    /// Why [`Conn::open`] would refuse a list of fields now: the first of C1, C4, C5 (at a server
-    /// always), C6, C7 and C10. It says nothing of C12.
+    /// Why [`Conn::open`] would refuse a list of fields now: the first of `Closed` (C1),
+    /// `TooManyStreams` (C4), `StreamsExhausted` (C5, at a server always), `GoingAway` (C6),
+    /// `OutputFull` (C7) and `ListTooLarge` (C10). It says nothing of `Memory` (C12).
     pub fn refusal_to_open(&self, fields: &[Field]) -> Option<Refusal>
         ensures { (values : Values) (log : Log) → ConnRepresents values self.now log
             → (end : Bool) → result ≡ refusal_of (log_view log) (Open fields.now end) }

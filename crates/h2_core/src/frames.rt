@@ -26,7 +26,7 @@ impl Endpoint {
     ///
     /// The code with which the connection has failed; GOAWAY with it is the last frame of the
     /// output. INTERNAL_ERROR says that an allocation was refused: to a part of a field block, or
-    /// to another frame that takes memory, and never in place of the fault of such a frame.
+    /// to another frame that takes memory, and never in place of a fault of the connection.
     pub fn take_frame<'a>(&mut self, frame: FrameRef<'a>) -> Result<Option<Reported<'a>>, Code>
         requires sound { IsSound (end_of self.old) }
         requires up { self.old.failed ≡ None }

@@ -30,7 +30,7 @@ impl Client {
     ///
     /// # Errors
     ///
-    /// E2 with C12 where an allocation was refused.
+    /// `Conn` (E2) with `Memory` (C12) where an allocation was refused.
     pub fn new(alloc: Global, config: Config) -> Result<Client, EndRefusal>
         ensures ok { IfOk result (λ client. EndRepresents (values_of config) client.end
             (new_end roles.Client (values_of config))) }
@@ -54,8 +54,10 @@ impl Client {
     ///
     /// # Errors
     ///
-    /// The message is handed back with E1 where it breaks a rule, else with E2 and the first of C1,
-    /// C4 to C7, C10 (of the trailers too) and C12. Nothing has changed.
+    /// The message is handed back with `BadMessage` (E1) where it breaks a rule, else with
+    /// `Conn` (E2) and the first of `Closed` (C1), `TooManyStreams` (C4), `StreamsExhausted` (C5),
+    /// `GoingAway` (C6), `OutputFull` (C7), `ListTooLarge` (C10, of the trailers too) and
+    /// `Memory` (C12). Nothing has changed.
     pub fn request(&mut self, message: Message) -> Result<u32, (Message, EndRefusal)>
         ensures { EndRequests self.old.end (message_value message) result self.new.end }
     {
@@ -69,7 +71,8 @@ impl Client {
     ///
     /// # Errors
     ///
-    /// E2 with C1, and with C12: what was sent stays sent, and the rest waits.
+    /// `Conn` (E2) with `Closed` (C1), and with `Memory` (C12): what was sent stays sent, and the
+    /// rest waits.
     pub fn pump(&mut self) -> Result<usize, EndRefusal>
         ensures { EndPumps self.old.end result self.new.end }
     {
@@ -80,7 +83,8 @@ impl Client {
     ///
     /// # Errors
     ///
-    /// E2 with C1, C7 or C12; what was released stays released, and the rest is owed.
+    /// `Conn` (E2) with `Closed` (C1), `OutputFull` (C7) or `Memory` (C12); what was released stays
+    /// released, and the rest is owed.
     pub fn release_all(&mut self) -> Result<(), EndRefusal>
         ensures { EndReleases self.old.end result self.new.end }
     {
@@ -91,7 +95,8 @@ impl Client {
     ///
     /// # Errors
     ///
-    /// C1, C2, C7, C9 and C12, in this order. Nothing has changed.
+    /// `Closed` (C1), `NoSuchStream` (C2), `OutputFull` (C7), `TooManyResets` (C9) and
+    /// `Memory` (C12), in this order. Nothing has changed.
     pub fn reset(&mut self, id: u32, code: u32) -> Result<(), Refusal>
         ensures { EndAnswers self.old.end (ResetStream id code) (answer_by (λ done. Done) result)
             self.new.end }
@@ -103,7 +108,8 @@ impl Client {
     ///
     /// # Errors
     ///
-    /// C1, C7, C8 and C12, in this order. Nothing has changed.
+    /// `Closed` (C1), `OutputFull` (C7), `PingWaits` (C8) and `Memory` (C12), in this order.
+    /// Nothing has changed.
     pub fn ping(&mut self, octets: [u8; 8]) -> Result<(), Refusal>
         ensures { EndAnswers self.old.end (SendPing octets) (answer_by (λ done. Done) result)
             self.new.end }
@@ -115,7 +121,8 @@ impl Client {
     ///
     /// # Errors
     ///
-    /// C1, C6, C7 and C12, in this order. Nothing has changed.
+    /// `Closed` (C1), `GoingAway` (C6), `OutputFull` (C7) and `Memory` (C12), in this order.
+    /// Nothing has changed.
     pub fn go_away(&mut self) -> Result<(), Refusal>
         ensures { EndAnswers self.old.end SendGoAway (answer_by (λ done. Done) result)
             self.new.end }
@@ -127,7 +134,8 @@ impl Client {
     ///
     /// # Errors
     ///
-    /// C1, C7, C13 and C12, in this order. Nothing has changed.
+    /// `Closed` (C1), `OutputFull` (C7), `SettingsWait` (C13) and `Memory` (C12), in this order.
+    /// Nothing has changed.
     pub fn change_settings(&mut self, config: Config) -> Result<(), Refusal>
         ensures { EndAnswers self.old.end (ChangeSettings (values_of config))
             (answer_by (λ done. Done) result) self.new.end }
@@ -151,7 +159,7 @@ impl Client {
     ///
     /// # Errors
     ///
-    /// C12. Nothing has changed.
+    /// `Memory` (C12). Nothing has changed.
     pub fn put_out(&mut self, count: usize, out: &mut Vec<u8>) -> Result<usize, Refusal>
         ensures answers { EndAnswers self.old.end (PutOut count)
             (answer_by (λ given. Count given) result) self.new.end }

@@ -7,7 +7,7 @@
 //! Whoever reads and writes goes round so: `take` with what was read, until the piece is used and
 //! nothing is handed out; `respond` to what was asked; `release_all`, without which the peer stops
 //! at its window; `pump`; and `put_out` until nothing waits, which is then written. Where a call is
-//! refused with C7 (OutputFull), write first and call again.
+//! refused with `OutputFull` (C7), write first and call again.
 #![tactic(auto)]
 
 mod client;

@@ -30,7 +30,7 @@ impl Server {
     ///
     /// # Errors
     ///
-    /// E2 with C12 where an allocation was refused.
+    /// `Conn` (E2) with `Memory` (C12) where an allocation was refused.
     pub fn new(alloc: Global, config: Config) -> Result<Server, EndRefusal>
         ensures ok { IfOk result (λ server. EndRepresents (values_of config) server.end
             (new_end roles.Server (values_of config))) }
@@ -54,10 +54,11 @@ impl Server {
     ///
     /// # Errors
     ///
-    /// The message is handed back with E3 where the stream isn't active or no request on it was
-    /// handed out, else with E4 where it has its response, else with E1 where the message breaks a
-    /// rule, else with E2 and the first of C1, C7, C10 (of the trailers too) and C12. Nothing has
-    /// changed.
+    /// The message is handed back with `NotAsked` (E3) where the stream isn't active or no request
+    /// on it was handed out, else with `Answered` (E4) where it has its response, else with
+    /// `BadMessage` (E1) where the message breaks a rule, else with `Conn` (E2) and the first of
+    /// `Closed` (C1), `OutputFull` (C7), `ListTooLarge` (C10, of the trailers too) and
+    /// `Memory` (C12). Nothing has changed.
     pub fn respond(&mut self, id: u32, message: Message) -> Result<(), (Message, EndRefusal)>
         ensures { EndResponds self.old.end id (message_value message) result self.new.end }
     {
@@ -71,7 +72,8 @@ impl Server {
     ///
     /// # Errors
     ///
-    /// E2 with C1, and with C12: what was sent stays sent, and the rest waits.
+    /// `Conn` (E2) with `Closed` (C1), and with `Memory` (C12): what was sent stays sent, and the
+    /// rest waits.
     pub fn pump(&mut self) -> Result<usize, EndRefusal>
         ensures { EndPumps self.old.end result self.new.end }
     {
@@ -82,7 +84,8 @@ impl Server {
     ///
     /// # Errors
     ///
-    /// E2 with C1, C7 or C12; what was released stays released, and the rest is owed.
+    /// `Conn` (E2) with `Closed` (C1), `OutputFull` (C7) or `Memory` (C12); what was released stays
+    /// released, and the rest is owed.
     pub fn release_all(&mut self) -> Result<(), EndRefusal>
         ensures { EndReleases self.old.end result self.new.end }
     {
@@ -93,7 +96,8 @@ impl Server {
     ///
     /// # Errors
     ///
-    /// C1, C2, C7, C9 and C12, in this order. Nothing has changed.
+    /// `Closed` (C1), `NoSuchStream` (C2), `OutputFull` (C7), `TooManyResets` (C9) and
+    /// `Memory` (C12), in this order. Nothing has changed.
     pub fn reset(&mut self, id: u32, code: u32) -> Result<(), Refusal>
         ensures { EndAnswers self.old.end (ResetStream id code) (answer_by (λ done. Done) result)
             self.new.end }
@@ -105,7 +109,8 @@ impl Server {
     ///
     /// # Errors
     ///
-    /// C1, C7, C8 and C12, in this order. Nothing has changed.
+    /// `Closed` (C1), `OutputFull` (C7), `PingWaits` (C8) and `Memory` (C12), in this order.
+    /// Nothing has changed.
     pub fn ping(&mut self, octets: [u8; 8]) -> Result<(), Refusal>
         ensures { EndAnswers self.old.end (SendPing octets) (answer_by (λ done. Done) result)
             self.new.end }
@@ -117,7 +122,8 @@ impl Server {
     ///
     /// # Errors
     ///
-    /// C1, C6, C7 and C12, in this order. Nothing has changed.
+    /// `Closed` (C1), `GoingAway` (C6), `OutputFull` (C7) and `Memory` (C12), in this order.
+    /// Nothing has changed.
     pub fn go_away(&mut self) -> Result<(), Refusal>
         ensures { EndAnswers self.old.end SendGoAway (answer_by (λ done. Done) result)
             self.new.end }
@@ -129,7 +135,8 @@ impl Server {
     ///
     /// # Errors
     ///
-    /// C1, C7, C13 and C12, in this order. Nothing has changed.
+    /// `Closed` (C1), `OutputFull` (C7), `SettingsWait` (C13) and `Memory` (C12), in this order.
+    /// Nothing has changed.
     pub fn change_settings(&mut self, config: Config) -> Result<(), Refusal>
         ensures { EndAnswers self.old.end (ChangeSettings (values_of config))
             (answer_by (λ done. Done) result) self.new.end }
@@ -153,7 +160,7 @@ impl Server {
     ///
     /// # Errors
     ///
-    /// C12. Nothing has changed.
+    /// `Memory` (C12). Nothing has changed.
     pub fn put_out(&mut self, count: usize, out: &mut Vec<u8>) -> Result<usize, Refusal>
         ensures answers { EndAnswers self.old.end (PutOut count)
             (answer_by (λ given. Count given) result) self.new.end }

@@ -18,10 +18,11 @@ use std::alloc::Global;
 ///
 /// # Errors
 ///
-/// N1 where the link failed; N2 where the connection failed, once its GOAWAY was written; N3 where
-/// an allocation was refused; N4 where the input ended before the response was whole; N5 where a
-/// write took nothing, and after 2^64 - 1 rounds; N6 where the stream was reset, by either end, or
-/// was not processed; N7 where the message breaks a rule or its fields are too many.
+/// `Device` (N1) where the link failed; `Stream` (N2) where the connection failed, once its GOAWAY
+/// was written; `Memory` (N3) where an allocation was refused; `CutOff` (N4) where the input ended
+/// before the response was whole; `NoProgress` (N5) where a write took nothing, and after 2^64 - 1
+/// rounds; `Reset` (N6) where the stream was reset, by either end, or was not processed;
+/// `Refused` (N7) where the message breaks a rule or its fields are too many.
 pub fn fetch_link<L: Link>(
     alloc: Global,
     link: &mut L,

@@ -101,8 +101,8 @@ impl Fetcher {
     ///
     /// # Errors
     ///
-    /// N7 where the message breaks a rule or its fields are too many, N3 where an allocation was
-    /// refused.
+    /// `Refused` (N7) where the message breaks a rule or its fields are too many, `Memory` (N3)
+    /// where an allocation was refused.
     pub fn new(alloc: Global, config: Config, message: Message) -> Result<Fetcher, LinkError>
         ensures ok { IfOk result (λ fetcher. HasRequested (values_of config)
             (message_value message) fetcher) }
@@ -137,7 +137,7 @@ impl Fetcher {
     ///
     /// # Errors
     ///
-    /// N5 where it isn't whole.
+    /// `NoProgress` (N5) where it isn't whole.
     pub fn into_fetched(self) -> Result<Fetched, LinkError>
         ensures ok { IfOk result (λ fetched. IsFetchedOf self.coming fetched) }
         ensures whole { OnOk result (self.whole ≡ true) }
@@ -169,8 +169,9 @@ impl Fetcher {
     ///
     /// # Errors
     ///
-    /// N2 where the connection failed, whose GOAWAY waits; N3 where an allocation was refused; N5
-    /// after 2^64 - 1 rounds; N6 where the stream was reset, by either end, or was not processed.
+    /// `Stream` (N2) where the connection failed, whose GOAWAY waits; `Memory` (N3) where an
+    /// allocation was refused; `NoProgress` (N5) after 2^64 - 1 rounds; `Reset` (N6) where the
+    /// stream was reset, by either end, or was not processed.
     pub fn take_in(&mut self, piece: &[u8]) -> Result<bool, LinkError>
         ensures takes { ClientTakesIn self.old self.new piece.now result }
         ensures whole { self.old.whole ≡ true → (result ≡ Ok true) × (self.new ≡ self.old) }
@@ -189,7 +190,7 @@ impl Fetcher {
     ///
     /// # Errors
     ///
-    /// N3 where an allocation was refused; then nothing is appended.
+    /// `Memory` (N3) where an allocation was refused; then nothing is appended.
     pub fn put_out(&mut self, count: usize, out: &mut Vec<u8>) -> Result<usize, LinkError>
         ensures puts { ClientPutsOut self.old self.new count out.old.items out.new.items result }
         ensures err { IfErr result IsOfClient }

@@ -37,7 +37,7 @@ impl Responder {
     ///
     /// # Errors
     ///
-    /// N3 where an allocation was refused.
+    /// `Memory` (N3) where an allocation was refused.
     pub fn new(alloc: Global, config: Config) -> Result<Responder, LinkError>
         ensures ok { IfOk result (λ responder. EndRepresents (values_of config)
             responder.server.end (new_end roles.Server (values_of config))) }
@@ -130,9 +130,10 @@ impl Responder {
     ///
     /// # Errors
     ///
-    /// N2 where the connection failed, whose GOAWAY waits, or where no stream can be reset any
-    /// more, with 11; N3 where an allocation was refused; N5 where so much output waits that a
-    /// request can't be answered, and after 2^64 - 1 rounds or 2^32 - 1 answers.
+    /// `Stream` (N2) where the connection failed, whose GOAWAY waits, or where no stream can be
+    /// reset any more, with 11; `Memory` (N3) where an allocation was refused; `NoProgress` (N5)
+    /// where so much output waits that a request can't be answered, and after 2^64 - 1 rounds or
+    /// 2^32 - 1 answers.
     pub fn take_in(&mut self, piece: &[u8]) -> Result<(), LinkError>
         ensures takes { ServerTakesIn self.old self.new piece.now result }
         ensures err { IfErr result IsOfServer }
@@ -148,7 +149,7 @@ impl Responder {
     ///
     /// # Errors
     ///
-    /// N3 where an allocation was refused; then nothing is appended.
+    /// `Memory` (N3) where an allocation was refused; then nothing is appended.
     pub fn put_out(&mut self, count: usize, out: &mut Vec<u8>) -> Result<usize, LinkError>
         ensures puts { ServerPutsOut self.old self.new count out.old.items out.new.items result }
         ensures answered { self.new.answered ≡ self.old.answered }
@@ -162,7 +163,7 @@ impl Responder {
     ///
     /// # Errors
     ///
-    /// N4 where it has ended inside the preface or a frame, or a stream is active.
+    /// `CutOff` (N4) where it has ended inside the preface or a frame, or a stream is active.
     pub(crate) fn finish(&self) -> Result<u32, LinkError>
         ensures finishes { ServerFinishes self.now.server.end self.now.answered result }
         ensures err { IfErr result (λ error. error ≡ LinkError.CutOff) }

@@ -13,10 +13,11 @@ use crate::joined::Joined;
 use h2_ends::{Config, EndRefusal, Refusal};
 use std::alloc::{AllocError, Global};
 
-/// The headline of this library. What each of two joined ends has handed out on every stream is a
-/// prefix of what the other has accepted for it, whatever acts were made. Where memory was not
-/// refused, neither end reports a fault. Once both are quiet, and no delivery has stopped, all of
-/// it was handed out, on every stream that was not reset.
+/// The headline of this library, but for windows and for other peers, of which other laws and
+/// contracts speak. What each of two joined ends has handed out on every stream is a prefix of what
+/// the other has accepted for it, whatever acts were made. Where memory was not refused, neither
+/// end reports a fault. Once both are quiet, and no delivery has stopped, all of it was handed out,
+/// on every stream that was not reset.
 pub fn headline()
     ensures { (client_values server_values : Values) (joined : types.Joined) (made : List Made)
         (client server : JointEnd)
@@ -25,14 +26,14 @@ pub fn headline()
 {}
 
 /// Makes the acts, in order, on a new client and a new server. An act that is refused is an act
-/// like any other, unless it is with C12. The headline holds of the two ends then. That a
-/// connection has failed with INTERNAL_ERROR, since memory was refused as it took octets, is no
-/// error here: [`Conn::failed`](h2_ends::Conn::failed) says so.
+/// like any other, unless it is with `Memory` (C12). The headline, as far as [`headline`] says it,
+/// holds of the two ends then. That a connection has failed with INTERNAL_ERROR, since memory was
+/// refused as it took octets, is no error here: [`Conn::failed`](h2_ends::Conn::failed) says so.
 ///
 /// # Errors
 ///
 /// [`AllocError`] where memory was refused to make the two ends, or an act answered
-/// [`Acted::Memory`] or was refused with C12 (Memory).
+/// [`Acted::Memory`] or was refused with `Memory` (C12).
 pub fn run(
     alloc: Global,
     client: Config,
