@@ -17,8 +17,8 @@ pub trait Handler {
     fn answer(&mut self, alloc: Global, head: &FieldList) -> Result<Message>;
 }
 
-/// Answers each request on a connection, until its input ends; one whose authority names a user with
-/// status 400 (RFC 9113, section 8.3.1).
+/// Answers each request on a connection, until its input ends; one whose authority names a user
+/// gets status 400 (RFC 9113, section 8.3.1).
 ///
 /// # Errors
 ///
