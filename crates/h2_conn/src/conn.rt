@@ -37,6 +37,8 @@ pub struct Conn {
 }
 
 impl Conn {
+    // contract: 3.4 A client sends the 24 octets of the preface and then frames
+    // contract: 3.4 A server sends frames at once, without a preface
     /// A client, whose opening waits: the preface and SETTINGS (RFC 9113, section 3.4).
     ///
     /// # Errors
@@ -67,6 +69,8 @@ impl Conn {
         })
     }
 
+    // contract: calls (own) take uses octets up to one frame's end, and answers one event at most
+    // rule: calls (own) take uses octets up to one frame's end, and answers one event at most
     /// [`Conn::take`] without lending: what is reported is answered without its fields and octets,
     /// which [`Conn::list`] and [`Conn::octets`] lend until the next call of `advance`, `take` or a
     /// method that changes the connection. So a layer above can look at them and then call again.
@@ -87,6 +91,7 @@ impl Conn {
         }
     }
 
+    // contract: calls (own) take uses octets up to one frame's end, and answers one event at most
     /// The fields of the block that was reported last. It takes no memory.
     pub fn list(&self) -> &FieldList
         ensures { result.now ≡ self.now.inner.end.list }
@@ -104,6 +109,9 @@ impl Conn {
         body(self.inner.cutter.frame(piece, frame))
     }
 
+    // contract: 4.2 The limit of an end is its greatest MAX_FRAME_SIZE of those in force
+    // contract: calls (own) take uses octets up to one frame's end, and answers one event at most
+    // rule: calls (own) take uses octets up to one frame's end, and answers one event at most
     /// Takes octets of the piece, up to the end of one frame or else all of them, and answers what
     /// is reported: at most one event. Call it again until the piece is used and nothing is
     /// reported: streams that the peer does not process are reported one a call, with no octets
@@ -157,6 +165,9 @@ impl Conn {
     }
 }
 
+// rule: 3.4 A client sends the 24 octets of the preface and then frames
+// rule: 3.4 A server sends frames at once, without a preface
+// rule: 4.2 The limit of an end is its greatest MAX_FRAME_SIZE of those in force
 /// The parts of a new end.
 fn new_inner(alloc: Global, role: Role, config: Config) -> Result<Inner, Refusal>
     ensures ok { IfOk result (λ inner. PartsRepresent (values_of config) inner.cutter

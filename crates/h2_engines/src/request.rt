@@ -48,6 +48,8 @@ pub(crate) struct Requests {
 }
 
 impl Request {
+    // rule: engines (own) A request that is whole is answered once, by method, path and body
+    // rule: engines (own) An answer to HEAD has neither body nor content-length
     /// A request of which the head has come.
     fn begin(alloc: Global, head: &FieldList) -> Result<Request, AllocError>
         ensures { IfOk result (λ request. IsRequest head.now [] request) }
@@ -67,6 +69,8 @@ impl Request {
         })
     }
 
+    // rule: engines (own) A request that is whole is answered once, by method, path and body
+    // rule: engines (own) An answer to HEAD has neither body nor content-length
     /// What it is answered with.
     ///
     /// # Errors
@@ -106,6 +110,8 @@ impl Requests {
         }
     }
 
+    // rule: engines (own) A request that is whole is answered once, by method, path and body
+    // rule: engines (own) An answer to HEAD has neither body nor content-length
     /// Keeps what was handed out of a request, and says what is to be done.
     ///
     /// # Errors
@@ -134,6 +140,9 @@ impl Requests {
         Ok(Next::Again)
     }
 
+    // rule: engines (own) A request that is whole is answered once, by method, path and body
+    // rule: engines (own) An answer to HEAD has neither body nor content-length
+    // rule: engines (own) A request of more than 1,048,576 octets is ENHANCE_YOUR_CALM
     /// Adds octets to the body of a request.
     fn add(&mut self, id: u32, bytes: &[u8], end: bool) -> Result<Next, AllocError>
         ensures { IfOk result (λ next. AddsOctets self.old self.new id bytes.now end

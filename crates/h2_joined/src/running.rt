@@ -13,6 +13,7 @@ use crate::joined::Joined;
 use h2_ends::{Config, EndRefusal, Refusal};
 use std::alloc::{AllocError, Global};
 
+// contract: joined (own) What one end has handed out is a prefix of what the other accepted
 /// The headline of this library. What each of two joined ends has handed out on every stream is a
 /// prefix of what the other has accepted for it, whatever acts were made. Where memory was not
 /// refused, neither end reports a fault. Once both are quiet, and no delivery has stopped, all of
@@ -24,6 +25,8 @@ pub fn headline()
         → HasHeadline joined made client server }
 {}
 
+// contract: joined (own) What one end has handed out is a prefix of what the other accepted
+// rule: joined (own) What one end has handed out is a prefix of what the other accepted
 /// Makes the acts, in order, on a new client and a new server. An act that is refused is an act
 /// like any other, unless it is with C12. The headline holds of the two ends then. That a
 /// connection has failed with INTERNAL_ERROR, since memory was refused as it took octets, is no

@@ -29,6 +29,9 @@ pub fn new_end_represents()
         → Represents values (new_end role values) (opened role values) }
 {}
 
+// contract: 5.1.1 When the numbers of 31 bits are used up no stream is opened
+// contract: calls (own) A call is refused for its first condition, and changes nothing
+// contract: calls (own) A stream that the layer above refuses is reset
 /// A machine refuses a call just where the log that it represents does, and after the call it
 /// represents the log with the call.
 pub fn calls_preserve_representation()
@@ -39,6 +42,8 @@ pub fn calls_preserve_representation()
         → Represents values (end_after e act answer) (with_call log act answer) }
 {}
 
+// contract: 6.8 Own streams above GOAWAY's last are reported as unprocessed
+// contract: 6.8 No stream is opened after GOAWAY was received
 /// After each step in which no frame ends a machine represents the log with it: octets that end
 /// none, octets that make a fault, being out of memory, and a stream that is reported as
 /// unprocessed, which is the one that the log says.

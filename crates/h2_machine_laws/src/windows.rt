@@ -27,6 +27,8 @@ pub fn connection_window_of_a_log()
         +ℤ pos (sum_below n (owed log) + log.unreturned) ≡ pos first_window }
 {}
 
+// contract: 6.9 Nothing of the window of the connection is lost
+// contract: 6.9 What a stream owes is returned when it is released or over
 /// The connection's window is conserved: what one end may send, its DATA under way, the increments
 /// that come back, what the other end owes on all streams, and what is unreturned there, are 65,535
 /// octets.

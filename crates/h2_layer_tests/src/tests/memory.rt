@@ -72,6 +72,7 @@ fn nothing_changes_at(alloc: Global, maximum: u32, count: u16) -> bool {
     }
 }
 
+// rule: HPACK 3.1 What is encoded is a block of the list
 /// A list that is encoded again after memory was refused is found as the list is that was encoded
 /// at once.
 #[test]
@@ -106,6 +107,7 @@ fn first_not_kept(alloc: Global, blocks: usize) -> Option<usize> {
     None
 }
 
+// rule: HPACK 3.2 (own) A list that the caller keeps is emptied, then has the block's fields
 /// Blocks that add nothing to the table take no memory once the list has the room for them. So
 /// `rt try --test --fail-alloc N`, by which the allocation N is refused, fails this test only for
 /// a few first N, though it decodes hundreds of blocks.

@@ -68,6 +68,7 @@ unfolding computing
 stream_windows = (refl, refl)
 
 -- Padding counts, and so does its length (section 6.9.1).
+-- rule: 6.1 The complete payload of DATA, padding included, counts for windows
 padding_and_windows :
     verdicts (record active_view { recv_window = pos 4 })
     (alone (Data 1 false [] (Some 3)) ∷ alone (Data 1 false [] (Some 4)) ∷ [])
@@ -77,6 +78,8 @@ padding_and_windows = refl
 
 -- After the peer's END_STREAM, DATA is a STREAM_CLOSED of the stream, whatever the stream's window;
 -- the connection's window comes first (section 6.1).
+-- rule: 5.1 After the peer has ended a stream DATA is STREAM_CLOSED
+-- rule: 5.1 After the peer has ended a stream a field block is STREAM_CLOSED
 bodies_after_the_end :
     (verdicts (record active_view {
       stream = λ i. Some (stream_with
@@ -114,6 +117,10 @@ unfolding computing
 body_on_an_idle_stream = refl
 
 -- DATA on a closed stream.
+-- rule: 5.1 A stream has one state, by what was received and sent
+-- rule: 5.1 On a closed stream DATA is STREAM_CLOSED (its scope: own)
+-- rule: 5.1 (own) On a closed stream a field block is PROTOCOL_ERROR
+-- rule: 5.1.1 A stream that is opened closes all lower idle ones
 body_on_a_closed_stream :
     outcome (takes server_with_third (Data 1 false (0x61 ∷ []) None)) ≡ come_to
     (preface_octets ++ empty_settings
@@ -142,6 +149,7 @@ server_with_padding = takes active_server (Data 1 false [] (Some 4))
 
 -- It is reported with no octets and a flow of five, which it takes of both windows (sections 6.1
 -- and 6.9.1).
+-- rule: 6.1 The complete payload of DATA, padding included, counts for windows
 padding_alone :
     (outcome server_with_padding ≡ come_to
     (active_octets ++ octets (codes "000005 00 08 00000001 04 00000000"))
@@ -160,6 +168,8 @@ long_pad = octets (codes "000005 00 08 00000001 05 00000000")
 abbrev pub no_pad_length : List ℕ
 no_pad_length = octets (codes "000000 00 08 00000001")
 
+-- rule: 6.1 Padding as long as the payload of DATA, or longer, is PROTOCOL_ERROR
+-- rule: 6.1 A fault of a payload is known at its last octet
 faults_of_padding :
     WireFaultAt false (λ place. 16384) long_pad [] 14 (PayloadFault ProtocolError)
     × WireFaultAt false (λ place. 16384) no_pad_length [] 9 (HeadFault FrameSizeError)
@@ -215,6 +225,12 @@ one_octet_after_it = takes no_octets_after_it (Data 1 false (0x61 ∷ []) None)
 
 -- The own initial window is in force once the peer has acknowledged it, also for what came before
 -- (sections 6.5.3 and 6.9.2).
+-- rule: 6.5.3 Own SETTINGS hold once they are acknowledged, and not before
+-- rule: 6.5.3 An acknowledgment that is awaited is reported, others are ignored
+-- rule: 6.9.1 DATA above the connection's window is FLOW_CONTROL_ERROR
+-- rule: 6.9.1 DATA above its stream's window is FLOW_CONTROL_ERROR (scope: own)
+-- rule: 6.9.1 DATA of no octets is within any window
+-- rule: 6.9.1 (own) h2_flow: a window gives as many octets as it has
 own_window_from_the_acknowledgment_on :
     (outcome before_the_acknowledgment ≡ come_to (active_octets ++ eleven_frame)
     (FieldsEvent 1 short_request false ∷ DataEvent 1 eleven 11 false ∷ [])

@@ -77,6 +77,7 @@ messages_begin message =
     (map OctetsPart message.data_parts ++ trailers_parts message.trailers)
 
 -- DATA before the final head is not readable (M12), also without octets.
+-- rule: 8.1 DATA before the final head breaks M12
 pub data_first_is_not_readable : (reads : Reads) (octets : List ℕ) (end : Bool)
     (more : List (Part × Bool)) → IsReadable reads ((OctetsPart octets, end) ∷ more) → ⊥
 unfolding begin_with_fields

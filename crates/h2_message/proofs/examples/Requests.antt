@@ -28,6 +28,11 @@ unfolding computing
 names_and_values = (refl, refl, refl)
 
 -- M3 to M6: where pseudo-fields stand, and which.
+-- rule: 8.3 A pseudo-field after a regular one, or in trailers, breaks M3
+-- rule: 8.3 A pseudo-field other than the five breaks M4
+-- rule: 8.3 A pseudo-field that stands twice breaks M5
+-- rule: 8.3.1 A request without :method, :scheme or :path breaks M6
+-- rule: 8.3.2 A response without :status breaks M6
 pseudo_fields :
     (of_requests (
     (field ":method" "GET" ∷ field ":scheme" "http" ∷ field "accept" "x" ∷ field ":path" "/"
@@ -55,6 +60,7 @@ unfolding computing
 pseudo_fields = (refl, refl, refl, refl, refl)
 
 -- M7 and M8: the method, and the path that goes with it.
+-- rule: 8.3.1 A path without / at its begin, but * with OPTIONS, breaks M8
 methods_and_paths :
     (of_requests (asking "CONNECT" "/" ∷ asking "" "/" ∷ asking "G T" "/" ∷ [])
     ≡ replicate 3 (Some BadMethod))
@@ -69,6 +75,8 @@ unfolding computing
 methods_and_paths = (refl, refl, refl)
 
 -- M10: the five fields, and `te`, whose letters may be of any case.
+-- rule: 8.2.2 A connection-specific field breaks M10
+-- rule: 8.2.2 te with another value than trailers breaks M10
 connection_fields :
     (of_requests (
     (r ++ field "connection" "close" ∷ []) ∷ (r ++ field "proxy-connection" "x" ∷ [])
@@ -87,6 +95,7 @@ unfolding computing
 connection_fields = (refl, refl)
 
 -- M11: all texts are numbers and equal ones, and the body has so many octets.
+-- rule: 8.1.1 A body to be sent that content-length denies breaks M11
 lengths :
     (map broken_by_request (
     with_body (r ++ field "content-length" "5" ∷ []) 4
@@ -108,6 +117,7 @@ unfolding computing
 lengths = (refl, refl)
 
 -- Trailers: M1, M2, M3 and M10. They may be empty, and their `content-length` says nothing.
+-- rule: 8.1 M1, M2, M3 and M10 hold of trailers
 trailers :
     (map (λ fields. broken_by_request (with_trailers r fields)) (
     (field "X" "y" ∷ []) ∷ (field "x" "y " ∷ []) ∷ (field ":path" "/" ∷ [])

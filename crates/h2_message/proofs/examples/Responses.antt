@@ -11,6 +11,12 @@ use Rattle.h2_message.proofs.examples.Words.{computing, field, with_body, with_t
 use Rattle.h2_message.proofs.examples.Words.{of_responses, r, answering}
 
 -- M1 to M6 and M10, each beside a response that doesn't break it.
+-- rule: 8.3 A pseudo-field other than the five breaks M4
+-- rule: 8.3 A pseudo-field that stands twice breaks M5
+-- rule: 8.3.1 A request without :method, :scheme or :path breaks M6
+-- rule: 8.3.2 A response without :status breaks M6
+-- rule: 8.2.2 A connection-specific field breaks M10
+-- rule: 8.2.2 te with another value than trailers breaks M10
 heads :
     (of_responses (
     (answering "200" ++ field "Server" "x" ∷ []) ∷ (answering "200" ++ field "a" "x " ∷ [])
@@ -30,6 +36,8 @@ unfolding computing
 heads = (refl, refl)
 
 -- M9: no interim response is sent (own).
+-- rule: 8.3.2 A status that is not three digits from 100, or is 101, breaks M9
+-- rule: 8.1 (own) No interim response is sent: a status 100 to 199 breaks M9
 statuses :
     (of_responses (
     answering "101" ∷ answering "099" ∷ answering "103" ∷ answering "100" ∷ answering "199"
@@ -60,6 +68,7 @@ bodies = (refl, refl)
 
 -- M11: an answer to HEAD, 204 and 304 have no body, and their length isn't compared; its text is
 -- looked at all the same.
+-- rule: 8.1.1 A body of an own answer to HEAD, 204 or 304 breaks M11
 without_content :
     (map (broken_by_response true) (
     with_body (answering "200") 0

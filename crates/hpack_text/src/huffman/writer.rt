@@ -90,6 +90,8 @@ fn append_octets(pending: Pending, out: &mut Vec<u8>) -> Result<LastBits, AllocE
     Ok(LastBits { count, value })
 }
 
+// rule: HPACK 5.2 A Huffman-encoded string is written with the codes
+// rule: HPACK 5.2 A Huffman-encoded string is padded with ones
 /// Appends the bits that are left, if any, and ones that pad their octet.
 fn append_padded(last: LastBits, out: &mut Vec<u8>) -> Result<(), AllocError>
     ensures ok { OnOk result
