@@ -30,8 +30,6 @@ impl Endpoint {
     // contract: 6.1 The complete payload of DATA, padding included, counts for windows
     // contract: 6.5.3 Own SETTINGS hold once they are acknowledged, and not before
     // contract: 6.8 The last stream of GOAWAY never grows: the least so far is reported
-    // contract: 6.9.1 DATA above the connection's window is FLOW_CONTROL_ERROR
-    // contract: 6.9.1 DATA of no octets is within any window
     // contract: 6.9.2 INITIAL_WINDOW_SIZE shifts the window of each stream
     // contract: 6.9.2 A shift of a window above 2^31-1 is FLOW_CONTROL_ERROR
     // contract: 10.5 (own) An end that resets 1,001 streams ends with ENHANCE_YOUR_CALM

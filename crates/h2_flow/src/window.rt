@@ -36,8 +36,6 @@ impl Window {
         self.value
     }
 
-    // contract: 6.9.1 DATA above the connection's window is FLOW_CONTROL_ERROR
-    // contract: 6.9.1 DATA of no octets is within any window
     // rule: 6.9.1 (own) h2_flow: a window gives as many octets as it has
     /// Octets are sent.
     ///

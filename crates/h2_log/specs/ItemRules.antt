@@ -40,7 +40,6 @@ abbrev pub exceeds : ℕ → ℤ → Bool
 exceeds count window = nat_lt 0 count && int_lt window (pos count)
 
 -- rule: 6.9.1 DATA above its stream's window is FLOW_CONTROL_ERROR (scope: own)
--- rule: 6.9.1 DATA of no octets is within any window
 abbrev pub exceeds_stream : ℕ → Option StreamView → Bool
 exceeds_stream count None = false
 exceeds_stream count (Some stream) = exceeds count stream.recv_window

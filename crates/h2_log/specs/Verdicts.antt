@@ -54,9 +54,7 @@ reset_verdict Closed = NoEvent
 -- WINDOW_UPDATE of the connection: no octets are a fault, and so is a window above 2^31 - 1
 -- (sections 6.9 and 6.9.1).
 -- rule: 6.9 An increment of 0 on the connection is PROTOCOL_ERROR
--- rule: 6.9 An increment of 0 on a stream is a stream error PROTOCOL_ERROR
 -- rule: 6.9.1 The connection's window above 2^31-1 is FLOW_CONTROL_ERROR
--- rule: 6.9.1 A stream's window above 2^31-1 is a stream error FLOW_CONTROL_ERROR
 unfoldable pub connection_update_verdict : (increment : ℕ) (above : Bool) → Verdict
 connection_update_verdict increment above =
     if increment == 0 then ConnectionFault ProtocolError

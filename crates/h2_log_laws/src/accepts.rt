@@ -36,9 +36,7 @@ pub fn opening_is_no_fault()
         → is_fault (verdict_by_rules (log_view log) (Some decoded) (block i end octets)) ≡ false }
 {}
 
-// contract: 5.1 After the peer has ended a stream DATA is STREAM_CLOSED
 // contract: 5.1 After the peer has ended a stream a field block is STREAM_CLOSED
-// contract: 5.1 On a closed stream DATA is STREAM_CLOSED (its scope: own)
 // contract: 5.1 (own) On a closed stream a field block is PROTOCOL_ERROR
 // contract: 6.2 A field block on an idle odd number opens the stream at a server
 /// A later field block is no fault.
@@ -51,9 +49,7 @@ pub fn block_is_no_fault()
 {}
 
 // contract: 5.1 After the peer has ended a stream DATA is STREAM_CLOSED
-// contract: 5.1 After the peer has ended a stream a field block is STREAM_CLOSED
 // contract: 5.1 On a closed stream DATA is STREAM_CLOSED (its scope: own)
-// contract: 5.1 (own) On a closed stream a field block is PROTOCOL_ERROR
 // contract: 6.9.1 DATA above the connection's window is FLOW_CONTROL_ERROR
 // contract: 6.9.1 DATA above its stream's window is FLOW_CONTROL_ERROR (scope: own)
 // contract: 6.9.1 DATA of no octets is within any window

@@ -107,7 +107,6 @@ fn first_not_kept(alloc: Global, blocks: usize) -> Option<usize> {
     None
 }
 
-// rule: HPACK 3.2 (own) A list that the caller keeps is emptied, then has the block's fields
 /// Blocks that add nothing to the table take no memory once the list has the room for them. So
 /// `rt try --test --fail-alloc N`, by which the allocation N is refused, fails this test only for
 /// a few first N, though it decodes hundreds of blocks.

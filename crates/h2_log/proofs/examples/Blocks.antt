@@ -130,7 +130,6 @@ server_with_block_after_the_end =
 
 -- A block after the peer's END_STREAM, on a stream that this end goes on with, is a STREAM_CLOSED
 -- of the stream (section 5.1).
--- rule: 5.1 After the peer has ended a stream DATA is STREAM_CLOSED
 -- rule: 5.1 After the peer has ended a stream a field block is STREAM_CLOSED
 block_after_the_end :
     (outcome server_with_block_after_the_end
@@ -159,6 +158,7 @@ streams_passed_over = refl
 -- A block may come on an active stream, and on an odd idle one at a server, which it opens; not on
 -- an even one or a closed one. On one that this end has reset it is ignored (sections 5.1 and
 -- 5.1.1).
+-- rule: 5.1 (own) On a closed stream a field block is PROTOCOL_ERROR
 -- rule: 5.1.1 A field block on an idle number not the peer's is PROTOCOL_ERROR
 blocks_by_state :
     (block_verdicts active_view short_request (block 1 true [] ∷ block 2 true [] ∷ block 3 true

@@ -41,7 +41,6 @@ values = (refl, refl)
 
 -- The fifteen signs of tokens, the ends of their letters and digits, and the octets beside those
 -- (RFC 9110, section 5.6.2).
--- rule: 8.3.1 A method that is no token, or is CONNECT (own), breaks M7
 tokens :
     (map is_token_octet (codes "!#$%&'*+-.^_`|~") ≡ replicate 15 true)
     × (map is_token_octet (codes "09AZaz") ≡ replicate 6 true)
@@ -52,7 +51,6 @@ unfolding computing
 tokens = (refl, refl, refl, refl)
 
 -- CONNECT in these letters alone is refused among the tokens.
--- rule: 8.3.1 A method that is no token, or is CONNECT (own), breaks M7
 methods :
     (map is_bad_method (
     codes "GET" ∷ codes "get" ∷ codes "M-SEARCH" ∷ codes "x" ∷ codes "connect"
@@ -64,7 +62,6 @@ unfolding computing
 methods = (refl, refl)
 
 -- The asterisk is a path of OPTIONS alone (RFC 9113, section 8.3.1).
--- rule: 8.3.1 A path without / at its begin, but * with OPTIONS, breaks M8
 paths :
     (map (is_bad_path (codes "OPTIONS")) (codes "*" ∷ codes "/" ∷ codes "/*" ∷ [])
     ≡ replicate 3 false)
@@ -81,7 +78,6 @@ unfolding computing
 paths = (refl, refl, refl, refl, refl)
 
 -- Three digits from 100 to 999, other than 101 (RFC 9110, section 15; RFC 9113, section 8.6).
--- rule: 8.3.2 A status that is not three digits from 100, or is 101, breaks M9
 statuses :
     (map is_bad_status (
     codes "100" ∷ codes "102" ∷ codes "199" ∷ codes "200" ∷ codes "304" ∷ codes "599"

@@ -30,10 +30,6 @@ abbrev pub trailer : List Field
 trailer = field "x" "y" ∷ []
 
 -- A request: its head, DATA, and a block with END_STREAM.
--- rule: 8.3 A final head is read only where it breaks no rule of its fields
--- rule: 8.1 DATA before the final head breaks M12
--- rule: 8.1 A field block after the final head is the trailers, with END_STREAM
--- rule: 8.1 END_STREAM ends the message, and any further part breaks M12
 requests :
     (phases Requests (
     [] ∷ (block r true ∷ []) ∷ (block r false ∷ []) ∷ (block (r ++ five) false ∷ [])
@@ -57,7 +53,6 @@ requests = (refl, refl)
 
 -- The sum of the lengths of DATA is the declared one (M11): one octet more is told at once, one
 -- less at the end.
--- rule: 8.1.1 DATA that is read is as long as content-length says, or breaks M11
 lengths :
     (phases Requests (
     (block (r ++ five) false ∷ data_of 4 false ∷ [])
@@ -103,7 +98,6 @@ unfolding computing
 interim_responses = (refl, refl)
 
 -- In an answer to HEAD, in 204 and in 304 the length isn't compared, and its text is looked at.
--- rule: 8.1.1 No length is compared in an answer to HEAD, in 204 and in 304
 without_content :
     (phases (Responses true) (
     (block (answering "200" ++ five) true ∷ [])
@@ -121,8 +115,6 @@ unfolding computing
 without_content = (refl, refl, refl)
 
 -- Which part of a message a field block is.
--- rule: 8.1 Interim responses come before the final head, without END_STREAM
--- rule: 8.1 A field block after the final head is the trailers, with END_STREAM
 parts_of_messages :
     (place_after Requests [] r ≡ places.Head)
     × (place_after Requests (block r false ∷ data_of 3 false ∷ []) trailer ≡ places.Trailers)

@@ -31,8 +31,6 @@ names_and_values = (refl, refl, refl)
 -- rule: 8.3 A pseudo-field after a regular one, or in trailers, breaks M3
 -- rule: 8.3 A pseudo-field other than the five breaks M4
 -- rule: 8.3 A pseudo-field that stands twice breaks M5
--- rule: 8.3.1 A request without :method, :scheme or :path breaks M6
--- rule: 8.3.2 A response without :status breaks M6
 pseudo_fields :
     (of_requests (
     (field ":method" "GET" ∷ field ":scheme" "http" ∷ field "accept" "x" ∷ field ":path" "/"
@@ -60,7 +58,6 @@ unfolding computing
 pseudo_fields = (refl, refl, refl, refl, refl)
 
 -- M7 and M8: the method, and the path that goes with it.
--- rule: 8.3.1 A path without / at its begin, but * with OPTIONS, breaks M8
 methods_and_paths :
     (of_requests (asking "CONNECT" "/" ∷ asking "" "/" ∷ asking "G T" "/" ∷ [])
     ≡ replicate 3 (Some BadMethod))
@@ -76,7 +73,6 @@ methods_and_paths = (refl, refl, refl)
 
 -- M10: the five fields, and `te`, whose letters may be of any case.
 -- rule: 8.2.2 A connection-specific field breaks M10
--- rule: 8.2.2 te with another value than trailers breaks M10
 connection_fields :
     (of_requests (
     (r ++ field "connection" "close" ∷ []) ∷ (r ++ field "proxy-connection" "x" ∷ [])
@@ -133,6 +129,7 @@ unfolding computing
 trailers = (refl, refl)
 
 -- Of two rules the least number counts, of the head and of the trailers together.
+-- rule: 8.1.1 (own) A message to be sent is refused for the least of M1 to M11 it breaks
 least_numbers :
     (of_requests (
     (r ++ field "a" " x" ∷ field "A" "x" ∷ []) ∷ (field "a" " x" ∷ r)

@@ -11,12 +11,6 @@ use Rattle.h2_message.proofs.examples.Words.{computing, field, with_body, with_t
 use Rattle.h2_message.proofs.examples.Words.{of_responses, r, answering}
 
 -- M1 to M6 and M10, each beside a response that doesn't break it.
--- rule: 8.3 A pseudo-field other than the five breaks M4
--- rule: 8.3 A pseudo-field that stands twice breaks M5
--- rule: 8.3.1 A request without :method, :scheme or :path breaks M6
--- rule: 8.3.2 A response without :status breaks M6
--- rule: 8.2.2 A connection-specific field breaks M10
--- rule: 8.2.2 te with another value than trailers breaks M10
 heads :
     (of_responses (
     (answering "200" ++ field "Server" "x" ∷ []) ∷ (answering "200" ++ field "a" "x " ∷ [])
@@ -36,8 +30,6 @@ unfolding computing
 heads = (refl, refl)
 
 -- M9: no interim response is sent (own).
--- rule: 8.3.2 A status that is not three digits from 100, or is 101, breaks M9
--- rule: 8.1 (own) No interim response is sent: a status 100 to 199 breaks M9
 statuses :
     (of_responses (
     answering "101" ∷ answering "099" ∷ answering "103" ∷ answering "100" ∷ answering "199"
@@ -94,6 +86,7 @@ unfolding computing
 without_content = (refl, refl, refl, refl)
 
 -- Trailers are those of a request; of two rules the least number counts.
+-- rule: 8.1 M1, M2, M3 and M10 hold of trailers
 trailers_and_order :
     (map (λ fields. broken_by_response false (with_trailers (answering "200") fields)) (
     [] ∷ (field "x" "y" ∷ []) ∷ (field "content-length" "x" ∷ []) ∷ [])

@@ -59,7 +59,6 @@ fault_of_a_block : fault_line EnhanceYourCalm 65598 ≡ codes "fault ENHANCE_YOU
 unfolding digits
 fault_of_a_block = refl
 
--- rule: show (own) An input has one output: preface, frames, then how it ends
 rest : rest_line 12 ≡ codes "rest 12\n"
 unfolding digits
 rest = refl

@@ -134,8 +134,6 @@ fn fills(alloc: Global, stream: &Stream, hex: bool, room: usize) -> bool {
     is_full && is_printed(stream, &out.octets, ended, room == stream.lines.len())
 }
 
-// rule: show (own) The status is 1 only where the stream is cut off or at fault
-// rule: show (own) An input has one output: preface, frames, then how it ends
 #[test]
 fn full_writers(rt: HostRuntime) {
     for stream in [OPENING, FAULT, INSIDE] {
