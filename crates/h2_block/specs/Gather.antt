@@ -22,8 +22,6 @@ pub record GatherState : Type 0 where
   pub fault : Option BlockFault
 
 -- The gatherer represents the frames so far, which are the items, and then what has begun.
--- rule: 4.3 A field block is its HEADERS' fragment and those of CONTINUATION
--- rule: 4.3 A field block ends with the frame that has END_HEADERS
 -- rule: 4.3 (own) A gatherer says what it holds of a block, and if it is inside one
 pub record GatherRepresents (state : GatherState) (frames : List Frame)
     (items : List Item) : Type 0 where
@@ -38,9 +36,6 @@ gathered_items (Block stream end octets) = block stream end octets.items ∷ []
 
 -- After a call that took the frame: if the gatherer represented `frames` and `items`, it now
 -- represents `frames` with this one appended, and `items` with what was answered appended.
--- rule: 4.3 A field block is its HEADERS' fragment and those of CONTINUATION
--- rule: 4.3 A field block ends with the frame that has END_HEADERS
--- rule: 4.3 (own) A gatherer says what it holds of a block, and if it is inside one
 abbrev pub GatherContinues : GatherState → Frame → Gathered → GatherState → Type 0
 GatherContinues old frame gathered new =
     (frames : List Frame) (items : List Item) → GatherRepresents old frames items
@@ -70,9 +65,6 @@ GatherFails old frame faults.TooLong new =
     MatchOption old.fault (GatherFaults old frame faults.TooLong new) (λ known. new ≡ old)
 
 -- what a call makes of the gatherer
--- rule: 4.3 A field block is its HEADERS' fragment and those of CONTINUATION
--- rule: 4.3 A field block ends with the frame that has END_HEADERS
--- rule: 4.3 (own) A gatherer says what it holds of a block, and if it is inside one
 abbrev pub GatherTakes : GatherState → Frame → Result Gathered BlockFault → GatherState → Type 0
 GatherTakes old frame (Ok gathered) new = GatherContinues old frame gathered new
 GatherTakes old frame (Err fault) new = GatherFails old frame fault new
@@ -101,7 +93,6 @@ LeavesNone (Err fault) new = Unit {0}
 -- (RFC 9113, section 6.10), one that is too long an ENHANCE_YOUR_CALM (section 10.5), and lack of
 -- memory an INTERNAL_ERROR
 -- rule: 6.10 Inside a block any frame but its CONTINUATION is PROTOCOL_ERROR
--- rule: 6.10 A CONTINUATION of another stream inside a block is PROTOCOL_ERROR
 -- rule: 10.5 (own) A block of more than 65,552 octets is ENHANCE_YOUR_CALM
 -- rule: 5.4 (own) Out of memory is INTERNAL_ERROR
 abbrev pub block_fault_code : BlockFault → Code

@@ -44,8 +44,6 @@ AreContinuations stream (frame ∷ frames) octets =
 -- The frames are a block that has begun and isn't complete: HEADERS that doesn't end it, and
 -- CONTINUATIONs of the same stream. The octets are the fragments, joined.
 -- rule: 4.3 A field block is its HEADERS' fragment and those of CONTINUATION
--- rule: 4.3 A field block ends with the frame that has END_HEADERS
--- rule: 4.3 (own) A gatherer says what it holds of a block, and if it is inside one
 -- rule: 4.3 END_STREAM of a block is that of its HEADERS
 pub record IsBegun (stream : ℕ) (end : Bool) (octets : List ℕ) (frames : List Frame) : Type 0 where
   pub fragment : List ℕ
@@ -58,18 +56,14 @@ pub record IsBegun (stream : ℕ) (end : Bool) (octets : List ℕ) (frames : Lis
   pub joined : octets ≡ fragment ++ others
 
 -- The frame is HEADERS that is a complete block by itself.
--- rule: 4.3 A field block is its HEADERS' fragment and those of CONTINUATION
 -- rule: 4.3 A field block ends with the frame that has END_HEADERS
--- rule: 4.3 (own) A gatherer says what it holds of a block, and if it is inside one
 pub record IsSingle (stream : ℕ) (end : Bool) (octets : List ℕ) (frames : List Frame) : Type 0 where
   pub pad : Option ℕ
   pub priority : Option (List ℕ)
   pub one : frames ≡ Headers stream end true octets pad priority ∷ []
 
 -- The frames are a block that had begun, and a CONTINUATION that ends it.
--- rule: 4.3 A field block is its HEADERS' fragment and those of CONTINUATION
 -- rule: 4.3 A field block ends with the frame that has END_HEADERS
--- rule: 4.3 (own) A gatherer says what it holds of a block, and if it is inside one
 pub record IsEnded (stream : ℕ) (end : Bool) (octets : List ℕ) (frames : List Frame) : Type 0 where
   pub preceding : List Frame
   pub prefix : List ℕ
@@ -80,8 +74,6 @@ pub record IsEnded (stream : ℕ) (end : Bool) (octets : List ℕ) (frames : Lis
 
 -- The frames are the item: a standalone frame, or a block within the limit.
 -- rule: 4.3 A field block is its HEADERS' fragment and those of CONTINUATION
--- rule: 4.3 A field block ends with the frame that has END_HEADERS
--- rule: 4.3 (own) A gatherer says what it holds of a block, and if it is inside one
 abbrev pub IsItem : Item → List Frame → Type 0
 IsItem (alone frame) frames = (is_standalone frame ≡ true) × (frames ≡ frame ∷ [])
 IsItem (block stream end octets) frames =
@@ -110,8 +102,6 @@ IsLeft (Some begun) frames = IsBegun begun.stream begun.end begun.octets frames
 
 -- So far the frames are the items, and then a block that has begun, or none.
 -- rule: 4.3 A field block is its HEADERS' fragment and those of CONTINUATION
--- rule: 4.3 A field block ends with the frame that has END_HEADERS
--- rule: 4.3 (own) A gatherer says what it holds of a block, and if it is inside one
 -- rule (law): 4.3 Each list of frames groups or has a fault; prefixes agree
 pub record Groups (frames : List Frame) (items : List Item) (begun : Option Begun) : Type 0 where
   pub complete : List Frame
@@ -159,7 +149,6 @@ fault_inside begun (Unknown kind flags stream payload) = Some Interrupted
 
 -- the fault of the frame that comes next
 -- rule: 6.10 Inside a block any frame but its CONTINUATION is PROTOCOL_ERROR
--- rule: 6.10 A CONTINUATION of another stream inside a block is PROTOCOL_ERROR
 abbrev pub next_fault : Option Begun → Frame → Option BlockFault
 next_fault None frame = fault_outside frame
 next_fault (Some begun) frame = fault_inside begun frame
@@ -167,7 +156,6 @@ next_fault (Some begun) frame = fault_inside begun frame
 -- The last of the frames is at fault; those that precede it are the items, and then a block that
 -- has begun, or none. Nothing from it on is an item.
 -- rule: 6.10 Inside a block any frame but its CONTINUATION is PROTOCOL_ERROR
--- rule: 6.10 A CONTINUATION of another stream inside a block is PROTOCOL_ERROR
 -- rule (law): 4.3 Each list of frames groups or has a fault; prefixes agree
 pub record GroupingFaultAt (frames : List Frame) (items : List Item)
     (fault : BlockFault) : Type 0 where

@@ -12,7 +12,6 @@ max_payload = 16384
 
 -- The CONTINUATIONs of the octets: each is full but the last, which ends the block. `count` is how
 -- many there may be; as many as octets, and one, are always enough.
--- rule: 4.3 A block is sent as HEADERS and CONTINUATION frames, each full but one
 -- rule: 4.3 Of the frames of a block that is sent the last has END_HEADERS
 unfoldable pub continuations : (most count stream : ℕ) → List ℕ → List Frame
 continuations most zero stream octets = []
@@ -24,7 +23,6 @@ continuations most (suc count) stream octets =
 -- The frames of a block: HEADERS alone where the octets fit it, otherwise full HEADERS and
 -- CONTINUATIONs. An empty block is one empty HEADERS.
 -- rule: 4.3 A block is sent as HEADERS and CONTINUATION frames, each full but one
--- rule: 4.3 Of the frames of a block that is sent the last has END_HEADERS
 unfoldable pub spread_frames : (most stream : ℕ) → Bool → List ℕ → List Frame
 spread_frames most stream end octets =
     if nat_le (length octets) most then Headers stream end true octets None None ∷ []

@@ -42,11 +42,8 @@ impl Gather {
         }
     }
 
-    // rule: 4.3 A field block is its HEADERS' fragment and those of CONTINUATION
     // rule: 4.3 A field block ends with the frame that has END_HEADERS
-    // rule: 4.3 (own) A gatherer says what it holds of a block, and if it is inside one
     // contract: 6.10 Inside a block any frame but its CONTINUATION is PROTOCOL_ERROR
-    // contract: 6.10 A CONTINUATION of another stream inside a block is PROTOCOL_ERROR
     // contract: 10.5 (own) A block of more than 65,552 octets is ENHANCE_YOUR_CALM
     // contract: 5.4.1 After a fault each layer answers that fault and changes nothing
     // contract: 5.4 (own) Out of memory is INTERNAL_ERROR
@@ -85,6 +82,8 @@ impl Gather {
         self.partial.take(frame)
     }
 
+    // contract: 4.3 (own) A gatherer says what it holds of a block, and if it is inside one
+    // rule: 4.3 (own) A gatherer says what it holds of a block, and if it is inside one
     // contract: 10.5 (own) A block of more than 65,552 octets is ENHANCE_YOUR_CALM
     // contract: 10.5 (own) What an end holds of a stream is bounded
     // rule: 10.5 (own) What an end holds of a stream is bounded
@@ -96,6 +95,8 @@ impl Gather {
         self.partial.octets.len()
     }
 
+    // contract: 4.3 (own) A gatherer says what it holds of a block, and if it is inside one
+    // rule: 4.3 (own) A gatherer says what it holds of a block, and if it is inside one
     /// Whether a block has begun and isn't complete. It allocates nothing.
     pub fn is_inside(&self) -> bool
         ensures { result ≡ is_some self.now.begun }

@@ -11,7 +11,6 @@ ghost use Rattle.h2_block.specs.Spread.{spread_frames};
 
 // contract: 4.3 A field block is its HEADERS' fragment and those of CONTINUATION
 // contract: 4.3 A field block ends with the frame that has END_HEADERS
-// contract: 4.3 (own) A gatherer says what it holds of a block, and if it is inside one
 /// Frames have one grouping: their items, and the block that has begun after them, are the same,
 /// however they were found.
 pub fn one_grouping()
@@ -21,7 +20,6 @@ pub fn one_grouping()
 {}
 
 // contract: 6.10 Inside a block any frame but its CONTINUATION is PROTOCOL_ERROR
-// contract: 6.10 A CONTINUATION of another stream inside a block is PROTOCOL_ERROR
 /// Frames at fault have no grouping, whatever follows them, and no other fault: nothing from the
 /// frame at fault on is an item.
 pub fn no_grouping_past_a_fault()
@@ -35,7 +33,6 @@ pub fn no_grouping_past_a_fault()
 
 // contract: 4.2 (own) Payloads of at most 16,384 octets are sent
 // contract: 4.3 A block is sent as HEADERS and CONTINUATION frames, each full but one
-// contract: 4.3 Of the frames of a block that is sent the last has END_HEADERS
 /// The frames over which a block is spread, whatever the greatest payload is, are one block of its
 /// octets. Where a head can say that payload's length they can be written; none has a greater one.
 pub fn spread_block()

@@ -132,8 +132,6 @@ impl PartialBlock {
     }
 
     // rule: 4.3 A field block is its HEADERS' fragment and those of CONTINUATION
-    // rule: 4.3 A field block ends with the frame that has END_HEADERS
-    // rule: 4.3 (own) A gatherer says what it holds of a block, and if it is inside one
     // rule: 4.3 END_STREAM of a block is that of its HEADERS
     // rule: 10.5 (own) A block of more than 65,552 octets is ENHANCE_YOUR_CALM
     // HEADERS begins a block, or is a complete one.
@@ -171,8 +169,6 @@ impl PartialBlock {
     }
 
     // rule: 4.3 A field block is its HEADERS' fragment and those of CONTINUATION
-    // rule: 4.3 A field block ends with the frame that has END_HEADERS
-    // rule: 4.3 (own) A gatherer says what it holds of a block, and if it is inside one
     // rule: 4.3 END_STREAM of a block is that of its HEADERS
     // rule: 10.5 (own) A block of more than 65,552 octets is ENHANCE_YOUR_CALM
     // A CONTINUATION of the block that was opened so continues it, or ends it.

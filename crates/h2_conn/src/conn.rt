@@ -37,7 +37,6 @@ pub struct Conn {
 }
 
 impl Conn {
-    // contract: 3.4 A client sends the 24 octets of the preface and then frames
     // contract: 3.4 A server sends frames at once, without a preface
     /// A client, whose opening waits: the preface and SETTINGS (RFC 9113, section 3.4).
     ///
@@ -54,6 +53,7 @@ impl Conn {
         })
     }
 
+    // contract: 3.4 A server sends frames at once, without a preface
     /// A server, whose opening waits: SETTINGS (section 3.4).
     ///
     /// # Errors
@@ -165,7 +165,6 @@ impl Conn {
     }
 }
 
-// rule: 3.4 A client sends the 24 octets of the preface and then frames
 // rule: 3.4 A server sends frames at once, without a preface
 // rule: 4.2 The limit of an end is its greatest MAX_FRAME_SIZE of those in force
 /// The parts of a new end.

@@ -38,7 +38,6 @@ impl Endpoint {
     // rule: 5.1.1 A client opens odd numbers, each above all before it
     // contract: 5.1.1 When the numbers of 31 bits are used up no stream is opened
     // contract: 5.1.2 A client has at most as many active streams as the server allows
-    // contract: 6.8 Own streams above GOAWAY's last are reported as unprocessed
     // contract: 6.8 No stream is opened after GOAWAY was received
     // contract: 10.5 (own) An own list above 65,536 octets is refused
     // contract: calls (own) A call is refused for its first condition, and changes nothing
@@ -232,6 +231,7 @@ impl Endpoint {
         add_data_frames(&mut self.output, id, octets, end);
     }
 
+    // rule: 6.10 No answer is sent between the frames of a field block
     /// Encodes a field block, of a list of this size, and adds its frames, with room for a
     /// WINDOW_UPDATE after them.
     ///
@@ -272,6 +272,7 @@ impl Endpoint {
 
     // rule: 5.1.1 When the numbers of 31 bits are used up no stream is opened
     // rule: 5.1.2 A client has at most as many active streams as the server allows
+    // rule: 6.8 No stream is opened after GOAWAY was received
     // rule: 10.5 (own) An own list above 65,536 octets is refused
     // rule: calls (own) A call is refused for its first condition, and changes nothing
     /// Why a stream cannot be opened with a list of this size, out of memory put aside.

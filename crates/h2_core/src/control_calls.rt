@@ -19,7 +19,6 @@ const LARGE_FRAME: usize = 17;
 
 impl Endpoint {
     // contract: 6.9 Nothing of the window of the connection is lost
-    // rule: 6.9 Nothing of the window of the connection is lost
     // contract: 6.9 What a stream owes is returned when it is released or over
     // rule: 6.9 What a stream owes is returned when it is released or over
     /// Returns credit of so many octets for a stream and the connection: of those that were
@@ -93,7 +92,6 @@ impl Endpoint {
     }
 
     // contract: 10.5 (own) An end that resets 1,001 streams ends with ENHANCE_YOUR_CALM
-    // contract: 10.5 (own) Replies above 262,144 waiting octets are ENHANCE_YOUR_CALM
     // contract: calls (own) A stream that the layer above refuses is reset
     // rule: calls (own) A stream that the layer above refuses is reset
     /// Resets a stream for a fault of the peer that the layer above found. With INTERNAL_ERROR (2)

@@ -12,7 +12,6 @@ use h2_frame::{Code, FrameRef};
 
 impl Endpoint {
     // rule: 6.9 Nothing of the window of the connection is lost
-    // rule: 6.9 What a stream owes is returned when it is released or over
     /// Returns all that is unreturned, by WINDOW_UPDATE on stream 0, for which there is room.
     pub(crate) fn return_credit(&mut self)
         requires up { self.old.failed ≡ None }
@@ -30,7 +29,6 @@ impl Endpoint {
     }
 
     // rule: 6.9 Nothing of the window of the connection is lost
-    // rule: 6.9 What a stream owes is returned when it is released or over
     /// So many octets more of the connection's window will not be released: they are returned, with
     /// all that is unreturned, where there are some and less than the full output waits. There is
     /// room for a WINDOW_UPDATE.

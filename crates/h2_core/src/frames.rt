@@ -21,7 +21,6 @@ use h2_frame::{Code, FrameRef};
 impl Endpoint {
     // rule: 3.4 A first frame other than SETTINGS without ACK is PROTOCOL_ERROR
     // contract: 6.10 Inside a block any frame but its CONTINUATION is PROTOCOL_ERROR
-    // contract: 6.10 A CONTINUATION of another stream inside a block is PROTOCOL_ERROR
     // contract: 4.3 A block that does not decode is COMPRESSION_ERROR, of the connection
     // contract: 5.1.1 A stream that is opened closes all lower idle ones
     // contract: 5.4.1 A connection error is answered by GOAWAY, and nothing is sent after
@@ -29,11 +28,10 @@ impl Endpoint {
     // contract: 5.4 (own) Only steps that reply, change streams or return credit take memory
     // contract: 6.1 The complete payload of DATA, padding included, counts for windows
     // contract: 6.5.3 Own SETTINGS hold once they are acknowledged, and not before
+    // contract: 6.10 No answer is sent between the frames of a field block
     // contract: 6.8 The last stream of GOAWAY never grows: the least so far is reported
     // contract: 6.9.2 INITIAL_WINDOW_SIZE shifts the window of each stream
     // contract: 6.9.2 A shift of a window above 2^31-1 is FLOW_CONTROL_ERROR
-    // contract: 10.5 (own) An end that resets 1,001 streams ends with ENHANCE_YOUR_CALM
-    // contract: 10.5 (own) Replies above 262,144 waiting octets are ENHANCE_YOUR_CALM
     /// Takes the next frame, one that has come without a fault: the numbers of its stream, of a
     /// last stream and of an increment have 31 bits, and its payload's length 24.
     ///
@@ -80,7 +78,6 @@ impl Endpoint {
     }
 
     // rule: 6.10 Inside a block any frame but its CONTINUATION is PROTOCOL_ERROR
-    // rule: 6.10 A CONTINUATION of another stream inside a block is PROTOCOL_ERROR
     /// A frame that is not a complete block by itself: it is gathered, or passes on.
     fn gather_frame<'a>(&mut self, frame: FrameRef<'a>) -> Result<Option<Reported<'a>>, Code>
         requires sound { IsSound (end_of self.old) }
@@ -116,7 +113,6 @@ impl Endpoint {
 
     // rule: 5.1 PRIORITY is ignored in every state
     // contract: 5.4 (own) Being out of memory hides no other fault of the connection
-    // rule: 5.4 (own) Being out of memory hides no other fault of the connection
     // contract: 5.4 (own) Only steps that reply, change streams or return credit take memory
     // rule: 5.4 (own) Only steps that reply, change streams or return credit take memory
     // rule: 6.1 The complete payload of DATA, padding included, counts for windows

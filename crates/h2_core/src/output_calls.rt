@@ -22,7 +22,6 @@ use hpack::FieldList;
 
 impl Endpoint {
     // contract: 6.9 Nothing of the window of the connection is lost
-    // contract: 6.9 What a stream owes is returned when it is released or over
     /// Appends as many octets of the output as wait, and at most `count`, to `out`, and takes them
     /// away. Where less than the full output waits, all that is unreturned is returned first. It
     /// works after a failure too.
@@ -78,10 +77,7 @@ impl Endpoint {
         }
     }
 
-    // contract: 6.8 Own streams above GOAWAY's last are reported as unprocessed
     // rule: 6.8 Own streams above GOAWAY's last are reported as unprocessed
-    // contract: 6.8 No stream is opened after GOAWAY was received
-    // rule: 6.8 No stream is opened after GOAWAY was received
     /// The next stream that the peer does not process (RFC 9113, section 6.8): the least active one
     /// of a client above the last stream of the peer's GOAWAY. It takes no memory.
     pub fn unprocessed(&self) -> Option<u32>
@@ -95,10 +91,7 @@ impl Endpoint {
         }
     }
 
-    // contract: 6.8 Own streams above GOAWAY's last are reported as unprocessed
     // rule: 6.8 Own streams above GOAWAY's last are reported as unprocessed
-    // contract: 6.8 No stream is opened after GOAWAY was received
-    // rule: 6.8 No stream is opened after GOAWAY was received
     /// The next stream that the peer does not process is reported, and over.
     ///
     /// # Errors

@@ -153,8 +153,6 @@ impl Endpoint {
     }
 
     // rule: 6.7 PING is answered with the same octets
-    // rule: 6.10 No answer is sent between the frames of a field block
-    // rule: 10.5 (own) An end that resets 1,001 streams ends with ENHANCE_YOUR_CALM
     // rule: 10.5 (own) Replies above 262,144 waiting octets are ENHANCE_YOUR_CALM
     /// PING (section 6.7): it is answered.
     pub(crate) fn take_ping<'a>(

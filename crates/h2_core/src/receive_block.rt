@@ -64,7 +64,6 @@ impl Endpoint {
     // contract: 5.4 (own) Being out of memory hides no other fault of the connection
     // rule: 5.4 (own) Being out of memory hides no other fault of the connection
     // contract: 5.4 (own) Only steps that reply, change streams or return credit take memory
-    // rule: 5.4 (own) Only steps that reply, change streams or return credit take memory
     /// A block that was decoded, whose list is above the limit or else kept.
     fn take_decoded<'a>(
         &mut self,

@@ -30,7 +30,6 @@ impl Endpoint {
     // rule: 6.5.3 The first setting at fault decides, and the last value counts
     // rule: 6.5.3 SETTINGS are acknowledged before anything else is sent
     // rule: 6.9.2 INITIAL_WINDOW_SIZE shifts the window of each stream
-    // rule: 10.5 (own) An end that resets 1,001 streams ends with ENHANCE_YOUR_CALM
     // rule: 10.5 (own) Replies above 262,144 waiting octets are ENHANCE_YOUR_CALM
     /// SETTINGS: all pairs are checked in order, then applied, and acknowledged.
     pub(crate) fn take_settings<'a>(

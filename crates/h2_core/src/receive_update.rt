@@ -98,7 +98,6 @@ impl Endpoint {
     }
 
     // rule: 5.4 (own) Being out of memory hides no other fault of the connection
-    // rule: 5.4 (own) Only steps that reply, change streams or return credit take memory
     /// A fault of a stream: it is reset with the code, and what it owes is unreturned. An item at
     /// fault has taken `flow` octets of the connection's window, which are unreturned too, and
     /// opens the stream `opened`, or none (0).

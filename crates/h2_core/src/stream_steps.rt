@@ -97,7 +97,6 @@ impl Endpoint {
     }
 }
 
-// rule: 5.4 (own) Being out of memory hides no other fault of the connection
 // rule: 5.4 (own) Only steps that reply, change streams or return credit take memory
 /// Makes room for a WINDOW_UPDATE where a stream with these sides is over.
 ///

@@ -8,8 +8,6 @@ use Rattle.h2_log_laws.specs.Sending.{oldest_first}
 -- The frames are the items and the block that has begun; after a failure one more frame may stand
 -- at the end, with which the connection failed.
 -- rule: 4.3 A field block is its HEADERS' fragment and those of CONTINUATION
--- rule: 4.3 A field block ends with the frame that has END_HEADERS
--- rule: 4.3 (own) A gatherer says what it holds of a block, and if it is inside one
 pub record AreGrouped (log : Log) : Type 0 where
   pub preceding : List Frame
   pub last : List Frame

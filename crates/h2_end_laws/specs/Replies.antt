@@ -7,7 +7,6 @@ use Rattle.h2_block.specs.Grouping.{Item, alone}
 -- the replies that items ask for, one for each SETTINGS and each PING that is no reply itself
 -- rule: 6.5.3 SETTINGS are acknowledged before anything else is sent
 -- rule: 6.7 PING is answered with the same octets
--- rule: 6.10 No answer is sent between the frames of a field block
 unfoldable pub replies_owed : List Item → List Item
 replies_owed [] = []
 replies_owed (alone (Settings false pairs) ∷ items) = alone (Settings true []) ∷ replies_owed items
@@ -17,7 +16,6 @@ replies_owed (_ ∷ items) = replies_owed items
 -- the replies among items
 -- rule: 6.5.3 SETTINGS are acknowledged before anything else is sent
 -- rule: 6.7 PING is answered with the same octets
--- rule: 6.10 No answer is sent between the frames of a field block
 unfoldable pub replies_among : List Item → List Item
 replies_among [] = []
 replies_among (alone (Settings true pairs) ∷ items) =

@@ -9,7 +9,6 @@ ghost use Rattle.h2_end_laws.specs.Readings.{HasReadings};
 
 // contract: 4.3 A field block is its HEADERS' fragment and those of CONTINUATION
 // contract: 4.3 A field block ends with the frame that has END_HEADERS
-// contract: 4.3 (own) A gatherer says what it holds of a block, and if it is inside one
 /// The items that an end has read, and the field block that has begun, are its frames, grouped, up
 /// to a frame with which the connection failed (RFC 9113, sections 4.3 and 6.10).
 pub fn items_are_frames_grouped()

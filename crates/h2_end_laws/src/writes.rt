@@ -75,7 +75,6 @@ pub fn receive_window_is_kept()
 {}
 
 // contract: 4.3 A block is sent as HEADERS and CONTINUATION frames, each full but one
-// contract: 4.3 Of the frames of a block that is sent the last has END_HEADERS
 /// What each step writes: of a call that is accepted, what it owes; of an item that is no fault of
 /// the connection, what is replied to it; and credit. Nothing comes in between, so that field
 /// blocks are unbroken (section 4.3).

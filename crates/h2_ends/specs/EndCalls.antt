@@ -29,14 +29,12 @@ use Rattle.h2_ends.specs.EndTakes.{end_with_log}
 -- why the connection refuses a message whose head this call sends: as the call, and C10 of the
 -- trailers too
 -- rule: 8.1 (own) A request is refused for a rule, or as its head is, or sent
--- rule: 8.1 (own) A request that is refused is handed back, and nothing has changed
 abbrev pub refusal_of_message : Log → Act → SentMessage → Option Refusal
 refusal_of_message log act message =
     first_of (conditions (log_view log) act
     ++ (is_too_large (trailer_fields message.trailers), ListTooLarge) ∷ [])
 
 -- The connection refuses a message so: for the first condition, or since memory was refused.
--- rule: 8.1 (own) A request is refused for a rule, or as its head is, or sent
 -- rule: 8.1 (own) A request that is refused is handed back, and nothing has changed
 abbrev pub RefusesMessage : Log → Act → SentMessage → Refusal → Type 0
 RefusesMessage log act message refusal =
@@ -66,7 +64,6 @@ end_with_message end act answer id message = record end {
 
 -- What `request` may answer.
 -- rule: 8.1 (own) A request is refused for a rule, or as its head is, or sent
--- rule: 8.1 (own) A request that is refused is handed back, and nothing has changed
 unfoldable pub MayRequest : EndLog → SentMessage → Result ℕ EndRefusal → EndLog → Type 0
 MayRequest end message (Ok id) after =
     (broken_by_request message ≡ None)
@@ -85,8 +82,6 @@ MayRequest end message (Err other) after = ⊥
 -- E3: the stream isn't active, or the head of its request was not handed out. A client hands out
 -- none.
 -- rule: 8.1 (own) A response is sent only to a request, and is checked
--- rule: 8.1 (own) A second response to a request is refused
--- rule: 8.1 A response may come before its request is whole
 unfoldable pub IsNotAsked : EndLog → ℕ → Type 0
 IsNotAsked end id =
     (active end.log id ≡ false) ⊎ ((parts_on id end.handed ≡ []) ⊎ (end.log.role ≡ Client))
@@ -98,14 +93,11 @@ pub record IsAsked (end : EndLog) (id : ℕ) : Type 0 where
 
 -- the rule that an answer to what was read on a stream breaks
 -- rule: 8.1 (own) A response is sent only to a request, and is checked
--- rule: 8.1 (own) A second response to a request is refused
--- rule: 8.1 A response may come before its request is whole
 abbrev pub broken_by_answer : EndLog → ℕ → SentMessage → Option Malformed
 broken_by_answer end id message =
     broken_by_response (asks_head_first (parts_on id end.handed)) message
 
 -- What `respond` may answer: E3, E4, E1 and E2 in this order.
--- rule: 8.1 (own) A response is sent only to a request, and is checked
 -- rule: 8.1 (own) A second response to a request is refused
 -- rule: 8.1 A response may come before its request is whole
 unfoldable pub MayRespond : EndLog → ℕ → SentMessage → Result (Unit {0}) EndRefusal → EndLog

@@ -24,14 +24,12 @@ end_with_handed end log handed = record end { log = log; handed = handed ∷ end
 
 -- What was read of a stream, with one part more, begins a message that breaks no rule.
 -- rule: 8.1.1 A malformed message is a stream error PROTOCOL_ERROR
--- rule: 8.1.1 (own) How the connection takes a refusal is what is answered
 abbrev pub IsReadableWith : EndLog → ℕ → (Part × Bool) → Type 0
 IsReadableWith end id part = IsReadable (reads_on end id) (parts_on id end.handed ++ part ∷ [])
 
 -- What is answered once a stream was refused with PROTOCOL_ERROR: that this end has reset it (which
 -- the last octet of the part may have closed already: then no RST_STREAM is sent); or the
 -- connection has failed.
--- rule: 8.1.1 A malformed message is a stream error PROTOCOL_ERROR
 -- rule: 8.1.1 (own) How the connection takes a refusal is what is answered
 unfoldable pub AnswersRefused : EndLog → Log → (count id : ℕ) → EndAnswer → EndLog → Option Code
     → Type 0
@@ -45,7 +43,6 @@ AnswersRefused end log count id answer after (Some code) =
 -- what was read of the stream with it begins a message that breaks no rule. At a server the first
 -- field block of a stream takes memory, and where that is refused the connection fails.
 -- rule: 8.1.1 A malformed message is a stream error PROTOCOL_ERROR
--- rule: 8.1.1 (own) How the connection takes a refusal is what is answered
 -- rule: 8.1 (own) A server without memory for a first block fails with INTERNAL_ERROR
 pub data EndMayTake (end : EndLog) (piece : List ℕ) (answer : EndAnswer) (after : EndLog) : Type 0
   where

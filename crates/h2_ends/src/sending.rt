@@ -40,7 +40,6 @@ enum SendState {
 }
 
 impl End {
-    // rule: 8.1 (own) A request is refused for a rule, or as its head is, or sent
     // rule: 8.1 (own) A request that is refused is handed back, and nothing has changed
     /// Sends the head of a request on a new stream, and keeps the rest of it.
     pub(crate) fn request(&mut self, message: Message) -> Result<u32, (Message, EndRefusal)>
@@ -59,7 +58,6 @@ impl End {
     }
 
     // rule: 8.1 (own) A request is refused for a rule, or as its head is, or sent
-    // rule: 8.1 (own) A request that is refused is handed back, and nothing has changed
     /// Opens a stream with the head of a request.
     fn open(&mut self, message: &Message) -> Result<u32, Refusal>
         ensures { (values : Values) (end : EndLog) → EndRepresents values self.old end
@@ -91,8 +89,6 @@ impl End {
         opened
     }
 
-    // rule: 8.1 (own) A response is sent only to a request, and is checked
-    // rule: 8.1 (own) A second response to a request is refused
     // rule: 8.1 A response may come before its request is whole
     /// Sends the head of a response, and keeps the rest of it.
     pub(crate) fn respond(&mut self, id: u32, message: Message) -> Result<(), (Message, EndRefusal)>
@@ -111,7 +107,6 @@ impl End {
 
     // rule: 8.1 (own) A response is sent only to a request, and is checked
     // rule: 8.1 (own) A second response to a request is refused
-    // rule: 8.1 A response may come before its request is whole
     /// Sends the head of a response.
     fn answer(&mut self, id: u32, message: &Message) -> Result<(), EndRefusal>
         ensures { (values : Values) (end : EndLog) → EndRepresents values self.old end
@@ -136,7 +131,6 @@ impl End {
     }
 
     // rule: 8.1 (own) A request is refused for a rule, or as its head is, or sent
-    // rule: 8.1 (own) A request that is refused is handed back, and nothing has changed
     /// Keeps what waits of a message whose head was sent.
     fn give(&mut self, id: u32, message: Message)
         ensures { IsGiven self.old id message self.new }
@@ -240,8 +234,6 @@ pub(crate) fn next_in(conn: &Conn, span: Span, above: u32) -> Option<u32>
 }
 
 // rule: 8.1 (own) A response is sent only to a request, and is checked
-// rule: 8.1 (own) A second response to a request is refused
-// rule: 8.1 A response may come before its request is whole
 /// Sends the head of a message on a stream, unless its trailers are too large to be sent.
 fn send_head(conn: &mut Conn, id: u32, message: &Message) -> Result<(), Refusal>
     ensures { (values : Values) (log : Log) → ConnRepresents values conn.old log
@@ -260,7 +252,6 @@ fn send_head(conn: &mut Conn, id: u32, message: &Message) -> Result<(), Refusal>
 }
 
 // rule: 8.1 (own) A request is refused for a rule, or as its head is, or sent
-// rule: 8.1 (own) A request that is refused is handed back, and nothing has changed
 /// The trailers of a message, if they are too large to be sent.
 fn large_trailers(message: &Message) -> Option<&[Field]>
     ensures large { IfSome result (λ list. (list.now

@@ -67,8 +67,6 @@ impl Unread {
 }
 
 impl End {
-    // rule: 8.1.1 A malformed message is a stream error PROTOCOL_ERROR
-    // rule: 8.1.1 (own) How the connection takes a refusal is what is answered
     /// Takes octets of the piece, up to the end of one frame or else all of them.
     pub(crate) fn advance(&mut self, piece: &[u8]) -> Result<EndProgress, ConnFault>
         ensures used { IfOk result (λ progress. progress.used ≤ length piece.now) }
@@ -88,7 +86,6 @@ impl End {
     }
 
     // rule: 8.1.1 A malformed message is a stream error PROTOCOL_ERROR
-    // rule: 8.1.1 (own) How the connection takes a refusal is what is answered
     // rule: 8.1 (own) What is handed out of a stream is what was reported, in order
     /// Hands out what the connection has reported, unless it is a part of a message that cannot be
     /// read.
@@ -127,7 +124,6 @@ impl End {
     }
 
     // rule: 8.1.1 A malformed message is a stream error PROTOCOL_ERROR
-    // rule: 8.1.1 (own) How the connection takes a refusal is what is answered
     /// Reads the field block that the connection has reported.
     fn read_fields(&mut self, id: u32, end: bool) -> Result<Place, Unread>
         ensures conn { self.new.conn ≡ self.old.conn }
@@ -171,7 +167,6 @@ impl End {
     }
 
     // rule: 8.1.1 A malformed message is a stream error PROTOCOL_ERROR
-    // rule: 8.1.1 (own) How the connection takes a refusal is what is answered
     /// Reads so many octets of a body, and answers whether they can be read.
     fn read_data(&mut self, id: u32, count: usize, end: bool) -> bool
         ensures conn { self.new.conn ≡ self.old.conn }
@@ -204,6 +199,7 @@ impl End {
         }
     }
 
+    // rule: 8.1.1 (own) How the connection takes a refusal is what is answered
     // rule: 8.1 (own) A server without memory for a first block fails with INTERNAL_ERROR
     /// Refuses a stream whose part of a message isn't handed out: this end resets it; or the
     /// connection fails.

@@ -22,7 +22,6 @@ abbrev pub answer_field : (name value : List ℕ) → Field
 answer_field name value = record { name = name; value = value; sensitive = false }
 
 -- an answer with a text; to HEAD it has neither a body nor `content-length`
--- rule: engines (own) A request that is whole is answered once, by method, path and body
 -- rule: engines (own) An answer to HEAD has neither body nor content-length
 unfoldable pub answer_with : (text : List ℕ) → (to_head : Bool) → SentMessage
 answer_with text true = record {
@@ -39,7 +38,6 @@ answer_with text false = record {
 }
 
 -- what a request is answered with, by its parts, the first one first
--- rule: engines (own) A request that is whole is answered once, by method, path and body
 -- rule: engines (own) An answer to HEAD has neither body nor content-length
 unfoldable pub answer_to : List (Part × Bool) → Option SentMessage
 answer_to ((FieldsPart head, end) ∷ parts) =

@@ -23,7 +23,6 @@ calm = 11
 -- whole with what they asked, and reset streams whose request was too large; it released, pumped
 -- and gave out.
 -- rule: engines (own) A request that is whole is answered once, by method, path and body
--- rule: engines (own) An answer to HEAD has neither body nor content-length
 pub data IsResponding (values : Values) : EndLog → Type 0 where
   begins : AreInRange values → IsResponding values (new_end Server values)
   takes : {end after : EndLog} → IsResponding values end → (piece : List ℕ) (answer : EndAnswer)
@@ -59,7 +58,6 @@ pub record WasTooLarge (end : EndLog) (id : ℕ) : Type 0 where
 
 -- The request is whole, and it was answered with what it asked.
 -- rule: engines (own) A request that is whole is answered once, by method, path and body
--- rule: engines (own) An answer to HEAD has neither body nor content-length
 pub record WasAnswered (end : EndLog) (id : ℕ) : Type 0 where
   pub whole : ends (parts_on id end.handed) ≡ true
   pub fits : is_too_large_body (parts_on id end.handed) ≡ false
@@ -75,7 +73,6 @@ AreOnce ((id, message) ∷ accepted) = (message_for id accepted ≡ None) × Are
 -- Each request that was handed out whole was answered, unless its stream was reset, as that of each
 -- too large one was; and nothing else was answered, and no stream twice.
 -- rule: engines (own) A request that is whole is answered once, by method, path and body
--- rule: engines (own) An answer to HEAD has neither body nor content-length
 pub record AnswersAll (end : EndLog) : Type 0 where
   pub all : (id : ℕ) → ends (parts_on id end.handed) ≡ true
       → WasAnswered end id ⊎ (WasReset end id ⊎ WasTooLarge end id)

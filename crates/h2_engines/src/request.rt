@@ -48,7 +48,6 @@ pub(crate) struct Requests {
 }
 
 impl Request {
-    // rule: engines (own) A request that is whole is answered once, by method, path and body
     // rule: engines (own) An answer to HEAD has neither body nor content-length
     /// A request of which the head has come.
     fn begin(alloc: Global, head: &FieldList) -> Result<Request, AllocError>
@@ -69,7 +68,6 @@ impl Request {
         })
     }
 
-    // rule: engines (own) A request that is whole is answered once, by method, path and body
     // rule: engines (own) An answer to HEAD has neither body nor content-length
     /// What it is answered with.
     ///
@@ -111,7 +109,6 @@ impl Requests {
     }
 
     // rule: engines (own) A request that is whole is answered once, by method, path and body
-    // rule: engines (own) An answer to HEAD has neither body nor content-length
     /// Keeps what was handed out of a request, and says what is to be done.
     ///
     /// # Errors
@@ -140,8 +137,6 @@ impl Requests {
         Ok(Next::Again)
     }
 
-    // rule: engines (own) A request that is whole is answered once, by method, path and body
-    // rule: engines (own) An answer to HEAD has neither body nor content-length
     // rule: engines (own) A request of more than 1,048,576 octets is ENHANCE_YOUR_CALM
     /// Adds octets to the body of a request.
     fn add(&mut self, id: u32, bytes: &[u8], end: bool) -> Result<Next, AllocError>
@@ -163,6 +158,7 @@ impl Requests {
         Ok(Next::Again)
     }
 
+    // rule: engines (own) A request that is whole is answered once, by method, path and body
     /// Takes out a request that is whole.
     fn end(&mut self, id: u32) -> Next
         ensures { EndsKept self.old self.new id (request_at id self.old) result }

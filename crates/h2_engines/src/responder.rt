@@ -88,6 +88,7 @@ impl Responder {
         }
     }
 
+    // rule: engines (own) A request that is whole is answered once, by method, path and body
     // rule: engines (own) N5 comes only where a write has taken nothing
     /// Answers a request that is whole.
     pub(crate) fn answer(&mut self, id: u32, request: Request) -> Result<(), LinkError>

@@ -21,7 +21,6 @@ use Rattle.h2_frame.specs.Frames.{WindowUpdate, Continuation, Unknown}
 
 -- the kind of a frame
 -- rule: 6 (own) A frame says its type and its stream, 0 for the connection
--- rule: 6 (own) A frame says how many octets its payload has, padding included
 unfoldable pub kind_of_frame : Frame → Kind
 kind_of_frame (Data stream end octets pad) = kinds.Data
 kind_of_frame (Headers stream end whole fragment pad priority) = kinds.Headers
@@ -36,7 +35,6 @@ kind_of_frame (Unknown kind flags stream payload) = kinds.Unknown kind
 
 -- the stream of a frame; 0 is the connection
 -- rule: 6 (own) A frame says its type and its stream, 0 for the connection
--- rule: 6 (own) A frame says how many octets its payload has, padding included
 unfoldable pub stream_of : Frame → ℕ
 stream_of (Data stream end octets pad) = stream
 stream_of (Headers stream end whole fragment pad priority) = stream
@@ -55,7 +53,6 @@ flag set bit = if set then bit else 0
 
 -- the flags of a frame: END_STREAM or ACK 0x01, END_HEADERS 0x04, PADDED 0x08, PRIORITY 0x20
 -- rule: 4.1 A frame is sent without its reserved bit and undefined flags
--- rule: 4.1 A frame is sent with the length of its payload
 -- rule: 6.1 DATA is sent with its octets and END_STREAM
 -- rule: 6.2 HEADERS is sent with its flags and its priority
 -- rule: 6.7 PING is sent with its octets and its ACK
@@ -87,14 +84,11 @@ prioritized fragment (Some priority) = priority ++ fragment
 
 -- a pair of SETTINGS: 16 bits of identifier and 32 of value (section 6.5.1)
 -- rule: 6.5.1 Pairs are sent in order
--- rule: 6.5.1 No pairs are sent with ACK
 abbrev pub pair_octets : ℕ × ℕ → List ℕ
 pair_octets pair = big_bytes 2 pair.0 ++ big_bytes 4 pair.1
 
 -- the payload of a frame
--- rule: 4.1 A frame is sent without its reserved bit and undefined flags
 -- rule: 4.1 A frame is sent with the length of its payload
--- rule: 6 (own) A frame says its type and its stream, 0 for the connection
 -- rule: 6 (own) A frame says how many octets its payload has, padding included
 -- rule: 6.1 DATA is sent with its octets and END_STREAM
 -- rule: 6.7 PING is sent with its octets and its ACK
@@ -126,7 +120,6 @@ encoding_of frame =
 -- Whether the values of a frame can be written: a last stream and an increment have 31 bits, an
 -- acknowledgment of settings has no pairs, and kinds from 0 to 9 aren't unknown.
 -- rule: 4.1 (own) A frame of an unknown type is sent with a type from 10 on
--- rule: 6.5.1 Pairs are sent in order
 -- rule: 6.5.1 No pairs are sent with ACK
 -- rule: 6.8 GOAWAY is sent with a last stream of 31 bits
 -- rule: 6.9 WINDOW_UPDATE is sent with an increment of 31 bits

@@ -168,7 +168,6 @@ headers_pad_too_much flags payload =
 
 -- Whether a payload's pad length is too large. Kinds but DATA and HEADERS have no padding.
 -- rule: 6.1 Padding as long as the payload of DATA, or longer, is PROTOCOL_ERROR
--- rule: 6.1 A fault of a payload is known at its last octet
 -- rule: 6.2 Padding of HEADERS above what the priority leaves is PROTOCOL_ERROR
 unfoldable pub pads_too_much : Kind → ℕ → List ℕ → Bool
 pads_too_much kinds.Data flags payload = data_pads_too_much flags payload
@@ -186,14 +185,12 @@ pads_too_much (kinds.Unknown number) flags payload = false
 -- the fault of a payload after a head without fault, known at its last octet
 -- rule (law): 4.1 Octets encode a frame exactly where they have no fault
 -- rule: 6.1 Padding as long as the payload of DATA, or longer, is PROTOCOL_ERROR
--- rule: 6.1 A fault of a payload is known at its last octet
 -- rule: 6.2 Padding of HEADERS above what the priority leaves is PROTOCOL_ERROR
 unfoldable pub payload_fault : Head → List ℕ → Option Code
 payload_fault head payload = if pads_too_much head.kind head.flags payload then Some ProtocolError
     else None
 
 -- what an error of reading a payload says of it
--- rule: 6.1 Padding as long as the payload of DATA, or longer, is PROTOCOL_ERROR
 -- rule: 6.1 A fault of a payload is known at its last octet
 abbrev pub Refuses : Head → List ℕ → PayloadError → Type 0
 Refuses head payload (errors.Code code) = payload_fault head payload ≡ Some code

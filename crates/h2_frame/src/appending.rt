@@ -138,7 +138,6 @@ impl Body<'_> {
 }
 
 // rule: 6.5.1 Pairs are sent in order
-// rule: 6.5.1 No pairs are sent with ACK
 // Appends the pairs.
 fn append_pairs(pairs: &[(u16, u32)], out: &mut Vec<u8>)
     requires { vec_len out.old + length (flat_map pair_octets pairs.now) ≤ vec_capacity out.old }

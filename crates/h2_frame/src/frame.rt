@@ -109,8 +109,6 @@ pub enum FrameRef<'a> {
 impl FrameRef<'_> {
     // contract: 6 (own) A frame says its type and its stream, 0 for the connection
     // rule: 6 (own) A frame says its type and its stream, 0 for the connection
-    // contract: 6 (own) A frame says how many octets its payload has, padding included
-    // rule: 6 (own) A frame says how many octets its payload has, padding included
     /// The frame's kind.
     pub fn kind(self) -> Kind
         ensures { result ≡ kind_of_frame (frame_of self.entry) }
@@ -131,8 +129,6 @@ impl FrameRef<'_> {
 
     // contract: 6 (own) A frame says its type and its stream, 0 for the connection
     // rule: 6 (own) A frame says its type and its stream, 0 for the connection
-    // contract: 6 (own) A frame says how many octets its payload has, padding included
-    // rule: 6 (own) A frame says how many octets its payload has, padding included
     /// The frame's stream; 0 is the connection.
     pub fn stream(self) -> u32
         ensures { result ≡ stream_of (frame_of self.entry) }
@@ -149,8 +145,6 @@ impl FrameRef<'_> {
         }
     }
 
-    // contract: 6 (own) A frame says its type and its stream, 0 for the connection
-    // rule: 6 (own) A frame says its type and its stream, 0 for the connection
     // contract: 6 (own) A frame says how many octets its payload has, padding included
     // rule: 6 (own) A frame says how many octets its payload has, padding included
     /// How many octets the frame's payload has, padding and pad length included (RFC 9113, section

@@ -114,7 +114,6 @@ impl<'a> FrameParts<'a> {
         }
     }
 
-    // rule: 6.5.1 Pairs are sent in order
     // rule: 6.5.1 No pairs are sent with ACK
     /// The parts of SETTINGS.
     pub(crate) fn settings(ack: bool, pairs: &'a [(u16, u32)]) -> FrameParts<'a>
@@ -129,7 +128,6 @@ impl<'a> FrameParts<'a> {
         }
     }
 
-    // rule: 6.5.1 Pairs are sent in order
     // rule: 6.5.1 No pairs are sent with ACK
     /// The parts of SETTINGS whose pairs are lent.
     pub(crate) fn lent_settings(ack: bool, lent: Pairs<'a>) -> FrameParts<'a>

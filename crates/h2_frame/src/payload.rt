@@ -16,7 +16,6 @@ use byteorder::{BigEndian, ByteOrder};
 
 // contract: 6.1 Padding as long as the payload of DATA, or longer, is PROTOCOL_ERROR
 // rule: 6.1 Padding as long as the payload of DATA, or longer, is PROTOCOL_ERROR
-// contract: 6.1 A fault of a payload is known at its last octet
 // rule: 6.1 A fault of a payload is known at its last octet
 // contract: 6.2 Padding of HEADERS above what the priority leaves is PROTOCOL_ERROR
 // rule: 6.2 Padding of HEADERS above what the priority leaves is PROTOCOL_ERROR

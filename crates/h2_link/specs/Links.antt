@@ -7,7 +7,6 @@ use Rattle.h2_link.specs.declared.error.LinkError.{LinkError}
 use Rattle.h2_link.specs.declared.error.LinkError.TheVariants as errors
 
 -- how often a link has failed, after a call
--- rule: links (own) A link gives and takes octets in order
 -- rule: links (own) A link counts the calls that fail
 -- rule: engines (own) A link over TCP counts the calls that have failed
 abbrev pub failures_after : {A : Type 0} → ℕ → Result A LinkFault → ℕ
@@ -35,7 +34,6 @@ stalled_after stalled octets (Err fault) = stalled
 
 -- A read gave the first octets of the buffer, at most all of them; one that failed gave none.
 -- rule: links (own) A link gives and takes octets in order
--- rule: links (own) A link counts the calls that fail
 abbrev pub Gives : (before after : Option (List ℕ)) → Result ℕ LinkFault → List ℕ → Type 0
 Gives before after (Ok count) buffer = (count ≤ length buffer) × Appends before after
     (take count buffer)
@@ -48,7 +46,6 @@ pub record TakesFirst (before after : Option (List ℕ)) (octets : List ℕ) (co
 
 -- A write took the first octets, as many as it says; one that failed took some first ones, or none.
 -- rule: links (own) A link gives and takes octets in order
--- rule: links (own) A link counts the calls that fail
 abbrev pub Takes : (before after : Option (List ℕ)) → Result ℕ LinkFault → List ℕ → Type 0
 Takes before after (Ok count) octets = TakesFirst before after octets count
 Takes before after (Err fault) octets = (count : ℕ) × TakesFirst before after octets count

@@ -23,10 +23,7 @@ pub struct MemoryLink {
 impl MemoryLink {
     ghost use Rattle.h2_link.specs.Memory.{octets_given, octets_taken};
 
-    // contract: links (own) A link gives and takes octets in order
     // rule: links (own) A link gives and takes octets in order
-    // contract: links (own) A link counts the calls that fail
-    // rule: links (own) A link counts the calls that fail
     // rule: links (own) The end of the input is a read that gives nothing
     /// A link that gives these octets and then the end, whole at a time.
     pub fn new(alloc: Global, input: Vec<u8>) -> MemoryLink
@@ -51,7 +48,6 @@ impl MemoryLink {
     }
 
     // rule: links (own) A link gives and takes octets in order
-    // rule: links (own) A link counts the calls that fail
     /// The same link, which reads and writes at most so many octets a call. With 0 it is at its
     /// end, or takes nothing.
     pub fn with_most(mut self, read: usize, written: usize) -> MemoryLink
@@ -62,7 +58,6 @@ impl MemoryLink {
         self
     }
 
-    // rule: links (own) A link gives and takes octets in order
     // rule: links (own) A link counts the calls that fail
     /// The same link, whose call after so many more fails: 0 is the next one.
     pub fn failing_after(mut self, calls: u64) -> MemoryLink
@@ -72,8 +67,7 @@ impl MemoryLink {
         self
     }
 
-    // contract: links (own) A link gives and takes octets in order
-    // contract: links (own) A link counts the calls that fail
+    // rule: links (own) A link gives and takes octets in order
     /// What it has taken.
     pub fn output(&self) -> &[u8]
         ensures { result.now ≡ octets_taken self.now }
@@ -81,7 +75,6 @@ impl MemoryLink {
         &self.output
     }
 
-    // rule: links (own) A link gives and takes octets in order
     // rule: links (own) A link counts the calls that fail
     /// Whether this call fails.
     fn fails(&mut self) -> bool

@@ -60,7 +60,6 @@ is_full view = nat_le full_output view.waiting
 -- C9: as many streams were reset as may be.
 -- rule: 6.4 (own) An end resets a stream on request, and counts it
 -- rule: 10.5 (own) An end that resets 1,001 streams ends with ENHANCE_YOUR_CALM
--- rule: 10.5 (own) Replies above 262,144 waiting octets are ENHANCE_YOUR_CALM
 abbrev pub has_all_resets : View → Bool
 has_all_resets view = nat_le max_resets view.resets
 
@@ -79,7 +78,6 @@ is_not_owed view id count = count == 0 || nat_lt (owed_on (view.stream id)) coun
 -- rule: 6.4 (own) An end resets a stream on request, and counts it
 -- rule: 6.5.3 (own) Own SETTINGS are changed once those before are acknowledged
 -- rule: 6.7 (own) One own PING at a time awaits its answer
--- rule: 6.8 Own streams above GOAWAY's last are reported as unprocessed
 -- rule: 6.8 No stream is opened after GOAWAY was received
 -- rule: 6.8 An own GOAWAY is sent once, with the greatest stream processed
 -- rule: 10.5 (own) An own list above 65,536 octets is refused
@@ -134,7 +132,6 @@ refusal_of view act = first_of (conditions view act)
 -- Credit is returned where more is unreturned than before, and less than the full output waits
 -- (own).
 -- rule: 6.9 Nothing of the window of the connection is lost
--- rule: 6.9 What a stream owes is returned when it is released or over
 abbrev pub returns_credit : (more waiting : ℕ) → Bool
 returns_credit more waiting = nat_lt 0 more && nat_lt waiting full_output
 
@@ -215,7 +212,6 @@ data_items most id octets end count =
 -- where that layer has run out of memory or a limit is reached; where there is none the stream is
 -- reset.
 -- rule: 10.5 (own) An end that resets 1,001 streams ends with ENHANCE_YOUR_CALM
--- rule: 10.5 (own) Replies above 262,144 waiting octets are ENHANCE_YOUR_CALM
 -- rule: calls (own) A stream that the layer above refuses is reset
 unfoldable pub refuse_fault : View → ℕ → Option Code
 refuse_fault view code =

@@ -51,7 +51,6 @@ events_of view decoded Reported (alone frame) = []
 -- octets of DATA that nobody will release: those on a stream that this end has closed, and those
 -- after the peer's end
 -- rule: 5.1 DATA on a stream that this end has reset counts for the connection
--- rule: 6.9 Nothing of the window of the connection is lost
 -- rule: 6.9 What a stream owes is returned when it is released or over
 unfoldable pub discarded_flow : Verdict → Item → ℕ
 discarded_flow (ConnectionFault code) item = 0

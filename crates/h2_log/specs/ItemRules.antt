@@ -137,7 +137,6 @@ verdict_by_rules view decoded (alone (Unknown kind flags stream payload)) = NoEv
 -- rule: 5.4.2 A stream error is answered by RST_STREAM with its code, and reported
 -- rule: 6.5.3 SETTINGS are acknowledged before anything else is sent
 -- rule: 6.7 PING is answered with the same octets
--- rule: 6.10 No answer is sent between the frames of a field block
 unfoldable pub replies_to : Verdict → Item → List Item
 replies_to (ConnectionFault code) item = []
 replies_to (StreamFault code) item = alone (Reset (stream_of_item item) (code_number code)) ∷ []
@@ -155,7 +154,6 @@ is_stream_fault Reported = false
 
 -- The limits (own; section 10.5): the 1,001st reset ends the connection instead, and so does a
 -- reply of so many octets that would bring the waiting output above its limit.
--- rule: 10.5 (own) An end that resets 1,001 streams ends with ENHANCE_YOUR_CALM
 -- rule: 10.5 (own) Replies above 262,144 waiting octets are ENHANCE_YOUR_CALM
 unfoldable pub over_limits : (resets waiting size : ℕ) → Verdict → Verdict
 over_limits resets waiting size verdict =
@@ -166,7 +164,6 @@ over_limits resets waiting size verdict =
 
 -- the verdict on an item that comes next. Replies are no field blocks, so that their octets are the
 -- same whatever the greatest payload is.
--- rule: 10.5 (own) An end that resets 1,001 streams ends with ENHANCE_YOUR_CALM
 -- rule: 10.5 (own) Replies above 262,144 waiting octets are ENHANCE_YOUR_CALM
 unfoldable pub verdict_of : View → Option Decoded → Item → Verdict
 verdict_of view decoded item =

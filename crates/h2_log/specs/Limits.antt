@@ -11,14 +11,12 @@ abbrev pub full_output : ℕ
 full_output = 65536
 
 -- the waiting output that no reply may exceed
--- rule: 10.5 (own) An end that resets 1,001 streams ends with ENHANCE_YOUR_CALM
 -- rule: 10.5 (own) Replies above 262,144 waiting octets are ENHANCE_YOUR_CALM
 abbrev pub max_output : ℕ
 max_output = 262144
 
 -- the most streams that an end resets on a connection
 -- rule: 10.5 (own) An end that resets 1,001 streams ends with ENHANCE_YOUR_CALM
--- rule: 10.5 (own) Replies above 262,144 waiting octets are ENHANCE_YOUR_CALM
 abbrev pub max_resets : ℕ
 max_resets = 1000
 

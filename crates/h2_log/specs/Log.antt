@@ -179,7 +179,6 @@ max_payload_sent log = max_payload_sent_by log.received
 -- the least active stream of this end above the last one that the peer takes, or 0: what is to be
 -- reported as unprocessed
 -- rule: 6.8 Own streams above GOAWAY's last are reported as unprocessed
--- rule: 6.8 No stream is opened after GOAWAY was received
 unfoldable pub next_unprocessed : Log → ℕ
 next_unprocessed log =
     if is_server log.role then 0 else least_block (λ j. active log j && nat_lt

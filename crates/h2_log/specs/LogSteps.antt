@@ -51,7 +51,6 @@ with_reported log (event ∷ events) = record log {
 }
 
 -- what a stream still owes where it was active in the first log and isn't in the second
--- rule: 6.9 Nothing of the window of the connection is lost
 -- rule: 6.9 What a stream owes is returned when it is released or over
 unfoldable pub owed_at_close : Log → Log → ℕ → ℕ
 owed_at_close before after i = if active before i && not
@@ -59,7 +58,6 @@ owed_at_close before after i = if active before i && not
 
 -- all that is due is returned, by one WINDOW_UPDATE on stream 0
 -- rule: 6.9 Nothing of the window of the connection is lost
--- rule: 6.9 What a stream owes is returned when it is released or over
 abbrev pub with_credit_returned : Log → Log
 with_credit_returned log = with_sent (record log { unreturned = 0 }) (alone
     (WindowUpdate 0 log.unreturned) ∷ [])
@@ -67,7 +65,6 @@ with_credit_returned log = with_sent (record log { unreturned = 0 }) (alone
 -- So much more is due: it is returned at once, and with it what was due before, where less than the
 -- full output waits. Where nothing more is due, nothing is written.
 -- rule: 6.9 Nothing of the window of the connection is lost
--- rule: 6.9 What a stream owes is returned when it is released or over
 unfoldable pub with_unreturned : ℕ → Log → Log
 with_unreturned more log =
     if returns_credit more (waiting log) then with_credit_returned
@@ -148,7 +145,6 @@ took_out_of_memory log octets = with_failure InternalError (last_processed log) 
 
 -- It used none, and reported the next stream that the peer doesn't process, which closes it.
 -- rule: 6.8 Own streams above GOAWAY's last are reported as unprocessed
--- rule: 6.8 No stream is opened after GOAWAY was received
 abbrev pub took_none : Log → Log
 took_none log =
     with_reported (with_unreturned (owed_at_close log (with_reported log (UnprocessedEvent

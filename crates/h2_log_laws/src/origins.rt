@@ -28,7 +28,6 @@ pub fn origin()
 // contract: 6.5.3 SETTINGS are acknowledged before anything else is sent
 // contract: 6.5.3 (own) Own SETTINGS are changed once those before are acknowledged
 // contract: 6.7 (own) One own PING at a time awaits its answer
-// contract: 6.8 Own streams above GOAWAY's last are reported as unprocessed
 // contract: 6.8 No stream is opened after GOAWAY was received
 // contract: 6.9.1 DATA is sent within both windows
 /// Whatever octets have come, and whatever was asked of it, what an end has written was allowed

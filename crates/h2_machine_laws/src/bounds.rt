@@ -56,7 +56,6 @@ pub fn logs_are_bounded()
 // contract: 5.1 DATA on a stream that this end has reset counts for the connection
 // contract: 6.8 Streams above the last of an own GOAWAY are ignored
 // contract: 6.9 Nothing of the window of the connection is lost
-// contract: 6.9 What a stream owes is returned when it is released or over
 /// What the peer may send on the connection, what is owed on all streams, and what is unreturned,
 /// are 65,535 octets together, where nothing is kept of numbers that weren't used: at first, and
 /// after each frame, fault, stream that is reported as unprocessed, and call (RFC 9113, section

@@ -42,8 +42,6 @@ pub fn calls_preserve_representation()
         → Represents values (end_after e act answer) (with_call log act answer) }
 {}
 
-// contract: 6.8 Own streams above GOAWAY's last are reported as unprocessed
-// contract: 6.8 No stream is opened after GOAWAY was received
 /// After each step in which no frame ends a machine represents the log with it: octets that end
 /// none, octets that make a fault, being out of memory, and a stream that is reported as
 /// unprocessed, which is the one that the log says.

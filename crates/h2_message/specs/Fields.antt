@@ -141,13 +141,11 @@ is_interim fields = is_interim_status (status_of fields)
 -- whatever letter case (RFC 9110, section 10.1.4). That it is taken in responses and trailers too is
 -- an own choice.
 -- rule: 8.2.2 A connection-specific field breaks M10
--- rule: 8.2.2 te with another value than trailers breaks M10
 unfoldable pub connection_names : List (List ℕ)
 connection_names =
     codes "connection" ∷ codes "proxy-connection" ∷ codes "keep-alive"
     ∷ codes "transfer-encoding" ∷ codes "upgrade" ∷ []
 
--- rule: 8.2.2 A connection-specific field breaks M10
 -- rule: 8.2.2 te with another value than trailers breaks M10
 unfoldable pub is_connection_field : Field → Bool
 is_connection_field field =
@@ -156,7 +154,6 @@ is_connection_field field =
     && not (str_eq_ignore_ascii_case field.value (codes "trailers")))
 
 -- rule: 8.2.2 A connection-specific field breaks M10
--- rule: 8.2.2 te with another value than trailers breaks M10
 unfoldable pub has_connection_field : List Field → Bool
 has_connection_field fields = list_any is_connection_field fields
 

@@ -22,6 +22,7 @@ use crate::verdict::first_broken;
 // contract: 8.2.1 A value with NUL, CR or LF breaks M2
 // contract: 8.2.1 A value that begins or ends with a space or a tab breaks M2
 // rule: 8.3 A pseudo-field after a regular one, or in trailers, breaks M3
+// contract: 8.3.1 A request without :method, :scheme or :path breaks M6
 // contract: 8.3.1 A method that is no token, or is CONNECT (own), breaks M7
 // contract: 8.3.1 A path without / at its begin, but * with OPTIONS, breaks M8
 // contract: 8.1.1 A content-length that is no number, or several, breaks M11
@@ -76,6 +77,7 @@ fn broken_by_request(message: &Message) -> Option<Malformed>
 // contract: 8.2.1 A value with NUL, CR or LF breaks M2
 // contract: 8.2.1 A value that begins or ends with a space or a tab breaks M2
 // rule: 8.3 A pseudo-field after a regular one, or in trailers, breaks M3
+// contract: 8.3.2 A response without :status breaks M6
 // contract: 8.3.2 A status that is not three digits from 100, or is 101, breaks M9
 // contract: 8.1 (own) No interim response is sent: a status 100 to 199 breaks M9
 // rule: 8.1 (own) No interim response is sent: a status 100 to 199 breaks M9

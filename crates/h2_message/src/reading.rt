@@ -84,6 +84,8 @@ impl Reading {
     // contract: 8.2.1 (own) An empty name breaks M1
     // contract: 8.2.1 A value with NUL, CR or LF breaks M2
     // contract: 8.2.1 A value that begins or ends with a space or a tab breaks M2
+    // contract: 8.3.1 A request without :method, :scheme or :path breaks M6
+    // contract: 8.3.2 A response without :status breaks M6
     // contract: 8.3.1 A method that is no token, or is CONNECT (own), breaks M7
     // contract: 8.3.1 A path without / at its begin, but * with OPTIONS, breaks M8
     // contract: 8.3.2 A status that is not three digits from 100, or is 101, breaks M9

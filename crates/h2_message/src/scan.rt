@@ -175,7 +175,6 @@ impl Scan {
         }
     }
 
-    // rule: 8.2.2 A connection-specific field breaks M10
     // rule: 8.2.2 te with another value than trailers breaks M10
     /// Adds a regular field.
     fn add_regular(&mut self, name: &[u8], value: &[u8])
@@ -212,7 +211,6 @@ impl Scan {
 }
 
 // rule: 8.2.2 A connection-specific field breaks M10
-// rule: 8.2.2 te with another value than trailers breaks M10
 /// Whether a field with this name is specific to one connection (section 8.2.2).
 fn is_connection_name(name: &[u8]) -> bool
     ensures { result ≡ list_any (λ other. bytes_eq name.now other) connection_names }

@@ -30,7 +30,6 @@ pub(crate) fn first_broken(rules: &[(bool, Malformed)]) -> Option<Malformed>
 
 impl Scan {
     // rule: 8.3.1 A request without :method, :scheme or :path breaks M6
-    // rule: 8.3.2 A response without :status breaks M6
     /// Whether a request lacks a pseudo-field that it must have.
     pub(crate) fn lacks_of_request(&self) -> bool
         ensures { (fields : List Field) → IsScan Request fields self.now
@@ -39,7 +38,6 @@ impl Scan {
         self.method.is_none() || !self.scheme || self.path.is_none()
     }
 
-    // rule: 8.3.1 A request without :method, :scheme or :path breaks M6
     // rule: 8.3.2 A response without :status breaks M6
     /// Whether a response does.
     pub(crate) fn lacks_of_response(&self) -> bool

@@ -43,7 +43,6 @@ pub record FramesDecode (frames : List Frame) (begun : Option Begun) (table : En
 
 -- The last of the frames doesn't group; those preceding it group, and their blocks decode.
 -- rule: 6.10 Inside a block any frame but its CONTINUATION is PROTOCOL_ERROR
--- rule: 6.10 A CONTINUATION of another stream inside a block is PROTOCOL_ERROR
 pub record IsMisgrouped (frames : List Frame) (code : Code) : Type 0 where
   pub items : List Item
   pub table : Entries

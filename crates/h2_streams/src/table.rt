@@ -78,10 +78,7 @@ impl StreamTable {
         }
     }
 
-    // contract: 5.1 (own) What is kept of a stream is found by its number
     // rule: 5.1 (own) What is kept of a stream is found by its number
-    // contract: 5.1 (own) A change of a stream changes that stream alone
-    // rule: 5.1 (own) A change of a stream changes that stream alone
     /// What is kept of a number. It takes no memory.
     pub fn get(&self, id: u32) -> Option<Entry>
         ensures { option_map entry_value result ≡ map.get self.now.entries id }
@@ -93,10 +90,7 @@ impl StreamTable {
         }
     }
 
-    // contract: 5.1 (own) What is kept of a stream is found by its number
     // rule: 5.1 (own) What is kept of a stream is found by its number
-    // contract: 5.1 (own) A change of a stream changes that stream alone
-    // rule: 5.1 (own) A change of a stream changes that stream alone
     /// The stream with this number, if it is active. It takes no memory.
     pub fn stream(&self, id: u32) -> Option<Stream>
         ensures { option_map stream_view result ≡ stream_in (map.get self.now.entries id) }
@@ -110,9 +104,6 @@ impl StreamTable {
         })
     }
 
-    // contract: 5.1 (own) What is kept of a stream is found by its number
-    // rule: 5.1 (own) What is kept of a stream is found by its number
-    // contract: 5.1 (own) A change of a stream changes that stream alone
     // rule: 5.1 (own) A change of a stream changes that stream alone
     /// Adds an active stream with a number of which nothing is kept. Its windows are no further
     /// than 2<sup>32</sup> from zero.
@@ -134,7 +125,6 @@ impl StreamTable {
         Ok(())
     }
 
-    // rule: 5.1 (own) What is kept of a stream is found by its number
     // rule: 5.1 (own) A change of a stream changes that stream alone
     /// Changes an active stream. Its windows are no further than 2<sup>32</sup> from zero. It takes
     /// no memory.
@@ -152,6 +142,7 @@ impl StreamTable {
         }
     }
 
+    // rule: 5.1 (own) A change of a stream changes that stream alone
     /// Forgets an active stream, since both sides have ended it, or the peer has reset it, or will
     /// not process it. It takes no memory.
     pub fn close(&mut self, id: u32)
@@ -161,6 +152,7 @@ impl StreamTable {
         self.active.remove(&id);
     }
 
+    // rule: 5.1 (own) A change of a stream changes that stream alone
     /// Keeps of a number, whether a stream was active with it or not, that this end has reset it.
     ///
     /// # Errors

@@ -21,7 +21,6 @@ unparsed_of (phases.Failed fault) octets = []
 
 -- whether the preface is expected and not complete
 -- rule: 3.4 (own) No octet of the preface is stored, so memory is not refused in it
--- rule: 3.4 (own) A cutter says whether the preface is complete or none is expected
 abbrev pub is_in_preface : Phase → Bool
 is_in_preface (phases.Preface matched) = true
 is_in_preface phases.Head = false

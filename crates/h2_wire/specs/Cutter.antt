@@ -42,10 +42,8 @@ saturated count = min count (2 ^ 64 - 1)
 
 -- The cutter represents the stream so far, from which these frames were answered: it has used all
 -- of it, without fault, and keeps what is unparsed.
--- rule: 3.4 (own) No octet of the preface is stored, so memory is not refused in it
 -- rule: 3.4 (own) A cutter says whether the preface is complete or none is expected
 -- rule: 4.1 The frames of a stream do not depend on the pieces of its octets
--- rule: 4.1 Each frame is answered once, in the call that uses its last octet
 pub record CutterRepresents (state : CutterState) (expects : Bool) (limits : Limits)
     (stream : List ℕ) (frames : List Frame) : Type 0 where
   pub sound : state.fault ≡ None
@@ -56,7 +54,6 @@ pub record CutterRepresents (state : CutterState) (expects : Bool) (limits : Lim
 
 -- After a call that used these octets and answered these frames the cutter has met no fault: if it
 -- represented `stream` and `so_far`, it now represents `stream ++ used` and `so_far ++ frames`.
--- rule: 4.1 The frames of a stream do not depend on the pieces of its octets
 -- rule: 4.1 Each frame is answered once, in the call that uses its last octet
 pub record CutterContinues (old : CutterState) (used : List ℕ) (frames : List Frame)
     (new : CutterState) : Type 0 where
@@ -99,7 +96,6 @@ pub record FaultsAtHead (old : CutterState) (piece : List ℕ) (code : Code) : T
 -- After the preface, with no fault so far and nothing unparsed, the piece begins with a frame: a
 -- head and as many octets as it asks for.
 -- rule: 4.1 (own) A frame whole in its piece is lent from there and takes no memory
--- rule: 4.1 (own) A frame that is cut in two is kept until the next call
 pub record BeginsWithFrame (old : CutterState) (piece : List ℕ) : Type 0 where
   pub sound : old.fault ≡ None
   pub after_preface : old.in_preface ≡ false
@@ -113,13 +109,11 @@ octets_at kept piece count (sources.Piece start) = take count (drop start piece)
 octets_at kept piece count sources.Kept = kept
 
 -- rule: 4.1 (own) A frame whole in its piece is lent from there and takes no memory
--- rule: 4.1 (own) A frame that is cut in two is kept until the next call
 abbrev pub octets_of : CutterState → List ℕ → Complete → List ℕ
 octets_of cutter piece frame =
     octets_at cutter.kept piece (9 + frame.head.length) frame.source
 
 -- The complete frame lies in the piece, or in the cutter, with its head and without fault.
--- rule: 4.1 (own) A frame whole in its piece is lent from there and takes no memory
 -- rule: 4.1 (own) A frame that is cut in two is kept until the next call
 pub record HasFrame (cutter : CutterState) (piece : List ℕ) (frame : Complete) : Type 0 where
   pub complete : length (octets_of cutter piece frame) ≡ 9 + frame.head.length
@@ -153,7 +147,6 @@ pub record CutterAdvances (old : CutterState) (piece : List ℕ) (cut : Cut)
   pub none_unparsed_after_a_frame : IsSome cut.frame → new.unparsed ≡ []
 
 -- what a call makes of the cutter
--- rule: 4.1 The frames of a stream do not depend on the pieces of its octets
 -- rule: 4.1 Each frame is answered once, in the call that uses its last octet
 abbrev pub Cuts : CutterState → List ℕ → Result Cut WireFault → CutterState → Type 0
 Cuts old piece (Ok cut) new = CutterAdvances old piece cut new
@@ -166,7 +159,6 @@ pub record CutterPasses (old : CutterState) (piece : List ℕ) (used : ℕ) (new
     pub continues : CutterContinues old piece [] new
 
 -- A call that used the piece up to the end of this frame, which isn't lent yet.
--- rule: 4.1 (own) A frame whole in its piece is lent from there and takes no memory
 -- rule: 4.1 (own) A frame that is cut in two is kept until the next call
 pub record CutterCompletes (old : CutterState) (piece : List ℕ) (used : ℕ) (frame : Complete)
     (new : CutterState) : Type 0 where
@@ -179,7 +171,6 @@ pub record CutterCompletes (old : CutterState) (piece : List ℕ) (used : ℕ) (
 
 -- what a call that lends nothing makes of the cutter
 -- rule: 4.1 (own) A frame whole in its piece is lent from there and takes no memory
--- rule: 4.1 (own) A frame that is cut in two is kept until the next call
 abbrev pub Advances : CutterState → List ℕ → Result Advance WireFault → CutterState → Type 0
 Advances old piece (Ok advance) new =
     MatchOption advance.frame (CutterPasses old piece advance.used new)

@@ -17,7 +17,6 @@ wire_fault_code (PayloadFault code) = code
 wire_fault_code Memory = InternalError
 
 -- whether the fault is a wrong octet of the preface
--- rule: 3.4 (own) No octet of the preface is stored, so memory is not refused in it
 -- rule: 3.4 (own) A cutter says whether the preface is complete or none is expected
 abbrev pub is_bad_preface : WireFault → Bool
 is_bad_preface BadPreface = true

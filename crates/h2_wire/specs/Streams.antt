@@ -12,7 +12,6 @@ use Rattle.h2_wire.specs.declared.fault.WireFault.TheVariants as faults
 -- The octets with which a client begins: PRI * HTTP/2.0, two line ends, SM, and two line ends
 -- (section 3.4).
 -- rule: 3.4 A client sends the 24 octets of the preface and then frames
--- rule: 3.4 A server sends frames at once, without a preface
 unfoldable pub preface : List ℕ
 preface =
     0x50 ∷ 0x52 ∷ 0x49 ∷ 0x20 ∷ 0x2a ∷ 0x20 ∷ 0x48 ∷ 0x54 ∷ 0x54 ∷ 0x50 ∷ 0x2f ∷ 0x32 ∷ 0x2e ∷ 0x30
@@ -25,7 +24,6 @@ pub record BeginsWithPreface (octets : List ℕ) : Type 0 where
   pub joined : octets ≡ preface ++ following
 
 -- what precedes the first frame: the preface, where one is expected
--- rule: 3.4 A client sends the 24 octets of the preface and then frames
 -- rule: 3.4 A server sends frames at once, without a preface
 unfoldable pub expected_preface : Bool → List ℕ
 expected_preface expects = if expects then preface else []
@@ -44,7 +42,6 @@ pub record IsFrame (limit : ℕ) (frame : Frame) (octets : List ℕ) : Type 0 wh
 
 -- The octets, after so many octets of the stream, are frames without fault, joined. The limit of
 -- each is the one in force at the ninth octet of its head.
--- rule: 4.1 The frames of a stream do not depend on the pieces of its octets
 -- rule: 4.1 Each frame is answered once, in the call that uses its last octet
 abbrev pub AreFrames : Limits → ℕ → List Frame → List ℕ → Type 0
 AreFrames limits preceding [] octets = octets ≡ []
@@ -70,7 +67,6 @@ IsPartial limit unparsed = 9 ≤ length unparsed → (head_fault (head_of unpars
 
 -- Of the stream less than the preface has come.
 -- rule: 3.4 A client sends the 24 octets of the preface and then frames
--- rule: 3.4 A server sends frames at once, without a preface
 pub record IsInsidePreface (expects : Bool) (stream : List ℕ) (frames : List Frame)
     (unparsed : List ℕ) : Type 0 where
   pub missing : List ℕ
@@ -89,7 +85,6 @@ pub record IsAfterPreface (expects : Bool) (limits : Limits) (stream : List ℕ)
 
 -- So far the stream is the frames, and then octets that are unparsed.
 -- rule: 4.1 The frames of a stream do not depend on the pieces of its octets
--- rule: 4.1 Each frame is answered once, in the call that uses its last octet
 -- rule (law): 5.4.1 Each stream of octets has a reading or a fault; prefixes agree
 abbrev pub Frames : Bool → Limits → List ℕ → List Frame → List ℕ → Type 0
 Frames expects limits stream frames unparsed = IsInsidePreface expects stream frames unparsed
@@ -120,7 +115,6 @@ pub record IsWrongHead (expects : Bool) (limits : Limits) (frames : List Frame) 
 
 -- The octets are a sound part with the frames, and then a frame with a sound head and this fault of
 -- its payload.
--- rule: 6.1 Padding as long as the payload of DATA, or longer, is PROTOCOL_ERROR
 -- rule: 6.1 A fault of a payload is known at its last octet
 pub record IsWrongPayload (expects : Bool) (limits : Limits) (frames : List Frame) (octets : List ℕ)
     (code : Code) : Type 0 where

@@ -124,6 +124,7 @@ impl Buffer {
         }
     }
 
+    // rule: 4.1 (own) A frame that is cut in two is kept until the next call
     // The frame that was answered last is kept no longer.
     fn forget(&mut self)
         ensures none { self.new.octets.items ≡ [] }
@@ -137,10 +138,8 @@ impl Buffer {
     }
 
     // rule: 3.4 A client sends the 24 octets of the preface and then frames
-    // rule: 3.4 A server sends frames at once, without a preface
     // rule: 3.4 The first octet that differs from the preface is PROTOCOL_ERROR, there
     // rule: 3.4 (own) No octet of the preface is stored, so memory is not refused in it
-    // rule: 3.4 (own) A cutter says whether the preface is complete or none is expected
     // Takes octets inside the preface, of which so many were matched.
     fn take_preface(&mut self, matched: usize, piece: &[u8]) -> Result<Advance, WireFault>
         requires phase { self.old.phase ≡ Phase.Preface matched }
@@ -193,7 +192,6 @@ impl Buffer {
     }
 
     // rule: 4.1 The frames of a stream do not depend on the pieces of its octets
-    // rule: 4.1 Each frame is answered once, in the call that uses its last octet
     // The head has no fault, and its frame begins or continues after so many octets of the piece.
     fn take_payload(&mut self, piece: &[u8], start: usize, head: Head) -> Result<Advance, WireFault>
         requires starts { StartsPayload self.old piece.now start head }
@@ -221,7 +219,6 @@ impl Buffer {
         self.end_frame(piece, used, Complete { head, source })
     }
 
-    // rule: 4.1 (own) A frame whole in its piece is lent from there and takes no memory
     // rule: 4.1 (own) A frame that is cut in two is kept until the next call
     // So many octets of the piece complete this frame, which may have a fault of its payload.
     fn end_frame(
@@ -245,7 +242,6 @@ impl Buffer {
         })
     }
 
-    // rule: 4.1 (own) A frame whole in its piece is lent from there and takes no memory
     // rule: 4.1 (own) A frame that is cut in two is kept until the next call
     /// The payload of a complete frame, where it lies.
     pub(crate) fn payload<'a>(&'a self, piece: &'a [u8], frame: Complete) -> &'a [u8]

@@ -38,7 +38,6 @@ impl Model for Cutter {
 }
 
 impl Cutter {
-    // contract: 3.4 A client sends the 24 octets of the preface and then frames
     // contract: 3.4 A server sends frames at once, without a preface
     /// A cutter that has used nothing. Payloads may have at most `limit` octets, and where
     /// `expect_preface` is set, the stream begins with the client's preface (RFC 9113, section
@@ -57,7 +56,6 @@ impl Cutter {
     // contract: 4.1 (own) A frame whole in its piece is lent from there and takes no memory
     // rule: 4.1 (own) A frame whole in its piece is lent from there and takes no memory
     // contract: 4.1 (own) A frame that is cut in two is kept until the next call
-    // rule: 4.1 (own) A frame that is cut in two is kept until the next call
     /// Uses octets of the piece, up to the end of one frame, and says where that frame lies; or
     /// uses all of them, where they complete no frame. The octets that follow a frame are for the
     /// next call. [`Cutter::frame`] lends the frame, until the next call.
@@ -96,7 +94,6 @@ impl Cutter {
     // contract: 4.1 (own) A frame whole in its piece is lent from there and takes no memory
     // rule: 4.1 (own) A frame whole in its piece is lent from there and takes no memory
     // contract: 4.1 (own) A frame that is cut in two is kept until the next call
-    // rule: 4.1 (own) A frame that is cut in two is kept until the next call
     /// Lends the frame that the last call of [`Cutter::advance`] answered; `piece` is the one that
     /// it was given. It allocates nothing.
     pub fn frame<'a>(&'a self, piece: &'a [u8], frame: Complete) -> FrameRef<'a>
@@ -110,18 +107,13 @@ impl Cutter {
         payload_frame(&frame.head, self.buffer.payload(piece, frame))
     }
 
-    // contract: 3.4 A client sends the 24 octets of the preface and then frames
-    // contract: 3.4 A server sends frames at once, without a preface
     // contract: 3.4 (own) No octet of the preface is stored, so memory is not refused in it
-    // contract: 3.4 (own) A cutter says whether the preface is complete or none is expected
-    // rule: 4.1 The frames of a stream do not depend on the pieces of its octets
     // rule: 4.1 Each frame is answered once, in the call that uses its last octet
     // contract: 4.1 (own) A frame whole in its piece is lent from there and takes no memory
     // contract: 4.1 (own) A frame that is cut in two is kept until the next call
     // contract: 5.4.1 After a fault each layer answers that fault and changes nothing
     // contract: 5.4.1 The place of a fault counts the octets up to it, with the preface
     // contract: 5.4 (own) Out of memory is INTERNAL_ERROR
-    // contract: 6.1 Padding as long as the payload of DATA, or longer, is PROTOCOL_ERROR
     // contract: 6.1 A fault of a payload is known at its last octet
     /// Uses octets of the piece, up to the end of one frame, and lends that frame; or uses all of
     /// them, where they complete no frame. The octets that follow a frame are for the next call. It
@@ -197,8 +189,6 @@ impl Cutter {
         self.buffer.place
     }
 
-    // contract: 3.4 (own) No octet of the preface is stored, so memory is not refused in it
-    // rule: 3.4 (own) No octet of the preface is stored, so memory is not refused in it
     // contract: 3.4 (own) A cutter says whether the preface is complete or none is expected
     // rule: 3.4 (own) A cutter says whether the preface is complete or none is expected
     /// Whether the client's preface is complete, or none is expected (RFC 9113, section 3.4). After

@@ -57,7 +57,6 @@ after_literal WithoutIndexing table new = table
 after_literal NeverIndexed table new = table
 
 -- a literal that is never indexed is sensitive
--- rule: HPACK 6.2.2 A literal without indexing is not added
 -- rule: HPACK 6.2.3 A literal never indexed is not added, and is sensitive
 abbrev pub is_sensitive : Literal → Bool
 is_sensitive WithIndexing = false
@@ -88,7 +87,6 @@ Fields table octets (field ∷ fields) after =
     × Step table first field between × Fields between others fields after
 
 -- The octets begin with updates to these maxima, none of them above the limit, and leave others.
--- rule: HPACK 6.3 A size update sets the maximum
 -- rule: HPACK 6.3 A size update above the limit is a fault
 -- rule: HPACK 4.2 Size updates stand at the beginning of a block
 abbrev pub Updates : ℕ → Entries → List ℕ → List ℕ → Entries → List ℕ → Type 0

@@ -177,19 +177,16 @@ HuffFault octets faults.Truncated = ⊥
 HuffFault octets faults.TooLong = ⊥
 
 -- how many ones pad the last octet after so many bits
--- rule: HPACK 5.2 A Huffman-encoded string is written with the codes
 -- rule: HPACK 5.2 A Huffman-encoded string is padded with ones
 abbrev pub padding_of : ℕ → ℕ
 padding_of count = (8 - count % 8) % 8
 
 -- the octets that encode a text
 -- rule: HPACK 5.2 A Huffman-encoded string is written with the codes
--- rule: HPACK 5.2 A Huffman-encoded string is padded with ones
 unfoldable pub huffman_bits : List ℕ → List ℕ
 huffman_bits text = octets_of (codes text ++ replicate (padding_of (length (codes text))) true)
 
 -- how many octets encode a text
 -- rule: HPACK 5.2 A Huffman-encoded string is written with the codes
--- rule: HPACK 5.2 A Huffman-encoded string is padded with ones
 abbrev pub huffman_length : List ℕ → ℕ
 huffman_length text = (length (codes text) + 7) / 8

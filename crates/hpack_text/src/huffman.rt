@@ -20,9 +20,7 @@ use steps::{END, HAS_SYMBOL, next_state, step_at, symbol_of};
 use writer::append_huffman;
 
 // contract: HPACK 5.2 A Huffman-encoded string is written with the codes
-// rule: HPACK 5.2 A Huffman-encoded string is written with the codes
 // contract: HPACK 5.2 A Huffman-encoded string is padded with ones
-// rule: HPACK 5.2 A Huffman-encoded string is padded with ones
 /// How many octets [`huff_write`] appends for the text. It takes no memory.
 pub fn huff_len(text: &[u8]) -> usize
     requires { length text.now < 2 ^ 35 }
@@ -38,7 +36,6 @@ pub fn huff_len(text: &[u8]) -> usize
 // contract: HPACK 5.2 A Huffman-encoded string is written with the codes
 // rule: HPACK 5.2 A Huffman-encoded string is written with the codes
 // contract: HPACK 5.2 A Huffman-encoded string is padded with ones
-// rule: HPACK 5.2 A Huffman-encoded string is padded with ones
 /// Appends the text in the Huffman code: the codes of its octets, and ones that pad the last octet.
 ///
 /// # Errors

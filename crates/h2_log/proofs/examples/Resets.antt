@@ -30,6 +30,7 @@ three_resets = alone (Reset 1 8) ∷ alone (Reset 2 8) ∷ alone (Reset 3 8) ∷
 -- RST_STREAM closes an active stream; on an idle one it ends the connection; otherwise it is
 -- ignored (RFC 9113, sections 5.1 and 6.4).
 -- rule: 5.4.2 RST_STREAM is not answered by RST_STREAM, nor sent twice
+-- rule: 6.4 RST_STREAM on an idle stream is PROTOCOL_ERROR
 resets_by_state :
     (verdicts active_view three_resets
     ≡ Reported ∷ ConnectionFault ProtocolError ∷ ConnectionFault ProtocolError ∷ [])
@@ -43,7 +44,6 @@ abbrev pub server_with_reset : Log
 server_with_reset = takes (server_with_body false) (Reset 1 8)
 
 -- What it still owes goes back to the connection (section 6.9).
--- rule: 6.4 RST_STREAM on an idle stream is PROTOCOL_ERROR
 -- rule: 6.4 RST_STREAM closes an active stream and is reported
 -- rule: 6.9 Nothing of the window of the connection is lost
 -- rule: 6.9 What a stream owes is returned when it is released or over
@@ -119,6 +119,7 @@ refuses_for_memory = (refl, refl)
 
 -- The connection fails with ENHANCE_YOUR_CALM where 1,000 streams were reset, or RST_STREAM would
 -- bring the waiting output above 262,144 octets (own; section 10.5).
+-- rule: 10.5 (own) An end that resets 1,001 streams ends with ENHANCE_YOUR_CALM
 refuses_at_the_limits :
     (map (λ view. refuse_fault view 1)
     (record active_view { resets = 999 } ∷ record active_view { resets = 1000 }

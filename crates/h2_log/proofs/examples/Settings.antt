@@ -60,6 +60,7 @@ use Rattle.h2_log.proofs.examples.Words.{
 }
 
 -- ENABLE_PUSH is 0 or 1, and 0 from a server (RFC 9113, section 6.5.2).
+-- rule: 6.5.2 ENABLE_PUSH above 1 is PROTOCOL_ERROR
 values_of_push :
     (map (settings_fault (log_view new_client)) (((2, 0) ∷ []) ∷ ((2, 1) ∷ []) ∷ ((2, 2) ∷ []) ∷ [])
     ≡ None ∷ Some ProtocolError ∷ Some ProtocolError ∷ [])
@@ -70,8 +71,6 @@ unfolding computing
 values_of_push = (refl, refl)
 
 -- An initial window is at most 2^31 - 1, a frame size from 16,384 to 2^24 - 1.
--- rule: 6.5.2 ENABLE_PUSH above 1 is PROTOCOL_ERROR
--- rule: 6.5.2 ENABLE_PUSH of 1 from a server is PROTOCOL_ERROR
 -- rule: 6.5.2 INITIAL_WINDOW_SIZE above 2^31-1 is FLOW_CONTROL_ERROR
 -- rule: 6.5.2 MAX_FRAME_SIZE below 16,384 or above 2^24-1 is PROTOCOL_ERROR
 -- rule: 6.5.2 Settings of other identifiers are ignored
@@ -102,7 +101,6 @@ unfolding computing
 first_fault_of_several = (refl, refl, refl, refl)
 
 -- A fault ends the connection without an acknowledgment.
--- rule: 6.5.2 ENABLE_PUSH above 1 is PROTOCOL_ERROR
 -- rule: 6.5.2 ENABLE_PUSH of 1 from a server is PROTOCOL_ERROR
 -- rule: 6.5.2 INITIAL_WINDOW_SIZE above 2^31-1 is FLOW_CONTROL_ERROR
 -- rule: 6.5.2 MAX_FRAME_SIZE below 16,384 or above 2^24-1 is PROTOCOL_ERROR

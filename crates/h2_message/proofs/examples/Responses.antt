@@ -11,6 +11,7 @@ use Rattle.h2_message.proofs.examples.Words.{computing, field, with_body, with_t
 use Rattle.h2_message.proofs.examples.Words.{of_responses, r, answering}
 
 -- M1 to M6 and M10, each beside a response that doesn't break it.
+-- rule: 8.3.2 A response without :status breaks M6
 heads :
     (of_responses (
     (answering "200" ++ field "Server" "x" ∷ []) ∷ (answering "200" ++ field "a" "x " ∷ [])

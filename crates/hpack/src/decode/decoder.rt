@@ -80,7 +80,6 @@ impl Decoder {
     // contract: 10.5.1 A list above 65,536 octets is a stream error ENHANCE_YOUR_CALM
     // contract: HPACK 2.3.3 Indices 1 to 61 name the static table, those from 62 the dynamic
     // contract: HPACK 6.3 A size update sets the maximum
-    // contract: HPACK 6.3 A size update above the limit is a fault
     // contract: HPACK 4.4 An entry larger than the maximum empties the table
     // contract: HPACK 3.1 A block is decoded exactly where its octets are one
     // rule: HPACK 3.1 A block is decoded exactly where its octets are one

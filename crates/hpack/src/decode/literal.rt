@@ -41,7 +41,6 @@ pub(crate) fn indexed<'a>(
 }
 
 // rule: HPACK 6.1 An indexed field is the entry
-// rule: HPACK 6.1 An indexed field of index 0 is a fault
 /// Appends the name and the value of the field that the index at the start of `octets` names, and
 /// answers how long the name is and how many octets encode the index.
 #[inline(always)]

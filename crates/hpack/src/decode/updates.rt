@@ -12,7 +12,6 @@ use crate::types::fault::Fault;
 /// How many bits of a new maximum are in its first octet.
 const MAXIMUM_PREFIX: u8 = 5;
 
-// rule: HPACK 6.3 A size update sets the maximum
 // rule: HPACK 6.3 A size update above the limit is a fault
 // rule: HPACK 4.2 A block without the update that a lower limit asks for is a fault
 // rule: HPACK 4.2 Size updates stand at the beginning of a block
@@ -45,7 +44,6 @@ pub(crate) fn apply_updates<'a>(
 }
 
 // rule: HPACK 6.3 A size update sets the maximum
-// rule: HPACK 6.3 A size update above the limit is a fault
 /// The least maximum of those before the last update, and that of the last, after one more. Of the
 /// first update it is both.
 fn with_maximum(maxima: Option<(u32, u32)>, maximum: u32) -> (u32, u32)

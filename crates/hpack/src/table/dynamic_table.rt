@@ -116,8 +116,6 @@ impl Table {
 
     // contract: HPACK 6.3 A size update sets the maximum
     // rule: HPACK 6.3 A size update sets the maximum
-    // contract: HPACK 6.3 A size update above the limit is a fault
-    // rule: HPACK 6.3 A size update above the limit is a fault
     /// Sets the maximum; the oldest entries leave until the size is at most that (section 4.3). It
     /// takes memory only where the ring's capacity changes.
     ///
@@ -134,7 +132,6 @@ impl Table {
     }
 
     // rule: HPACK 6.3 A size update sets the maximum
-    // rule: HPACK 6.3 A size update above the limit is a fault
     /// Sets the maximum to one and then to another; the oldest entries leave until the size is at
     /// most either. It takes memory only where the ring's capacity changes.
     ///

@@ -12,7 +12,6 @@ pub struct Code {
 }
 
 // rule: HPACK 5.2 A Huffman-encoded string is written with the codes
-// rule: HPACK 5.2 A Huffman-encoded string is padded with ones
 /// The code of an octet.
 #[inline]
 pub fn code_of(octet: u8) -> Code
