@@ -65,6 +65,7 @@ API = {
     "h2_link::MemoryLink::fails": LINK,
     "h2_link::MemoryLink::with_most": LINK,
     "h2_message::Reading::is_over": "an end knows from its stream's state that a message is over",
+    "h2_message::names_user": "a server that minds asks, before it answers with status 400",
     "h2_replay::replay": "users replay a list of acts; the program hands out events as they come",
     "hpack_text::huff_read": TEXTS,
     "hpack_text::read_string": TEXTS,

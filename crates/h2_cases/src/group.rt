@@ -3,7 +3,8 @@
 use crate::{location, program};
 use h2_case::case::{Case, CaseError};
 use h2_case::layers::{block, flow, frame, hpack_blocks, text, wire};
-use h2_end_cases::{conn, end, engine, message, pair};
+use h2_conn_cases::{conn, message};
+use h2_end_cases::{end, engine, pair};
 use std::alloc::Global;
 use std::net::Net;
 

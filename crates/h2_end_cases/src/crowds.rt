@@ -1,12 +1,12 @@
 //! Many messages, one after another on streams 1, 3, 5 and so on: how many go as they are to, up to
 //! the first that does not.
 
-use crate::answers::Notes;
-use crate::cuts::WHOLE;
 use crate::end_events::take_all;
 use crate::side::Side;
 use h2_case::case::CaseError;
 use h2_case::messages::read_message;
+use h2_conn_cases::answers::Notes;
+use h2_conn_cases::cuts::WHOLE;
 use std::alloc::Global;
 
 // Takes the output away where much of it waits.

@@ -2,7 +2,7 @@
 //!
 //! - `new client`, `new server`, `take`, `out`, `out N`, `drop out`, `ping OCTETS`, `go_away`,
 //!   `reset ID CODE`, `change VALUES`, `waiting`, `room ID`, `owed ID` and `next_live ID` as of one
-//!   end of a connection ([`crate::conn`]). What is handed out is as [`crate::end_events`] says.
+//!   end of a connection (`h2_conn_cases::conn`). What is handed out is as [`crate::end_events`] says.
 //! - `start`: the peer's opening comes, with SETTINGS without values, and all output is taken away
 //!   and not shown.
 //! - `request MESSAGE`, `respond ID MESSAGE`: messages are written as [`h2_case::messages`] says.
@@ -18,11 +18,7 @@
 //! longer than 160 and no command has repeated octets, in two at each place. An answer that differs
 //! then is said. A case with `serve each` or `ask each` is done once.
 
-use crate::acts::{read_config, read_ping};
-use crate::answers::{Notes, add_answer, add_option};
-use crate::conn::{drop_out, read_role};
 use crate::crowds::count_of;
-use crate::cuts::{Cut, WHOLE, add_difference, count_of_cuts, read_frames};
 use crate::end_events::take_all;
 use crate::joined::exchange;
 use crate::side::Side;
@@ -30,6 +26,10 @@ use h2_case::case::{Case, CaseError, Step};
 use h2_case::messages::{add_message, read_message};
 use h2_case::octets::add_frames;
 use h2_case::words::Words;
+use h2_conn_cases::acts::{read_config, read_ping};
+use h2_conn_cases::answers::{Notes, add_answer, add_option};
+use h2_conn_cases::conn::{drop_out, read_role};
+use h2_conn_cases::cuts::{Cut, WHOLE, add_difference, count_of_cuts, read_frames};
 use h2_ends::{EndRefusal, Message};
 use std::alloc::Global;
 

@@ -1,12 +1,12 @@
 //! The lines of what a client or a server hands out: `interim ID`, `head ID` and `trailers ID`, and
 //! a line for each field; `body ID` and the octets; each with `end` where the message is whole; and
-//! the others as [`crate::conn_events`] says.
+//! the others as `h2_conn_cases::conn_events` says.
 
-use crate::answers::{Notes, add_list, end_word};
-use crate::conn_events::{add_acked, add_goaway, add_pong, add_reset, add_unprocessed};
-use crate::cuts::Cut;
 use crate::side::Side;
 use h2_case::case::CaseError;
+use h2_conn_cases::answers::{Notes, add_list, end_word};
+use h2_conn_cases::conn_events::{add_acked, add_goaway, add_pong, add_reset, add_unprocessed};
+use h2_conn_cases::cuts::Cut;
 use h2_ends::EndEvent;
 use hpack::FieldList;
 use std::alloc::Global;

@@ -1,9 +1,9 @@
 //! Two ends that are joined in memory: what one gives out, the other takes.
 
-use crate::answers::Notes;
 use crate::end_events::{add_body, add_handed};
 use crate::side::Side;
 use h2_case::case::CaseError;
+use h2_conn_cases::answers::Notes;
 use h2_ends::EndEvent;
 use std::alloc::Global;
 

@@ -97,6 +97,7 @@ is_bad_path method path =
 -- subcomponent for "http" or "https" schemed URIs" (section 8.3.1). An "@" ends that subcomponent,
 -- and stands nowhere else in an authority (RFC 3986, section 3.2). It is no rule of a message here
 -- (own).
+-- rule: 8.3.1 An :authority with an @ in it names a user, and a call says so
 unfoldable pub names_user : List ℕ → Bool
 names_user authority = list_any (λ octet. octet == byte "@") authority
 

@@ -1,9 +1,9 @@
 //! Acts, as commands have them and as they are answered.
 
-use crate::acts::read_ping;
 use h2_case::case::CaseError;
 use h2_case::messages::read_message;
 use h2_case::words::Words;
+use h2_conn_cases::acts::read_ping;
 use h2_joined::{Acted, Config, EndRefusal, JointAct, Side};
 use std::alloc::Global;
 

@@ -54,7 +54,7 @@ fn new_conn(alloc: Global, role: Role, config: Config) -> Result<Conn, Refusal> 
 }
 
 /// Which end a command names.
-pub(crate) fn read_role(words: &mut Words<'_>) -> Result<Role, CaseError> {
+pub fn read_role(words: &mut Words<'_>) -> Result<Role, CaseError> {
     match words.word()? {
         "client" => Ok(Role::Client),
         "server" => Ok(Role::Server),
@@ -242,7 +242,7 @@ fn add_lent(alloc: Global, conn: &Conn, text: &mut String) -> Result<(), CaseErr
 }
 
 /// Says where there is no output.
-pub(crate) fn drop_out(out: &[u8], text: &mut String) -> Result<(), CaseError> {
+pub fn drop_out(out: &[u8], text: &mut String) -> Result<(), CaseError> {
     if out.is_empty() {
         text.push_str("nothing waits\n")?;
     }

@@ -7,7 +7,7 @@ use std::alloc::{AllocError, Global};
 
 /// How the octets of each `take` are handed over.
 #[derive(Clone, Copy)]
-pub(crate) struct Cut {
+pub struct Cut {
     /// The first piece ends after so many octets.
     place: usize,
     /// A piece has so many octets at most.
@@ -15,7 +15,7 @@ pub(crate) struct Cut {
 }
 
 /// The octets of a `take` are one piece.
-pub(crate) const WHOLE: Cut = Cut {
+pub const WHOLE: Cut = Cut {
     place: 0,
     most: usize::MAX,
 };
@@ -29,7 +29,7 @@ const MANY: usize = 20_000;
 impl Cut {
     /// Cut 0 is pieces of one octet, and any other is two pieces, of which the first has so many
     /// octets.
-    pub(crate) fn of(number: u32) -> Cut {
+    pub fn of(number: u32) -> Cut {
         match number {
             0 => Cut { place: 0, most: 1 },
             _ => Cut {
@@ -40,7 +40,7 @@ impl Cut {
     }
 
     /// The octets before the place, which come first, and those from it on.
-    pub(crate) fn split(self, octets: &[u8]) -> (&[u8], &[u8]) {
+    pub fn split(self, octets: &[u8]) -> (&[u8], &[u8]) {
         match (octets.get(..self.place), octets.get(self.place..)) {
             (Some(before), Some(from)) => (before, from),
             _ => (octets, &[]),
@@ -48,7 +48,7 @@ impl Cut {
     }
 
     /// The next piece of these octets; of many it has seven octets in place of one.
-    pub(crate) fn piece(self, octets: &[u8]) -> &[u8] {
+    pub fn piece(self, octets: &[u8]) -> &[u8] {
         let most = if self.most == 1 && octets.len() > MANY {
             7
         } else {
@@ -71,7 +71,7 @@ fn is_long(command: &str) -> bool {
 /// With how many cuts a case is done besides that of whole octets: none where it has no `take`, or
 /// a crowd of messages; and no places where a command is long, unless a `take` is to be cut
 /// anywhere.
-pub(crate) fn count_of_cuts(case: &Case) -> u32 {
+pub fn count_of_cuts(case: &Case) -> u32 {
     let (mut longest, mut long, mut anywhere) = (0, false, false);
     for step in &case.steps {
         if let Some(octets) = step.command.strip_prefix("take ") {
@@ -93,7 +93,7 @@ pub(crate) fn count_of_cuts(case: &Case) -> u32 {
 }
 
 /// Adds to the first answer that differs with a cut what it is then; whether one does.
-pub(crate) fn add_difference(
+pub fn add_difference(
     answers: &mut [Result<String, CaseError>],
     others: &[Result<String, CaseError>],
     cut: u32,
@@ -130,7 +130,7 @@ fn add_other(
 
 /// The octets of what is left of a command: `each N FRAMES` is the frames N times, with numbers of
 /// streams that are 2 higher each time; all else is as [`read_octets`] says.
-pub(crate) fn read_frames(alloc: Global, words: &mut Words<'_>) -> Result<Vec<u8>, CaseError> {
+pub fn read_frames(alloc: Global, words: &mut Words<'_>) -> Result<Vec<u8>, CaseError> {
     if !words.has("each") {
         return read_octets(alloc, words.rest());
     }

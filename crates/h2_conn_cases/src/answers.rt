@@ -9,7 +9,7 @@ use std::fmt::Display;
 
 /// Adds the line of a value, or of the name of the rule by which a call is refused: the text of the
 /// refusal before its last colon.
-pub(crate) fn add_answer<T: Display + Drop, E: Display + Drop>(
+pub fn add_answer<T: Display + Drop, E: Display + Drop>(
     alloc: Global,
     text: &mut String,
     answer: Result<T, E>,
@@ -34,10 +34,7 @@ pub(crate) fn add_name<E: Display>(
 }
 
 /// Adds the line of a value, or `none`.
-pub(crate) fn add_option<T: Display + Drop>(
-    text: &mut String,
-    value: Option<T>,
-) -> Result<(), CaseError> {
+pub fn add_option<T: Display + Drop>(text: &mut String, value: Option<T>) -> Result<(), CaseError> {
     match value {
         Some(value) => Ok(write!(text, "{value}\n")?),
         None => Ok(add_line(text, "none")?),
@@ -46,11 +43,7 @@ pub(crate) fn add_option<T: Display + Drop>(
 
 /// Adds the line of each field of a list; a value of more than 64 octets is written in braces, as
 /// [`h2_case::octets`] writes octets.
-pub(crate) fn add_list(
-    alloc: Global,
-    text: &mut String,
-    list: &FieldList,
-) -> Result<(), CaseError> {
+pub fn add_list(alloc: Global, text: &mut String, list: &FieldList) -> Result<(), CaseError> {
     for place in 0..list.len() {
         match list.get(place) {
             Some(field) if field.value.len() > 64 => add_long_field(alloc, text, field)?,
@@ -77,7 +70,7 @@ fn add_long_field(alloc: Global, text: &mut String, field: FieldRef<'_>) -> Resu
 }
 
 /// A space and the word for END_STREAM, where it is set.
-pub(crate) fn end_word(end: bool) -> &'static str {
+pub fn end_word(end: bool) -> &'static str {
     if end { " end" } else { "" }
 }
 
@@ -97,15 +90,15 @@ pub(crate) fn end_with_octets(text: &mut String, octets: &[u8]) -> Result<(), Al
 
 /// What came out, in order: all of it, or how many of each kind, and the last one.
 #[derive(Drop)]
-pub(crate) struct Notes {
-    pub(crate) lines: String,
+pub struct Notes {
+    pub lines: String,
     quiet: bool,
     counts: Vec<(&'static str, u64)>,
 }
 
 impl Notes {
     /// Nothing has come out; where it is quiet, no more than the last will be kept.
-    pub(crate) fn new(alloc: Global, quiet: bool) -> Notes {
+    pub fn new(alloc: Global, quiet: bool) -> Notes {
         Notes {
             lines: String::new(alloc),
             quiet,
@@ -114,7 +107,7 @@ impl Notes {
     }
 
     /// Something of this kind comes out, whose lines follow.
-    pub(crate) fn begin(&mut self, kind: &'static str) -> Result<(), CaseError> {
+    pub fn begin(&mut self, kind: &'static str) -> Result<(), CaseError> {
         if !self.quiet {
             return Ok(());
         }
@@ -129,12 +122,12 @@ impl Notes {
     }
 
     /// Ends a line with octets.
-    pub(crate) fn add_octets(&mut self, octets: &[u8]) -> Result<(), CaseError> {
+    pub fn add_octets(&mut self, octets: &[u8]) -> Result<(), CaseError> {
         Ok(end_with_octets(&mut self.lines, octets)?)
     }
 
     /// Adds what came out to an answer.
-    pub(crate) fn add_to(&self, text: &mut String) -> Result<(), CaseError> {
+    pub fn add_to(&self, text: &mut String) -> Result<(), CaseError> {
         if !self.quiet {
             return Ok(text.push_str(&self.lines)?);
         }

@@ -71,36 +71,31 @@ pub(crate) fn add_kept(
 }
 
 /// Adds the line of a stream that was reset.
-pub(crate) fn add_reset(
-    notes: &mut Notes,
-    id: u32,
-    code: u32,
-    ours: bool,
-) -> Result<(), CaseError> {
+pub fn add_reset(notes: &mut Notes, id: u32, code: u32, ours: bool) -> Result<(), CaseError> {
     notes.begin("reset")?;
     Ok(write!(notes.lines, "reset {id} code={code} {}\n", whose(ours))?)
 }
 
 /// Adds the line of GOAWAY.
-pub(crate) fn add_goaway(notes: &mut Notes, last: u32, code: u32) -> Result<(), CaseError> {
+pub fn add_goaway(notes: &mut Notes, last: u32, code: u32) -> Result<(), CaseError> {
     notes.begin("goaway")?;
     Ok(write!(notes.lines, "goaway last={last} code={code}\n")?)
 }
 
 /// Adds the line of a stream that the peer has not processed.
-pub(crate) fn add_unprocessed(notes: &mut Notes, id: u32) -> Result<(), CaseError> {
+pub fn add_unprocessed(notes: &mut Notes, id: u32) -> Result<(), CaseError> {
     notes.begin("unprocessed")?;
     Ok(write!(notes.lines, "unprocessed {id}\n")?)
 }
 
 /// Adds the line of SETTINGS that were acknowledged.
-pub(crate) fn add_acked(notes: &mut Notes) -> Result<(), CaseError> {
+pub fn add_acked(notes: &mut Notes) -> Result<(), CaseError> {
     notes.begin("acked")?;
     Ok(notes.lines.push_str("acked\n")?)
 }
 
 /// Adds the line of a PING that was answered.
-pub(crate) fn add_pong(notes: &mut Notes, octets: [u8; 8]) -> Result<(), CaseError> {
+pub fn add_pong(notes: &mut Notes, octets: [u8; 8]) -> Result<(), CaseError> {
     notes.begin("pong")?;
     notes.lines.push_str("pong")?;
     notes.add_octets(&octets)

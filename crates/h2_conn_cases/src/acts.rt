@@ -26,7 +26,7 @@ pub(crate) fn read_values(words: &mut Words<'_>) -> Result<(u32, u32, u32), Case
 }
 
 /// The eight octets of a PING.
-pub(crate) fn read_ping(alloc: Global, words: &mut Words<'_>) -> Result<[u8; 8], CaseError> {
+pub fn read_ping(alloc: Global, words: &mut Words<'_>) -> Result<[u8; 8], CaseError> {
     let octets = read_octets(alloc, words.rest())?;
     match octets.as_slice() {
         [a, b, c, d, e, f, g, h] => Ok([*a, *b, *c, *d, *e, *f, *g, *h]),
@@ -35,7 +35,7 @@ pub(crate) fn read_ping(alloc: Global, words: &mut Words<'_>) -> Result<[u8; 8],
 }
 
 /// The settings that a command names.
-pub(crate) fn read_config(words: &mut Words<'_>) -> Result<Config, CaseError> {
+pub fn read_config(words: &mut Words<'_>) -> Result<Config, CaseError> {
     let (table_limit, initial_window, max_streams) = read_values(words)?;
     match Config::new(table_limit, initial_window, max_streams) {
         Ok(config) => Ok(config),
