@@ -68,7 +68,7 @@ class Tags:
             for at, line in enumerate(lines):
                 if TAG.match(line):
                     self.add(file, lines, at)
-                elif re.match(r"\s*(//|--|#) (rule|contract)\b[^:]{0,10}:", line):
+                elif re.match(r"\s*(//|--|#) (rules?|contracts?)\b[^:]{0,10}:", line):
                     self.faults.append(f"crates/{file}:{at + 1}: a tag of another form")
 
     def add(self, file, lines, at):

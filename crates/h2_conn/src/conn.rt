@@ -91,7 +91,7 @@ impl Conn {
         }
     }
 
-    // contract: calls (own) take uses octets up to one frame's end, and answers one event at most
+    // contract: calls (own) An event has the octets, the fields and the numbers of its frame
     /// The fields of the block that was reported last. It takes no memory.
     pub fn list(&self) -> &FieldList
         ensures { result.now ≡ self.now.inner.end.list }
@@ -99,6 +99,7 @@ impl Conn {
         self.inner.end.fields()
     }
 
+    // rule: calls (own) An event has the octets, the fields and the numbers of its frame
     /// The octets of the body that [`Conn::advance`] has reported of this piece. It takes no
     /// memory.
     pub fn octets<'a>(&'a self, piece: &'a [u8], frame: Complete) -> &'a [u8]
@@ -109,6 +110,8 @@ impl Conn {
         body(self.inner.cutter.frame(piece, frame))
     }
 
+    // contract: calls (own) A fault of the octets fails the connection with its code
+    // contract: calls (own) An event has the octets, the fields and the numbers of its frame
     // contract: 4.2 The limit of an end is its greatest MAX_FRAME_SIZE of those in force
     // contract: calls (own) take uses octets up to one frame's end, and answers one event at most
     // rule: calls (own) take uses octets up to one frame's end, and answers one event at most
@@ -179,6 +182,7 @@ fn new_inner(alloc: Global, role: Role, config: Config) -> Result<Inner, Refusal
     })
 }
 
+// rule: calls (own) An event has the octets, the fields and the numbers of its frame
 /// The octets of a frame's body; only DATA has any.
 fn body<'a>(frame: FrameRef<'a>) -> &'a [u8]
     ensures { result.now ≡ octets_in (frame_of frame.entry) }

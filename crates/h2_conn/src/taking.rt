@@ -38,6 +38,7 @@ impl Inner {
     }
 }
 
+// rule: calls (own) A fault of the octets fails the connection with its code
 // rule: calls (own) take uses octets up to one frame's end, and answers one event at most
 /// Cuts the piece, and takes the frame that it completes.
 fn take_piece(cutter: &mut Cutter, end: &mut Endpoint, piece: &[u8]) -> Result<Progress, Code>

@@ -36,6 +36,7 @@ AnswersFrame before after count (Failed code) = after.failed ≡ Some code
 -- used. Otherwise octets are used up to the end of one frame, or else all of the piece; or up to a
 -- fault; or memory is refused.
 -- rule: calls (own) take uses octets up to one frame's end, and answers one event at most
+-- rule: calls (own) A fault of the octets fails the connection with its code
 pub data MayTake (log : Log) (piece : List ℕ) (answer : TakeAnswer) (after : Log) : Type 0 where
   has_failed : (code : Code) → log.failed ≡ Some code → answer ≡ Failed code → after ≡ log
       → MayTake log piece answer after
