@@ -132,7 +132,8 @@ class Table:
     def add_contracts(self, parts):
         """Adds the contracts that the heads of files name to those tagged, laws apart, or else those of the code."""
         laws = [it for it in parts["Contract"] if self.is_law(it)]
-        if len(laws) < len(parts["Contract"]):
+        marks = {it.mark for it in parts["Definition"]}
+        if len(laws) < len(parts["Contract"]) or "law" in marks:
             return
         named = [name for it in parts["Definition"] for name, _ in self.tags.heads[it.file]]
         found = [it for name in dict.fromkeys(named) for it in self.by_path[name]]
