@@ -46,6 +46,7 @@ IsSideRule name default rule =
     (names : SideNames) × AreSides names × (rule ≡ side_rule name default names)
 
 -- `show [--hex] [--from SIDE]`, of the client where no side is given
+-- rule: show (own) The words choose the end and hexadecimal
 abbrev pub show_app : SideNames → App
 show_app names = with_rule (with_rule (named_app (codes "show")) hex_rule)
     (side_rule (codes "from") (codes "client") names)
@@ -55,6 +56,7 @@ abbrev pub IsShowCommand : App → Type 0
 IsShowCommand a = (names : SideNames) × AreSides names × (a ≡ show_app names)
 
 -- `replay [--hex] [--as SIDE]`, at the server where no side is given
+-- rule: replay (own) The words of replay choose the end and hexadecimal
 abbrev pub replay_app : SideNames → App
 replay_app names = with_rule (with_rule (named_app (codes "replay")) hex_rule)
     (side_rule (codes "as") (codes "server") names)
@@ -77,15 +79,18 @@ abbrev pub number_rule : Text → ℕ → ℕ → Rule
 number_rule name least most = with_numbers (required_rule name) (Signed (pos least) (pos most))
 
 -- `serve PORT COUNT`, each number from 1 to 65,535
+-- rule: engines (own) serve, get and loop have their words
 abbrev pub serve_app : App
 serve_app = with_rule (with_rule (named_app (codes "serve")) (number_rule (codes "PORT") 1 65535))
     (number_rule (codes "COUNT") 1 65535)
 
 -- `get URL`
+-- rule: engines (own) serve, get and loop have their words
 abbrev pub get_app : App
 get_app = with_rule (named_app (codes "get")) (required_rule (codes "URL"))
 
 -- `loop N`, from 0 to 1,048,576
+-- rule: engines (own) serve, get and loop have their words
 abbrev pub loop_app : App
 loop_app = with_rule (named_app (codes "loop")) (number_rule (codes "N") 0 1048576)
 

@@ -38,14 +38,17 @@ show_options_in rows = record {
 }
 
 -- The options that the words after `show` give, if they have no fault.
+-- rule: show (own) The words choose the end and hexadecimal
 abbrev pub show_options_of : SideNames → List Text → Option ShowOptions
 show_options_of names = given_by (show_app names) show_options_in
 
 -- the kinds of error that the words after `show` may have
+-- rule: show (own) The words choose the end and hexadecimal
 abbrev pub show_faults : SideNames → List Text → Kinds
 show_faults names = fault_of (show_app names)
 
 -- the words after `show` give these options
+-- rule: show (own) The words choose the end and hexadecimal
 abbrev pub ShowWordsGive : List Text → ShowOptions → Type 0
 ShowWordsGive words options =
     (names : SideNames) × AreSides names × (show_options_of names words ≡ Some options)
@@ -64,6 +67,7 @@ replay_options_in rows = record {
 }
 
 -- The options that the words after `replay` give, if they have no fault.
+-- rule: replay (own) The words of replay choose the end and hexadecimal
 abbrev pub replay_options_of : SideNames → List Text → Option ReplayOptions
 replay_options_of names = given_by (replay_app names) replay_options_in
 
@@ -72,6 +76,7 @@ abbrev pub replay_faults : SideNames → List Text → Kinds
 replay_faults names = fault_of (replay_app names)
 
 -- the words after `replay` give these options
+-- rule: replay (own) The words of replay choose the end and hexadecimal
 abbrev pub ReplayWordsGive : List Text → ReplayOptions → Type 0
 ReplayWordsGive words options =
     (names : SideNames) × AreSides names × (replay_options_of names words ≡ Some options)
@@ -91,6 +96,7 @@ serve_options_in rows =
     record { port = number_of (codes "PORT") rows; count = number_of (codes "COUNT") rows }
 
 -- The port and the count that the words after `serve` give, if they have no fault.
+-- rule: engines (own) serve, get and loop have their words
 abbrev pub serve_options_of : List Text → Option ServeOptions
 serve_options_of = given_by serve_app serve_options_in
 
@@ -103,6 +109,7 @@ abbrev pub url_in : List Row → Text
 url_in rows = unwrap_or (first_of (codes "URL") rows) []
 
 -- The URL that the words after `get` give, if they have no fault.
+-- rule: engines (own) serve, get and loop have their words
 abbrev pub url_of : List Text → Option Text
 url_of = given_by get_app url_in
 
@@ -111,6 +118,7 @@ abbrev pub get_faults : List Text → Kinds
 get_faults = fault_of get_app
 
 -- The number of octets that the words after `loop` give, if they have no fault.
+-- rule: engines (own) serve, get and loop have their words
 abbrev pub octets_of : List Text → Option ℕ
 octets_of = given_by loop_app (number_of (codes "N"))
 

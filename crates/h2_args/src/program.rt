@@ -11,6 +11,8 @@ use crate::sockets::{get_command, loop_command, serve_command};
 use clap::{Command, Error};
 use std::alloc::{AllocError, Global};
 
+// contract: show (own) The words choose the end and hexadecimal
+// rule: show (own) The words choose the end and hexadecimal
 /// Reads words that begin with no command's name. They ask for help or the version, or are wrong.
 ///
 /// # Errors

@@ -10,6 +10,8 @@ use clap::{ArgMatches, Command, Error};
 use h2_events::{ReplayOptions, Role};
 use std::alloc::{AllocError, Global};
 
+// contract: replay (own) The words of replay choose the end and hexadecimal
+// rule: replay (own) The words of replay choose the end and hexadecimal
 /// Reads the words after `replay`.
 ///
 /// # Errors

@@ -10,6 +10,8 @@ use clap::{ArgMatches, Command, Error};
 use h2_show::{ShowOptions, Side};
 use std::alloc::{AllocError, Global};
 
+// contract: show (own) The words choose the end and hexadecimal
+// rule: show (own) The words choose the end and hexadecimal
 /// Reads the words after `show`.
 ///
 /// # Errors

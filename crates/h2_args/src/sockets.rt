@@ -24,6 +24,8 @@ pub struct ServeOptions {
     pub count: u16,
 }
 
+// contract: engines (own) serve, get and loop have their words
+// rule: engines (own) serve, get and loop have their words
 /// Reads the words after `serve`.
 ///
 /// # Errors
@@ -48,6 +50,8 @@ pub fn serve_args(alloc: Global, words: &[String]) -> Result<ServeOptions, Error
     Ok(ServeOptions { port, count })
 }
 
+// contract: engines (own) serve, get and loop have their words
+// rule: engines (own) serve, get and loop have their words
 /// Reads the words after `get`: a URL, which isn't read yet.
 ///
 /// # Errors
@@ -66,6 +70,8 @@ pub fn get_args<'a>(alloc: Global, words: &'a [String]) -> Result<&'a str, Error
     Ok(url)
 }
 
+// contract: engines (own) serve, get and loop have their words
+// rule: engines (own) serve, get and loop have their words
 /// Reads the words after `loop`: how many octets are posted, from 0 to [`MOST_POSTED`].
 ///
 /// # Errors

@@ -1,5 +1,6 @@
 -- What a gatherer is between calls, and what each call makes of it, whatever the frames have been
 -- so far.
+-- contract: h2_block::Gather::take
 use Rattle.std.specs.Prelude.{◌≡◌, List, [], ◌∷◌, ◌++◌, Option, Some, None, MatchOption, Result, Ok}
 use Rattle.std.specs.Prelude.{Err}
 use Rattle.h2_frame.specs.declared.code.Code.{Code}
@@ -21,6 +22,7 @@ pub record GatherState : Type 0 where
   pub fault : Option BlockFault
 
 -- The gatherer represents the frames so far, which are the items, and then what has begun.
+-- rule: 4.3 (own) A gatherer says what it holds of a block, and if it is inside one
 pub record GatherRepresents (state : GatherState) (frames : List Frame)
     (items : List Item) : Type 0 where
   pub sound : state.fault ≡ None
@@ -41,6 +43,7 @@ GatherContinues old frame gathered new =
 
 -- After a call that met the fault: if the gatherer represented `frames` and `items`, then `frames`
 -- with this one appended are at fault, right after `items`.
+-- rule: 5.4.1 After a fault each layer answers that fault and changes nothing
 pub record GatherFaults (old : GatherState) (frame : Frame) (fault : BlockFault)
     (new : GatherState) : Type 0 where
   pub known : new.fault ≡ Some fault
@@ -51,6 +54,7 @@ pub record GatherFaults (old : GatherState) (frame : Frame) (fault : BlockFault)
 
 -- What a call that fails leaves. Lack of memory changes nothing, and after a fault the gatherer
 -- stays as it is.
+-- rule: 5.4.1 After a fault each layer answers that fault and changes nothing
 abbrev pub GatherFails : GatherState → Frame → BlockFault → GatherState → Type 0
 GatherFails old frame faults.Memory new = new ≡ old
 GatherFails old frame faults.Interrupted new =
@@ -88,6 +92,9 @@ LeavesNone (Err fault) new = Unit {0}
 -- the code with which the connection ends: a block that is interrupted or stray is a PROTOCOL_ERROR
 -- (RFC 9113, section 6.10), one that is too long an ENHANCE_YOUR_CALM (section 10.5), and lack of
 -- memory an INTERNAL_ERROR
+-- rule: 6.10 Inside a block any frame but its CONTINUATION is PROTOCOL_ERROR
+-- rule: 10.5 (own) A block of more than 65,552 octets is ENHANCE_YOUR_CALM
+-- rule: 5.4 (own) Out of memory is INTERNAL_ERROR
 abbrev pub block_fault_code : BlockFault → Code
 block_fault_code faults.Interrupted = ProtocolError
 block_fault_code faults.Stray = ProtocolError

@@ -1,4 +1,5 @@
 -- Field blocks in a list of frames (RFC 9113, sections 4.3, 6.2 and 6.10).
+-- contract: h2_block::Gather::take
 use Rattle.std.specs.Prelude.{◌≡◌, ◌⊎◌, ℕ, ◌+◌, ◌≤◌, ◌==◌, nat_lt, not, Bool, true, false}
 use Rattle.std.specs.Prelude.{if◌then◌else◌, List, [], ◌∷◌, ◌++◌, length, Option, Some, None}
 use Rattle.h2_frame.specs.Frames.{Frame, Data, Headers, Priority, Reset, Settings, Ping, GoAway}
@@ -7,6 +8,8 @@ use Rattle.h2_block.specs.declared.fault.BlockFault.{BlockFault}
 use Rattle.h2_block.specs.declared.fault.BlockFault.TheVariants.{Interrupted, Stray, TooLong}
 
 -- the limit of a block's octets (own)
+-- rule: 10.5 (own) A block of more than 65,552 octets is ENHANCE_YOUR_CALM
+-- rule: 10.5 (own) What an end holds of a stream is bounded
 abbrev pub max_block_octets : ℕ
 max_block_octets = 65552
 
@@ -17,6 +20,7 @@ pub data Item : Type 0 where
   block : (stream : ℕ) (end : Bool) (octets : List ℕ) → Item
 
 -- Whether a frame is no part of a block: it is neither HEADERS nor CONTINUATION.
+-- rule: 4.3 Frames that are no part of a block pass and need no memory
 unfoldable pub is_standalone : Frame → Bool
 is_standalone (Data stream end octets pad) = true
 is_standalone (Headers stream end whole fragment pad priority) = false
@@ -39,6 +43,8 @@ AreContinuations stream (frame ∷ frames) octets =
 
 -- The frames are a block that has begun and isn't complete: HEADERS that doesn't end it, and
 -- CONTINUATIONs of the same stream. The octets are the fragments, joined.
+-- rule: 4.3 A field block is its HEADERS' fragment and those of CONTINUATION
+-- rule: 4.3 END_STREAM of a block is that of its HEADERS
 pub record IsBegun (stream : ℕ) (end : Bool) (octets : List ℕ) (frames : List Frame) : Type 0 where
   pub fragment : List ℕ
   pub pad : Option ℕ
@@ -50,12 +56,14 @@ pub record IsBegun (stream : ℕ) (end : Bool) (octets : List ℕ) (frames : Lis
   pub joined : octets ≡ fragment ++ others
 
 -- The frame is HEADERS that is a complete block by itself.
+-- rule: 4.3 A field block ends with the frame that has END_HEADERS
 pub record IsSingle (stream : ℕ) (end : Bool) (octets : List ℕ) (frames : List Frame) : Type 0 where
   pub pad : Option ℕ
   pub priority : Option (List ℕ)
   pub one : frames ≡ Headers stream end true octets pad priority ∷ []
 
 -- The frames are a block that had begun, and a CONTINUATION that ends it.
+-- rule: 4.3 A field block ends with the frame that has END_HEADERS
 pub record IsEnded (stream : ℕ) (end : Bool) (octets : List ℕ) (frames : List Frame) : Type 0 where
   pub preceding : List Frame
   pub prefix : List ℕ
@@ -65,6 +73,7 @@ pub record IsEnded (stream : ℕ) (end : Bool) (octets : List ℕ) (frames : Lis
   pub joined : octets ≡ prefix ++ last
 
 -- The frames are the item: a standalone frame, or a block within the limit.
+-- rule: 4.3 A field block is its HEADERS' fragment and those of CONTINUATION
 abbrev pub IsItem : Item → List Frame → Type 0
 IsItem (alone frame) frames = (is_standalone frame ≡ true) × (frames ≡ frame ∷ [])
 IsItem (block stream end octets) frames =
@@ -92,6 +101,8 @@ IsLeft (Some begun) frames = IsBegun begun.stream begun.end begun.octets frames
     × (length begun.octets ≤ max_block_octets)
 
 -- So far the frames are the items, and then a block that has begun, or none.
+-- rule: 4.3 A field block is its HEADERS' fragment and those of CONTINUATION
+-- rule (law): 4.3 Each list of frames groups or has a fault; prefixes agree
 pub record Groups (frames : List Frame) (items : List Item) (begun : Option Begun) : Type 0 where
   pub complete : List Frame
   pub left : List Frame
@@ -101,6 +112,8 @@ pub record Groups (frames : List Frame) (items : List Item) (begun : Option Begu
 
 -- The fault of a frame outside blocks: CONTINUATION is stray (section 6.10), and HEADERS begin no
 -- block above the limit.
+-- rule: 6.10 A CONTINUATION outside a block is PROTOCOL_ERROR
+-- rule: 10.5 (own) A block of more than 65,552 octets is ENHANCE_YOUR_CALM
 unfoldable pub fault_outside : Frame → Option BlockFault
 fault_outside (Data stream end octets pad) = None
 fault_outside (Headers stream end whole fragment pad priority) =
@@ -116,6 +129,9 @@ fault_outside (Unknown kind flags stream payload) = None
 
 -- The fault of a frame inside a block: anything but a CONTINUATION of its stream, an unknown kind
 -- too, interrupts it (section 6.10); and the block stays within the limit.
+-- rule: 6.10 Inside a block any frame but its CONTINUATION is PROTOCOL_ERROR
+-- rule: 6.10 A CONTINUATION of another stream inside a block is PROTOCOL_ERROR
+-- rule: 10.5 (own) A block of more than 65,552 octets is ENHANCE_YOUR_CALM
 unfoldable pub fault_inside : Begun → Frame → Option BlockFault
 fault_inside begun (Data stream end octets pad) = Some Interrupted
 fault_inside begun (Headers stream end whole fragment pad priority) = Some Interrupted
@@ -132,12 +148,15 @@ fault_inside begun (Continuation stream whole fragment) =
 fault_inside begun (Unknown kind flags stream payload) = Some Interrupted
 
 -- the fault of the frame that comes next
+-- rule: 6.10 Inside a block any frame but its CONTINUATION is PROTOCOL_ERROR
 abbrev pub next_fault : Option Begun → Frame → Option BlockFault
 next_fault None frame = fault_outside frame
 next_fault (Some begun) frame = fault_inside begun frame
 
 -- The last of the frames is at fault; those that precede it are the items, and then a block that
 -- has begun, or none. Nothing from it on is an item.
+-- rule: 6.10 Inside a block any frame but its CONTINUATION is PROTOCOL_ERROR
+-- rule (law): 4.3 Each list of frames groups or has a fault; prefixes agree
 pub record GroupingFaultAt (frames : List Frame) (items : List Item)
     (fault : BlockFault) : Type 0 where
   pub preceding : List Frame

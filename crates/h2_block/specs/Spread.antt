@@ -6,11 +6,13 @@ use Rattle.h2_frame.specs.Frames.{Frame, Headers, Continuation}
 use Rattle.h2_frame.specs.Encoding.{encoding_of}
 
 -- the greatest payload that is sent today: that of every peer at first (section 6.5.2)
+-- rule: 4.2 (own) Payloads of at most 16,384 octets are sent
 abbrev pub max_payload : ℕ
 max_payload = 16384
 
 -- The CONTINUATIONs of the octets: each is full but the last, which ends the block. `count` is how
 -- many there may be; as many as octets, and one, are always enough.
+-- rule: 4.3 Of the frames of a block that is sent the last has END_HEADERS
 unfoldable pub continuations : (most count stream : ℕ) → List ℕ → List Frame
 continuations most zero stream octets = []
 continuations most (suc count) stream octets =
@@ -20,6 +22,7 @@ continuations most (suc count) stream octets =
 
 -- The frames of a block: HEADERS alone where the octets fit it, otherwise full HEADERS and
 -- CONTINUATIONs. An empty block is one empty HEADERS.
+-- rule: 4.3 A block is sent as HEADERS and CONTINUATION frames, each full but one
 unfoldable pub spread_frames : (most stream : ℕ) → Bool → List ℕ → List Frame
 spread_frames most stream end octets =
     if nat_le (length octets) most then Headers stream end true octets None None ∷ []
@@ -27,5 +30,6 @@ spread_frames most stream end octets =
     ∷ continuations most (length octets) stream (drop most octets)
 
 -- the octets of frames, one after another
+-- rule: 4.3 (own) Room for all frames of a block is reserved before the first
 abbrev pub encoding_of_frames : List Frame → List ℕ
 encoding_of_frames frames = flat_map encoding_of frames

@@ -42,6 +42,11 @@ impl Gather {
         }
     }
 
+    // rule: 4.3 A field block ends with the frame that has END_HEADERS
+    // contract: 6.10 Inside a block any frame but its CONTINUATION is PROTOCOL_ERROR
+    // contract: 10.5 (own) A block of more than 65,552 octets is ENHANCE_YOUR_CALM
+    // contract: 5.4.1 After a fault each layer answers that fault and changes nothing
+    // contract: 5.4 (own) Out of memory is INTERNAL_ERROR
     /// Takes the next frame (RFC 9113, sections 4.3 and 6.10): one that is no part of a block is
     /// passed on; a block is answered with its last frame.
     ///
@@ -77,6 +82,11 @@ impl Gather {
         self.partial.take(frame)
     }
 
+    // contract: 4.3 (own) A gatherer says what it holds of a block, and if it is inside one
+    // rule: 4.3 (own) A gatherer says what it holds of a block, and if it is inside one
+    // contract: 10.5 (own) A block of more than 65,552 octets is ENHANCE_YOUR_CALM
+    // contract: 10.5 (own) What an end holds of a stream is bounded
+    // rule: 10.5 (own) What an end holds of a stream is bounded
     /// How many octets it keeps of a block that isn't complete. It allocates nothing.
     pub fn held(&self) -> usize
         ensures value { result ≡ option_map_or (λ begun. length begun.octets) self.now.begun 0 }
@@ -85,6 +95,8 @@ impl Gather {
         self.partial.octets.len()
     }
 
+    // contract: 4.3 (own) A gatherer says what it holds of a block, and if it is inside one
+    // rule: 4.3 (own) A gatherer says what it holds of a block, and if it is inside one
     /// Whether a block has begun and isn't complete. It allocates nothing.
     pub fn is_inside(&self) -> bool
         ensures { result ≡ is_some self.now.begun }

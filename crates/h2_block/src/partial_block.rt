@@ -75,6 +75,8 @@ impl PartialBlock {
         }
     }
 
+    // rule: 4.3 Frames that are no part of a block pass and need no memory
+    // rule: 6.10 A CONTINUATION outside a block is PROTOCOL_ERROR
     // Takes a frame outside blocks.
     fn take_outside<'a>(&mut self, frame: FrameRef<'a>) -> Result<Gathered<'a>, BlockFault>
         requires sound { self.old.fault ≡ None }
@@ -101,6 +103,8 @@ impl PartialBlock {
         }
     }
 
+    // rule: 6.10 Inside a block any frame but its CONTINUATION is PROTOCOL_ERROR
+    // rule: 6.10 A CONTINUATION of another stream inside a block is PROTOCOL_ERROR
     // Takes a frame inside the block that was opened so.
     fn take_inside<'a>(
         &mut self,
@@ -127,6 +131,9 @@ impl PartialBlock {
         }
     }
 
+    // rule: 4.3 A field block is its HEADERS' fragment and those of CONTINUATION
+    // rule: 4.3 END_STREAM of a block is that of its HEADERS
+    // rule: 10.5 (own) A block of more than 65,552 octets is ENHANCE_YOUR_CALM
     // HEADERS begins a block, or is a complete one.
     fn begin<'a>(
         &mut self,
@@ -161,6 +168,9 @@ impl PartialBlock {
         Ok(Gathered::More)
     }
 
+    // rule: 4.3 A field block is its HEADERS' fragment and those of CONTINUATION
+    // rule: 4.3 END_STREAM of a block is that of its HEADERS
+    // rule: 10.5 (own) A block of more than 65,552 octets is ENHANCE_YOUR_CALM
     // A CONTINUATION of the block that was opened so continues it, or ends it.
     fn extend<'a>(
         &mut self,
@@ -223,6 +233,7 @@ impl PartialBlock {
         mem::replace(&mut self.octets, Vec::new(self.alloc))
     }
 
+    // rule: 5.4.1 After a fault each layer answers that fault and changes nothing
     // The frames are at fault, and no octets are kept.
     fn fail(&mut self, fault: BlockFault) -> BlockFault
         ensures fault { result ≡ fault }

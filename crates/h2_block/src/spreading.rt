@@ -16,6 +16,11 @@ const MAX_PAYLOAD: usize = 16_384;
 /// The octets of a frame's head (RFC 9113, section 4.1).
 const HEAD: usize = 9;
 
+// contract: 4.2 (own) Payloads of at most 16,384 octets are sent
+// contract: 4.3 A block is sent as HEADERS and CONTINUATION frames, each full but one
+// rule: 4.3 A block is sent as HEADERS and CONTINUATION frames, each full but one
+// rule: 4.3 Of the frames of a block that is sent the last has END_HEADERS
+// rule: 4.3 (own) Room for all frames of a block is reserved before the first
 /// Appends the frames of a field block on a stream, from 1 to 2<sup>31</sup> - 1, of 65,552 octets
 /// at most (RFC 9113, sections 4.3, 6.2 and 6.10): HEADERS and CONTINUATIONs, each full with 16,384
 /// octets but the last. An empty block is one empty HEADERS. `end` says that nothing follows the
@@ -46,6 +51,7 @@ pub fn spread(stream: u32, end: bool, octets: &[u8], out: &mut Vec<u8>) -> Resul
     Ok(())
 }
 
+// rule: 4.3 (own) Room for all frames of a block is reserved before the first
 // How many octets the frames of a block of so many octets have: nine more for each frame's head.
 fn encoded_len(most: usize, count: usize) -> usize
     requires payload { 1 ≤ most }
@@ -55,6 +61,8 @@ fn encoded_len(most: usize, count: usize) -> usize
     count + HEAD * (1 + count.saturating_sub(1) / most)
 }
 
+// rule: 4.2 (own) Payloads of at most 16,384 octets are sent
+// rule: 4.3 (own) Room for all frames of a block is reserved before the first
 // Appends the frames, with payloads of at most `most` octets, for which there is capacity.
 fn append_block(most: usize, stream: u32, end: bool, octets: &[u8], out: &mut Vec<u8>)
     requires payload { 1 ≤ most }

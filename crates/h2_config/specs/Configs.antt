@@ -8,6 +8,7 @@ use Rattle.h2_config.specs.declared.config.BadConfig.TheVariants.{TableLimit, In
 use Rattle.h2_config.specs.declared.config.BadConfig.TheVariants.{MaxStreams}
 
 -- the first of the values that is out of its bounds
+-- rule: calls (own) A configuration is made of values within their bounds
 unfoldable pub first_bad : Values → Option BadConfig
 first_bad values =
     if nat_lt max_table_limit values.table_limit then Some TableLimit

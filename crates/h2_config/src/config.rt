@@ -34,6 +34,8 @@ pub enum BadConfig {
 }
 
 impl Config {
+    // contract: calls (own) A configuration is made of values within their bounds
+    // rule: calls (own) A configuration is made of values within their bounds
     /// The values: at most `table_limit` octets of header table at the peer's encoder, from 0 to
     /// 65,536; windows of `initial_window` octets for new streams, from 1 to 2^31 - 1; and, at a
     /// server, `max_streams` active streams, from 100 to 1,000.
@@ -70,6 +72,7 @@ impl Config {
         }
     }
 
+    // rule: calls (own) A configuration is made of values within their bounds
     /// The most octets of the peer's header table: SETTINGS_HEADER_TABLE_SIZE.
     pub fn table_limit(&self) -> u32
         ensures { result ≡ self.now.table_limit }
@@ -77,6 +80,7 @@ impl Config {
         self.table_limit
     }
 
+    // rule: calls (own) A configuration is made of values within their bounds
     /// The octets of a new stream's window: SETTINGS_INITIAL_WINDOW_SIZE.
     pub fn initial_window(&self) -> u32
         ensures { result ≡ self.now.initial_window }
@@ -84,6 +88,7 @@ impl Config {
         self.initial_window
     }
 
+    // rule: calls (own) A configuration is made of values within their bounds
     /// The most active streams at a server: SETTINGS_MAX_CONCURRENT_STREAMS.
     pub fn max_streams(&self) -> u32
         ensures { result ≡ self.now.max_streams }

@@ -28,6 +28,7 @@ ConnTakes old piece result new =
     × ConnRepresents values new after
 
 -- The same before anything is lent, where the fields that are kept and these octets are reported.
+-- rule: calls (own) take uses octets up to one frame's end, and answers one event at most
 abbrev pub ConnAdvances : Conn → List ℕ → (octets : List ℕ) → Result Progress ConnFault → Conn
     → Type 0
 ConnAdvances old piece octets result new =
@@ -65,6 +66,7 @@ GivesOut old count given before after =
 
 -- the number of the stream that a client opens next; none once the connection has failed, and at a
 -- server
+-- rule: calls (own) An end answers of its state, and of little once it has failed
 abbrev pub reader_next_number : Log → Option ℕ
 reader_next_number log =
     if is_some log.failed || is_server log.role then None else Some (next_number log)

@@ -14,6 +14,7 @@ use Rattle.h2_conn.specs.declared.happened.Happened.TheVariants as happenings
 use Rattle.h2_conn.specs.declared.happened.Progress.{Progress}
 
 -- an event, without where its fields and octets lie
+-- rule: calls (own) An event has the octets, the fields and the numbers of its frame
 abbrev pub event_value : Event → log.Event
 event_value (events.Fields id list end) = log.FieldsEvent id list.now end
 event_value (events.Data id bytes flow end) = log.DataEvent id bytes.now flow end
@@ -24,6 +25,7 @@ event_value events.Acked = log.AckedEvent
 event_value (events.Pong octets) = log.PongEvent octets
 
 -- the same of what has happened, with the fields that are kept and the octets of the body
+-- rule: calls (own) An event has the octets, the fields and the numbers of its frame
 abbrev pub happened_value : List Field → List ℕ → Happened → log.Event
 happened_value list octets (happenings.Fields id end) = log.FieldsEvent id list end
 happened_value list octets (happenings.Data id frame flow end) = log.DataEvent id octets flow end

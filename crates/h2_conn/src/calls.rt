@@ -84,6 +84,7 @@ impl Conn {
         self.inner.end.reset(id, code)
     }
 
+    // contract: calls (own) A stream that the layer above refuses is reset
     /// Resets a stream for a fault of the peer that the layer above found. With INTERNAL_ERROR (2)
     /// that layer has no memory, and the connection fails with it; it fails with ENHANCE_YOUR_CALM
     /// where 1,000 streams were reset, or RST_STREAM would bring the waiting output above 262,144
@@ -125,6 +126,8 @@ impl Conn {
         self.inner.end.go_away()
     }
 
+    // contract: 6.5.3 (own) Own SETTINGS are changed once those before are acknowledged
+    // rule: 6.5.3 (own) Own SETTINGS are changed once those before are acknowledged
     /// Changes this end's settings (section 6.5): SETTINGS with the header table's limit, the
     /// initial window and, at a server, the number of streams joins the output. The values hold
     /// from the peer's acknowledgment on, which [`Event::Acked`] reports.
@@ -141,6 +144,7 @@ impl Conn {
         self.inner.end.change_settings(config)
     }
 
+    // rule: calls (own) Output is given out in order and once
     /// Appends as many octets of the output as wait, and at most `count`, to `out`, and takes them
     /// away. Where less than the full output waits, all that is unreturned is returned first. It
     /// works after a failure too.

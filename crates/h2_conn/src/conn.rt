@@ -37,6 +37,7 @@ pub struct Conn {
 }
 
 impl Conn {
+    // contract: 3.4 A server sends frames at once, without a preface
     /// A client, whose opening waits: the preface and SETTINGS (RFC 9113, section 3.4).
     ///
     /// # Errors
@@ -52,6 +53,7 @@ impl Conn {
         })
     }
 
+    // contract: 3.4 A server sends frames at once, without a preface
     /// A server, whose opening waits: SETTINGS (section 3.4).
     ///
     /// # Errors
@@ -67,6 +69,8 @@ impl Conn {
         })
     }
 
+    // contract: calls (own) take uses octets up to one frame's end, and answers one event at most
+    // rule: calls (own) take uses octets up to one frame's end, and answers one event at most
     /// [`Conn::take`] without lending: what is reported is answered without its fields and octets,
     /// which [`Conn::list`] and [`Conn::octets`] lend until the next call of `advance`, `take` or a
     /// method that changes the connection. So a layer above can look at them and then call again.
@@ -87,6 +91,7 @@ impl Conn {
         }
     }
 
+    // contract: calls (own) An event has the octets, the fields and the numbers of its frame
     /// The fields of the block that was reported last. It takes no memory.
     pub fn list(&self) -> &FieldList
         ensures { result.now ≡ self.now.inner.end.list }
@@ -94,6 +99,7 @@ impl Conn {
         self.inner.end.fields()
     }
 
+    // rule: calls (own) An event has the octets, the fields and the numbers of its frame
     /// The octets of the body that [`Conn::advance`] has reported of this piece. It takes no
     /// memory.
     pub fn octets<'a>(&'a self, piece: &'a [u8], frame: Complete) -> &'a [u8]
@@ -104,6 +110,11 @@ impl Conn {
         body(self.inner.cutter.frame(piece, frame))
     }
 
+    // contract: calls (own) A fault of the octets fails the connection with its code
+    // contract: calls (own) An event has the octets, the fields and the numbers of its frame
+    // contract: 4.2 The limit of an end is its greatest MAX_FRAME_SIZE of those in force
+    // contract: calls (own) take uses octets up to one frame's end, and answers one event at most
+    // rule: calls (own) take uses octets up to one frame's end, and answers one event at most
     /// Takes octets of the piece, up to the end of one frame or else all of them, and answers what
     /// is reported: at most one event. Call it again until the piece is used and nothing is
     /// reported: streams that the peer does not process are reported one a call, with no octets
@@ -157,6 +168,8 @@ impl Conn {
     }
 }
 
+// rule: 3.4 A server sends frames at once, without a preface
+// rule: 4.2 The limit of an end is its greatest MAX_FRAME_SIZE of those in force
 /// The parts of a new end.
 fn new_inner(alloc: Global, role: Role, config: Config) -> Result<Inner, Refusal>
     ensures ok { IfOk result (λ inner. PartsRepresent (values_of config) inner.cutter
@@ -169,6 +182,7 @@ fn new_inner(alloc: Global, role: Role, config: Config) -> Result<Inner, Refusal
     })
 }
 
+// rule: calls (own) An event has the octets, the fields and the numbers of its frame
 /// The octets of a frame's body; only DATA has any.
 fn body<'a>(frame: FrameRef<'a>) -> &'a [u8]
     ensures { result.now ≡ octets_in (frame_of frame.entry) }

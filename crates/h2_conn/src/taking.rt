@@ -15,6 +15,7 @@ use h2_frame::{Code, FrameRef};
 use h2_wire::{Complete, Cutter, WireFault};
 
 impl Inner {
+    // rule: calls (own) take uses octets up to one frame's end, and answers one event at most
     /// Takes octets of the piece, up to the end of one frame or else all of them.
     pub(crate) fn take(&mut self, piece: &[u8]) -> Result<Progress, Code>
         ensures used { IfOk result (λ progress. progress.used ≤ length piece.now) }
@@ -37,6 +38,8 @@ impl Inner {
     }
 }
 
+// rule: calls (own) A fault of the octets fails the connection with its code
+// rule: calls (own) take uses octets up to one frame's end, and answers one event at most
 /// Cuts the piece, and takes the frame that it completes.
 fn take_piece(cutter: &mut Cutter, end: &mut Endpoint, piece: &[u8]) -> Result<Progress, Code>
     requires up { end.old.failed ≡ None }

@@ -10,6 +10,8 @@ ghost use Rattle.h2_conn.specs.Conn.{ConnRepresents};
 use crate::conn::Conn;
 
 impl Conn {
+    // contract: calls (own) An end lends its output, and says the place of a fault
+    // rule: calls (own) An end lends its output, and says the place of a fault
     /// Lends the octets of the output that wait, in two slices, the first of which comes first. It
     /// goes on once the connection has failed.
     pub fn waiting_octets(&self) -> (&[u8], &[u8])
@@ -19,6 +21,7 @@ impl Conn {
         self.inner.end.waiting_octets()
     }
 
+    // rule: calls (own) An end lends its output, and says the place of a fault
     /// How many octets of input were used; the greatest number of 64 bits where it is more than
     /// that. After a fault of the peer the octet that made it is the last one of them.
     pub fn place(&self) -> u64

@@ -40,6 +40,7 @@ IsDecodedOf e octets (Some decoded) =
 
 -- The code with which the connection ends where a block isn't decoded: what is no block is a
 -- COMPRESSION_ERROR (RFC 9113, section 4.3), and lack of memory an INTERNAL_ERROR.
+-- rule: 4.3 A block that does not decode is COMPRESSION_ERROR, of the connection
 abbrev pub decode_fault_code : Fault → Code
 decode_fault_code faults.Compression = CompressionError
 decode_fault_code faults.Memory = InternalError

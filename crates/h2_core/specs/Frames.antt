@@ -62,6 +62,7 @@ pub record FailsWithoutMemory (e : End) (code : Code) (new : End) : Type 0 where
 -- Whether a frame with this step may take memory: a part of a field block always may, to gather and
 -- decode it; any other frame only where its verdict needs it, and one that fails the connection
 -- before it is an item never does.
+-- rule: 5.4 (own) Only steps that reply, change streams or return credit take memory
 abbrev pub step_needs_memory : End → FrameStep → Bool
 step_needs_memory e (fails_with code) = false
 step_needs_memory e (begins_block begun) = true
@@ -70,6 +71,7 @@ step_needs_memory e (completes (alone frame)) =
     needs_memory (verdict_of (end_view (with_begun e None)) None (alone frame)) (alone frame)
 
 -- Memory was refused to a frame that may take some, and the connection failed for that.
+-- rule: 5.4 (own) Being out of memory hides no other fault of the connection
 pub record FrameLacksMemory (e : End) (frame : Frame) (code : Code) (new : End) : Type 0 where
   pub needs : step_needs_memory e (frame_step (end_view e) frame) ≡ true
   pub fails : FailsWithoutMemory e code new

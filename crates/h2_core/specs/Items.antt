@@ -49,6 +49,8 @@ pub record ItemTaken (e : End) (decoded : Option Decoded) (item : Item) (list : 
 -- Whether a step may take memory for an item with this verdict: where the item is replied to, a
 -- stream is opened, reset or over, or credit is returned for DATA that is discarded. A fault of the
 -- connection takes none, so that being out of memory hides none.
+-- rule: 5.4 (own) Being out of memory hides no other fault of the connection
+-- rule: 5.4 (own) Only steps that reply, change streams or return credit take memory
 abbrev pub needs_memory : Verdict → Item → Bool
 needs_memory (StreamFault code) item = true
 needs_memory NoEvent (alone (DataFrame stream end octets pad)) = true

@@ -9,6 +9,7 @@ use Rattle.h2_machine.specs.End.{End, end_view, stream_at}
 use Rattle.h2_machine.specs.Machine.{after_call, before_put_out_at}
 
 -- how many octets may be sent on the connection (0) or a stream
+-- rule: calls (own) An end answers of its state, and of little once it has failed
 abbrev pub room_of : End → ℕ → Option ℤ
 room_of e id =
     if is_some e.failed then None
@@ -16,6 +17,7 @@ room_of e id =
     else option_map (λ stream. stream.send_window) (stream_at e id)
 
 -- what is owed on a stream
+-- rule: calls (own) An end answers of its state, and of little once it has failed
 abbrev pub owed_of : End → ℕ → ℕ
 owed_of e id = if is_some e.failed then 0 else owed_on (stream_at e id)
 

@@ -34,6 +34,13 @@ use hpack::{Encoder, Field, list_size};
 use std::alloc::AllocError;
 
 impl Endpoint {
+    // contract: 5.1.1 A client opens odd numbers, each above all before it
+    // rule: 5.1.1 A client opens odd numbers, each above all before it
+    // contract: 5.1.1 When the numbers of 31 bits are used up no stream is opened
+    // contract: 5.1.2 A client has at most as many active streams as the server allows
+    // contract: 6.8 No stream is opened after GOAWAY was received
+    // contract: 10.5 (own) An own list above 65,536 octets is refused
+    // contract: calls (own) A call is refused for its first condition, and changes nothing
     /// Opens a stream with a field block; `end` says that nothing follows (END_STREAM). Answers its
     /// number: 1, 3, 5 and so on.
     ///
@@ -79,6 +86,10 @@ impl Endpoint {
         self.refusal_of_open(list_size(fields))
     }
 
+    // contract: 5.1 Each frame is sent only in states that allow it
+    // contract: 10.5 (own) An own list above 65,536 octets is refused
+    // rule: 10.5 (own) An own list above 65,536 octets is refused
+    // contract: calls (own) A call is refused for its first condition, and changes nothing
     /// Sends a further field block on a stream: a response's, or trailers.
     ///
     /// # Errors
@@ -105,6 +116,10 @@ impl Endpoint {
         Ok(())
     }
 
+    // contract: 5.1 Each frame is sent only in states that allow it
+    // contract: 6.9.1 DATA is sent within both windows
+    // rule: 6.9.1 DATA is sent within both windows
+    // contract: calls (own) A call is refused for its first condition, and changes nothing
     /// Sends as many octets of a body as both windows let through, and 65,536 at most; answers how
     /// many. Where all went and `end` is set, the last DATA has END_STREAM; an empty slice with
     /// `end` sends one empty DATA.
@@ -134,6 +149,8 @@ impl Endpoint {
         Ok(count)
     }
 
+    // rule: 5.1 Each frame is sent only in states that allow it
+    // rule: calls (own) A call is refused for its first condition, and changes nothing
     /// The stream, if something may be sent on it.
     fn sendable(&self, id: u32) -> Result<Stream, Refusal>
         ensures ok { IfOk result (λ stream. (self.now.failed ≡ None)
@@ -156,6 +173,7 @@ impl Endpoint {
         Ok(stream)
     }
 
+    // rule: 6.9.1 DATA is sent within both windows
     /// How many octets of so many may be sent on a stream now.
     fn sendable_octets(&self, stream: &Stream, count: usize) -> usize
         requires { is_far stream.now.send_window ≡ false }
@@ -213,6 +231,7 @@ impl Endpoint {
         add_data_frames(&mut self.output, id, octets, end);
     }
 
+    // rule: 6.10 No answer is sent between the frames of a field block
     /// Encodes a field block, of a list of this size, and adds its frames, with room for a
     /// WINDOW_UPDATE after them.
     ///
@@ -251,6 +270,11 @@ impl Endpoint {
         Ok(())
     }
 
+    // rule: 5.1.1 When the numbers of 31 bits are used up no stream is opened
+    // rule: 5.1.2 A client has at most as many active streams as the server allows
+    // rule: 6.8 No stream is opened after GOAWAY was received
+    // rule: 10.5 (own) An own list above 65,536 octets is refused
+    // rule: calls (own) A call is refused for its first condition, and changes nothing
     /// Why a stream cannot be opened with a list of this size, out of memory put aside.
     fn refusal_of_open(&self, size: usize) -> Option<Refusal>
         requires { self.now.failed ≡ None → self.now.highest < 2 ^ 31 }
@@ -302,6 +326,7 @@ impl Endpoint {
         self.goaway_sent.is_some() || self.goaway_received.is_some()
     }
 
+    // rule: 5.1.2 A client has at most as many active streams as the server allows
     /// How many streams of its own a client may have active (RFC 9113, section 5.1.2).
     pub(crate) fn streams_allowed(&self) -> u32
         ensures { result ≡ (end_of self.now).peer.max_streams }
@@ -315,6 +340,7 @@ impl Endpoint {
         }
     }
 
+    // rule: 5.1.1 A client opens odd numbers, each above all before it
     /// The number for the next stream: 1, 3, 5 and so on (section 5.1.1). It takes no memory.
     pub fn next_number(&self) -> u32
         requires { self.now.highest < 2 ^ 31 }

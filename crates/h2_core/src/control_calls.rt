@@ -18,6 +18,9 @@ use h2_log::Refusal;
 const LARGE_FRAME: usize = 17;
 
 impl Endpoint {
+    // contract: 6.9 Nothing of the window of the connection is lost
+    // contract: 6.9 What a stream owes is returned when it is released or over
+    // rule: 6.9 What a stream owes is returned when it is released or over
     /// Returns credit of so many octets for a stream and the connection: of those that were
     /// reported and are owed.
     ///
@@ -59,6 +62,9 @@ impl Endpoint {
         Ok(())
     }
 
+    // contract: 5.1 Each frame is sent only in states that allow it
+    // contract: 6.4 (own) An end resets a stream on request, and counts it
+    // rule: 6.4 (own) An end resets a stream on request, and counts it
     /// Resets a stream with a code (section 6.4).
     ///
     /// # Errors
@@ -85,6 +91,9 @@ impl Endpoint {
         Ok(())
     }
 
+    // contract: 10.5 (own) An end that resets 1,001 streams ends with ENHANCE_YOUR_CALM
+    // contract: calls (own) A stream that the layer above refuses is reset
+    // rule: calls (own) A stream that the layer above refuses is reset
     /// Resets a stream for a fault of the peer that the layer above found. With INTERNAL_ERROR (2)
     /// that layer has no memory, and the connection fails with it; it fails with ENHANCE_YOUR_CALM
     /// where 1,000 streams were reset, or RST_STREAM would bring the waiting output above 262,144
@@ -116,6 +125,8 @@ impl Endpoint {
         Ok(())
     }
 
+    // contract: 6.7 (own) One own PING at a time awaits its answer
+    // rule: 6.7 (own) One own PING at a time awaits its answer
     /// Sends PING (section 6.7).
     ///
     /// # Errors
@@ -140,6 +151,8 @@ impl Endpoint {
         Ok(())
     }
 
+    // contract: 6.8 An own GOAWAY is sent once, with the greatest stream processed
+    // rule: 6.8 An own GOAWAY is sent once, with the greatest stream processed
     /// Says that this end takes no further streams (section 6.8): GOAWAY with the greatest that it
     /// has processed, and NO_ERROR.
     ///
@@ -169,6 +182,7 @@ impl Endpoint {
         Ok(())
     }
 
+    // rule: calls (own) A call is refused for its first condition, and changes nothing
     /// C1: the connection has failed.
     pub(crate) fn check_up(&self) -> Result<(), Refusal>
         ensures ok { OnOk result (self.now.failed ≡ None) }
@@ -181,6 +195,7 @@ impl Endpoint {
         Ok(())
     }
 
+    // rule: calls (own) A call is refused for its first condition, and changes nothing
     /// C7: too much output waits.
     pub(crate) fn check_room(&self) -> Result<(), Refusal>
         ensures ok { OnOk result (nat_le full_output (length self.now.output.waiting) ≡ false) }

@@ -11,6 +11,7 @@ use crate::limits::FULL_OUTPUT;
 use h2_frame::{Code, FrameRef};
 
 impl Endpoint {
+    // rule: 6.9 Nothing of the window of the connection is lost
     /// Returns all that is unreturned, by WINDOW_UPDATE on stream 0, for which there is room.
     pub(crate) fn return_credit(&mut self)
         requires up { self.old.failed ≡ None }
@@ -27,6 +28,7 @@ impl Endpoint {
         self.unreturned = 0;
     }
 
+    // rule: 6.9 Nothing of the window of the connection is lost
     /// So many octets more of the connection's window will not be released: they are returned, with
     /// all that is unreturned, where there are some and less than the full output waits. There is
     /// room for a WINDOW_UPDATE.
@@ -43,6 +45,7 @@ impl Endpoint {
         }
     }
 
+    // rule: 5.4.1 A connection error is answered by GOAWAY, and nothing is sent after
     /// The connection fails: GOAWAY follows what waits. It takes no memory.
     pub(crate) fn fail(&mut self, code: Code, last: u32)
         requires up { self.old.failed ≡ None }

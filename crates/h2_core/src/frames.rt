@@ -19,6 +19,19 @@ use h2_block::Gathered;
 use h2_frame::{Code, FrameRef};
 
 impl Endpoint {
+    // rule: 3.4 A first frame other than SETTINGS without ACK is PROTOCOL_ERROR
+    // contract: 6.10 Inside a block any frame but its CONTINUATION is PROTOCOL_ERROR
+    // contract: 4.3 A block that does not decode is COMPRESSION_ERROR, of the connection
+    // contract: 5.1.1 A stream that is opened closes all lower idle ones
+    // contract: 5.4.1 A connection error is answered by GOAWAY, and nothing is sent after
+    // contract: 5.4 (own) Being out of memory hides no other fault of the connection
+    // contract: 5.4 (own) Only steps that reply, change streams or return credit take memory
+    // contract: 6.1 The complete payload of DATA, padding included, counts for windows
+    // contract: 6.5.3 Own SETTINGS hold once they are acknowledged, and not before
+    // contract: 6.10 No answer is sent between the frames of a field block
+    // contract: 6.8 The last stream of GOAWAY never grows: the least so far is reported
+    // contract: 6.9.2 INITIAL_WINDOW_SIZE shifts the window of each stream
+    // contract: 6.9.2 A shift of a window above 2^31-1 is FLOW_CONTROL_ERROR
     /// Takes the next frame, one that has come without a fault: the numbers of its stream, of a
     /// last stream and of an increment have 31 bits, and its payload's length 24.
     ///
@@ -64,6 +77,7 @@ impl Endpoint {
         }
     }
 
+    // rule: 6.10 Inside a block any frame but its CONTINUATION is PROTOCOL_ERROR
     /// A frame that is not a complete block by itself: it is gathered, or passes on.
     fn gather_frame<'a>(&mut self, frame: FrameRef<'a>) -> Result<Option<Reported<'a>>, Code>
         requires sound { IsSound (end_of self.old) }
@@ -97,6 +111,11 @@ impl Endpoint {
         }
     }
 
+    // rule: 5.1 PRIORITY is ignored in every state
+    // contract: 5.4 (own) Being out of memory hides no other fault of the connection
+    // contract: 5.4 (own) Only steps that reply, change streams or return credit take memory
+    // rule: 5.4 (own) Only steps that reply, change streams or return credit take memory
+    // rule: 6.1 The complete payload of DATA, padding included, counts for windows
     /// A frame that is no part of a block, outside blocks.
     fn take_alone<'a>(&mut self, frame: FrameRef<'a>) -> Result<Option<Reported<'a>>, StepError>
         requires sound { IsSound (end_of self.old) }
@@ -134,6 +153,7 @@ impl Endpoint {
         }
     }
 
+    // rule: 5.4.1 A connection error is answered by GOAWAY, and nothing is sent after
     /// The connection fails for this cause, and its code is answered.
     pub(crate) fn fail_by(&mut self, stop: StepError) -> Code
         requires sound { IsSound (end_of self.old) }

@@ -32,6 +32,8 @@ const OPENING_SETTINGS: usize = 33;
 const FIRST_TABLE: u32 = 4_096;
 
 impl Endpoint {
+    // contract: 3.4 Both ends begin with SETTINGS
+    // rule: 3.4 Both ends begin with SETTINGS
     /// A new end, whose opening waits: at a client the preface, and SETTINGS (RFC 9113, section
     /// 3.4).
     ///

@@ -21,6 +21,7 @@ use h2_log::{Refusal, Role};
 use hpack::FieldList;
 
 impl Endpoint {
+    // contract: 6.9 Nothing of the window of the connection is lost
     /// Appends as many octets of the output as wait, and at most `count`, to `out`, and takes them
     /// away. Where less than the full output waits, all that is unreturned is returned first. It
     /// works after a failure too.
@@ -76,6 +77,7 @@ impl Endpoint {
         }
     }
 
+    // rule: 6.8 Own streams above GOAWAY's last are reported as unprocessed
     /// The next stream that the peer does not process (RFC 9113, section 6.8): the least active one
     /// of a client above the last stream of the peer's GOAWAY. It takes no memory.
     pub fn unprocessed(&self) -> Option<u32>
@@ -89,6 +91,7 @@ impl Endpoint {
         }
     }
 
+    // rule: 6.8 Own streams above GOAWAY's last are reported as unprocessed
     /// The next stream that the peer does not process is reported, and over.
     ///
     /// # Errors
@@ -113,6 +116,7 @@ impl Endpoint {
         Ok(())
     }
 
+    // contract: 5.4.1 A connection error is answered by GOAWAY, and nothing is sent after
     /// The cutter has met a fault, or memory was refused to it: the connection fails with the code.
     pub fn fail_with(&mut self, code: Code)
         requires sound { IsSound (end_of self.old) }
@@ -150,6 +154,8 @@ impl Endpoint {
         self.streams.stream(id).is_some()
     }
 
+    // contract: calls (own) An end answers of its state, and of little once it has failed
+    // rule: calls (own) An end answers of its state, and of little once it has failed
     /// How many octets of output wait. It takes no memory.
     pub fn waiting(&self) -> usize
         ensures { result ≡ length self.now.output.waiting }
@@ -157,6 +163,8 @@ impl Endpoint {
         self.output.len()
     }
 
+    // contract: calls (own) An end answers of its state, and of little once it has failed
+    // rule: calls (own) An end answers of its state, and of little once it has failed
     /// How many octets this end may send: on the connection where `id` is 0, else on a stream, if
     /// it is active; below zero where settings have shifted its window so. None once the connection
     /// has failed. It takes no memory.
@@ -173,6 +181,8 @@ impl Endpoint {
         Some(stream.send_window)
     }
 
+    // contract: calls (own) An end answers of its state, and of little once it has failed
+    // rule: calls (own) An end answers of its state, and of little once it has failed
     /// How many octets of a stream were reported and are not released; 0 where it is not active,
     /// and once the connection has failed. It takes no memory.
     pub fn owed(&self, id: u32) -> u32
@@ -187,6 +197,7 @@ impl Endpoint {
         }
     }
 
+    // rule: calls (own) An end answers of its state, and of little once it has failed
     /// How many octets of the connection's window are still to be returned; 0 once the connection
     /// has failed. It takes no memory.
     pub fn due(&self) -> u32

@@ -34,6 +34,11 @@ pub(crate) struct DataFrame<'a> {
 }
 
 impl Endpoint {
+    // rule: 5.1 On an idle stream any but HEADERS or PRIORITY is PROTOCOL_ERROR
+    // rule: 5.1 After the peer has ended a stream DATA is STREAM_CLOSED
+    // rule: 5.1 On a closed stream DATA is STREAM_CLOSED (its scope: own)
+    // rule: 6.9.1 DATA above the connection's window is FLOW_CONTROL_ERROR
+    // rule: 6.9.1 DATA above its stream's window is FLOW_CONTROL_ERROR (scope: own)
     /// DATA (section 6.1): it takes of both windows; on a stream that this end has closed it is
     /// discarded, and after the peer's end it is a fault of the stream.
     pub(crate) fn take_data<'a>(
@@ -70,6 +75,7 @@ impl Endpoint {
         self.accept_data(frame, stream)
     }
 
+    // rule: 6.1 The complete payload of DATA, padding included, counts for windows
     /// DATA within both windows on an active stream that the peer has not ended.
     fn accept_data<'a>(
         &mut self,
@@ -102,6 +108,7 @@ impl Endpoint {
         }))
     }
 
+    // rule: 5.1 DATA on a stream that this end has reset counts for the connection
     /// DATA on a stream that this end has closed: it is discarded, and its flow is unreturned.
     fn discard_data<'a>(&mut self, flow: u32) -> Result<Option<Reported<'a>>, StepError>
         requires sound { IsSound (end_of self.old) }
@@ -115,6 +122,10 @@ impl Endpoint {
         Ok(None)
     }
 
+    // rule: 5.1 On an idle stream any but HEADERS or PRIORITY is PROTOCOL_ERROR
+    // rule: 5.4.2 RST_STREAM is not answered by RST_STREAM, nor sent twice
+    // rule: 6.4 RST_STREAM on an idle stream is PROTOCOL_ERROR
+    // rule: 6.4 RST_STREAM closes an active stream and is reported
     /// RST_STREAM (section 6.4): it closes an active stream, and is ignored on a closed one.
     pub(crate) fn take_reset<'a>(
         &mut self,
@@ -141,6 +152,8 @@ impl Endpoint {
         }
     }
 
+    // rule: 6.7 PING is answered with the same octets
+    // rule: 10.5 (own) Replies above 262,144 waiting octets are ENHANCE_YOUR_CALM
     /// PING (section 6.7): it is answered.
     pub(crate) fn take_ping<'a>(
         &mut self,
@@ -158,6 +171,7 @@ impl Endpoint {
         Ok(None)
     }
 
+    // rule: 6.7 A PING's answer that is awaited is reported, others are ignored
     /// The answer to a PING: it is reported if it has the octets that are awaited.
     pub(crate) fn take_pong<'a>(
         &mut self,
@@ -174,6 +188,7 @@ impl Endpoint {
         Ok(Some(Reported::Pong { octets }))
     }
 
+    // rule: 6.8 The last stream of GOAWAY never grows: the least so far is reported
     /// GOAWAY (section 6.8): the least of the last streams that it named holds.
     pub(crate) fn take_goaway<'a>(
         &mut self,
@@ -193,6 +208,7 @@ impl Endpoint {
     }
 }
 
+// rule: 6.9.1 DATA of no octets is within any window
 /// Whether DATA of so many octets exceeds a window; of none it exceeds none (section 6.9.1).
 fn exceeds(flow: u32, window: i64) -> bool
     ensures { result ≡ exceeds flow window }

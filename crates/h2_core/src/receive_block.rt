@@ -20,6 +20,8 @@ use h2_streams::Stream;
 use hpack::{Decoded, Fault};
 
 impl Endpoint {
+    // contract: 4.3 Each received block is decoded, also one that is ignored
+    // rule: 4.3 Each received block is decoded, also one that is ignored
     /// A complete field block: it is decoded, whatever becomes of its stream, and then taken by the
     /// state of the stream.
     ///
@@ -56,6 +58,12 @@ impl Endpoint {
         }
     }
 
+    // rule: 5.1 On an idle stream any but HEADERS or PRIORITY is PROTOCOL_ERROR
+    // rule: 5.1 (own) On a closed stream a field block is PROTOCOL_ERROR
+    // rule: 5.1.1 A field block on an idle number not the peer's is PROTOCOL_ERROR
+    // contract: 5.4 (own) Being out of memory hides no other fault of the connection
+    // rule: 5.4 (own) Being out of memory hides no other fault of the connection
+    // contract: 5.4 (own) Only steps that reply, change streams or return credit take memory
     /// A block that was decoded, whose list is above the limit or else kept.
     fn take_decoded<'a>(
         &mut self,
@@ -77,6 +85,9 @@ impl Endpoint {
         }
     }
 
+    // rule: 5.1 After the peer has ended a stream a field block is STREAM_CLOSED
+    // rule: 6.2 A field block on an idle odd number opens the stream at a server
+    // rule: 10.5.1 A list above 65,536 octets is a stream error ENHANCE_YOUR_CALM
     /// A block on an active stream.
     fn take_further<'a>(
         &mut self,
@@ -106,6 +117,11 @@ impl Endpoint {
         Ok(Some(Reported::Fields { id, end }))
     }
 
+    // rule: 5.1.1 A stream that is opened closes all lower idle ones
+    // rule: 5.1.2 A stream above the limit of active ones is REFUSED_STREAM
+    // rule: 6.2 A field block on an idle odd number opens the stream at a server
+    // rule: 6.8 Streams above the last of an own GOAWAY are ignored
+    // rule: 10.5.1 A list above 65,536 octets is a stream error ENHANCE_YOUR_CALM
     /// A block on an idle number that the peer may open (sections 5.1.1, 5.1.2 and 6.8).
     fn take_opening<'a>(
         &mut self,
@@ -144,6 +160,7 @@ impl Endpoint {
         Ok(Some(Reported::Fields { id, end }))
     }
 
+    // rule: 6.9.2 A new stream has its initial windows
     /// A stream that is opened now, with these sides.
     pub(crate) fn new_stream(&self, state: StreamState) -> Stream
         ensures { stream_view result
@@ -158,6 +175,8 @@ impl Endpoint {
     }
 }
 
+// contract: 4.3 A block that does not decode is COMPRESSION_ERROR, of the connection
+// rule: 4.3 A block that does not decode is COMPRESSION_ERROR, of the connection
 /// The code with which the connection ends where a block is not decoded (section 4.3).
 fn code_of_fault(fault: Fault) -> Code
     ensures { result ≡ decode_fault_code fault }

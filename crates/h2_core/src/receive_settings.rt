@@ -25,6 +25,12 @@ use hpack::Encoder;
 const MAX_ENCODER_TABLE: u32 = 4_096;
 
 impl Endpoint {
+    // contract: 4.3.1 The encoder follows each HEADER_TABLE_SIZE, up to 4,096 (own)
+    // rule: 4.3.1 The encoder follows each HEADER_TABLE_SIZE, up to 4,096 (own)
+    // rule: 6.5.3 The first setting at fault decides, and the last value counts
+    // rule: 6.5.3 SETTINGS are acknowledged before anything else is sent
+    // rule: 6.9.2 INITIAL_WINDOW_SIZE shifts the window of each stream
+    // rule: 10.5 (own) Replies above 262,144 waiting octets are ENHANCE_YOUR_CALM
     /// SETTINGS: all pairs are checked in order, then applied, and acknowledged.
     pub(crate) fn take_settings<'a>(
         &mut self,
@@ -49,6 +55,8 @@ impl Endpoint {
         Ok(None)
     }
 
+    // rule: 6.5.3 The first setting at fault decides, and the last value counts
+    // rule: 6.9.2 A shift of a window above 2^31-1 is FLOW_CONTROL_ERROR
     /// The settings after all pairs, or the fault of the first that has one: a value's own, or an
     /// initial window that would bring a stream's send window above 2<sup>31</sup> - 1 (section
     /// 6.9.2). It goes over the active streams once at most.
@@ -97,6 +105,8 @@ impl Endpoint {
         is_above(window, self.peer.initial_window_size, value)
     }
 
+    // rule: 6.5.3 Own SETTINGS hold once they are acknowledged, and not before
+    // rule: 6.5.3 An acknowledgment that is awaited is reported, others are ignored
     /// The acknowledgment of own SETTINGS: those that await it come into force (section 6.5.3).
     pub(crate) fn take_acknowledgment<'a>(&mut self) -> Result<Option<Reported<'a>>, StepError>
         requires sound { IsSound (end_of self.old) }

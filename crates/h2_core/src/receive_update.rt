@@ -20,6 +20,9 @@ use h2_frame::Code;
 use h2_streams::Stream;
 
 impl Endpoint {
+    // rule: 5.1 On an idle stream any but HEADERS or PRIORITY is PROTOCOL_ERROR
+    // rule: 6.9 WINDOW_UPDATE on an idle stream is PROTOCOL_ERROR
+    // rule: 6.9 WINDOW_UPDATE on a closed stream is ignored
     /// WINDOW_UPDATE: of the connection on stream 0, else of a stream.
     pub(crate) fn take_window_update<'a>(
         &mut self,
@@ -43,6 +46,8 @@ impl Endpoint {
         }
     }
 
+    // rule: 6.9 An increment of 0 on the connection is PROTOCOL_ERROR
+    // rule: 6.9.1 The connection's window above 2^31-1 is FLOW_CONTROL_ERROR
     /// No octets are a fault, and so is a window above 2<sup>31</sup> - 1.
     fn widen_connection<'a>(&mut self, increment: u32) -> Result<Option<Reported<'a>>, StepError>
         requires sound { IsSound (end_of self.old) }
@@ -61,6 +66,8 @@ impl Endpoint {
         Ok(None)
     }
 
+    // rule: 6.9 An increment of 0 on a stream is a stream error PROTOCOL_ERROR
+    // rule: 6.9.1 A stream's window above 2^31-1 is a stream error FLOW_CONTROL_ERROR
     /// On an active stream both are faults of the stream.
     fn widen_stream<'a>(
         &mut self,
@@ -90,6 +97,7 @@ impl Endpoint {
         self.reset_for_fault(id, Some(stream), code, 0, 0)
     }
 
+    // rule: 5.4 (own) Being out of memory hides no other fault of the connection
     /// A fault of a stream: it is reset with the code, and what it owes is unreturned. An item at
     /// fault has taken `flow` octets of the connection's window, which are unreturned too, and
     /// opens the stream `opened`, or none (0).
@@ -127,6 +135,8 @@ impl Endpoint {
         }))
     }
 
+    // rule: 10.5 (own) An end that resets 1,001 streams ends with ENHANCE_YOUR_CALM
+    // rule: 10.5 (own) Replies above 262,144 waiting octets are ENHANCE_YOUR_CALM
     /// Whether a further RST_STREAM is more than this end sends: the 1,001st reset, or octets that
     /// would bring the waiting output above its limit (own; section 10.5).
     pub(crate) fn is_over_limits(&self) -> bool

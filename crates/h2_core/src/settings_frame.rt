@@ -24,6 +24,7 @@ const PAIR: usize = 6;
 /// The octets of SETTINGS that change an end's values, at most.
 const MAX_SETTINGS: usize = 27;
 
+// rule: 3.4 Both ends begin with SETTINGS
 /// The pairs of an end's first SETTINGS: a client says that it takes no push, both say how large a
 /// list may be.
 pub(crate) fn opening_settings(role: Role, config: Config) -> [(u16, u32); 4]
@@ -41,6 +42,7 @@ pub(crate) fn opening_settings(role: Role, config: Config) -> [(u16, u32); 4]
     ]
 }
 
+// rule: 3.4 Both ends begin with SETTINGS
 /// Adds own SETTINGS with these pairs, for which there is room. It takes no memory.
 pub(crate) fn add_settings(output: &mut Output, pairs: &[(u16, u32)])
     requires up { output.old.ended ≡ false }
@@ -79,6 +81,8 @@ fn pair_octets(pair: (u16, u32)) -> [u8; PAIR]
 }
 
 impl Endpoint {
+    // contract: 6.5.3 (own) Own SETTINGS are changed once those before are acknowledged
+    // rule: 6.5.3 (own) Own SETTINGS are changed once those before are acknowledged
     /// Changes this end's settings (RFC 9113, section 6.5.3): they hold from their acknowledgment
     /// on.
     ///
@@ -106,6 +110,7 @@ impl Endpoint {
     }
 }
 
+// rule: 6.5.3 (own) Own SETTINGS are changed once those before are acknowledged
 /// Adds SETTINGS that change an end's values, for which there is room. It takes no memory.
 fn add_changed_settings(output: &mut Output, role: Role, config: Config)
     requires up { output.old.ended ≡ false }

@@ -22,6 +22,9 @@ pub(crate) enum Status {
 }
 
 impl Endpoint {
+    // contract: 5.1 A stream has one state, by what was received and sent
+    // rule: 5.1 A stream has one state, by what was received and sent
+    // rule: 5.1.1 A stream that is opened closes all lower idle ones
     /// What is known of a number.
     pub(crate) fn status(&self, id: u32) -> Status
         ensures state { state_of_status result ≡ state_at (end_of self.now) id }
@@ -36,6 +39,7 @@ impl Endpoint {
         }
     }
 
+    // rule: 6.8 Streams above the last of an own GOAWAY are ignored
     /// Whether a number of the peer's is above the last stream of this end's GOAWAY.
     fn is_above_goaway(&self, id: u32) -> bool
         ensures { result ≡ is_above (end_of self.now) id }
@@ -54,6 +58,7 @@ impl Endpoint {
         self.role == Role::Server && id % 2 == 1 && id > self.highest
     }
 
+    // rule: 5.1.2 A stream above the limit of active ones is REFUSED_STREAM
     /// Whether as many streams are active as this end allows (section 5.1.2).
     pub(crate) fn is_at_capacity(&self) -> bool
         ensures { is_server self.now.role ≡ true

@@ -58,6 +58,8 @@ impl Endpoint {
         }
     }
 
+    // rule: 5.4.2 A stream error is answered by RST_STREAM with its code, and reported
+    // rule: 5.4.2 RST_STREAM is not answered by RST_STREAM, nor sent twice
     /// A number is reset: RST_STREAM joins the output, what an active stream with it owes, and so
     /// much more, is unreturned.
     ///
@@ -95,6 +97,7 @@ impl Endpoint {
     }
 }
 
+// rule: 5.4 (own) Only steps that reply, change streams or return credit take memory
 /// Makes room for a WINDOW_UPDATE where a stream with these sides is over.
 ///
 /// # Errors

@@ -5,6 +5,7 @@ use Rattle.h2_log.specs.Events.{Event, FieldsEvent, DataEvent, ResetEvent, Unpro
 use Rattle.h2_end_laws.specs.Takes.{TakeAnswer, Took}
 
 -- Whether a call, with its answer, may close a stream: it ends this side of it, or resets it.
+-- rule (law): 5.1 A stream becomes active, and ceases to be, by calls and events alone
 unfoldable pub call_may_close : ℕ → Act → Answer → Bool
 call_may_close i (SendFields id fields end) Done = id == i && end
 call_may_close i (SendData id octets end) (Count count) =
@@ -22,16 +23,19 @@ event_may_close i (ResetEvent id code ours) = id == i
 event_may_close i (UnprocessedEvent id) = id == i
 event_may_close i event = false
 
+-- rule (law): 5.1 A stream becomes active, and ceases to be, by calls and events alone
 unfoldable pub take_may_close : ℕ → TakeAnswer → Bool
 take_may_close i (Took count (Some event)) = event_may_close i event
 take_may_close i answer = false
 
 -- Whether it reports a field block of the stream.
+-- rule (law): 5.1 A stream becomes active, and ceases to be, by calls and events alone
 unfoldable pub take_has_fields : ℕ → TakeAnswer → Bool
 take_has_fields i (Took count (Some (FieldsEvent id list end))) = id == i
 take_has_fields i answer = false
 
 -- Whether it reports octets of the stream.
+-- rule (law): 6.9 Where nothing is owed nothing is, until octets are reported
 unfoldable pub take_has_data : ℕ → TakeAnswer → Bool
 take_has_data i (Took count (Some (DataEvent id octets flow end))) = id == i
 take_has_data i answer = false

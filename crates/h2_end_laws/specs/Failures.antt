@@ -9,6 +9,7 @@ use Rattle.h2_log.specs.Log.{Log, last_processed}
 
 -- The last stream is the greatest that was processed, or that of the last frame: that frame's block
 -- may open a stream and be a fault of the connection at once.
+-- rule: 5.4.1 A connection error is answered by GOAWAY, and nothing is sent after
 abbrev pub IsLastStream : Log → ℕ → Type 0
 IsLastStream log last =
     (last ≡ last_processed log)
@@ -17,6 +18,7 @@ IsLastStream log last =
 
 -- The newest item is GOAWAY with the code. Its last stream is the greatest that was processed, or a
 -- greater one, that of the last frame. And its octets are the last of the output.
+-- rule: 5.4.1 A connection error is answered by GOAWAY, and nothing is sent after
 pub record EndsInGoAway (log : Log) (code : Code) : Type 0 where
   pub last : ℕ
   pub earlier : List Item

@@ -7,6 +7,7 @@ use Rattle.h2_log_laws.specs.Sending.{oldest_first}
 
 -- The frames are the items and the block that has begun; after a failure one more frame may stand
 -- at the end, with which the connection failed.
+-- rule: 4.3 A field block is its HEADERS' fragment and those of CONTINUATION
 pub record AreGrouped (log : Log) : Type 0 where
   pub preceding : List Frame
   pub last : List Frame

@@ -9,6 +9,7 @@ use Rattle.h2_log_laws.specs.Sending.{oldest_first}
 
 -- The octets are read without a fault, as frames and octets after them, and the frames are items
 -- and a block that has begun; these items are the first of those that were written.
+-- rule (law): 4.1 What an end sends is read as its frames, without a fault
 pub record IsPrefixOfItems (role : Role) (limits : Limits) (octets : List ℕ) (sent : List Item)
     : Type 0 where
   pub frames : List Frame

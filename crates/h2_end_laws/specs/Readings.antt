@@ -36,6 +36,7 @@ pub record Reading : Type 0 where
   pub events : List Event
 
 -- the codes with which the stream of an item may be at fault (sections 5.1, 5.1.2, 6.9 and 10.5.1)
+-- rule: 5.4.2 A stream error is answered by RST_STREAM with its code, and reported
 unfoldable pub fault_codes : Item → List Code
 fault_codes (block stream end octets) = StreamClosed ∷ RefusedStream ∷ EnhanceYourCalm ∷ []
 fault_codes (alone (Data stream end octets pad)) = StreamClosed ∷ []
@@ -44,6 +45,8 @@ fault_codes (alone _) = []
 
 -- The event is what the item says. A stream's fault is an own reset of the item's stream. GOAWAY is
 -- reported with the least last stream so far. `received`: the items that were read before this one.
+-- rule: 5.4.2 A stream error is answered by RST_STREAM with its code, and reported
+-- rule: 6.8 The last stream of GOAWAY never grows: the least so far is reported
 pub data IsEventOf (received : List Item) : Item → Option Decoded → Event → Type 0 where
   its_fields : (stream : ℕ) (end : Bool) (octets : List ℕ) (decoded : Decoded)
       → IsEventOf received (block stream end octets) (Some decoded)
@@ -67,6 +70,7 @@ pub data IsEventOf (received : List Item) : Item → Option Decoded → Event �
 -- Items of which nothing need be reported, by what had been read, written and reported by then:
 -- field blocks and DATA of a stream that this end has closed; RST_STREAM of a stream that isn't
 -- active; replies that aren't awaited; and whatever isn't GOAWAY.
+-- rule: 6.2 A field block on an idle odd number opens the stream at a server
 abbrev pub MayBeSilent : Role → (received sent : List Item) → List Event → Item → Type 0
 MayBeSilent role received sent reported (block stream end octets) =
     is_closed_by_us role stream sent ≡ true
@@ -93,6 +97,7 @@ AreEventsOf role received reading (event ∷ other ∷ events) = ⊥
 
 -- A block decodes at the table after all blocks before it, with the table limit that was in force;
 -- other items change no table.
+-- rule: 4.3 Each received block is decoded, also one that is ignored
 abbrev pub DecodesTo : Entries → Item → Reading → Entries → Type 0
 DecodesTo before (alone frame) reading after = (reading.decoded ≡ None) × (after ≡ before)
 DecodesTo before (block stream end octets) reading after =
@@ -102,6 +107,7 @@ DecodesTo before (block stream end octets) reading after =
     × (after ≡ decoded.after)
 
 -- The items decode one after another, from the first table on.
+-- rule: 4.3 Each received block is decoded, also one that is ignored
 abbrev pub AreDecoded : List Reading → Entries → Type 0
 AreDecoded [] after = after ≡ empty_table 4096
 AreDecoded (reading ∷ readings) after =

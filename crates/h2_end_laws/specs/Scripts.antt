@@ -28,6 +28,7 @@ is_in_frame (with_part takes unparsed part) = false
 is_in_frame (with_frame takes frame ends) = true
 
 -- the marks of a log's history, the first one first
+-- rule: 4.1 The frames of a stream do not depend on the pieces of its octets
 unfoldable pub script_of : {role : Role} → {values : Values} → {log : Log}
     → IsLog role values log → List Mark
 script_of (begins in_range) = []
@@ -41,5 +42,6 @@ script_of (reported_one is up next) = script_of is ++ Unprocessed ∷ []
 script_of (called_one is act answer typed may) = script_of is ++ Call act answer ∷ []
 
 -- The logs are the same but for their turns, which say where the pieces ended.
+-- rule: 4.1 The frames of a stream do not depend on the pieces of its octets
 abbrev pub AreSameButTurns : Log → Log → Type 0
 AreSameButTurns log other = record log { turns = [] } ≡ record other { turns = [] }

@@ -36,6 +36,7 @@ changes_encoder (alone _) = false
 -- What was sent goes with the SETTINGS received and the lists accepted, all of them, in order, and
 -- leaves this encoder: an acknowledgment applies the next SETTINGS, a field block is the next list,
 -- encoded, and nothing else changes the encoder.
+-- rule: 4.3.1 The encoder follows each HEADER_TABLE_SIZE, up to 4,096 (own)
 pub data EncodesInOrder : (sent : List Item) (settings : List (List (ℕ × ℕ)))
     (lists : List (List Field)) (encoder : EncoderState) → Type 0 where
   sent_nothing : EncodesInOrder [] [] [] first_encoder

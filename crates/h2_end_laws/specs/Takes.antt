@@ -35,6 +35,8 @@ AnswersFrame before after count (Failed code) = after.failed ≡ Some code
 -- answers its code again. A stream that the peer doesn't process is reported before any octet is
 -- used. Otherwise octets are used up to the end of one frame, or else all of the piece; or up to a
 -- fault; or memory is refused.
+-- rule: calls (own) take uses octets up to one frame's end, and answers one event at most
+-- rule: calls (own) A fault of the octets fails the connection with its code
 pub data MayTake (log : Log) (piece : List ℕ) (answer : TakeAnswer) (after : Log) : Type 0 where
   has_failed : (code : Code) → log.failed ≡ Some code → answer ≡ Failed code → after ≡ log
       → MayTake log piece answer after
@@ -64,6 +66,7 @@ HadMemory _ = Unit {0}
 
 -- What each answer says of the log after it: how far the octets were used, which events are new,
 -- and whether the connection has failed.
+-- rule: calls (own) take uses octets up to one frame's end, and answers one event at most
 abbrev pub AfterTake : (before after : Log) → List ℕ → TakeAnswer → Type 0
 AfterTake before after piece (Took count event) =
     (octets unused : List ℕ) × (piece ≡ octets ++ unused) × (length octets ≡ count)

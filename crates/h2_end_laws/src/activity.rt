@@ -13,6 +13,7 @@ ghost use Rattle.h2_end_laws.specs.Takes.{TakeAnswer, MayTake, Took};
 ghost use Rattle.h2_end_laws.specs.Activity.{call_may_close, take_may_close, take_has_data};
 ghost use Rattle.h2_end_laws.specs.Activity.{take_has_fields};
 
+// contract: 5.1 A stream becomes active, and ceases to be, by calls and events alone
 /// A stream stays active, unless a call ends this side of it or resets it, or what `take` answers
 /// says that it may be closed (RFC 9113, section 5.1). A failure closes none.
 pub fn active_streams_stay_active()
@@ -24,6 +25,7 @@ pub fn active_streams_stay_active()
         → active log i ≡ true → take_may_close i answer ≡ false → active after i ≡ true }
 {}
 
+// contract: 5.1 A stream becomes active, and ceases to be, by calls and events alone
 /// A stream that isn't active becomes so where a call answers its number, or where `take` reports
 /// a field block of it: at a server (sections 5.1 and 5.1.1).
 pub fn streams_become_active()

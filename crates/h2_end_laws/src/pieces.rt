@@ -10,6 +10,7 @@ ghost use Rattle.h2_log.specs.Histories.{IsLog};
 ghost use Rattle.h2_end_laws.specs.Prefixes.{IsPrefixOfItems};
 ghost use Rattle.h2_end_laws.specs.Scripts.{script_of, AreSameButTurns};
 
+// contract: 4.1 The frames of a stream do not depend on the pieces of its octets
 /// Two ends of one role and configuration that have used the same octets, with the same calls and
 /// answers, and memory refused, at the same places among them, have the same frames, items, events,
 /// output and fault, however the octets were cut into pieces: their logs are the same but for the

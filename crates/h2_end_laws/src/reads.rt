@@ -7,6 +7,8 @@ ghost use Rattle.h2_log.specs.Histories.{IsLog};
 ghost use Rattle.h2_end_laws.specs.Grouped.{AreGrouped};
 ghost use Rattle.h2_end_laws.specs.Readings.{HasReadings};
 
+// contract: 4.3 A field block is its HEADERS' fragment and those of CONTINUATION
+// contract: 4.3 A field block ends with the frame that has END_HEADERS
 /// The items that an end has read, and the field block that has begun, are its frames, grouped, up
 /// to a frame with which the connection failed (RFC 9113, sections 4.3 and 6.10).
 pub fn items_are_frames_grouped()
@@ -14,6 +16,9 @@ pub fn items_are_frames_grouped()
         → AreGrouped log }
 {}
 
+// contract: 4.3 Each received block is decoded, also one that is ignored
+// contract: 5.4.2 A stream error is answered by RST_STREAM with its code, and reported
+// contract: 6.8 The last stream of GOAWAY never grows: the least so far is reported
 /// The events are those of the items, in order, at most one of each, and besides them the streams
 /// that the peer didn't process. Each field block is decoded at the table after all before it, and
 /// each is reported with its fields unless this end had closed its stream by then, or it is a fault

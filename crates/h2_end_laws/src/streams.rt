@@ -13,6 +13,7 @@ ghost use Rattle.h2_log.specs.Histories.{IsLog};
 ghost use Rattle.h2_end_laws.specs.Takes.{TakeAnswer, MayTake, Took};
 ghost use Rattle.h2_end_laws.specs.Over.{used, IsOver, has_room};
 
+// contract: 5.1 A used number stays used, and a stream that is over stays over
 /// A number that was used stays used, and a stream that is over stays over (RFC 9113, section
 /// 5.1).
 pub fn over_streams_stay_over()
@@ -26,6 +27,7 @@ pub fn over_streams_stay_over()
         → MayTake log piece answer after → IsOver log i → IsOver after i }
 {}
 
+// contract: 5.1 A used number stays used, and a stream that is over stays over
 /// Fields and octets are reported of streams that are not over, and that are used from then on
 /// (sections 5.1 and 5.1.1).
 pub fn events_are_of_streams_in_use()
@@ -46,6 +48,7 @@ pub fn opened_numbers_are_new()
         × (used (with_call log (Open fields end) (Number id)) id ≡ true) }
 {}
 
+// contract: 6.9 Where nothing is owed nothing is, until octets are reported
 /// Sending on one stream gives no other one room (section 6.9.1).
 pub fn sending_gives_no_room()
     ensures fields { (log : Log) (id i : ℕ) (fields : List Field) (end : Bool) (answer : Answer)
@@ -56,6 +59,7 @@ pub fn sending_gives_no_room()
         → has_room (with_call log (SendData id octets end) answer) i ≡ false }
 {}
 
+// contract: 6.9 Where nothing is owed nothing is, until octets are reported
 /// Once all that is owed on a stream was released, nothing is; and releasing on one stream makes
 /// nothing owed on another (section 6.9).
 pub fn released_is_not_owed()

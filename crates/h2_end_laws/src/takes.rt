@@ -10,6 +10,7 @@ ghost use Rattle.h2_log.specs.LogSteps.{took_frame};
 ghost use Rattle.h2_log.specs.Histories.{IsLog, TakesOctets, TakesFrame, IsDecodedFor};
 ghost use Rattle.h2_end_laws.specs.Takes.{TakeAnswer, MayTake, HadMemory, AfterTake};
 
+// contract: calls (own) take uses octets up to one frame's end, and answers one event at most
 /// After each call an end has a log that comes about. The octets used are a prefix of the piece,
 /// the event is the newest of the log, and there is none but that; a failed end answers its code.
 /// Of each frame there is an answer. Where memory isn't refused, what is answered and the log after

@@ -25,6 +25,9 @@ ghost use Rattle.h2_end_laws.specs.Replies.{replies_owed, replies_among};
 ghost use Rattle.h2_end_laws.specs.Sendings.{EncodesInOrder, settings_received, lists_accepted};
 ghost use Rattle.h2_end_laws.specs.Written.{Writes};
 
+// contract: 6.5.3 SETTINGS are acknowledged before anything else is sent
+// contract: 6.7 PING is answered with the same octets
+// contract: 6.10 No answer is sent between the frames of a field block
 /// Each SETTINGS that was read has been acknowledged once, and each PING answered once with its
 /// octets, in order, and nothing else (RFC 9113, sections 6.5.3 and 6.7).
 pub fn each_is_replied_to()
@@ -32,6 +35,7 @@ pub fn each_is_replied_to()
         → replies_among log.sent ≡ replies_owed log.received }
 {}
 
+// contract: 5.4.1 A connection error is answered by GOAWAY, and nothing is sent after
 /// An end that has failed has written GOAWAY last, with its code, and with the greatest stream that
 /// was processed, or a greater one, that of the last frame; and no call makes it write more
 /// (section 5.4.1).
@@ -43,6 +47,7 @@ pub fn nothing_follows_a_failure()
         → (with_call log act answer).written ≡ log.written }
 {}
 
+// contract: 4.1 What an end sends is read as its frames, without a fault
 /// Each item that an end has written can be sent: no refusal of writing holds for its frame, its
 /// numbers are those of its types, and its payload or block is within the limits (sections 4.1, 4.2
 /// and 4.3).
@@ -69,6 +74,7 @@ pub fn receive_window_is_kept()
         ≡ pos (own_value 4 first_window (acked log) log.sent) }
 {}
 
+// contract: 4.3 A block is sent as HEADERS and CONTINUATION frames, each full but one
 /// What each step writes: of a call that is accepted, what it owes; of an item that is no fault of
 /// the connection, what is replied to it; and credit. Nothing comes in between, so that field
 /// blocks are unbroken (section 4.3).

@@ -35,6 +35,7 @@ fn first_fault(alloc: Global, seed: u64) -> Option<Fault> {
     }
 }
 
+// rule: joined (own) What one end has handed out is a prefix of what the other accepted
 #[test]
 fn lists_one(rt: HostRuntime) {
     assert_eq!(&rt; first_fault(rt.alloc(), 1), None);

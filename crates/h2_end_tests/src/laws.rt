@@ -7,6 +7,8 @@ use h2_replay::{
     turns_are_of_the_log, windows_of_a_replay,
 };
 
+// rule: 8.1 (own) A message that breaks no rule as sent breaks none as read
+// rule: 8.1 (own) What has come of a message that breaks no rule can be read
 #[test]
 fn laws_are_called() {
     sent_messages_are_well_read();

@@ -28,12 +28,14 @@ use Rattle.h2_ends.specs.EndTakes.{end_with_log}
 
 -- why the connection refuses a message whose head this call sends: as the call, and C10 of the
 -- trailers too
+-- rule: 8.1 (own) A request is refused for a rule, or as its head is, or sent
 abbrev pub refusal_of_message : Log → Act → SentMessage → Option Refusal
 refusal_of_message log act message =
     first_of (conditions (log_view log) act
     ++ (is_too_large (trailer_fields message.trailers), ListTooLarge) ∷ [])
 
 -- The connection refuses a message so: for the first condition, or since memory was refused.
+-- rule: 8.1 (own) A request that is refused is handed back, and nothing has changed
 abbrev pub RefusesMessage : Log → Act → SentMessage → Refusal → Type 0
 RefusesMessage log act message refusal =
     (refusal_of_message log act message ≡ Some refusal)
@@ -61,6 +63,7 @@ end_with_message end act answer id message = record end {
 }
 
 -- What `request` may answer.
+-- rule: 8.1 (own) A request is refused for a rule, or as its head is, or sent
 unfoldable pub MayRequest : EndLog → SentMessage → Result ℕ EndRefusal → EndLog → Type 0
 MayRequest end message (Ok id) after =
     (broken_by_request message ≡ None)
@@ -78,6 +81,7 @@ MayRequest end message (Err other) after = ⊥
 
 -- E3: the stream isn't active, or the head of its request was not handed out. A client hands out
 -- none.
+-- rule: 8.1 (own) A response is sent only to a request, and is checked
 unfoldable pub IsNotAsked : EndLog → ℕ → Type 0
 IsNotAsked end id =
     (active end.log id ≡ false) ⊎ ((parts_on id end.handed ≡ []) ⊎ (end.log.role ≡ Client))
@@ -88,11 +92,14 @@ pub record IsAsked (end : EndLog) (id : ℕ) : Type 0 where
   pub server : end.log.role ≡ Server
 
 -- the rule that an answer to what was read on a stream breaks
+-- rule: 8.1 (own) A response is sent only to a request, and is checked
 abbrev pub broken_by_answer : EndLog → ℕ → SentMessage → Option Malformed
 broken_by_answer end id message =
     broken_by_response (asks_head_first (parts_on id end.handed)) message
 
 -- What `respond` may answer: E3, E4, E1 and E2 in this order.
+-- rule: 8.1 (own) A second response to a request is refused
+-- rule: 8.1 A response may come before its request is whole
 unfoldable pub MayRespond : EndLog → ℕ → SentMessage → Result (Unit {0}) EndRefusal → EndLog
     → Type 0
 MayRespond end id message (Ok done) after =
@@ -115,16 +122,20 @@ MayRespond end id message (Err (refusals.Conn refusal)) after =
     × IsUnchanged end after
 
 -- Of what waits on a stream nothing could go now.
+-- rule: 8.1 (own) pump sends the lower streams first, and all that can go
+-- rule: 8.1 (own) An end is quiet where nothing waits, is owed or could be sent
 abbrev pub IsStuckOn : EndLog → ℕ → Type 0
 IsStuckOn end i = IsStuck end.log i (tokens_waiting end i)
 
 -- A stream is active, and nothing could go on any lower one.
+-- rule: 8.1 (own) pump sends the lower streams first, and all that can go
 pub record IsNext (end : EndLog) (id : ℕ) : Type 0 where
   pub active : active end.log id ≡ true
   pub below : (j : ℕ) → j < id → IsStuckOn end j
 
 -- The calls of a `pump`: each is on an active stream, while nothing could go on any lower one; so
 -- many octets of bodies were sent. The last one may have been refused: for this.
+-- rule: 8.1 (own) pump sends the lower streams first, and all that can go
 pub data Pumps : (end : EndLog) → (count : ℕ) → Option Refusal → (after : EndLog) → Type 0 where
   pumps_no_more : (end : EndLog) → Pumps end 0 None end
   pumps_data : (end : EndLog) (id sent more : ℕ) (octets : List ℕ) (ends : Bool)
@@ -151,6 +162,7 @@ pub data Pumps : (end : EndLog) → (count : ℕ) → Option Refusal → (after 
 
 -- A pump that was not refused ends where the output is full, or where nothing of what waits could
 -- go.
+-- rule: 8.1 (own) pump sends the lower streams first, and all that can go
 abbrev pub HasPumpedAll : EndLog → ℕ → EndLog → Type 0
 HasPumpedAll end count after =
     (Pumps end count (Some OutputFull) after × (full_output ≤ waiting after.log))
@@ -158,6 +170,7 @@ HasPumpedAll end count after =
 
 -- What `pump` may answer: how many octets of bodies were sent; or C1 at once; or C12 once the
 -- connection has refused a call for it.
+-- rule: 8.1 (own) pump sends the lower streams first, and all that can go
 unfoldable pub MayPump : EndLog → Result ℕ EndRefusal → EndLog → Type 0
 MayPump end (Ok count) after = (end.log.failed ≡ None) × HasPumpedAll end count after
 MayPump end (Err (refusals.Conn Closed)) after = (end.log.failed ≢ None) × (after ≡ end)
@@ -166,12 +179,14 @@ MayPump end (Err (refusals.Conn Memory)) after =
 MayPump end (Err other) after = ⊥
 
 -- Something is owed on a stream, and nothing on any lower one.
+-- rule: 6.9 (own) release_all releases what is owed on each active stream
 pub record IsNextOwed (end : EndLog) (id : ℕ) : Type 0 where
   pub some : owed end.log id ≢ 0
   pub below : (j : ℕ) → j < id → owed end.log j ≡ 0
 
 -- The calls of a `release_all`: each releases all that is owed on a stream, where nothing is owed
 -- on any lower one. The last one may have been refused: for this.
+-- rule: 6.9 (own) release_all releases what is owed on each active stream
 pub data Releases : (end : EndLog) → Option Refusal → (after : EndLog) → Type 0 where
   releases_no_more : (end : EndLog) → Releases end None end
   releases_one : (end : EndLog) (id : ℕ) (refused : Option Refusal) (after : EndLog)
@@ -187,6 +202,7 @@ pub data Releases : (end : EndLog) → Option Refusal → (after : EndLog) → T
 
 -- What `release_all` may answer: that nothing is owed on any stream; or C1 at once; or C7 or C12
 -- once the connection has refused a call for it, and then something is owed still.
+-- rule: 6.9 (own) release_all releases what is owed on each active stream
 unfoldable pub MayReleaseAll : EndLog → Result (Unit {0}) EndRefusal → EndLog → Type 0
 MayReleaseAll end (Ok done) after =
     (end.log.failed ≡ None) × Releases end None after × ((i : ℕ) → owed after.log i ≡ 0)

@@ -23,12 +23,14 @@ abbrev pub end_with_handed : EndLog → Log → Handed → EndLog
 end_with_handed end log handed = record end { log = log; handed = handed ∷ end.handed }
 
 -- What was read of a stream, with one part more, begins a message that breaks no rule.
+-- rule: 8.1.1 A malformed message is a stream error PROTOCOL_ERROR
 abbrev pub IsReadableWith : EndLog → ℕ → (Part × Bool) → Type 0
 IsReadableWith end id part = IsReadable (reads_on end id) (parts_on id end.handed ++ part ∷ [])
 
 -- What is answered once a stream was refused with PROTOCOL_ERROR: that this end has reset it (which
 -- the last octet of the part may have closed already: then no RST_STREAM is sent); or the
 -- connection has failed.
+-- rule: 8.1.1 (own) How the connection takes a refusal is what is answered
 unfoldable pub AnswersRefused : EndLog → Log → (count id : ℕ) → EndAnswer → EndLog → Option Code
     → Type 0
 AnswersRefused end log count id answer after None =
@@ -40,6 +42,8 @@ AnswersRefused end log count id answer after (Some code) =
 -- The connection takes octets. What it reports is handed out; but a part of a message only where
 -- what was read of the stream with it begins a message that breaks no rule. At a server the first
 -- field block of a stream takes memory, and where that is refused the connection fails.
+-- rule: 8.1.1 A malformed message is a stream error PROTOCOL_ERROR
+-- rule: 8.1 (own) A server without memory for a first block fails with INTERNAL_ERROR
 pub data EndMayTake (end : EndLog) (piece : List ℕ) (answer : EndAnswer) (after : EndLog) : Type 0
   where
     fails : (code : Code) (log : Log) → MayTake end.log piece (Failed code) log

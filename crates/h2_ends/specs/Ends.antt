@@ -70,6 +70,7 @@ tokens_said end i = tokens_given (message_for i end.accepted)
 abbrev pub tokens_out : EndLog → ℕ → List Token
 tokens_out end i = tokens_sent i end.log.calls
 
+-- rule: 8.1 What was sent on a stream is a prefix of its message
 abbrev pub tokens_waiting : EndLog → ℕ → List Token
 tokens_waiting end i = drop (length (tokens_out end i)) (tokens_said end i)
 
@@ -78,15 +79,18 @@ unfoldable pub tokens_of_part : (Part × Bool) → List Token
 tokens_of_part (FieldsPart list, end) = FieldsToken list end ∷ end_tokens end
 tokens_of_part (OctetsPart octets, end) = each OctetToken octets ++ end_tokens end
 
+-- rule (law): 8.1 (own) What has come of a message that breaks no rule can be read
 unfoldable pub tokens_of_parts : List (Part × Bool) → List Token
 tokens_of_parts [] = []
 tokens_of_parts (part ∷ parts) = tokens_of_part part ++ tokens_of_parts parts
 
 -- The part is no empty DATA without END_STREAM.
+-- rule (law): 8.1 (own) What has come of a message that breaks no rule can be read
 unfoldable pub IsNoEmptyPart : (Part × Bool) → Type 0
 IsNoEmptyPart (FieldsPart list, end) = Unit {0}
 IsNoEmptyPart (OctetsPart octets, end) = (octets ≢ []) ⊎ (end ≡ true)
 
+-- rule: 8.1 (own) What is handed out of a stream is what was reported, in order
 abbrev pub tokens_handed : EndLog → ℕ → List Token
 tokens_handed end i = tokens_of_parts (parts_on i end.handed)
 
@@ -114,6 +118,7 @@ handed_at places.Head id list end = HeadHanded id list end
 handed_at places.Trailers id list end = TrailersHanded id list
 
 -- a part of a message as it is handed out, after what was handed out of it before
+-- rule: 8.1 (own) What is handed out of a stream is what was reported, in order
 unfoldable pub handed_as : Reads → List (Part × Bool) → ℕ → (Part × Bool) → Handed
 handed_as reads parts id (FieldsPart list, end) =
     handed_at (place_after reads parts list) id list end

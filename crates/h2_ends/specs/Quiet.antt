@@ -6,6 +6,8 @@ use Rattle.h2_ends.specs.EndCalls.{IsStuckOn}
 
 -- The connection is up, all of its output was given out, nothing is owed on any stream and nothing
 -- is to be returned to the connection's window, and of what waits nothing could go.
+-- rule: 8.1 (own) An end is quiet where nothing waits, is owed or could be sent
+-- rule: joined (own) Two joined ends are quiet where both are, and both pipes are empty
 pub record IsQuietEnd (end : EndLog) : Type 0 where
   pub up : end.log.failed ≡ None
   pub given : end.log.given ≡ length end.log.written

@@ -40,6 +40,7 @@ use Rattle.h2_ends.specs.declared.event.EndTaken.{EndTaken}
 use Rattle.h2_ends.specs.Loans.{answer_handed, answer_of_taken}
 
 -- a new client or server
+-- rule: 8.1 (own) A new client or server is that end of a connection
 abbrev pub new_end : Role → Values → EndLog
 new_end role values = record { log = opened role values; accepted = []; handed = [] }
 
@@ -59,6 +60,7 @@ tokens_kept waiting =
     ++ (trailers_tokens (option_map (λ fields. fields.items) waiting.trailers) ++ EndToken ∷ [])
 
 -- What is kept of a message that waits is what was not sent of it, and not the end alone.
+-- rule: 8.1 What was sent on a stream is a prefix of its message
 pub record IsWaiting (end : EndLog) (i : ℕ) (waiting : Waiting) : Type 0 where
   pub message : SentMessage
   pub accepted : message_for i end.accepted ≡ Some message
@@ -97,6 +99,7 @@ IsKept end i (Some stream) = IsStream end i stream
 
 -- What was sent on a stream is a prefix of what the end was given to say there, with the head where
 -- it was given a message.
+-- rule: 8.1 What was sent on a stream is a prefix of its message
 pub record SendsInOrder (end : EndLog) (i : ℕ) : Type 0 where
   pub waiting : List Token
   pub prefix : tokens_said end i ≡ tokens_out end i ++ waiting
@@ -109,6 +112,7 @@ WasRefused log i = (code : ℕ) × (answer : Answer) × Contains log.calls (Refu
 -- What was handed out of a stream is only the beginning of what its connection has reported: this
 -- end has refused the rest, and no more is reported, since the stream is over or the connection has
 -- failed.
+-- rule: 8.1 (own) What is handed out of a stream is what was reported, in order
 pub record IsCutShort (end : EndLog) (i : ℕ) : Type 0 where
   pub refused : WasRefused end.log i
   pub last : IsOver end.log i ⊎ (end.log.failed ≢ None)
@@ -116,6 +120,7 @@ pub record IsCutShort (end : EndLog) (i : ℕ) : Type 0 where
 
 -- What was handed out of a stream is what its connection has reported, in order, unless this end
 -- has refused the rest.
+-- rule: 8.1 (own) What is handed out of a stream is what was reported, in order
 abbrev pub HandsInOrder : EndLog → ℕ → Type 0
 HandsInOrder end i = (tokens_heard i end.log.reported ≡ tokens_handed end i) ⊎ IsCutShort end i
 
@@ -141,6 +146,7 @@ OwesWithin span log i = owed log i ≢ 0 → InSpan span i
 -- What is kept of a stream keeps step with what has happened: something is kept where it is active,
 -- as long as the connection is up; parts are handed out in order; and where a message waits or
 -- something is owed, that is found.
+-- rule: 8.1 (own) Something is kept of each active stream, and of no other
 pub record IsInStep (spans : Spans) (stream : Option Stream) (happened : EndLog) (i : ℕ) : Type 0
   where
     pub all : happened.log.failed ≡ None → active happened.log i ≡ true → stream ≢ None
@@ -149,6 +155,7 @@ pub record IsInStep (spans : Spans) (stream : Option Stream) (happened : EndLog)
     pub owes : OwesWithin spans.owing happened.log i
 
 -- Something is kept only where the stream is active.
+-- rule: 8.1 (own) Something is kept of each active stream, and of no other
 abbrev pub KeepsActive : Log → Option Stream → ℕ → Type 0
 KeepsActive log stream i = stream ≢ None → active log i ≡ true
 
@@ -163,6 +170,7 @@ pub record RepresentsStreams (values : Values) (end : End) (happened : EndLog) :
 
 -- The end represents what has happened: that, and what it keeps is of the active streams alone, and
 -- of each of them as long as the connection is up.
+-- rule: 8.1 (own) A new client or server is that end of a connection
 pub record EndRepresents (values : Values) (end : End) (happened : EndLog) : Type 0 where
   pub streams : RepresentsStreams values end happened
   pub in_step : (i : ℕ) → IsInStep end.spans (kept_at i end.streams.entries) happened i
@@ -226,6 +234,7 @@ EndReleases old result new =
     → (after : EndLog) × MayReleaseAll end result after × EndRepresents values new after
 
 -- The same of a call that is the connection's own, with its answer.
+-- rule: 8.1 (own) The other calls of a client and a server are the connection's
 abbrev pub EndAnswers : End → Act → Answer → End → Type 0
 EndAnswers old act answer new =
     (values : Values) (end : EndLog) → EndRepresents values old end

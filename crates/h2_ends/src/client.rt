@@ -26,6 +26,7 @@ pub struct Client {
 }
 
 impl Client {
+    // contract: 8.1 (own) A new client or server is that end of a connection
     /// A new client, whose opening waits (RFC 9113, section 3.4).
     ///
     /// # Errors
@@ -49,6 +50,8 @@ impl Client {
         &self.end.conn
     }
 
+    // contract: 8.1 (own) A request is refused for a rule, or as its head is, or sent
+    // contract: 8.1 (own) A request that is refused is handed back, and nothing has changed
     /// Sends the head of a request on a new stream, and keeps its body and trailers for
     /// [`Client::pump`]. Answers the stream's number: 1, 3, 5 and so on.
     ///
@@ -64,6 +67,8 @@ impl Client {
         self.end.request(message)
     }
 
+    // contract: 8.1 What was sent on a stream is a prefix of its message
+    // contract: 8.1 (own) pump sends the lower streams first, and all that can go
     /// Sends what waits of bodies and trailers, streams in rising order, each as far as its windows
     /// go, until nothing more could go or 65,536 octets or more of output wait; answers how many
     /// octets of bodies were sent. A body is sent from where it lies. A long one on a low stream
@@ -79,6 +84,7 @@ impl Client {
         self.end.pump()
     }
 
+    // contract: 6.9 (own) release_all releases what is owed on each active stream
     /// Gives all that is owed back to the server (section 6.9), streams in rising order.
     ///
     /// # Errors
@@ -91,6 +97,8 @@ impl Client {
         self.end.release_all()
     }
 
+    // contract: 8.1 (own) Something is kept of each active stream, and of no other
+    // contract: 8.1 (own) The other calls of a client and a server are the connection's
     /// Resets a stream with a code, and forgets what waits on it: see [`Conn::reset`].
     ///
     /// # Errors
@@ -143,6 +151,7 @@ impl Client {
         self.end.change_settings(config)
     }
 
+    // contract: 8.1 (own) An end is quiet where nothing waits, is owed or could be sent
     /// Whether the connection is up, no output waits, nothing is owed or to be returned to the
     /// connection's window, and of what waits of messages nothing could be sent. A part of a frame
     /// may be held, and an event that needs no octets still be handed out. It looks at the streams

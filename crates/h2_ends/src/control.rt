@@ -11,6 +11,7 @@ use crate::end::End;
 use h2_conn::{Config, Refusal};
 
 impl End {
+    // rule: 8.1 (own) The other calls of a client and a server are the connection's
     /// Resets a stream, and forgets what waits on it.
     pub(crate) fn reset(&mut self, id: u32, code: u32) -> Result<(), Refusal>
         ensures { EndAnswers self.old (ResetStream id code) (answer_by (λ done. Done) result)
@@ -21,6 +22,7 @@ impl End {
         Ok(())
     }
 
+    // rule: 8.1 (own) The other calls of a client and a server are the connection's
     /// Sends PING.
     pub(crate) fn ping(&mut self, octets: [u8; 8]) -> Result<(), Refusal>
         ensures { EndAnswers self.old (SendPing octets) (answer_by (λ done. Done) result)
@@ -29,6 +31,7 @@ impl End {
         self.conn.ping(octets)
     }
 
+    // rule: 8.1 (own) The other calls of a client and a server are the connection's
     /// Sends GOAWAY.
     pub(crate) fn go_away(&mut self) -> Result<(), Refusal>
         ensures { EndAnswers self.old SendGoAway (answer_by (λ done. Done) result) self.new }
@@ -36,6 +39,7 @@ impl End {
         self.conn.go_away()
     }
 
+    // rule: 8.1 (own) The other calls of a client and a server are the connection's
     /// Changes the settings.
     pub(crate) fn change_settings(&mut self, config: Config) -> Result<(), Refusal>
         ensures { EndAnswers self.old (ChangeSettings (values_of config))

@@ -30,6 +30,7 @@ pub(crate) struct End {
 }
 
 impl End {
+    // rule: 8.1 (own) A new client or server is that end of a connection
     /// A new end, whose opening waits.
     pub(crate) fn new(alloc: Global, role: Role, config: Config) -> Result<End, Refusal>
         ensures ok { IfOk result (λ end. EndRepresents (values_of config) end
@@ -61,6 +62,7 @@ impl End {
         }
     }
 
+    // rule: 8.1 (own) Something is kept of each active stream, and of no other
     /// Forgets a stream if it is over.
     pub(crate) fn forget_if_over(&mut self, id: u32)
         ensures conn { self.new.conn ≡ self.old.conn }

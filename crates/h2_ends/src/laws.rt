@@ -8,6 +8,7 @@ ghost use Rattle.h2_message.specs.Reading.{Part, IsReadable};
 ghost use Rattle.h2_pair.specs.Tokens.{IsPrefixOfTokens, message_tokens};
 ghost use Rattle.h2_ends.specs.Ends.{IsNoEmptyPart, tokens_of_parts};
 
+// contract: 8.1 (own) What has come of a message that breaks no rule can be read
 /// What has come of a message that breaks no rule as it is sent can be read, in however many DATA
 /// frames its body comes, unless one of them is empty without END_STREAM (RFC 9113, section 8.1).
 pub fn sent_parts_are_readable()

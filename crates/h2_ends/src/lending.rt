@@ -14,6 +14,10 @@ use crate::taking::lend;
 use h2_conn::ConnFault;
 
 impl Client {
+    // contract: 8.1 (own) Something is kept of each active stream, and of no other
+    // contract: 8.1.1 A malformed message is a stream error PROTOCOL_ERROR
+    // contract: 8.1.1 (own) How the connection takes a refusal is what is answered
+    // contract: 8.1 (own) What is handed out of a stream is what was reported, in order
     /// Takes octets of the piece, up to the end of one frame or else all of them, and answers what
     /// is handed out: at most one event. Call it again until the piece is used and nothing is
     /// handed out. A part of a response is handed out only where the parts so far begin one that
@@ -36,6 +40,11 @@ impl Client {
 }
 
 impl Server {
+    // contract: 8.1 (own) Something is kept of each active stream, and of no other
+    // contract: 8.1.1 A malformed message is a stream error PROTOCOL_ERROR
+    // contract: 8.1.1 (own) How the connection takes a refusal is what is answered
+    // contract: 8.1 (own) What is handed out of a stream is what was reported, in order
+    // contract: 8.1 (own) A server without memory for a first block fails with INTERNAL_ERROR
     /// Takes octets of the piece, up to the end of one frame or else all of them, and answers what
     /// is handed out: at most one event. Call it again until the piece is used and nothing is
     /// handed out. A part of a request is handed out only where the parts so far begin one that

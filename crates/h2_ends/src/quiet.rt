@@ -17,6 +17,7 @@ use crate::sending::next_in;
 use h2_conn::Conn;
 
 impl End {
+    // rule: 8.1 (own) An end is quiet where nothing waits, is owed or could be sent
     /// Whether the connection is up, no output waits, nothing is owed or to be returned, and
     /// nothing of what waits could be sent.
     pub(crate) fn is_quiet(&self) -> bool
@@ -30,6 +31,7 @@ impl End {
             && !self.could_send()
     }
 
+    // rule: 8.1 (own) An end is quiet where nothing waits, is owed or could be sent
     /// Whether something is owed on a stream.
     fn owes(&self) -> bool
         ensures some { (values : Values) (end : EndLog) → EndRepresents values self.now end
@@ -47,6 +49,7 @@ impl End {
         false
     }
 
+    // rule: 8.1 (own) An end is quiet where nothing waits, is owed or could be sent
     /// Whether something that waits on a stream could be sent.
     fn could_send(&self) -> bool
         ensures some { (values : Values) (end : EndLog) → EndRepresents values self.now end
@@ -64,6 +67,7 @@ impl End {
         false
     }
 
+    // rule: 8.1 (own) An end is quiet where nothing waits, is owed or could be sent
     /// Whether the next of what waits on an active stream could be sent.
     fn could_send_on(&self, id: u32) -> bool
         ensures some { (values : Values) (end : EndLog) → EndRepresents values self.now end

@@ -40,6 +40,7 @@ enum SendState {
 }
 
 impl End {
+    // rule: 8.1 (own) A request that is refused is handed back, and nothing has changed
     /// Sends the head of a request on a new stream, and keeps the rest of it.
     pub(crate) fn request(&mut self, message: Message) -> Result<u32, (Message, EndRefusal)>
         ensures { EndRequests self.old (message_value message) result self.new }
@@ -56,6 +57,7 @@ impl End {
         }
     }
 
+    // rule: 8.1 (own) A request is refused for a rule, or as its head is, or sent
     /// Opens a stream with the head of a request.
     fn open(&mut self, message: &Message) -> Result<u32, Refusal>
         ensures { (values : Values) (end : EndLog) → EndRepresents values self.old end
@@ -87,6 +89,7 @@ impl End {
         opened
     }
 
+    // rule: 8.1 A response may come before its request is whole
     /// Sends the head of a response, and keeps the rest of it.
     pub(crate) fn respond(&mut self, id: u32, message: Message) -> Result<(), (Message, EndRefusal)>
         ensures { EndResponds self.old id (message_value message) result self.new }
@@ -102,6 +105,8 @@ impl End {
         Ok(())
     }
 
+    // rule: 8.1 (own) A response is sent only to a request, and is checked
+    // rule: 8.1 (own) A second response to a request is refused
     /// Sends the head of a response.
     fn answer(&mut self, id: u32, message: &Message) -> Result<(), EndRefusal>
         ensures { (values : Values) (end : EndLog) → EndRepresents values self.old end
@@ -125,6 +130,7 @@ impl End {
         }
     }
 
+    // rule: 8.1 (own) A request is refused for a rule, or as its head is, or sent
     /// Keeps what waits of a message whose head was sent.
     fn give(&mut self, id: u32, message: Message)
         ensures { IsGiven self.old id message self.new }
@@ -137,6 +143,7 @@ impl End {
         }
     }
 
+    // rule: 8.1 (own) pump sends the lower streams first, and all that can go
     /// Sends what waits of bodies and trailers, streams in rising order, as far as windows and the
     /// output let it; answers how many octets of bodies went.
     pub(crate) fn pump(&mut self) -> Result<usize, EndRefusal>
@@ -162,6 +169,7 @@ impl End {
         Ok(count)
     }
 
+    // rule: 8.1 What was sent on a stream is a prefix of its message
     /// Sends what waits on a stream, as far as windows and the output let it; counts the octets.
     fn pump_stream(&mut self, id: u32, count: &mut usize) -> Result<SendState, Refusal>
         ensures waits { WaitsAsBefore self.old self.new id }
@@ -184,6 +192,7 @@ impl End {
         }
     }
 
+    // rule: 6.9 (own) release_all releases what is owed on each active stream
     /// Releases all that is owed, streams in rising order.
     pub(crate) fn release_all(&mut self) -> Result<(), EndRefusal>
         ensures { EndReleases self.old result self.new }
@@ -208,6 +217,8 @@ impl End {
     }
 }
 
+// rule: 8.1 (own) pump sends the lower streams first, and all that can go
+// rule: 6.9 (own) release_all releases what is owed on each active stream
 /// The next active stream of a span above a number.
 pub(crate) fn next_in(conn: &Conn, span: Span, above: u32) -> Option<u32>
     ensures next { IsNextIn conn.now span above result }
@@ -222,6 +233,7 @@ pub(crate) fn next_in(conn: &Conn, span: Span, above: u32) -> Option<u32>
     }
 }
 
+// rule: 8.1 (own) A response is sent only to a request, and is checked
 /// Sends the head of a message on a stream, unless its trailers are too large to be sent.
 fn send_head(conn: &mut Conn, id: u32, message: &Message) -> Result<(), Refusal>
     ensures { (values : Values) (log : Log) → ConnRepresents values conn.old log
@@ -239,6 +251,7 @@ fn send_head(conn: &mut Conn, id: u32, message: &Message) -> Result<(), Refusal>
     }
 }
 
+// rule: 8.1 (own) A request is refused for a rule, or as its head is, or sent
 /// The trailers of a message, if they are too large to be sent.
 fn large_trailers(message: &Message) -> Option<&[Field]>
     ensures large { IfSome result (λ list. (list.now
@@ -253,6 +266,7 @@ fn large_trailers(message: &Message) -> Option<&[Field]>
     }
 }
 
+// rule: 8.1 What was sent on a stream is a prefix of its message
 /// Sends what waits of a message on a stream, as far as windows and the output let it.
 fn send(
     conn: &mut Conn,
@@ -285,6 +299,7 @@ fn send(
     }
 }
 
+// rule: 8.1 (own) pump sends the lower streams first, and all that can go
 /// How sending goes on once a call of the connection is refused.
 fn stopped_by(refusal: Refusal) -> Result<SendState, Refusal>
     ensures { StopsBy refusal result }
@@ -295,6 +310,7 @@ fn stopped_by(refusal: Refusal) -> Result<SendState, Refusal>
     }
 }
 
+// rule: 8.1 What was sent on a stream is a prefix of its message
 /// What waits of a message whose head was sent.
 fn outgoing_of(message: Message) -> Outgoing
     ensures { result ≡ outgoing_for message }

@@ -26,6 +26,7 @@ pub struct Server {
 }
 
 impl Server {
+    // contract: 8.1 (own) A new client or server is that end of a connection
     /// A new server, whose opening waits (RFC 9113, section 3.4).
     ///
     /// # Errors
@@ -49,6 +50,9 @@ impl Server {
         &self.end.conn
     }
 
+    // contract: 8.1 (own) A response is sent only to a request, and is checked
+    // contract: 8.1 (own) A second response to a request is refused
+    // contract: 8.1 A response may come before its request is whole
     /// Sends the head of a response to the request on a stream, and keeps its body and trailers for
     /// [`Server::pump`]. The request need not be whole.
     ///
@@ -65,6 +69,8 @@ impl Server {
         self.end.respond(id, message)
     }
 
+    // contract: 8.1 What was sent on a stream is a prefix of its message
+    // contract: 8.1 (own) pump sends the lower streams first, and all that can go
     /// Sends what waits of bodies and trailers, streams in rising order, each as far as its windows
     /// go, until nothing more could go or 65,536 octets or more of output wait; answers how many
     /// octets of bodies were sent. A body is sent from where it lies. A long one on a low stream
@@ -80,6 +86,7 @@ impl Server {
         self.end.pump()
     }
 
+    // contract: 6.9 (own) release_all releases what is owed on each active stream
     /// Gives all that is owed back to the client (section 6.9), streams in rising order.
     ///
     /// # Errors
@@ -144,6 +151,7 @@ impl Server {
         self.end.change_settings(config)
     }
 
+    // contract: 8.1 (own) An end is quiet where nothing waits, is owed or could be sent
     /// Whether the connection is up, no output waits, nothing is owed or to be returned to the
     /// connection's window, and of what waits of messages nothing could be sent. A part of a frame
     /// may be held, and an event that needs no octets still be handed out. It looks at the streams
@@ -155,6 +163,7 @@ impl Server {
         self.end.is_quiet()
     }
 
+    // contract: 8.1 (own) The other calls of a client and a server are the connection's
     /// Appends as many octets of the output as wait, and at most `count`, to `out`, and takes them
     /// away: see [`Conn::put_out`].
     ///

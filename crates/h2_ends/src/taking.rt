@@ -85,6 +85,8 @@ impl End {
         })
     }
 
+    // rule: 8.1.1 A malformed message is a stream error PROTOCOL_ERROR
+    // rule: 8.1 (own) What is handed out of a stream is what was reported, in order
     /// Hands out what the connection has reported, unless it is a part of a message that cannot be
     /// read.
     fn hand_out(&mut self, piece: &[u8], happened: Happened) -> Result<HandedOut, ConnFault>
@@ -121,6 +123,7 @@ impl End {
         }
     }
 
+    // rule: 8.1.1 A malformed message is a stream error PROTOCOL_ERROR
     /// Reads the field block that the connection has reported.
     fn read_fields(&mut self, id: u32, end: bool) -> Result<Place, Unread>
         ensures conn { self.new.conn ≡ self.old.conn }
@@ -139,6 +142,7 @@ impl End {
         Ok(place)
     }
 
+    // rule: 8.1 (own) A server without memory for a first block fails with INTERNAL_ERROR
     /// Reads the first field block of a stream.
     fn read_first(&mut self, id: u32, end: bool) -> Result<Place, Unread>
         requires first { kept_at id self.old.streams.entries ≡ None }
@@ -162,6 +166,7 @@ impl End {
         }
     }
 
+    // rule: 8.1.1 A malformed message is a stream error PROTOCOL_ERROR
     /// Reads so many octets of a body, and answers whether they can be read.
     fn read_data(&mut self, id: u32, count: usize, end: bool) -> bool
         ensures conn { self.new.conn ≡ self.old.conn }
@@ -180,6 +185,7 @@ impl End {
         true
     }
 
+    // rule: 8.1 (own) Something is kept of each active stream, and of no other
     /// Forgets a stream if its last part has closed it.
     fn forget_if_closed(&mut self, id: u32, end: bool)
         ensures conn { self.new.conn ≡ self.old.conn }
@@ -193,6 +199,8 @@ impl End {
         }
     }
 
+    // rule: 8.1.1 (own) How the connection takes a refusal is what is answered
+    // rule: 8.1 (own) A server without memory for a first block fails with INTERNAL_ERROR
     /// Refuses a stream whose part of a message isn't handed out: this end resets it; or the
     /// connection fails.
     fn refuse(&mut self, id: u32, unread: Unread) -> Result<HandedOut, ConnFault>
@@ -236,6 +244,7 @@ pub(crate) fn lend<'a>(end: &'a End, piece: &'a [u8], progress: EndProgress) -> 
     }
 }
 
+// rule: 8.1 (own) What is handed out of a stream is what was reported, in order
 /// Lends the fields, or the octets, of an event.
 fn lend_event<'a>(from: &'a End, piece: &'a [u8], handed: HandedOut) -> EndEvent<'a>
     requires lies { BodyLiesIn from.now piece.now (Some handed) }
@@ -257,6 +266,7 @@ fn lend_event<'a>(from: &'a End, piece: &'a [u8], handed: HandedOut) -> EndEvent
     }
 }
 
+// rule: 8.1 (own) What is handed out of a stream is what was reported, in order
 /// Lends the fields of a part of a message.
 fn lend_fields(list: &FieldList, id: u32, place: Place, end: bool) -> EndEvent<'_>
     ensures { event_handed result ≡ handed_at place id list.now end }

@@ -22,6 +22,7 @@ abbrev pub answer_field : (name value : List ℕ) → Field
 answer_field name value = record { name = name; value = value; sensitive = false }
 
 -- an answer with a text; to HEAD it has neither a body nor `content-length`
+-- rule: engines (own) An answer to HEAD has neither body nor content-length
 unfoldable pub answer_with : (text : List ℕ) → (to_head : Bool) → SentMessage
 answer_with text true = record {
   head = answer_field (codes ":status") (codes "200") ∷ [];
@@ -37,6 +38,7 @@ answer_with text false = record {
 }
 
 -- what a request is answered with, by its parts, the first one first
+-- rule: engines (own) An answer to HEAD has neither body nor content-length
 unfoldable pub answer_to : List (Part × Bool) → Option SentMessage
 answer_to ((FieldsPart head, end) ∷ parts) =
     Some (answer_with (text_of head (body_in parts)) (asks_head head))
@@ -52,6 +54,7 @@ body_of_parts ((FieldsPart head, end) ∷ parts) = body_in parts
 body_of_parts parts = []
 
 -- Whether the body of a request has more octets than a server takes.
+-- rule: engines (own) A request of more than 1,048,576 octets is ENHANCE_YOUR_CALM
 unfoldable pub is_too_large_body : List (Part × Bool) → Bool
 is_too_large_body parts = nat_lt greatest_body (length (body_of_parts parts))
 

@@ -16,6 +16,7 @@ use Rattle.h2_engines.specs.declared.fetcher.Fetched.{Fetched}
 
 -- What has happened at a client since it was new: it made one request, with this message; it took
 -- octets, released, pumped and gave out.
+-- rule: engines (own) A response that is fetched is the message handed out, whole
 pub data IsFetching (values : Values) (message : SentMessage) : EndLog → Type 0 where
   begins : AreInRange values → IsFetching values message (new_end Client values)
   requests : {after : EndLog} → AreInRange values → (result : Result ℕ EndRefusal)
@@ -41,6 +42,7 @@ response_read fetched data_parts = record {
 }
 
 -- The response is the whole message that these parts are, the first one first.
+-- rule: engines (own) A response that is fetched is the message handed out, whole
 pub record IsFetched (parts : List (Part × Bool)) (fetched : Fetched) : Type 0 where
   pub data_parts : List (List ℕ)
   pub whole : parts ≡ message_parts (response_read fetched data_parts)

@@ -1,4 +1,6 @@
 -- How a connection over a link may end early, and how often the link has failed then.
+-- contract: h2_engines::fetch_link
+-- contract: h2_engines::serve_link
 use Rattle.std.specs.Prelude.{◌≡◌, ℕ, ◌+◌, Bool, true, Result, Err}
 use Rattle.h2_log.specs.declared.refusal.Refusal.TheVariants.{Memory}
 use Rattle.h2_ends.specs.declared.refusal.EndRefusal.{EndRefusal}
@@ -7,6 +9,7 @@ use Rattle.h2_link.specs.declared.error.LinkError.{LinkError}
 use Rattle.h2_link.specs.declared.error.LinkError.TheVariants as errors
 
 -- N1 is answered exactly where the link has failed, once, in the call.
+-- rule: engines (own) N1 comes exactly where a call of the link has failed
 abbrev pub failures_at_end : {A : Type 0} → ℕ → Result A LinkError → ℕ
 failures_at_end failures (Err errors.Device) = failures + 1
 failures_at_end failures result = failures
@@ -17,17 +20,20 @@ failures_by failures errors.Device = failures + 1
 failures_by failures error = failures
 
 -- N4 is answered only where the link has met the end of its input.
+-- rule: engines (own) N4 comes only where the input ended early
 abbrev pub CutsOffAtEnd : {A : Type 0} → Result A LinkError → (ended : Bool) → Type 0
 CutsOffAtEnd (Err errors.CutOff) ended = ended ≡ true
 CutsOffAtEnd result ended = Unit {0}
 
 -- A connection that is served may end so: not with N6 and N7, which are of a request.
+-- rule: engines (own) N1 comes exactly where a call of the link has failed
 abbrev pub EndsServing : LinkError → Type 0
 EndsServing (errors.Reset code) = ⊥
 EndsServing errors.Refused = ⊥
 EndsServing error = Unit {0}
 
 -- It ends so by itself, whatever the link does: not with N1 either.
+-- rule: engines (own) N1 comes exactly where a call of the link has failed
 abbrev pub IsOfServer : LinkError → Type 0
 IsOfServer errors.Device = ⊥
 IsOfServer (errors.Reset code) = ⊥
@@ -35,6 +41,7 @@ IsOfServer errors.Refused = ⊥
 IsOfServer error = Unit {0}
 
 -- A fetch ends so by itself.
+-- rule: engines (own) N1 comes exactly where a call of the link has failed
 abbrev pub IsOfClient : LinkError → Type 0
 IsOfClient errors.Device = ⊥
 IsOfClient error = Unit {0}
@@ -46,6 +53,7 @@ IsOfCall errors.NoProgress = Unit {0}
 IsOfCall error = ⊥
 
 -- how a call of an end that was refused for this ends the connection
+-- rule: engines (own) N5 comes only where a write has taken nothing
 abbrev pub error_after : EndRefusal → LinkError
 error_after (refusals.Conn Memory) = errors.Memory
 error_after refusal = errors.NoProgress

@@ -25,28 +25,33 @@ abbrev pub refused_stream : ℕ
 refused_stream = 7
 
 -- The stream was reset with this code, by either end, or it was not processed (section 6.8).
+-- rule: engines (own) N6 has the code with which the request's stream was reset
 abbrev pub WasDropped : EndLog → (id number : ℕ) → Type 0
 WasDropped end id number =
     ((ours : Bool) × Contains end.handed (Passed (ResetEvent id number ours)))
     ⊎ ((number ≡ refused_stream) × Contains end.handed (Passed (UnprocessedEvent id)))
 
 -- what a new client refuses its first request for
+-- rule: engines (own) N7 comes only where the message breaks a rule or is too large
 abbrev pub refusal_of_request : Values → SentMessage → Option Refusal
 refusal_of_request values message =
     refusal_of_message (opened Client values) (Open message.head (is_head_alone message)) message
 
 -- The message breaks a rule, or its fields are too many.
+-- rule: engines (own) N7 comes only where the message breaks a rule or is too large
 abbrev pub IsRefusedMessage : Values → SentMessage → Type 0
 IsRefusedMessage values message =
     (broken_by_request message ≢ None) ⊎ (refusal_of_request values message ≡ Some ListTooLarge)
 
 -- The client has refused it for something else.
+-- rule: engines (own) N5 comes only where a write has taken nothing
 abbrev pub IsRefusedOtherwise : Values → SentMessage → Type 0
 IsRefusedOtherwise values message =
     (refusal : Refusal) × (refusal_of_request values message ≡ Some refusal)
     × (refusal ≢ ListTooLarge) × (refusal ≢ Memory)
 
 -- what is said of each end, where the message was accepted for this stream
+-- rule: engines (own) N4 comes only where the input ended early
 abbrev pub EndsFetchSo : (start now : Traffic) → EndLog → (id : ℕ) → Result Fetched LinkError
     → Type 0
 EndsFetchSo start now end id (Ok fetched) = IsFetched (parts_on id end.handed) fetched
@@ -61,6 +66,7 @@ EndsFetchSo start now end id (Err other) = Unit {0}
 
 -- A fetch ends early only before its response is whole, whatever comes after that; out of memory
 -- says nothing.
+-- rule: engines (own) N4 comes only where the input ended early
 abbrev pub EndsUnfinished : EndLog → (id : ℕ) → Result Fetched LinkError → Type 0
 EndsUnfinished end id (Ok fetched) = Unit {0}
 EndsUnfinished end id (Err errors.Memory) = Unit {0}
@@ -77,6 +83,7 @@ pub record EndsFetch (start now : Traffic) (message : SentMessage) (end : EndLog
   pub so : EndsFetchSo start now end id result
 
 -- how a fetch ends whose message was not accepted
+-- rule: engines (own) N7 comes only where the message breaks a rule or is too large
 abbrev pub IsNotAccepted : Values → SentMessage → Result Fetched LinkError → Type 0
 IsNotAccepted values message (Err errors.Refused) = IsRefusedMessage values message
 IsNotAccepted values message (Err errors.Memory) = Unit {0}

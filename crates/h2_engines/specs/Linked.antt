@@ -19,6 +19,7 @@ abbrev pub traffic : (given taken : Option (List ℕ)) → (stalled : Bool) → 
 traffic given taken stalled = record { given = given; taken = taken; stalled = stalled }
 
 -- All octets that the link gave were used, but these.
+-- rule: engines (own) Over a link input is used in order and all output is written
 abbrev pub HasGiven : (start now : Traffic) → Log → (unused : List ℕ) → Type 0
 HasGiven start now log unused = Appends start.given now.given (log.input ++ unused)
 
@@ -29,6 +30,7 @@ pub record IsLinked (start now : Traffic) (log : Log) (unused : List ℕ) : Type
   pub taken : Appends start.taken now.taken (given_out log)
 
 -- The link has taken the first octets of the end's output.
+-- rule: engines (own) Over a link input is used in order and all output is written
 pub record HasTakenFirst (start now : Traffic) (log : Log) : Type 0 where
   pub first : List ℕ
   pub rest : List ℕ
@@ -37,20 +39,24 @@ pub record HasTakenFirst (start now : Traffic) (log : Log) : Type 0 where
 
 -- The end has used the first of the octets that the link gave, and the link has taken the first of
 -- those of its output.
+-- rule: engines (own) Over a link input is used in order and all output is written
 pub record IsLinkedInPart (start now : Traffic) (log : Log) : Type 0 where
   pub unused : List ℕ
   pub given : HasGiven start now log unused
   pub taken : HasTakenFirst start now log
 
 -- The link has taken all of the end's output.
+-- rule: engines (own) Over a link input is used in order and all output is written
 abbrev pub HasTakenAll : (start now : Traffic) → Log → Type 0
 HasTakenAll start now log = Appends start.taken now.taken log.written
 
 -- 2^64 - 1 turns have passed at the end: each round of a loop is one at least.
+-- rule: engines (own) N5 comes only where a write has taken nothing
 abbrev pub IsOutOfRounds : EndLog → Type 0
 IsOutOfRounds end = 2 ^ 64 - 1 ≤ length end.log.turns
 
 -- A write of octets has taken none, or the end is out of rounds.
+-- rule: engines (own) N5 comes only where a write has taken nothing
 abbrev pub HasStalled : (now : Traffic) → EndLog → Type 0
 HasStalled now end = (now.stalled ≡ true) ⊎ IsOutOfRounds end
 

@@ -22,6 +22,7 @@ calm = 11
 -- What has happened at a server since it was new: it took octets; it answered requests that were
 -- whole with what they asked, and reset streams whose request was too large; it released, pumped
 -- and gave out.
+-- rule: engines (own) A request that is whole is answered once, by method, path and body
 pub data IsResponding (values : Values) : EndLog → Type 0 where
   begins : AreInRange values → IsResponding values (new_end Server values)
   takes : {end after : EndLog} → IsResponding values end → (piece : List ℕ) (answer : EndAnswer)
@@ -50,11 +51,13 @@ WasReset end id =
     (code : ℕ) × (ours : Bool) × Contains end.handed (Passed (ResetEvent id code ours))
 
 -- The server has reset the stream, since its request was too large.
+-- rule: engines (own) A request of more than 1,048,576 octets is ENHANCE_YOUR_CALM
 pub record WasTooLarge (end : EndLog) (id : ℕ) : Type 0 where
   pub too_large : is_too_large_body (parts_on id end.handed) ≡ true
   pub reset : Contains end.log.calls (ResetStream id calm, Done)
 
 -- The request is whole, and it was answered with what it asked.
+-- rule: engines (own) A request that is whole is answered once, by method, path and body
 pub record WasAnswered (end : EndLog) (id : ℕ) : Type 0 where
   pub whole : ends (parts_on id end.handed) ≡ true
   pub fits : is_too_large_body (parts_on id end.handed) ≡ false
@@ -69,6 +72,7 @@ AreOnce ((id, message) ∷ accepted) = (message_for id accepted ≡ None) × Are
 
 -- Each request that was handed out whole was answered, unless its stream was reset, as that of each
 -- too large one was; and nothing else was answered, and no stream twice.
+-- rule: engines (own) A request that is whole is answered once, by method, path and body
 pub record AnswersAll (end : EndLog) : Type 0 where
   pub all : (id : ℕ) → ends (parts_on id end.handed) ≡ true
       → WasAnswered end id ⊎ (WasReset end id ⊎ WasTooLarge end id)

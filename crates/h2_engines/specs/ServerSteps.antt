@@ -32,6 +32,7 @@ use Rattle.h2_engines.specs.ServerHistories.{calm}
 use Rattle.h2_engines.specs.Serves.{IsAtRest, IsCutOff}
 
 -- how a connection ends that has failed with this code
+-- rule: engines (own) N2 has the code with which the connection failed; memory is N3
 abbrev pub error_with : Code → LinkError
 error_with InternalError = errors.Memory
 error_with code = errors.Stream (code_number code)

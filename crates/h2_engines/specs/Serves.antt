@@ -1,4 +1,6 @@
 -- How a connection that is served over a link ends.
+-- contract: h2_engines::fetch_link
+-- contract: h2_engines::serve_link
 use Rattle.std.specs.Prelude.{◌≡◌, ◌≢◌, ◌⊎◌, ◌≤◌, ◌-◌, ◌^◌, ℕ, true, false, [], length}
 use Rattle.std.specs.Prelude.{Some, None}
 use Rattle.std.specs.Prelude.{Result, Ok, Err}
@@ -27,6 +29,7 @@ use Rattle.h2_engines.specs.ServerHistories.{IsResponding, AnswersAll, calm}
 
 -- The input has ended where it may: no part of the preface or a frame is held, and no stream is
 -- active.
+-- rule: engines (own) N4 comes only where the input ended early
 pub record IsAtRest (log : Log) : Type 0 where
   pub up : log.failed ≡ None
   pub nothing_held : log.unparsed ≡ []
@@ -34,6 +37,7 @@ pub record IsAtRest (log : Log) : Type 0 where
 
 -- All octets that the link gave were used, it took the whole output, and so many requests were
 -- answered: all that were whole.
+-- rule: engines (own) Over a link input is used in order and all output is written
 pub record IsServed (start now : Traffic) (end : EndLog) (count : ℕ) : Type 0 where
   pub rests : IsAtRest end.log
   pub given : HasGiven start now end.log []
@@ -43,6 +47,7 @@ pub record IsServed (start now : Traffic) (end : EndLog) (count : ℕ) : Type 0 
 
 -- The connection has failed with this code, and the link took its GOAWAY, which ends the output.
 -- Being out of memory is N3.
+-- rule: engines (own) N2 has the code with which the connection failed; memory is N3
 pub record HasFailedWith (start now : Traffic) (log : Log) (number : ℕ) : Type 0 where
   pub code : Code
   pub failed : log.failed ≡ Some code
@@ -51,6 +56,7 @@ pub record HasFailedWith (start now : Traffic) (log : Log) (number : ℕ) : Type
   pub taken : HasTakenAll start now log
 
 -- A request is too large, and its stream can't be reset any more.
+-- rule: engines (own) N2 has the code with which the connection failed; memory is N3
 pub record CannotReset (end : EndLog) (number : ℕ) : Type 0 where
   pub id : ℕ
   pub too_large : is_too_large_body (parts_on id end.handed) ≡ true
@@ -61,6 +67,7 @@ pub record CannotReset (end : EndLog) (number : ℕ) : Type 0 where
 -- Why a server makes no progress: a write of octets has taken none, or it is out of rounds; it can
 -- count no more answers; or its end has refused an answer or a reset, though memory was there. No
 -- answer is refused since the output is full: before each one all of it is written.
+-- rule: engines (own) N5 comes only where a write has taken nothing
 pub data StopsServing (now : Traffic) (end : EndLog) : Type 0 where
   stalls : HasStalled now end → StopsServing now end
   counts_no_more : 2 ^ 32 - 1 ≤ length end.accepted → StopsServing now end
@@ -75,6 +82,7 @@ pub data StopsServing (now : Traffic) (end : EndLog) : Type 0 where
       → error_after (Conn refusal) ≡ errors.NoProgress → StopsServing now end
 
 -- The connection is up, and the input has ended where it may not.
+-- rule: engines (own) N4 comes only where the input ended early
 abbrev pub IsCutOff : Log → Type 0
 IsCutOff log =
     (log.failed ≡ None) × ((log.unparsed ≢ []) ⊎ ((id : ℕ) × (active log id ≡ true)))

@@ -34,6 +34,7 @@ use Rattle.h2_engines.specs.Serves.{CannotReset}
 use Rattle.h2_engines.specs.ServerSteps.{IsSameOfMessages}
 
 -- The first octets of a piece were used, all but these, and none were put out.
+-- rule: engines (own) Without a link a server answers whole requests, a client reads one
 pub record UsesPiece (before after : Log) (piece unused : List ℕ) : Type 0 where
   pub input : before.input ++ piece ≡ after.input ++ unused
   pub given : given_out after ≡ given_out before
@@ -67,6 +68,7 @@ SendsWaiting old new result =
 
 -- So many octets were put out and appended to others: the next ones of the output, at most as many
 -- as were asked for, and fewer only where they were all.
+-- rule: engines (own) Without a link a server answers whole requests, a client reads one
 pub record PutsOut (before after : Log) (count given : ℕ) (old new : List ℕ) : Type 0 where
   pub octets : List ℕ
   pub appended : new ≡ old ++ octets
@@ -86,6 +88,7 @@ PutOutSo before after count old new (Err error) =
 
 -- A server without a link, at which this has happened: the connection is up, each request that was
 -- whole was answered, and of each that isn't it keeps what it needs.
+-- rule: engines (own) Without a link a server answers whole requests, a client reads one
 pub record IsServingAlone (values : Values) (responder : Responder) (end : EndLog) : Type 0 where
   pub responding : IsResponding values end
   pub represents : EndRepresents values responder.server.end end
@@ -104,6 +107,7 @@ pub record ServerPutOut (values : Values) (old new : Responder) (end : EndLog) (
   pub goes_on : IsServingAlone values old end → IsServingAlone values new after
 
 -- Whatever has happened at a server, `put_out` does so.
+-- rule: engines (own) Without a link a server answers whole requests, a client reads one
 abbrev pub ServerPutsOut : (old new : Responder) → ℕ → (before now : List ℕ) → Result ℕ LinkError
     → Type 0
 ServerPutsOut old new count before now result =
@@ -128,6 +132,7 @@ pub data MakesNoProgress (end : EndLog) : Type 0 where
 
 -- Why a server stops: the connection has failed with this code, or a stream can't be reset any
 -- more; memory was refused; or it makes no progress.
+-- rule: engines (own) Without a link a server answers whole requests, a client reads one
 unfoldable pub StopsAlone : EndLog → LinkError → Type 0
 StopsAlone end (errors.Stream number) = FailsWith end.log number ⊎ CannotReset end number
 StopsAlone end errors.Memory = Unit {0}
@@ -144,6 +149,7 @@ TakesInSo values responder end piece after (Err error) =
     × ((unused : List ℕ) × UsesPiece end.log after.log piece unused) × StopsAlone after error
 
 -- Whatever has happened at a server that goes on, `take_in` does so.
+-- rule: engines (own) Without a link a server answers whole requests, a client reads one
 abbrev pub ServerTakesIn : (old new : Responder) → List ℕ → Result (Unit {0}) LinkError → Type 0
 ServerTakesIn old new piece result =
     (values : Values) (end : EndLog) → IsServingAlone values old end
@@ -180,6 +186,7 @@ pub record ClientPutOut (values : Values) (message : SentMessage) (old new : Fet
   pub goes_on : IsFetchingAlone values message old end → IsFetchingAlone values message new after
   pub fetched : IsFetchedAlone values message old end → IsFetchedAlone values message new after
 
+-- rule: engines (own) Without a link a server answers whole requests, a client reads one
 abbrev pub ClientPutsOut : (old new : Fetcher) → ℕ → (before now : List ℕ) → Result ℕ LinkError
     → Type 0
 ClientPutsOut old new count before now result =
@@ -211,6 +218,7 @@ FetchesInSo values message fetcher end piece after (Err error) =
     × StopsFetchAlone after fetcher.id error
 
 -- Whatever has happened at a client whose response isn't whole, `take_in` does so.
+-- rule: engines (own) Without a link a server answers whole requests, a client reads one
 abbrev pub ClientTakesIn : (old new : Fetcher) → List ℕ → Result Bool LinkError → Type 0
 ClientTakesIn old new piece result =
     (values : Values) (message : SentMessage) (end : EndLog)

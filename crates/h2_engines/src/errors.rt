@@ -7,6 +7,8 @@ ghost use Rattle.h2_engines.specs.ServerSteps.{error_with};
 use h2_ends::{Code, EndRefusal, Refusal};
 use h2_link::LinkError;
 
+// contract: engines (own) N2 has the code with which the connection failed; memory is N3
+// rule: engines (own) N2 has the code with which the connection failed; memory is N3
 /// How it ends once the connection has failed with a code.
 pub(crate) fn error_of_code(code: Code) -> LinkError
     ensures error { result ≡ error_with code }
@@ -18,6 +20,8 @@ pub(crate) fn error_of_code(code: Code) -> LinkError
     }
 }
 
+// rule: engines (own) N2 has the code with which the connection failed; memory is N3
+// rule: engines (own) N5 comes only where a write has taken nothing
 /// How it ends once a call was refused: C12 is N3, and any other N5. C7 comes about where so much
 /// output waits that a request can't be answered, without a link; over one no other is expected.
 pub(crate) fn error_of_refusal(refusal: EndRefusal) -> LinkError

@@ -13,6 +13,12 @@ use h2_ends::{Config, Message};
 use h2_link::{Link, LinkError};
 use std::alloc::Global;
 
+// contract: engines (own) A response that is fetched is the message handed out, whole
+// rule: engines (own) N1 comes exactly where a call of the link has failed
+// contract: engines (own) N2 has the code with which the connection failed; memory is N3
+// rule: engines (own) N4 comes only where the input ended early
+// contract: engines (own) N6 has the code with which the request's stream was reset
+// contract: engines (own) N7 comes only where the message breaks a rule or is too large
 /// Makes a request over a new connection, and answers its response once that is whole, whatever of
 /// the request is still to be sent. Nothing is taken of what was read behind the response.
 ///

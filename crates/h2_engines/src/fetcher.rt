@@ -59,6 +59,7 @@ pub struct Fetcher {
 }
 
 impl Coming {
+    // rule: engines (own) A response that is fetched is the message handed out, whole
     /// Keeps what was handed out of the response on a stream, and says whether that is whole.
     fn note(&mut self, alloc: Global, id: u32, event: EndEvent<'_>) -> Result<bool, AllocError>
         ensures { IfOk result (λ whole. NotesPart id self.old self.new (event_handed event.entry)
@@ -97,6 +98,8 @@ impl Coming {
 }
 
 impl Fetcher {
+    // rule: engines (own) A response that is fetched is the message handed out, whole
+    // rule: engines (own) N7 comes only where the message breaks a rule or is too large
     /// A new one, whose opening and the head of the request wait.
     ///
     /// # Errors
@@ -133,6 +136,7 @@ impl Fetcher {
         }
     }
 
+    // rule: engines (own) A response that is fetched is the message handed out, whole
     /// The response, once it is whole.
     ///
     /// # Errors
@@ -164,6 +168,7 @@ impl Fetcher {
         }
     }
 
+    // rule: engines (own) Without a link a server answers whole requests, a client reads one
     /// Takes octets of a piece, and answers whether the response is whole: all of them where it
     /// isn't, and none of those after its end where it is. Once it is whole, none are taken.
     ///
@@ -184,6 +189,7 @@ impl Fetcher {
         take_all(self, &mut link, false, piece)
     }
 
+    // rule: engines (own) Without a link a server answers whole requests, a client reads one
     /// Gives back all that is owed, sends what waits of the request as windows allow, and appends
     /// at most `count` octets of the output to `out`: fewer only where no more wait. Answers how
     /// many. Once the connection has failed it puts out what waits, GOAWAY last.
@@ -247,6 +253,8 @@ impl Machine for Fetcher {
     }
 }
 
+// rule: engines (own) A response that is fetched is the message handed out, whole
+// rule: engines (own) N6 has the code with which the request's stream was reset
 /// Hands octets to `take` of a client once, and keeps what is handed out of the response.
 pub(crate) fn hear(
     alloc: Global,

@@ -105,6 +105,7 @@ fn pump<M: Machine>(machine: &mut M) -> Result<(), LinkError>
     }
 }
 
+// rule: engines (own) Over a link input is used in order and all output is written
 /// Writes all output that waits.
 fn write_out<M: Machine, L: Link>(machine: &mut M, link: &mut L) -> Result<(), LinkError>
     requires { L.faults link.old < 2 ^ 64 - 1 }
@@ -127,6 +128,9 @@ fn write_out<M: Machine, L: Link>(machine: &mut M, link: &mut L) -> Result<(), L
     Err(LinkError::NoProgress)
 }
 
+// rule: engines (own) Over a link input is used in order and all output is written
+// rule (tested): engines (own) Where the output was full it pumps and writes before it reads
+// rule: engines (own) N5 comes only where a write has taken nothing
 /// Writes all that waits, and what more can be sent where the output was full.
 fn send<M: Machine, L: Link>(machine: &mut M, link: &mut L) -> Result<(), LinkError>
     requires { L.faults link.old < 2 ^ 64 - 1 }
@@ -199,6 +203,8 @@ fn end_early<M: Machine, L: Link>(
     error
 }
 
+// rule: engines (own) Over a link input is used in order and all output is written
+// rule: engines (own) N2 has the code with which the connection failed; memory is N3
 /// Takes octets of a piece, and does what is due: all of them; or, where that answers so, those up
 /// to the end of a response that is whole. All that waits is written to the link, if that is said,
 /// before each answer and each reset, and where the octets end the connection.

@@ -48,6 +48,7 @@ pub(crate) struct Requests {
 }
 
 impl Request {
+    // rule: engines (own) An answer to HEAD has neither body nor content-length
     /// A request of which the head has come.
     fn begin(alloc: Global, head: &FieldList) -> Result<Request, AllocError>
         ensures { IfOk result (λ request. IsRequest head.now [] request) }
@@ -67,6 +68,7 @@ impl Request {
         })
     }
 
+    // rule: engines (own) An answer to HEAD has neither body nor content-length
     /// What it is answered with.
     ///
     /// # Errors
@@ -106,6 +108,7 @@ impl Requests {
         }
     }
 
+    // rule: engines (own) A request that is whole is answered once, by method, path and body
     /// Keeps what was handed out of a request, and says what is to be done.
     ///
     /// # Errors
@@ -134,6 +137,7 @@ impl Requests {
         Ok(Next::Again)
     }
 
+    // rule: engines (own) A request of more than 1,048,576 octets is ENHANCE_YOUR_CALM
     /// Adds octets to the body of a request.
     fn add(&mut self, id: u32, bytes: &[u8], end: bool) -> Result<Next, AllocError>
         ensures { IfOk result (λ next. AddsOctets self.old self.new id bytes.now end
@@ -154,6 +158,7 @@ impl Requests {
         Ok(Next::Again)
     }
 
+    // rule: engines (own) A request that is whole is answered once, by method, path and body
     /// Takes out a request that is whole.
     fn end(&mut self, id: u32) -> Next
         ensures { EndsKept self.old self.new id (request_at id self.old) result }

@@ -88,6 +88,8 @@ impl Responder {
         }
     }
 
+    // rule: engines (own) A request that is whole is answered once, by method, path and body
+    // rule: engines (own) N5 comes only where a write has taken nothing
     /// Answers a request that is whole.
     pub(crate) fn answer(&mut self, id: u32, request: Request) -> Result<(), LinkError>
         ensures answers { ServerAnswers self.old.server.end self.new.server.end id
@@ -111,6 +113,7 @@ impl Responder {
         }
     }
 
+    // rule: engines (own) A request of more than 1,048,576 octets is ENHANCE_YOUR_CALM
     /// Resets a stream whose request is too large.
     pub(crate) fn reset(&mut self, id: u32) -> Result<(), LinkError>
         ensures resets { ServerResets self.old.server.end self.new.server.end id result }
@@ -126,6 +129,7 @@ impl Responder {
         }
     }
 
+    // rule: engines (own) Without a link a server answers whole requests, a client reads one
     /// Takes all octets of a piece, and answers the requests that are whole with them.
     ///
     /// # Errors
@@ -143,6 +147,7 @@ impl Responder {
         Ok(())
     }
 
+    // rule: engines (own) Without a link a server answers whole requests, a client reads one
     /// Gives back all that is owed, sends what waits of answers as windows allow, and appends at
     /// most `count` octets of the output to `out`: fewer only where no more wait. Answers how many.
     /// Once the connection has failed it puts out what waits, GOAWAY last.
@@ -159,6 +164,7 @@ impl Responder {
         put_out(self, count, out)
     }
 
+    // rule: engines (own) N4 comes only where the input ended early
     /// How many requests were answered, once the input has ended.
     ///
     /// # Errors

@@ -5,16 +5,19 @@ use Rattle.h2_log.specs.Events.{UnprocessedEvent, AckedEvent, PongEvent}
 use Rattle.h2_show.specs.Lines.{field_line, flag_word, hex_octet}
 
 -- a space and the word of END_STREAM, where it is set (RFC 9113, section 6.1)
+-- rule: replay (own) The line of an event has its type, stream and more
 abbrev pub end_word : Bool → List ℕ
 end_word end = flag_word end (codes "end")
 
 -- which end has reset a stream: the one that prints, or its peer
+-- rule: replay (own) The line of an event has its type, stream and more
 abbrev pub whose_word : (ours : Bool) → List ℕ
 whose_word true = codes "ours"
 whose_word false = codes "theirs"
 
 -- the line of an event, and those of its fields; the words are divided by one space, and numbers
 -- are decimal, but the octets of a PING
+-- rule: replay (own) The line of an event has its type, stream and more
 unfoldable pub event_lines : Event → List ℕ
 event_lines (FieldsEvent id list end) =
     codes "fields " ++ decimal id ++ end_word end ++ codes "\n" ++ flat_map field_line list

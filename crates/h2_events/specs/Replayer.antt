@@ -13,6 +13,7 @@ use Rattle.h2_events.specs.declared.replayer.ReplayError.{ReplayError}
 use Rattle.h2_events.specs.declared.replayer.ReplayError.TheVariants.{Fault, Failed}
 
 -- the first values of an end's settings (RFC 9113, section 6.5.2), and 100 streams (own)
+-- rule: replay (own) The status is 0 only where an end took the whole input
 abbrev pub first_values : Values
 first_values = record { table_limit = 4096; initial_window = 65535; max_streams = 100 }
 
@@ -31,6 +32,7 @@ pub record EndReplays (role : Role) (pieces : List (List ℕ)) (conn : Conn) : T
 
 -- Whatever log it represents: `take` was called until the piece was used and nothing more was
 -- reported, or until the connection failed with a code.
+-- rule: replay (own) The status is 0 only where an end took the whole input
 abbrev pub TakesPiece : Conn → List ℕ → Option Code → Conn → Type 0
 TakesPiece old piece fault new =
     (values : Values) (log : Log) → ConnRepresents values old log
@@ -45,6 +47,7 @@ TakesPrefix old piece done new =
     → TakesAll log piece fault after)
 
 -- The connection has failed with the code: for a fault of the peer, or out of memory.
+-- rule: replay (own) The status is 1 only where that end has failed
 abbrev pub ReportsCode : Code → ReplayError → Type 0
 ReportsCode code (Fault other) = (other ≡ code) × (code ≢ InternalError)
 ReportsCode code (Failed failure) = (code ≡ InternalError) × (failure ≡ failures.Memory)

@@ -15,6 +15,7 @@ use Rattle.h2_events.specs.Replayer.{first_values, joined}
 
 -- The octets were handed to `take` of a new end in these pieces, the newest first, and no other
 -- call was made; and this is the end's log then.
+-- rule: replay (own) The status is 0 only where an end took the whole input
 pub record IsReplayOf (role : Role) (octets : List ℕ) (log : Log) : Type 0 where
   pub pieces : List (List ℕ)
   pub turns : List Turn
@@ -22,6 +23,7 @@ pub record IsReplayOf (role : Role) (octets : List ℕ) (log : Log) : Type 0 whe
   pub all : joined pieces ≡ octets
 
 -- The end took all of the octets, and hasn't failed.
+-- rule: replay (own) The status is 0 only where an end took the whole input
 pub record TakesInput (role : Role) (octets : List ℕ) : Type 0 where
   pub log : Log
   pub replay : IsReplayOf role octets log
@@ -29,6 +31,7 @@ pub record TakesInput (role : Role) (octets : List ℕ) : Type 0 where
 
 -- The end took the first of the octets, and failed in them with this code, which isn't that of an
 -- end without memory.
+-- rule: replay (own) The status is 1 only where that end has failed
 pub record FailsInInput (role : Role) (octets : List ℕ) (code : Code) : Type 0 where
   pub taken : List ℕ
   pub unread : List ℕ
@@ -44,6 +47,7 @@ ReplayReports role octets None = TakesInput role octets
 ReplayReports role octets (Some code) = FailsInInput role octets code
 
 -- the status, by the code with which the connection failed
+-- rule: replay (own) The status is 1 only where that end has failed
 abbrev pub status_of : Option Code → Status
 status_of None = statuses.Good
 status_of (Some code) = statuses.Fault
@@ -63,6 +67,7 @@ ReplayReportsText role text status =
     × ReplayReportsOctets role octets status
 
 -- What the status reports of the input.
+-- rule: replay (own) The status is 0 only where an end took the whole input
 abbrev pub ReplayReportsInput : ReplayOptions → List ℕ → Status → Type 0
 ReplayReportsInput options given status =
     MatchBool options.hex

@@ -14,6 +14,7 @@ use std::alloc::Global;
 use std::fmt;
 use std::io::{self, Write};
 
+// rule: replay (own) The line of an event has its type, stream and more
 /// Prints the line of an event, and then a line for each of its fields, as
 /// [`write_field`](h2_show::write_field) does. The words are divided by one space, and numbers are
 /// decimal; each octet of a PING is two hexadecimal digits in lower case.
@@ -66,6 +67,7 @@ impl fmt::Display for End {
     }
 }
 
+// rule: replay (own) The line of an event has its type, stream and more
 /// Prints the lines of the fields of a list.
 fn write_fields<W: Write>(list: &FieldList, out: &mut W) -> io::Result<()>
     ensures { OnOk result (Appends (W.contents out.old) (W.contents out.new)
@@ -79,6 +81,7 @@ fn write_fields<W: Write>(list: &FieldList, out: &mut W) -> io::Result<()>
     Ok(())
 }
 
+// rule: replay (own) The line of an event has its type, stream and more
 /// Prints the line of a PING that was answered, with its octets.
 #[tactic(auto, unfolding(crate::specs::EventLines::event_lines))]
 fn write_pong<W: Write>(octets: [u8; 8], out: &mut W) -> io::Result<()>
@@ -92,6 +95,7 @@ fn write_pong<W: Write>(octets: [u8; 8], out: &mut W) -> io::Result<()>
     out.write_all(b"\n")
 }
 
+// rule (contract): replay (own) Each event has a line, written with its piece
 /// Prints the line of all the output that waits: it is put out a piece at a time.
 pub(crate) fn write_out<W: Write>(
     alloc: Global,

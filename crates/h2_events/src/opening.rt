@@ -27,6 +27,7 @@ impl Opening {
         self.left = &self.left[count..];
     }
 
+    // rule: replay (own) The words of replay choose the end and hexadecimal
     /// What is likely wrong with the options, where the connection fails in this piece: none unless
     /// the piece isn't what is still to come of the preface.
     pub(crate) fn hint(&self, piece: &[u8]) -> Option<Hint> {

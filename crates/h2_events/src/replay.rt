@@ -29,6 +29,9 @@ struct Ended {
     hint: Option<Hint>,
 }
 
+// contract: replay (own) The status is 0 only where an end took the whole input
+// rule: replay (own) The status is 0 only where an end took the whole input
+// contract: replay (own) The status is 1 only where that end has failed
 /// Replays the input: hands its octets to one end of a connection, which is new and has the default
 /// configuration, and prints a line for each event, the fields of a block under its line; then a
 /// line for the fault with which the connection fails, if it does; and then the octets that the end
@@ -103,6 +106,8 @@ fn replay_octets<R: Read, W: Write + Drop>(
     finish(alloc, &mut conn, ended, lines)
 }
 
+// rule: replay (own) The status is 0 only where an end took the whole input
+// rule: replay (own) The status is 1 only where that end has failed
 // Replays pieces that fit the buffer, until the input ends or the connection fails. The lines of
 // each are written before the next one is read.
 fn replay_pieces<R: Read, W: Write + Drop>(
@@ -142,6 +147,7 @@ fn replay_pieces<R: Read, W: Write + Drop>(
     Err(Failure::Device)
 }
 
+// rule (contract): replay (own) Each event has a line, written with its piece
 // Replays a piece, and writes its lines.
 fn write_piece<W: Write + Drop>(
     conn: &mut Conn,
@@ -196,6 +202,7 @@ fn replay_all<W: Write>(
     finish(alloc, &mut conn, ended, out)
 }
 
+// rule: replay (own) The status is 1 only where that end has failed
 // Prints the line of the fault, and then that of the output.
 fn finish<W: Write>(
     alloc: Global,
@@ -217,6 +224,7 @@ fn finish<W: Write>(
     })
 }
 
+// rule: replay (own) A fault of an end is printed with the name of its code
 // Prints the line of a fault with this code.
 fn write_fault<W: Write>(code: Code, out: &mut W) -> Result<Status, Failure>
     ensures status { IfOk result (λ status. status ≡ Status.Fault) }

@@ -54,6 +54,9 @@ pub(crate) fn new_end(alloc: Global, role: Role) -> Result<Conn, Refusal>
     }
 }
 
+// rule: replay (own) The status is 0 only where an end took the whole input
+// contract: replay (own) The status is 1 only where that end has failed
+// rule (contract): replay (own) Each event has a line, written with its piece
 /// Hands the piece to the end until it is used and nothing more is reported, and prints the events.
 ///
 /// # Errors

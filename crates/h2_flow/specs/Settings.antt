@@ -3,6 +3,7 @@ use Rattle.std.specs.Prelude.{ℕ, ◌==◌, true, if◌then◌else◌, Some, No
 use Rattle.h2_flow.specs.declared.settings.Settings.{Settings}
 
 -- the first values (RFC 9113, section 6.5.2)
+-- rule: 6.5.2 Each setting has its first value
 abbrev pub first_settings : Settings
 first_settings = record {
   header_table_size = 4096;
@@ -14,6 +15,8 @@ first_settings = record {
 }
 
 -- the settings with the value of an identifier; others are ignored (section 6.5.2)
+-- rule: 6.5.2 Settings of other identifiers are ignored
+-- rule: 6.5.2 A value changes its own setting and no other; one at fault none
 unfoldable pub with_value : Settings → ℕ × ℕ → Settings
 with_value settings pair =
     if pair.0 == 1 then record settings { header_table_size = pair.1 }

@@ -29,6 +29,7 @@ pub struct Settings {
 }
 
 impl Settings {
+    // rule: 6.5.2 Each setting has its first value
     /// The first values, which hold before any SETTINGS (RFC 9113, section 6.5.2).
     pub fn first() -> Settings
         ensures { result ≡ first_settings }
@@ -43,6 +44,16 @@ impl Settings {
         }
     }
 
+    // contract: 6.5.2 ENABLE_PUSH above 1 is PROTOCOL_ERROR
+    // rule: 6.5.2 ENABLE_PUSH above 1 is PROTOCOL_ERROR
+    // contract: 6.5.2 ENABLE_PUSH of 1 from a server is PROTOCOL_ERROR
+    // rule: 6.5.2 ENABLE_PUSH of 1 from a server is PROTOCOL_ERROR
+    // contract: 6.5.2 INITIAL_WINDOW_SIZE above 2^31-1 is FLOW_CONTROL_ERROR
+    // rule: 6.5.2 INITIAL_WINDOW_SIZE above 2^31-1 is FLOW_CONTROL_ERROR
+    // contract: 6.5.2 MAX_FRAME_SIZE below 16,384 or above 2^24-1 is PROTOCOL_ERROR
+    // rule: 6.5.2 MAX_FRAME_SIZE below 16,384 or above 2^24-1 is PROTOCOL_ERROR
+    // rule: 6.5.2 Settings of other identifiers are ignored
+    // rule: 6.5.2 A value changes its own setting and no other; one at fault none
     /// Applies a value of SETTINGS that an end of the role `from` has sent. Identifiers other than
     /// 1 to 6 are ignored.
     ///
@@ -86,6 +97,8 @@ impl Settings {
     }
 }
 
+// rule: 6.5.2 ENABLE_PUSH above 1 is PROTOCOL_ERROR
+// rule: 6.5.2 ENABLE_PUSH of 1 from a server is PROTOCOL_ERROR
 /// The greatest ENABLE_PUSH that an end of this role may send (section 6.5.2).
 fn most_push(from: Role) -> u32
     ensures { result ≡ (if is_server from then 0 else 1) }

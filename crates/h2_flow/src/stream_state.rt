@@ -15,6 +15,7 @@ pub struct StreamState {
 }
 
 impl StreamState {
+    // rule: 5.1 (own) h2_flow: each side of a stream ends once, and only that side
     /// A stream of which neither side has ended.
     pub fn open() -> StreamState
         ensures { result ≡ record { ended_in = false; ended_out = false } }
@@ -25,6 +26,7 @@ impl StreamState {
         }
     }
 
+    // rule: 5.1 (own) h2_flow: each side of a stream ends once, and only that side
     /// The peer sends END_STREAM.
     ///
     /// # Errors
@@ -42,6 +44,7 @@ impl StreamState {
         Ok(())
     }
 
+    // rule: 5.1 (own) h2_flow: each side of a stream ends once, and only that side
     /// This end sends END_STREAM.
     ///
     /// # Errors
@@ -59,6 +62,7 @@ impl StreamState {
         Ok(())
     }
 
+    // rule: 5.1 (own) h2_flow: each side of a stream ends once, and only that side
     /// Whether both sides have ended: the stream is over.
     pub fn closed(&self) -> bool
         ensures { result ≡ (self.now.ended_in && self.now.ended_out) }

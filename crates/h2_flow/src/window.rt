@@ -17,6 +17,7 @@ pub struct Window {
 }
 
 impl Window {
+    // rule: 6.9.2 (own) h2_flow: a window may be negative, and is shifted
     /// A window of so many octets, at most 2<sup>31</sup> - 1.
     pub fn new(octets: u32) -> Window
         requires { octets ≤ greatest_window }
@@ -27,6 +28,7 @@ impl Window {
         }
     }
 
+    // rule: 6.9.2 (own) h2_flow: a window may be negative, and is shifted
     /// The octets that may be sent; below zero none may.
     pub fn value(&self) -> i64
         ensures { result ≡ self.now.value }
@@ -34,6 +36,7 @@ impl Window {
         self.value
     }
 
+    // rule: 6.9.1 (own) h2_flow: a window gives as many octets as it has
     /// Octets are sent.
     ///
     /// # Errors
@@ -53,6 +56,7 @@ impl Window {
         Ok(())
     }
 
+    // rule: 6.9.1 (own) h2_flow: a window is filled up to 2^31-1
     /// The window is widened, by WINDOW_UPDATE.
     ///
     /// # Errors
@@ -72,6 +76,9 @@ impl Window {
         Ok(())
     }
 
+    // rule: 6.9.2 (own) h2_flow: a window may be negative, and is shifted
+    // rule: 6.9.2 (own) h2_flow: a shift above 2^31-1 is refused
+    // rule: 6.9.2 (own) h2_flow: a shift below -2^31 is refused
     /// The window is shifted by the difference of two initial windows (section 6.9.2).
     ///
     /// # Errors

@@ -13,6 +13,9 @@ use Rattle.h2_frame.specs.declared.kind.Kind.TheVariants.{Settings, PushPromise,
 use Rattle.h2_frame.specs.declared.kind.Kind.TheVariants.{WindowUpdate, Continuation, Unknown}
 
 -- the name of an error code (RFC 9113, section 7)
+-- rule: 7 Each error code has its name
+-- rule: show (own) A fault is printed with the name of its code and its place
+-- rule: replay (own) A fault of an end is printed with the name of its code
 abbrev pub name_of : Code → List ℕ
 name_of NoError = codes "NO_ERROR"
 name_of ProtocolError = codes "PROTOCOL_ERROR"
@@ -30,6 +33,7 @@ name_of InadequateSecurity = codes "INADEQUATE_SECURITY"
 name_of Http11Required = codes "HTTP_1_1_REQUIRED"
 
 -- the number of an error code (RFC 9113, section 7)
+-- rule: 7 Each error code has its number
 abbrev pub code_number : Code → ℕ
 code_number NoError = 0
 code_number ProtocolError = 1
@@ -47,6 +51,7 @@ code_number InadequateSecurity = 12
 code_number Http11Required = 13
 
 -- the kind that an octet of a head names (RFC 9113, section 6); other numbers are unknown kinds
+-- rule: 6 Each type of frame has its number
 unfoldable pub kind_of : ℕ → Kind
 kind_of number =
     if number == 0 then Data
@@ -62,6 +67,7 @@ kind_of number =
     else Unknown number
 
 -- the number of a kind
+-- rule: 6 Each type of frame has its number
 abbrev pub number_of : Kind → ℕ
 number_of Data = 0
 number_of Headers = 1

@@ -1,6 +1,8 @@
 -- The one encoding of each frame that is written: reserved bits, flags that the kind doesn't
 -- define, and octets of padding are zero (RFC 9113, sections 4.1 and 6). And the frames that aren't
 -- written.
+-- contract: h2_frame::write
+-- contract: h2_frame::write_ref
 use Rattle.std.specs.Prelude.{◌≡◌, ℕ, ◌+◌, ◌^◌, ◌<◌, ◌==◌, nat_lt, nat_le, not, ◌&&◌, ◌||◌, Bool}
 use Rattle.std.specs.Prelude.{true, if◌then◌else◌, List, ◌∷◌, ◌++◌, length, replicate, flat_map}
 use Rattle.std.specs.Prelude.{Option, Some, None}
@@ -18,6 +20,7 @@ use Rattle.h2_frame.specs.Frames.{Frame, Data, Headers, Priority, Reset, Setting
 use Rattle.h2_frame.specs.Frames.{WindowUpdate, Continuation, Unknown}
 
 -- the kind of a frame
+-- rule: 6 (own) A frame says its type and its stream, 0 for the connection
 unfoldable pub kind_of_frame : Frame → Kind
 kind_of_frame (Data stream end octets pad) = kinds.Data
 kind_of_frame (Headers stream end whole fragment pad priority) = kinds.Headers
@@ -31,6 +34,7 @@ kind_of_frame (Continuation stream whole fragment) = kinds.Continuation
 kind_of_frame (Unknown kind flags stream payload) = kinds.Unknown kind
 
 -- the stream of a frame; 0 is the connection
+-- rule: 6 (own) A frame says its type and its stream, 0 for the connection
 unfoldable pub stream_of : Frame → ℕ
 stream_of (Data stream end octets pad) = stream
 stream_of (Headers stream end whole fragment pad priority) = stream
@@ -48,6 +52,10 @@ abbrev pub flag : Bool → ℕ → ℕ
 flag set bit = if set then bit else 0
 
 -- the flags of a frame: END_STREAM or ACK 0x01, END_HEADERS 0x04, PADDED 0x08, PRIORITY 0x20
+-- rule: 4.1 A frame is sent without its reserved bit and undefined flags
+-- rule: 6.1 DATA is sent with its octets and END_STREAM
+-- rule: 6.2 HEADERS is sent with its flags and its priority
+-- rule: 6.7 PING is sent with its octets and its ACK
 unfoldable pub flags_of : Frame → ℕ
 flags_of (Data stream end octets pad) = flag end 0x01 + flag (is_some pad) 0x08
 flags_of (Headers stream end whole fragment pad priority) =
@@ -62,20 +70,29 @@ flags_of (Continuation stream whole fragment) = flag whole 0x04
 flags_of (Unknown kind flags stream payload) = flags
 
 -- a body, between a pad length and so many zeros where there is padding
+-- rule: 6.1 Padding is sent as zeros
+-- rule: 6.1 Padding is sent whole, with its length
 abbrev pub padded : List ℕ → Option ℕ → List ℕ
 padded body None = body
 padded body (Some count) = count ∷ (body ++ replicate count 0)
 
 -- a fragment, after a priority where there is one
+-- rule: 6.2 HEADERS is sent with its flags and its priority
 abbrev pub prioritized : List ℕ → Option (List ℕ) → List ℕ
 prioritized fragment None = fragment
 prioritized fragment (Some priority) = priority ++ fragment
 
 -- a pair of SETTINGS: 16 bits of identifier and 32 of value (section 6.5.1)
+-- rule: 6.5.1 Pairs are sent in order
 abbrev pub pair_octets : ℕ × ℕ → List ℕ
 pair_octets pair = big_bytes 2 pair.0 ++ big_bytes 4 pair.1
 
 -- the payload of a frame
+-- rule: 4.1 A frame is sent with the length of its payload
+-- rule: 6 (own) A frame says how many octets its payload has, padding included
+-- rule: 6.1 DATA is sent with its octets and END_STREAM
+-- rule: 6.7 PING is sent with its octets and its ACK
+-- rule: 6.8 GOAWAY is sent with a last stream of 31 bits
 unfoldable pub payload_of : Frame → List ℕ
 payload_of (Data stream end octets pad) = padded octets pad
 payload_of (Headers stream end whole fragment pad priority) =
@@ -91,6 +108,9 @@ payload_of (Unknown kind flags stream payload) = payload
 
 -- the octets that are written of a frame: 24 bits of length, 8 of kind, 8 of flags, a reserved bit
 -- and 31 bits of stream, and the payload
+-- rule: 4.1 A frame is sent without its reserved bit and undefined flags
+-- rule: 4.1 A frame is sent with the length of its payload
+-- rule: calls (own) Frames join the output that waits, in order
 unfoldable pub encoding_of : Frame → List ℕ
 encoding_of frame =
     big_bytes 3 (length (payload_of frame))
@@ -99,6 +119,10 @@ encoding_of frame =
 
 -- Whether the values of a frame can be written: a last stream and an increment have 31 bits, an
 -- acknowledgment of settings has no pairs, and kinds from 0 to 9 aren't unknown.
+-- rule: 4.1 (own) A frame of an unknown type is sent with a type from 10 on
+-- rule: 6.5.1 No pairs are sent with ACK
+-- rule: 6.8 GOAWAY is sent with a last stream of 31 bits
+-- rule: 6.9 WINDOW_UPDATE is sent with an increment of 31 bits
 unfoldable pub has_good_values : Frame → Bool
 has_good_values (Data stream end octets pad) = true
 has_good_values (Headers stream end whole fragment pad priority) = true
@@ -113,6 +137,12 @@ has_good_values (Unknown kind flags stream payload) = nat_le 10 kind
 
 -- The first refusal of a frame, but for lack of memory: a payload that is too long, then a stream
 -- that isn't one for the kind or is above 2^31 - 1, then a value.
+-- rule: 4.1 (own) A frame of an unknown type is sent with a type from 10 on
+-- rule: 4.1 (own) A refused frame leaves the output as it was
+-- rule: 4.1 (own) A frame is refused for length, stream, values, memory, in order
+-- rule: 4.1 (own) With room in the output memory is not refused to a frame
+-- rule: 4.2 No payload above 16,777,215 octets is written
+-- rule: 6 A frame is sent only on a stream that its type allows
 unfoldable pub refusal : Frame → Option Unwritable
 refusal frame =
     if nat_lt 16777215 (length (payload_of frame)) then Some TooLong
@@ -123,6 +153,9 @@ refusal frame =
 
 -- What an error of writing says of the frame: that it is its first refusal, or, where an allocation
 -- was refused, that it has none.
+-- rule: 4.1 (own) A refused frame leaves the output as it was
+-- rule: 4.1 (own) A frame is refused for length, stream, values, memory, in order
+-- rule: 4.1 (own) With room in the output memory is not refused to a frame
 abbrev pub IsRefused : Frame → Unwritable → Type 0
 IsRefused frame TooLong = refusal frame ≡ Some TooLong
 IsRefused frame BadStream = refusal frame ≡ Some BadStream

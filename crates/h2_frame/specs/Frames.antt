@@ -1,4 +1,5 @@
 -- Frames without where they lie in memory, and the octets that encode them (RFC 9113, section 6).
+-- contract: h2_frame::read_payload
 use Rattle.std.specs.Prelude.{◌≡◌, ℕ, ◌+◌, ◌-◌, ◌%◌, ◌^◌, ◌<◌, ◌≤◌, nat_lt, nat_le, ◌&&◌, Bool}
 use Rattle.std.specs.Prelude.{true, false, if◌then◌else◌, List, [], ◌∷◌, ◌++◌, length, drop}
 use Rattle.std.specs.Prelude.{slice_index, Option, Some, None}
@@ -64,6 +65,8 @@ owned_frame (owned.Unknown kind flags stream payload) = Unknown kind flags strea
 
 -- A payload without padding is the body; with it, it is the pad length, the body, and so many
 -- octets of padding, whatever they are (section 6.1).
+-- rule: 6.1 With PADDED, DATA has a pad length, data and padding
+-- rule: 6.2 HEADERS has a pad length, a priority, the fragment and the padding
 abbrev pub IsPadded : Bool → List ℕ → List ℕ → Option ℕ → Type 0
 IsPadded padded payload body None = (padded ≡ false) × (payload ≡ body)
 IsPadded padded payload body (Some count) =
@@ -72,6 +75,7 @@ IsPadded padded payload body (Some count) =
 
 -- Between pad length and padding HEADERS has the fragment, after the five octets of a priority
 -- where there is one (section 6.2).
+-- rule: 6.2 HEADERS has a pad length, a priority, the fragment and the padding
 abbrev pub IsPrioritized : Bool → List ℕ → List ℕ → Option (List ℕ) → Type 0
 IsPrioritized prioritized body fragment None = (prioritized ≡ false) × (body ≡ fragment)
 IsPrioritized prioritized body fragment (Some priority) = (prioritized ≡ true)
@@ -79,6 +83,17 @@ IsPrioritized prioritized body fragment (Some priority) = (prioritized ≡ true)
 
 -- This head and this payload carry the frame. Flags that the kind doesn't define, reserved bits,
 -- and octets of padding are free.
+-- rule: 4.1 Flags that the type does not define are ignored when received
+-- rule: 5.5 A frame of an unknown type passes as it is, and an end ignores it
+-- rule: 6.1 With PADDED, DATA has a pad length, data and padding
+-- rule: 6.2 HEADERS has a pad length, a priority, the fragment and the padding
+-- rule: 6.3 PRIORITY has an exclusive flag, a stream and a weight
+-- rule: 6.4 RST_STREAM is read with its code of 32 bits
+-- rule: 6.7 PING is read with its octets
+-- rule: 6.8 GOAWAY has a reserved bit, a last stream, a code and debug data
+-- rule: 6.9 The reserved bit of WINDOW_UPDATE is ignored
+-- rule: 6.10 CONTINUATION is a fragment, and END_HEADERS ends the block
+-- rule: 7 A code that is received may be any number of 32 bits
 abbrev pub Carries : Head → List ℕ → Frame → Type 0
 -- section 6.1
 Carries head payload (Data stream end octets pad) =
@@ -128,6 +143,8 @@ Carries head payload (Unknown kind flags stream octets) =
 
 -- The octets encode the frame, all of them: nine octets of head, and then a payload of the length
 -- that the head names, which carry the frame.
+-- rule (law): 4.1 Octets encode at most one frame
+-- rule (law): 4.1 Octets encode a frame exactly where they have no fault
 pub record Encodes (frame : Frame) (octets : List ℕ) : Type 0 where
   pub complete : length octets ≡ 9 + (head_of octets).length
   pub carried : Carries (head_of octets) (drop 9 octets) frame
@@ -150,6 +167,8 @@ headers_pad_too_much flags payload =
     && nat_lt (length payload - octets_of_flags true (has_priority flags)) (pad_length payload)
 
 -- Whether a payload's pad length is too large. Kinds but DATA and HEADERS have no padding.
+-- rule: 6.1 Padding as long as the payload of DATA, or longer, is PROTOCOL_ERROR
+-- rule: 6.2 Padding of HEADERS above what the priority leaves is PROTOCOL_ERROR
 unfoldable pub pads_too_much : Kind → ℕ → List ℕ → Bool
 pads_too_much kinds.Data flags payload = data_pads_too_much flags payload
 pads_too_much kinds.Headers flags payload = headers_pad_too_much flags payload
@@ -164,10 +183,14 @@ pads_too_much kinds.Continuation flags payload = false
 pads_too_much (kinds.Unknown number) flags payload = false
 
 -- the fault of a payload after a head without fault, known at its last octet
+-- rule (law): 4.1 Octets encode a frame exactly where they have no fault
+-- rule: 6.1 Padding as long as the payload of DATA, or longer, is PROTOCOL_ERROR
+-- rule: 6.2 Padding of HEADERS above what the priority leaves is PROTOCOL_ERROR
 unfoldable pub payload_fault : Head → List ℕ → Option Code
 payload_fault head payload = if pads_too_much head.kind head.flags payload then Some ProtocolError
     else None
 
 -- what an error of reading a payload says of it
+-- rule: 6.1 A fault of a payload is known at its last octet
 abbrev pub Refuses : Head → List ℕ → PayloadError → Type 0
 Refuses head payload (errors.Code code) = payload_fault head payload ≡ Some code

@@ -5,6 +5,7 @@ use Rattle.h2_frame.specs.declared.pairs.Pairs.{Pairs}
 use Rattle.h2_frame.specs.declared.pairs.PairIter.{PairIter}
 
 -- the pair in the first six octets
+-- rule: 6.5.1 The pairs are 16 bits of identifier and 32 of value, in order
 abbrev pub first_pair : List ℕ → ℕ × ℕ
 first_pair octets = (big_number 2 octets, big_number 4 (drop 2 octets))
 
@@ -14,6 +15,7 @@ pairs_in zero octets = []
 pairs_in (suc count) octets = first_pair octets ∷ pairs_in count (drop 6 octets)
 
 -- the pairs in these octets, in order; less than six octets are none
+-- rule: 6.5.1 The pairs are 16 bits of identifier and 32 of value, in order
 abbrev pub pairs_of : List ℕ → List (ℕ × ℕ)
 pairs_of octets = pairs_in (length octets / 6) octets
 

@@ -17,6 +17,7 @@ pub(crate) const HEAD: usize = 9;
 const MOST: usize = 0xff_ffff;
 
 impl FrameParts<'_> {
+    // rule: 4.2 No payload above 16,777,215 octets is written
     /// How many octets the payload has, or none where no head can say it.
     pub(crate) fn payload_length(&self) -> Option<u32>
         ensures { MatchOption result (16777215 < length (payload_octets self.now))
@@ -37,6 +38,8 @@ impl FrameParts<'_> {
         Some(length as u32)
     }
 
+    // rule: 4.1 A frame is sent without its reserved bit and undefined flags
+    // rule: 4.1 A frame is sent with the length of its payload
     /// Appends the head of a payload of so many octets.
     pub(crate) fn append_head(&self, length: u32, out: &mut Vec<u8>)
         requires small { length < 2 ^ 24 }
@@ -53,6 +56,8 @@ impl FrameParts<'_> {
         out.extend_from_slice(&octets).unwrap();
     }
 
+    // rule: 6.1 Padding is sent as zeros
+    // rule: 6.1 Padding is sent whole, with its length
     /// Appends the payload.
     pub(crate) fn append_payload(&self, out: &mut Vec<u8>)
         requires { vec_len out.old + length (payload_octets self.now) ≤ vec_capacity out.old }
@@ -132,6 +137,7 @@ impl Body<'_> {
     }
 }
 
+// rule: 6.5.1 Pairs are sent in order
 // Appends the pairs.
 fn append_pairs(pairs: &[(u16, u32)], out: &mut Vec<u8>)
     requires { vec_len out.old + length (flat_map pair_octets pairs.now) ≤ vec_capacity out.old }

@@ -39,6 +39,7 @@ pub enum Code {
 }
 
 impl Code {
+    // rule: 7 Each error code has its number
     /// The code's number in RFC 9113, section 7, from 0 to 13.
     pub fn number(self) -> u32
         ensures { result ≡ code_number self }
@@ -61,6 +62,7 @@ impl Code {
         }
     }
 
+    // rule: 7 Each error code has its number
     /// The code of a number, or none for a number above 13, which RFC 9113, section 7, doesn't
     /// name.
     pub fn from_number(number: u32) -> Option<Code>
@@ -86,6 +88,7 @@ impl Code {
         })
     }
 
+    // rule: 7 Each error code has its name
     /// The code's name in RFC 9113, section 7, as `PROTOCOL_ERROR`.
     pub fn name(self) -> &'static str
         ensures { result.now ≡ name_of self }
@@ -112,6 +115,7 @@ impl Code {
 impl fmt::Display for Code {
     ghost output = { λ code. Some (name_of code) };
 
+    // rule: 7 Each error code has its name
     fn fmt<W: fmt::Write>(&self, f: &mut fmt::Formatter<W>) -> fmt::Result {
         f.write_str(self.name())
     }

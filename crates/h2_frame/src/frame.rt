@@ -107,6 +107,8 @@ pub enum FrameRef<'a> {
 
 #[tactic(auto, unfolding(crate::proofs::Rules::parts_of_frames))]
 impl FrameRef<'_> {
+    // contract: 6 (own) A frame says its type and its stream, 0 for the connection
+    // rule: 6 (own) A frame says its type and its stream, 0 for the connection
     /// The frame's kind.
     pub fn kind(self) -> Kind
         ensures { result ≡ kind_of_frame (frame_of self.entry) }
@@ -125,6 +127,8 @@ impl FrameRef<'_> {
         }
     }
 
+    // contract: 6 (own) A frame says its type and its stream, 0 for the connection
+    // rule: 6 (own) A frame says its type and its stream, 0 for the connection
     /// The frame's stream; 0 is the connection.
     pub fn stream(self) -> u32
         ensures { result ≡ stream_of (frame_of self.entry) }
@@ -141,6 +145,8 @@ impl FrameRef<'_> {
         }
     }
 
+    // contract: 6 (own) A frame says how many octets its payload has, padding included
+    // rule: 6 (own) A frame says how many octets its payload has, padding included
     /// How many octets the frame's payload has, padding and pad length included (RFC 9113, section
     /// 4.1).
     pub fn payload_len(self) -> usize

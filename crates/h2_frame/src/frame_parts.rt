@@ -60,6 +60,7 @@ pub(crate) struct FrameParts<'a> {
 
 #[tactic(auto, unfolding(crate::proofs::Rules::parts_of_frames))]
 impl<'a> FrameParts<'a> {
+    // rule: 6.1 DATA is sent with its octets and END_STREAM
     /// The parts of DATA.
     pub(crate) fn data(stream: u32, end: bool, octets: &'a [u8], pad: Option<u8>) -> FrameParts<'a>
         ensures { Describes result (Data stream end octets.now pad) }
@@ -71,6 +72,7 @@ impl<'a> FrameParts<'a> {
         }
     }
 
+    // rule: 6.2 HEADERS is sent with its flags and its priority
     /// The parts of HEADERS.
     pub(crate) fn headers(
         stream: u32,
@@ -112,6 +114,7 @@ impl<'a> FrameParts<'a> {
         }
     }
 
+    // rule: 6.5.1 No pairs are sent with ACK
     /// The parts of SETTINGS.
     pub(crate) fn settings(ack: bool, pairs: &'a [(u16, u32)]) -> FrameParts<'a>
         ensures { Describes result (Settings ack pairs.now) }
@@ -125,6 +128,7 @@ impl<'a> FrameParts<'a> {
         }
     }
 
+    // rule: 6.5.1 No pairs are sent with ACK
     /// The parts of SETTINGS whose pairs are lent.
     pub(crate) fn lent_settings(ack: bool, lent: Pairs<'a>) -> FrameParts<'a>
         ensures { Describes result (Settings ack (lent_pairs lent.entry)) }
@@ -136,6 +140,7 @@ impl<'a> FrameParts<'a> {
         }
     }
 
+    // rule: 6.7 PING is sent with its octets and its ACK
     /// The parts of PING.
     pub(crate) fn ping(ack: bool, octets: [u8; 8]) -> FrameParts<'a>
         ensures { Describes result (Ping ack octets) }
@@ -147,6 +152,7 @@ impl<'a> FrameParts<'a> {
         }
     }
 
+    // rule: 6.8 GOAWAY is sent with a last stream of 31 bits
     /// The parts of GOAWAY.
     pub(crate) fn go_away(last: u32, code: u32, debug: &'a [u8]) -> FrameParts<'a>
         ensures { Describes result (GoAway last code debug.now) }
@@ -158,6 +164,7 @@ impl<'a> FrameParts<'a> {
         }
     }
 
+    // rule: 6.9 WINDOW_UPDATE is sent with an increment of 31 bits
     /// The parts of WINDOW_UPDATE.
     pub(crate) fn window_update(stream: u32, increment: u32) -> FrameParts<'a>
         ensures { Describes result (WindowUpdate stream increment) }
@@ -179,6 +186,7 @@ impl<'a> FrameParts<'a> {
         }
     }
 
+    // rule: 4.1 (own) A frame of an unknown type is sent with a type from 10 on
     /// The parts of a frame of an unknown kind.
     pub(crate) fn unknown(kind: u8, flags: u8, stream: u32, payload: &'a [u8]) -> FrameParts<'a>
         ensures { Describes result (Unknown kind flags stream payload.now) }

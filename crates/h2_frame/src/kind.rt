@@ -31,6 +31,7 @@ pub enum Kind {
 }
 
 impl Kind {
+    // rule: 6 Each type of frame has its number
     /// The kind that an octet of a frame's head names.
     #[tactic(auto, unfolding(crate::specs::Codes::kind_of))]
     pub fn from_number(number: u8) -> Kind
@@ -51,6 +52,7 @@ impl Kind {
         }
     }
 
+    // rule: 6 Each type of frame has its number
     /// The number of the kind.
     pub fn number(self) -> u8
         ensures { result ≡ number_of self }

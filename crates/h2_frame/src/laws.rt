@@ -6,18 +6,22 @@ ghost use Rattle.h2_frame.specs.Heads.{head_of, form_fault, head_fault as fault_
 ghost use Rattle.h2_frame.specs.Frames.{Frame, Encodes, payload_fault};
 ghost use Rattle.h2_frame.specs.Encoding.{payload_of, encoding_of, refusal, IsTyped};
 
+// contract: 4.1 Octets encode at most one frame
 /// Octets encode one frame at most.
 pub fn one_frame()
     ensures { (frame other : Frame) (octets : List ℕ) → Encodes frame octets → Encodes other octets
         → frame ≡ other }
 {}
 
+// contract: 4.1 A head is 24 bits of length, 8 of type, 8 of flags, 1 + 31 of stream
 /// A head is read from nine octets, whatever follows them.
 pub fn nine_octets()
     ensures { (octets more : List ℕ) → 9 ≤ length octets
         → head_of (octets ++ more) ≡ head_of octets }
 {}
 
+// contract: 4.2 A length above the limit is FRAME_SIZE_ERROR, of the connection
+// contract: 4.2 Of the faults of a head a length above the limit is the first
 /// A head without fault has a length within the limit, and no fault of its form, which is what is
 /// left of the faults with but for the limit.
 pub fn within_limit()
@@ -25,6 +29,8 @@ pub fn within_limit()
     ensures form { (read : Head) (limit : ℕ) → fault_of read limit ≡ None → form_fault read ≡ None }
 {}
 
+// contract: 4.1 A frame is sent without its reserved bit and undefined flags
+// contract: 4.1 A frame is sent with the length of its payload
 /// What is written of a frame that can be written encodes that frame, so it is read back; and
 /// neither its head nor its payload has a fault, where the limit allows its length.
 pub fn written_frame_is_read()

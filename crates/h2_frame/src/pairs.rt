@@ -16,6 +16,7 @@ pub struct Pairs<'a> {
 }
 
 impl<'a> Pairs<'a> {
+    // contract: 6.5.1 The pairs are 16 bits of identifier and 32 of value, in order
     /// How many pairs there are.
     pub fn len(&self) -> usize
         ensures { result ≡ length (lent_pairs self.now) }
@@ -30,6 +31,7 @@ impl<'a> Pairs<'a> {
         self.len() == 0
     }
 
+    // rule: 6.5.1 The pairs are 16 bits of identifier and 32 of value, in order
     /// The pairs in order.
     pub fn iter(&self) -> PairIter<'a>
         ensures { pairs_left result ≡ lent_pairs self.now }
@@ -53,6 +55,8 @@ impl Iterator for PairIter<'_> {
 
     ghost remaining = { item_count pairs_left };
 
+    // contract: 6.5.1 The pairs are 16 bits of identifier and 32 of value, in order
+    // rule: 6.5.1 The pairs are 16 bits of identifier and 32 of value, in order
     fn next(&mut self) -> Option<(u16, u32)> {
         if self.octets.len() < PAIR {
             return None;

@@ -14,6 +14,11 @@ use crate::pairs::Pairs;
 use crate::reading::{ACK, END_HEADERS, END_STREAM, PADDED, PRIORITY, octets_of_flags};
 use byteorder::{BigEndian, ByteOrder};
 
+// contract: 6.1 Padding as long as the payload of DATA, or longer, is PROTOCOL_ERROR
+// rule: 6.1 Padding as long as the payload of DATA, or longer, is PROTOCOL_ERROR
+// rule: 6.1 A fault of a payload is known at its last octet
+// contract: 6.2 Padding of HEADERS above what the priority leaves is PROTOCOL_ERROR
+// rule: 6.2 Padding of HEADERS above what the priority leaves is PROTOCOL_ERROR
 /// The fault of a payload after a head without fault, or none: DATA whose pad length isn't less
 /// than its payload's length (RFC 9113, section 6.1), or HEADERS whose pad length is above what
 /// remains for the fragment (section 6.2), is a PROTOCOL_ERROR. The slice has the head's length. It
@@ -40,6 +45,19 @@ pub fn payload_fault(head: &Head, payload: &[u8]) -> Option<Code>
     None
 }
 
+// contract: 5.5 A frame of an unknown type passes as it is, and an end ignores it
+// contract: 6.1 END_STREAM of DATA ends the stream of the sender
+// contract: 6.2 END_STREAM and END_HEADERS are read from their bits
+// contract: 6.3 PRIORITY has five octets (a connection error: own)
+// contract: 6.3 PRIORITY on stream 0 is PROTOCOL_ERROR
+// contract: 6.3 PRIORITY has an exclusive flag, a stream and a weight
+// contract: 6.4 RST_STREAM has four octets
+// contract: 6.4 RST_STREAM on stream 0 is PROTOCOL_ERROR
+// contract: 6.4 RST_STREAM is read with its code of 32 bits
+// contract: 6.5 ACK of SETTINGS and PING is read from its bit
+// contract: 6.7 PING has eight octets
+// contract: 6.7 PING on a stream other than 0 is PROTOCOL_ERROR
+// contract: 6.7 PING is read with its octets
 /// Checks and reads the payload after a head without fault, and lends it (RFC 9113, section 6). The
 /// slice has the head's length. It allocates nothing.
 ///
@@ -62,6 +80,14 @@ pub fn read_payload<'a>(head: &Head, payload: &'a [u8]) -> Result<FrameRef<'a>, 
     Ok(payload_frame(head, payload))
 }
 
+// rule: 4.1 Flags that the type does not define are ignored when received
+// rule: 5.5 A frame of an unknown type passes as it is, and an end ignores it
+// rule: 6.4 RST_STREAM is read with its code of 32 bits
+// rule: 6.5 ACK of SETTINGS and PING is read from its bit
+// rule: 6.8 GOAWAY has a reserved bit, a last stream, a code and debug data
+// rule: 6.9 The reserved bit of WINDOW_UPDATE is ignored
+// rule: 6.10 CONTINUATION is a fragment, and END_HEADERS ends the block
+// rule: 7 A code that is received may be any number of 32 bits
 /// The frame of a payload without fault, after a head without fault (RFC 9113, section 6); the
 /// payload is lent. The slice has the head's length, and [`payload_fault`] answers none for it. It
 /// allocates nothing.
@@ -118,6 +144,8 @@ pub fn payload_frame<'a>(head: &Head, payload: &'a [u8]) -> FrameRef<'a>
     }
 }
 
+// rule: 6.1 With PADDED, DATA has a pad length, data and padding
+// rule: 6.1 END_STREAM of DATA ends the stream of the sender
 // The frame of DATA whose payload has no fault.
 #[tactic(auto, unfolding(crate::proofs::Rules::payload_rules))]
 fn data<'a>(head: &Head, payload: &'a [u8]) -> FrameRef<'a>
@@ -136,6 +164,8 @@ fn data<'a>(head: &Head, payload: &'a [u8]) -> FrameRef<'a>
     }
 }
 
+// rule: 6.2 HEADERS has a pad length, a priority, the fragment and the padding
+// rule: 6.2 END_STREAM and END_HEADERS are read from their bits
 // The frame of HEADERS whose payload has no fault.
 #[tactic(auto, unfolding(crate::proofs::Rules::payload_rules))]
 fn headers<'a>(head: &Head, payload: &'a [u8]) -> FrameRef<'a>
@@ -158,6 +188,8 @@ fn headers<'a>(head: &Head, payload: &'a [u8]) -> FrameRef<'a>
     }
 }
 
+// rule: 6.1 With PADDED, DATA has a pad length, data and padding
+// rule: 6.2 HEADERS has a pad length, a priority, the fragment and the padding
 // What lies between the pad length and the padding, and how much padding there is; or all of the
 // payload.
 fn without_padding(flags: u8, payload: &[u8]) -> (&[u8], Option<u8>)
@@ -172,6 +204,7 @@ fn without_padding(flags: u8, payload: &[u8]) -> (&[u8], Option<u8>)
     (&payload[1..end], Some(pad))
 }
 
+// rule: 6.2 HEADERS has a pad length, a priority, the fragment and the padding
 // What follows the priority, and the priority; or all of the body.
 fn without_priority(flags: u8, body: &[u8]) -> (&[u8], Option<[u8; 5]>)
     requires { has_priority flags ≡ true → 5 ≤ length body.now }
@@ -184,6 +217,7 @@ fn without_priority(flags: u8, body: &[u8]) -> (&[u8], Option<[u8; 5]>)
     (fragment, Some(five(priority)))
 }
 
+// rule: 6.3 PRIORITY has an exclusive flag, a stream and a weight
 // A copy of five octets.
 fn five(payload: &[u8]) -> [u8; 5]
     requires { length payload.now ≡ 5 }
@@ -194,6 +228,7 @@ fn five(payload: &[u8]) -> [u8; 5]
     copied
 }
 
+// rule: 6.7 PING is read with its octets
 // A copy of eight octets.
 fn eight(payload: &[u8]) -> [u8; 8]
     requires { length payload.now ≡ 8 }

@@ -25,6 +25,10 @@ pub(crate) const PADDED: u8 = 0x08;
 /// The bit of PRIORITY, in HEADERS.
 pub(crate) const PRIORITY: u8 = 0x20;
 
+// contract: 4.1 A head is 24 bits of length, 8 of type, 8 of flags, 1 + 31 of stream
+// rule: 4.1 A head is 24 bits of length, 8 of type, 8 of flags, 1 + 31 of stream
+// contract: 4.1 The reserved bit of a head is ignored when it is received
+// rule: 4.1 The reserved bit of a head is ignored when it is received
 /// Reads the nine octets with which a frame begins. The reserved bit is dropped (RFC 9113, section
 /// 4.1).
 #[tactic(auto, unfolding(crate::specs::Heads::head_of))]
@@ -42,6 +46,18 @@ pub fn head(octets: &[u8; 9]) -> Head
     }
 }
 
+// rule: 4.2 A length above the limit is FRAME_SIZE_ERROR, of the connection
+// rule: 4.2 Of the faults of a head a length above the limit is the first
+// contract: 6.3 PRIORITY has five octets (a connection error: own)
+// contract: 6.3 PRIORITY on stream 0 is PROTOCOL_ERROR
+// contract: 6.3 PRIORITY has an exclusive flag, a stream and a weight
+// contract: 6.4 RST_STREAM has four octets
+// contract: 6.4 RST_STREAM on stream 0 is PROTOCOL_ERROR
+// contract: 6.4 RST_STREAM is read with its code of 32 bits
+// rule: 6.6 PUSH_PROMISE is PROTOCOL_ERROR, since no end here allows push
+// contract: 6.7 PING has eight octets
+// contract: 6.7 PING on a stream other than 0 is PROTOCOL_ERROR
+// contract: 6.7 PING is read with its octets
 /// The fault of a head, where payloads may have at most `limit` octets: the first of these, or
 /// none.
 ///
@@ -70,6 +86,14 @@ pub fn head_fault(head: &Head, limit: u32) -> Option<Code>
     None
 }
 
+// rule: 6.1 DATA on stream 0 is PROTOCOL_ERROR
+// rule: 6.2 HEADERS on stream 0 is PROTOCOL_ERROR
+// rule: 6.3 PRIORITY on stream 0 is PROTOCOL_ERROR
+// rule: 6.4 RST_STREAM on stream 0 is PROTOCOL_ERROR
+// rule: 6.5 SETTINGS on a stream other than 0 is PROTOCOL_ERROR
+// rule: 6.7 PING on a stream other than 0 is PROTOCOL_ERROR
+// rule: 6.8 GOAWAY on a stream other than 0 is PROTOCOL_ERROR
+// rule: 6.10 CONTINUATION on stream 0 is PROTOCOL_ERROR
 /// Whether a frame of the kind may be on the stream.
 #[tactic(auto, unfolding(crate::specs::Heads::fits_stream))]
 pub(crate) fn fits_stream(kind: Kind, stream: u32) -> bool
@@ -87,6 +111,17 @@ pub(crate) fn fits_stream(kind: Kind, stream: u32) -> bool
     }
 }
 
+// rule: 4.1 Flags that the type does not define are ignored when received
+// rule: 4.2 A length that the type and flags cannot have is FRAME_SIZE_ERROR
+// rule: 6.1 PADDED DATA without an octet of payload is FRAME_SIZE_ERROR
+// rule: 6.2 HEADERS too short for its flags is FRAME_SIZE_ERROR
+// rule: 6.3 PRIORITY has five octets (a connection error: own)
+// rule: 6.4 RST_STREAM has four octets
+// rule: 6.5 SETTINGS has a length that is a multiple of six
+// rule: 6.5 SETTINGS with ACK has no payload
+// rule: 6.7 PING has eight octets
+// rule: 6.8 GOAWAY has at least eight octets
+// rule: 6.9 WINDOW_UPDATE has four octets
 // Whether a payload of the kind, with these flags, may have the length.
 #[tactic(auto, unfolding(crate::specs::Heads::fits_length))]
 fn fits_length(kind: Kind, flags: u8, length: u32) -> bool
@@ -105,6 +140,7 @@ fn fits_length(kind: Kind, flags: u8, length: u32) -> bool
     }
 }
 
+// rule: 6.2 HEADERS too short for its flags is FRAME_SIZE_ERROR
 /// The octets that flags ask for: the pad length, and the priority.
 pub(crate) fn octets_of_flags(padded: bool, prioritized: bool) -> u32
     ensures { result ≡ flag_octets padded prioritized }

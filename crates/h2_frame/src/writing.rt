@@ -12,6 +12,7 @@ use crate::frame::FrameRef;
 use crate::frame_parts::FrameParts;
 use crate::owned::{Frame, Unwritable};
 
+// contract: 6 A frame is sent only on a stream that its type allows
 /// Appends the frame (RFC 9113, sections 4.1 and 6): its head and its payload, with reserved bits,
 /// flags that its kind doesn't define, and octets of padding zero.
 ///
@@ -37,6 +38,7 @@ pub fn write(frame: &Frame, out: &mut Vec<u8>) -> Result<(), Unwritable>
     write_parts(&owned_parts(frame), out)
 }
 
+// contract: 6 A frame is sent only on a stream that its type allows
 /// Appends a frame that is lent, as [`write`] does.
 ///
 /// # Errors
@@ -56,6 +58,12 @@ pub fn write_ref(frame: FrameRef<'_>, out: &mut Vec<u8>) -> Result<(), Unwritabl
     write_parts(&lent_parts(frame), out)
 }
 
+// rule: 4.1 A frame is sent without its reserved bit and undefined flags
+// rule: 4.1 A frame is sent with the length of its payload
+// rule: 4.1 (own) A refused frame leaves the output as it was
+// rule: 4.1 (own) A frame is refused for length, stream, values, memory, in order
+// rule: 4.1 (own) With room in the output memory is not refused to a frame
+// rule: 6 A frame is sent only on a stream that its type allows
 // Appends a frame that has these parts.
 fn write_parts(parts: &FrameParts<'_>, out: &mut Vec<u8>) -> Result<(), Unwritable>
     ensures ok { (frame : AnyFrame) → Describes parts.now frame

@@ -11,6 +11,7 @@ use Rattle.h2_joined.specs.declared.act.Acted.TheVariants.{Done}
 use Rattle.h2_joined.specs.Joints.{Calls, JointEnd, Made}
 
 -- Both ends are quiet, and so are both pipes.
+-- rule: joined (own) Two joined ends are quiet where both are, and both pipes are empty
 pub record AreQuiet (client server : JointEnd) : Type 0 where
   pub quiet_client : IsQuietEnd client.happened
   pub quiet_server : IsQuietEnd server.happened
@@ -24,6 +25,7 @@ WasResetAt made side id code =
 
 -- A Reset of the stream was made at either end, or the client has reported that the server does
 -- not process it.
+-- rule: joined (own) What one end has handed out is a prefix of what the other accepted
 abbrev pub WasResetIn : List Made → (client : JointEnd) → ℕ → Type 0
 WasResetIn made client i =
     ((side : Side) × (code : ℕ) × WasResetAt made side i code)
@@ -31,6 +33,7 @@ WasResetIn made client i =
 
 -- The end reports no fault: its connection has not failed, it has handed out no reset of its own,
 -- and each reset that the peer made was made by a Reset there.
+-- rule: joined (own) What one end has handed out is a prefix of what the other accepted
 pub record ReportsNoFault (made : List Made) (end : EndLog) (peer : Side) : Type 0 where
   pub up : end.log.failed ≡ None
   pub no_reset_of_ours : (id code : ℕ) → Contains end.handed (Passed (ResetEvent id code true)) → ⊥

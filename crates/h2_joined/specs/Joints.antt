@@ -60,6 +60,7 @@ with_answer one act answer =
     with_happened one (end_with_log one.happened (with_call one.happened.log act answer))
 
 -- the other end once the call has put octets on the pipe to it
+-- rule: joined (own) Output is put on the pipe to the other end, as much as is asked
 abbrev pub with_given : (other one : JointEnd) → Act → Answer → JointEnd
 with_given other one act answer = record other {
   incoming = other.incoming
@@ -103,6 +104,7 @@ most_calls = 2 ^ 64 - 1
 -- Octets are handed to `take` until they are used and nothing is handed out, or the connection has
 -- failed; or it stops, since what was handed out cannot be kept, or since so many calls were made
 -- that no other is. `calls` is how many were made before.
+-- rule: joined (own) The first octets of a pipe are given to its end
 pub data IsDelivered : (calls : ℕ) → EndLog → List ℕ → Delivery → EndLog → Type 0 where
   is_whole : {end after : EndLog} → (calls : ℕ) (octets : List ℕ)
       → calls < most_calls → EndMayTake end octets (EndTook (length octets) None) after
@@ -125,6 +127,9 @@ pub data IsDelivered : (calls : ℕ) → EndLog → List ℕ → Delivery → En
 -- What may be answered where something is done with one end, and what has happened at both then.
 -- It is what the end answers to the call; and where memory was refused to copy a message or to keep
 -- what was handed out, that.
+-- rule: joined (own) An act is the call of its name at its end
+-- rule: joined (own) Output is put on the pipe to the other end, as much as is asked
+-- rule: joined (own) The first octets of a pipe are given to its end
 pub data MayDo (one other : JointEnd) : Doing → Acted → (new_one new_other : JointEnd) → Type 0
   where
     requests : (message : SentMessage) (result : Result ℕ EndRefusal) (after : EndLog)
@@ -187,10 +192,12 @@ abbrev pub stopping : Side → (count : ℕ) → Made
 stopping side count = record { side = side; doing = Delivers count; acted = acted.Memory }
 
 -- A delivery has stopped.
+-- rule: joined (own) Without memory for what was handed out the two ends stand still
 abbrev pub HasStopped : List Made → Type 0
 HasStopped made = (side : Side) × (count : ℕ) × Contains made (stopping side count)
 
 -- The delivery that has stopped was to this end; later acts answer so too, and do nothing.
+-- rule: joined (own) Without memory for what was handed out the two ends stand still
 abbrev pub HasStoppedAt : List Made → Side → Type 0
 HasStoppedAt made side =
     (count : ℕ) × (newer older : List Made) × (made ≡ newer ++ stopping side count ∷ older)
@@ -198,6 +205,8 @@ HasStoppedAt made side =
 
 -- One act more at two ends, with its answer, and what has happened at both then. Once a delivery
 -- has stopped the two ends stand still: each act answers so, and nothing happens.
+-- rule: joined (own) An act is the call of its name at its end
+-- rule: joined (own) Without memory for what was handed out the two ends stand still
 pub data IsNextAct (history : List Made) (client server : JointEnd)
     : Made → (new_client new_server : JointEnd) → Type 0 where
   at_client : {new_client new_server : JointEnd} → (HasStopped history → ⊥)
@@ -216,6 +225,7 @@ pub data IsNextAct (history : List Made) (client server : JointEnd)
 
 -- The acts were made, the newest first, on a new client and a new server with these values of their
 -- own settings, and this has happened at them.
+-- rule: joined (own) Two joined ends are a new client and a new server, pipes empty
 pub data IsJoint (client_values server_values : Values) : (history : List Made)
     → (client server : JointEnd) → Type 0 where
   begins : AreInRange client_values → AreInRange server_values
@@ -228,6 +238,7 @@ pub data IsJoint (client_values server_values : Values) : (history : List Made)
 
 -- Memory was not refused where it counts: no delivery has stopped, and neither connection has
 -- failed since memory was refused as it took octets.
+-- rule: joined (own) What one end has handed out is a prefix of what the other accepted
 pub record MemorySufficed (made : List Made) (client server : JointEnd) : Type 0 where
   pub kept : HasStopped made → ⊥
   pub client_went_on : client.happened.log.failed ≢ Some InternalError

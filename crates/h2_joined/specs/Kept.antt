@@ -27,6 +27,7 @@ use Rattle.h2_joined.specs.Joints.{Delivers, JointEnd, Made, IsJoint, IsNextAct,
 use Rattle.h2_joined.specs.Joints.{HasStopped}
 
 -- an event
+-- rule: joined (own) Accepted messages, what was handed out, octets on a pipe are kept
 abbrev pub event_value : JointEvent → Handed
 event_value (kept.Interim id list) = InterimHanded id list.items
 event_value (kept.Head id list end) = HeadHanded id list.items end
@@ -43,6 +44,7 @@ abbrev pub accepted_value : Accepted → ℕ × SentMessage
 accepted_value accepted = (accepted.id, message_value accepted.message)
 
 -- the end with which something is done, and what
+-- rule: joined (own) An act is the call of its name at its end
 abbrev pub side_of : JointAct → Side
 side_of (acts.Request message) = sides.Client
 side_of (acts.Respond id message) = sides.Server
@@ -55,6 +57,7 @@ side_of (acts.Ping side octets) = side
 side_of (acts.GoAway side) = side
 side_of (acts.ChangeSettings side config) = side
 
+-- rule: joined (own) An act is the call of its name at its end
 abbrev pub doing_of : JointAct → Doing
 doing_of (acts.Request message) = Requests (message_value message)
 doing_of (acts.Respond id message) = Responds id (message_value message)
@@ -76,6 +79,7 @@ abbrev pub made_of : JointAct → Acted → Made
 made_of act acted = made (side_of act) (doing_of act) acted
 
 -- The pipe holds these octets, after those that were delivered.
+-- rule: joined (own) The first octets of a pipe are given to its end
 pub record HoldsOctets (pipe : Pipe) (octets : List ℕ) : Type 0 where
   pub delivered : List ℕ
   pub items : pipe.octets.items ≡ delivered ++ octets
@@ -83,6 +87,7 @@ pub record HoldsOctets (pipe : Pipe) (octets : List ℕ) : Type 0 where
 
 -- What was handed out is kept, in order: all of it; or, where a delivery to the end has stopped,
 -- all but the last one at most.
+-- rule: joined (own) Accepted messages, what was handed out, octets on a pipe are kept
 pub record KeepsHanded (Stopped : Type 0) (kept : List JointEvent) (handed : List Handed) : Type 0
   where
     pub lost : List Handed
@@ -91,6 +96,7 @@ pub record KeepsHanded (Stopped : Type 0) (kept : List JointEvent) (handed : Lis
     pub none_lost : (Stopped → ⊥) → lost ≡ []
 
 -- What is kept of an end is what has happened at it, and the pipe to it.
+-- rule: joined (own) Accepted messages, what was handed out, octets on a pipe are kept
 pub record KeepsEnd (Stopped : Type 0) (kept : Kept) (one : JointEnd) : Type 0 where
   pub incoming : HoldsOctets kept.incoming one.incoming
   pub accepted : one.happened.accepted ≡ reverse (each accepted_value kept.accepted.items)
@@ -98,6 +104,7 @@ pub record KeepsEnd (Stopped : Type 0) (kept : Kept) (one : JointEnd) : Type 0 w
 
 -- The acts were made, the newest first, this has happened at the two ends, and it is what they
 -- represent and what is kept of them. They stand still just where a delivery has stopped.
+-- rule: joined (own) Two joined ends are a new client and a new server, pipes empty
 pub record JoinedRepresents (client_values server_values : Values) (joined : Joined)
     (made : List Made) (client server : JointEnd) : Type 0 where
   pub joint : IsJoint client_values server_values made client server

@@ -43,6 +43,7 @@ pub record AreWhole (joined : Joined) (made : List Made) (client : JointEnd) : T
 -- The headline. What each end has handed out on every stream is a prefix of what the other has
 -- accepted for it. Where memory was not refused, neither end reports a fault. Once both are quiet,
 -- and no delivery has stopped, it is all of it, on every stream that was not reset.
+-- rule: joined (own) What one end has handed out is a prefix of what the other accepted
 pub record HasHeadline (joined : Joined) (made : List Made) (client server : JointEnd) : Type 0
   where
     pub in_order : AreInOrder joined
@@ -77,6 +78,7 @@ pub record RunsActs (client_values server_values : Values) (acts : List JointAct
   pub not_stopped : HasStopped made → ⊥
 
 -- The acts were made, and the headline holds of the two ends.
+-- rule: joined (own) What one end has handed out is a prefix of what the other accepted
 pub record Runs (client_values server_values : Values) (acts : List JointAct) (joined : Joined)
     : Type 0 where
   pub runs : RunsActs client_values server_values acts joined

@@ -17,6 +17,7 @@ use crate::kept::{Accepted, copy_twice};
 use h2_ends::{Config, EndRefusal, Message, Refusal};
 
 impl Joined {
+    // rule: joined (own) An act is the call of its name at its end
     /// The client makes a request.
     pub(crate) fn request(&mut self, message: &Message) -> Acted
         requires { self.old.stopped ≡ false }
@@ -38,6 +39,7 @@ impl Joined {
         }
     }
 
+    // rule: joined (own) An act is the call of its name at its end
     /// The server gives a response.
     pub(crate) fn respond(&mut self, id: u32, message: &Message) -> Acted
         requires { self.old.stopped ≡ false }
@@ -59,6 +61,7 @@ impl Joined {
         }
     }
 
+    // rule: joined (own) An act is the call of its name at its end
     /// An end sends what windows let through.
     pub(crate) fn pump(&mut self, side: Side) -> Acted
         requires { self.old.stopped ≡ false }

@@ -29,6 +29,7 @@ pub struct Joined {
 }
 
 impl Joined {
+    // rule: joined (own) Two joined ends are a new client and a new server, pipes empty
     /// A new client and a new server, joined by empty pipes.
     ///
     /// # Errors
@@ -53,6 +54,11 @@ impl Joined {
         })
     }
 
+    // rule: joined (own) An act is the call of its name at its end
+    // contract: joined (own) Output is put on the pipe to the other end, as much as is asked
+    // contract: joined (own) The first octets of a pipe are given to its end
+    // contract: joined (own) Accepted messages, what was handed out, octets on a pipe are kept
+    // rule: joined (own) Without memory for what was handed out the two ends stand still
     /// Makes an act, and says what came of it: what the end answers to the call of its name; for
     /// [`JointAct::Move`] and [`JointAct::Deliver`] how many octets were moved and delivered. A
     /// refused act has changed nothing, but for what a `release_all` or a `pump` has done before it
@@ -92,6 +98,7 @@ impl Joined {
         }
     }
 
+    // rule: joined (own) Two joined ends are quiet where both are, and both pipes are empty
     /// Whether nothing is under way between the two ends, and neither has anything to do: both are
     /// quiet ([`Client::is_quiet`]) and both pipes empty. An end that has failed is not quiet. Once
     /// a delivery has answered [`Acted::Memory`], the last event of that end may be missing all the
@@ -125,6 +132,7 @@ impl Joined {
         &self.server
     }
 
+    // contract: joined (own) Accepted messages, what was handed out, octets on a pipe are kept
     /// The messages that an end has accepted, with their streams, in order.
     pub fn accepted(&self, side: Side) -> &[Accepted]
         ensures { result.now ≡ (kept_of side self.now).accepted.items }
@@ -135,6 +143,7 @@ impl Joined {
         }
     }
 
+    // contract: joined (own) Accepted messages, what was handed out, octets on a pipe are kept
     /// What an end has handed out, in order.
     pub fn handed(&self, side: Side) -> &[JointEvent]
         ensures { result.now ≡ (kept_of side self.now).handed.items }

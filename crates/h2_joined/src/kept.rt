@@ -40,6 +40,7 @@ impl Kept {
         }
     }
 
+    // rule: joined (own) Accepted messages, what was handed out, octets on a pipe are kept
     /// Keeps a message that was accepted, for which there is room.
     pub(crate) fn accept(&mut self, accepted: Accepted)
         requires room { vec_len self.old.accepted + 1 ≤ vec_capacity self.old.accepted }
@@ -126,6 +127,7 @@ pub enum JointEvent {
 }
 
 impl JointEvent {
+    // rule: joined (own) Accepted messages, what was handed out, octets on a pipe are kept
     /// A copy of an event, with what is lent.
     ///
     /// # Errors
@@ -188,6 +190,7 @@ fn copy_fields(alloc: Global, fields: &[Field]) -> Result<Vec<Field>, AllocError
     Ok(copy)
 }
 
+// rule: joined (own) Accepted messages, what was handed out, octets on a pipe are kept
 /// A copy of a message.
 fn copy_message(alloc: Global, message: &Message) -> Result<Message, AllocError>
     ensures { IfOk result (λ copy. message_value copy ≡ message_value message.now) }

@@ -16,6 +16,7 @@ ghost use Rattle.h2_joined.specs.Joints.{JointEnd, Made, IsJoint, HasStopped, ha
 ghost use Rattle.h2_joined.specs.Joints.{MemorySufficed};
 ghost use Rattle.h2_joined.specs.Headline.{AreQuiet, WasResetIn, ReportsNoFault};
 
+// contract: joined (own) What one end has handed out is a prefix of what the other accepted
 /// Two joined ends with their pipes are a pair that comes about, and so all laws of pairs hold of
 /// them: of their octets, header tables and windows. Where memory was not refused, it is
 /// undisturbed.
@@ -66,6 +67,7 @@ pub fn quiet_ends_have_all()
         → tokens_handed client.happened i ≡ tokens_said server.happened i }
 {}
 
+// contract: joined (own) The header tables of joined ends agree, no window is lost
 /// The header tables are in step, both ways, whatever settings change: after the field blocks under
 /// way the reader's table is the writer's, and each of them decodes at its place to the list that
 /// the writer was given (RFC 9113, section 4.3).
@@ -82,6 +84,7 @@ pub fn header_tables_are_in_step()
         → HeaderTablesInStep server.happened.log client.happened.log way }
 {}
 
+// contract: joined (own) The header tables of joined ends agree, no window is lost
 /// Nothing of the connection's windows is lost, both ways, as long as the reader has not failed:
 /// what the writer may send, DATA under way, the increments that come back, and what the reader
 /// owes or has not returned, are 65,535 octets (RFC 9113, section 6.9).

@@ -59,6 +59,7 @@ pub(crate) enum Delivered {
 }
 
 impl Joined {
+    // rule: joined (own) Output is put on the pipe to the other end, as much as is asked
     /// Puts octets of an end's output on the pipe to the other.
     pub(crate) fn put_on_pipe(&mut self, from: Side, count: usize) -> Acted
         requires { self.old.stopped ≡ false }
@@ -76,6 +77,7 @@ impl Joined {
         })
     }
 
+    // rule: joined (own) The first octets of a pipe are given to its end
     /// Delivers octets of its pipe to an end.
     pub(crate) fn deliver(&mut self, to: Side, count: usize) -> Acted
         requires { self.old.stopped ≡ false }
@@ -122,6 +124,7 @@ impl Joined {
         }
     }
 
+    // rule: joined (own) The first octets of a pipe are given to its end
     /// Hands octets to `take` until they are used and nothing is handed out, or the connection has
     /// failed, or memory was refused.
     fn take_all(&mut self, to: Side, octets: &[u8]) -> Delivered
@@ -141,6 +144,8 @@ impl Joined {
         Delivered::Stopped(taken)
     }
 
+    // rule: joined (own) The first octets of a pipe are given to its end
+    // rule: joined (own) Without memory for what was handed out the two ends stand still
     /// Calls `take` once, and keeps what was handed out.
     fn take_next(&mut self, to: Side, piece: &[u8]) -> Next
         requires { self.old.stopped ≡ false }
@@ -177,6 +182,7 @@ impl Joined {
         }
     }
 
+    // rule: joined (own) Accepted messages, what was handed out, octets on a pipe are kept
     /// Keeps what an end has handed out, and answers whether there was memory for it.
     fn keep(&mut self, side: Side, event: JointEvent) -> bool
         ensures { KeepsEvent side self.old event result self.new }

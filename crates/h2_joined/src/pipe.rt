@@ -42,6 +42,7 @@ impl Pipe {
         &self.octets[start..end]
     }
 
+    // rule: joined (own) The first octets of a pipe are given to its end
     /// Takes the first of them away. Those that were delivered are dropped once they are half of
     /// all.
     pub(crate) fn deliver(&mut self, count: usize)

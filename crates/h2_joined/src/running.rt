@@ -13,6 +13,7 @@ use crate::joined::Joined;
 use h2_ends::{Config, EndRefusal, Refusal};
 use std::alloc::{AllocError, Global};
 
+// contract: joined (own) What one end has handed out is a prefix of what the other accepted
 /// The headline of this library, but for windows and for other peers, of which other laws and
 /// contracts speak. What each of two joined ends has handed out on every stream is a prefix of what
 /// the other has accepted for it, whatever acts were made. Where memory was not refused, neither
@@ -25,6 +26,8 @@ pub fn headline()
         → HasHeadline joined made client server }
 {}
 
+// contract: joined (own) What one end has handed out is a prefix of what the other accepted
+// rule: joined (own) What one end has handed out is a prefix of what the other accepted
 /// Makes the acts, in order, on a new client and a new server. An act that is refused is an act
 /// like any other, unless it is with `Memory` (C12). The headline, as far as [`headline`] says it,
 /// holds of the two ends then. That a connection has failed with INTERNAL_ERROR, since memory was

@@ -2,6 +2,7 @@
 
 use thiserror::Error;
 
+// rule (text): links (own) N1 to N7 are printed with their names and codes
 /// Why a connection over a link has ended before its work was done.
 #[derive(Clone, Copy, Debug, PartialEq, Eq, Hash, Error)]
 pub enum LinkError {

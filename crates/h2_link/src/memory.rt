@@ -23,6 +23,8 @@ pub struct MemoryLink {
 impl MemoryLink {
     ghost use Rattle.h2_link.specs.Memory.{octets_given, octets_taken};
 
+    // rule: links (own) A link gives and takes octets in order
+    // rule: links (own) The end of the input is a read that gives nothing
     /// A link that gives these octets and then the end, whole at a time.
     pub fn new(alloc: Global, input: Vec<u8>) -> MemoryLink
         ensures given { octets_given result ≡ [] }
@@ -45,6 +47,7 @@ impl MemoryLink {
         }
     }
 
+    // rule: links (own) A link gives and takes octets in order
     /// The same link, which reads and writes at most so many octets a call. With 0 it is at its
     /// end, or takes nothing.
     pub fn with_most(mut self, read: usize, written: usize) -> MemoryLink
@@ -55,6 +58,7 @@ impl MemoryLink {
         self
     }
 
+    // rule: links (own) A link counts the calls that fail
     /// The same link, whose call after so many more fails: 0 is the next one.
     pub fn failing_after(mut self, calls: u64) -> MemoryLink
         ensures { result ≡ record self { fails_in = Some calls } }
@@ -63,6 +67,7 @@ impl MemoryLink {
         self
     }
 
+    // rule: links (own) A link gives and takes octets in order
     /// What it has taken.
     pub fn output(&self) -> &[u8]
         ensures { result.now ≡ octets_taken self.now }
@@ -70,6 +75,7 @@ impl MemoryLink {
         &self.output
     }
 
+    // rule: links (own) A link counts the calls that fail
     /// Whether this call fails.
     fn fails(&mut self) -> bool
         ensures given { octets_given self.new ≡ octets_given self.old }

@@ -7,6 +7,7 @@ ghost use Rattle.h2_link.specs.Links.{StallsAtNoProgress, WritesAll};
 use crate::error::LinkError;
 use crate::link::Link;
 
+// rule: links (own) Writing all octets ends once they are taken, or with N1 or N5
 /// Writes all octets, in as many calls as it takes.
 ///
 /// # Errors

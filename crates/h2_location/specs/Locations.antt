@@ -41,6 +41,7 @@ abbrev pub has_user : (authority : List ℕ) → Bool
 has_user authority = list_any (λ octet. octet == at_sign) authority
 
 -- The location is that of a URI of the scheme `http`, which has a host, a port, and no userinfo.
+-- rule: engines (own) A URL is fetched that has scheme http, a host and a port
 pub record IsLocationOf (uri : Uri) (location : Location) : Type 0 where
   pub scheme : uri_scheme uri ≡ Some (codes "http")
   pub authority : uri_authority uri ≡ Some (string_bytes location.authority)
@@ -51,6 +52,7 @@ pub record IsLocationOf (uri : Uri) (location : Location) : Type 0 where
   pub no_user : has_user (string_bytes location.authority) ≡ false
 
 -- The URL spells that URI, as the crate `http_uri` reads one (RFC 3986).
+-- rule: engines (own) A URL is fetched that has scheme http, a host and a port
 abbrev pub Names : (url : List ℕ) → Location → Type 0
 Names url location = (uri : Uri) × Spells url uri × IsLocationOf uri location
 
@@ -76,6 +78,7 @@ IsRefusedUri uri faults.UserInfo =
 IsRefusedUri uri faults.Memory = Unit {0}
 
 -- The URL can't be fetched: it spells no URI, or one that is refused; out of memory says nothing.
+-- rule: engines (own) A URL is fetched that has scheme http, a host and a port
 abbrev pub IsRefusedUrl : (url : List ℕ) → TargetFault → Type 0
 IsRefusedUrl url faults.Unread = SpellsNone url
 IsRefusedUrl url faults.Memory = Unit {0}

@@ -57,6 +57,7 @@ impl From<AllocError> for TargetFault {
     }
 }
 
+// rule: engines (own) A URL is fetched that has scheme http, a host and a port
 /// Reads a URL. Its fragment is dropped (RFC 9110, section 7.1).
 ///
 /// # Errors
@@ -75,6 +76,7 @@ pub fn target(alloc: Global, url: &[u8]) -> Result<Location, TargetFault>
     location_of(alloc, &uri)
 }
 
+// rule: engines (own) A URL is fetched that has scheme http, a host and a port
 /// The location of a URI.
 fn location_of(alloc: Global, uri: &Uri) -> Result<Location, TargetFault>
     ensures ok { IfOk result (IsLocationOf uri.now) }
@@ -110,6 +112,7 @@ fn without_brackets(host: &str) -> &str
     }
 }
 
+// rule: engines (own) A URL is fetched that has scheme http, a host and a port
 /// The port of an authority, if it is one of 1 to 65,535 in digits alone.
 fn port_of(authority: &Authority) -> Option<u16>
     ensures { MatchOption result ((port : ℕ) → IsPortOfAuthority authority.now port → ⊥)
@@ -131,6 +134,7 @@ fn is_decimal(text: &str) -> bool
     text.bytes().all(|octet| octet.is_ascii_digit())
 }
 
+// rule: engines (own) A URL is fetched that has scheme http, a host and a port
 /// The path of a URL, which is `/` where it has none, with the query.
 fn path_of(alloc: Global, uri: &Uri) -> Result<String, AllocError>
     ensures { IfOk result (λ path. string_bytes path

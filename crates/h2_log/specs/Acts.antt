@@ -17,6 +17,7 @@ pub record Values : Type 0 where
   pub max_streams : ℕ
 
 -- An end's values are within their bounds (own).
+-- rule: calls (own) A configuration is made of values within their bounds
 pub record AreInRange (values : Values) : Type 0 where
   pub table_limit : values.table_limit ≤ max_table_limit
   pub least_window : 1 ≤ values.initial_window

@@ -1,5 +1,6 @@
 -- What an end may write, by what it has read and written before; and the lists that come about so.
 -- They say nothing of octets and calls: each call that is accepted, and each reply, keeps to this.
+-- contract: h2_log_laws::what_is_written_is_allowed
 use Rattle.std.specs.Prelude.{◌≡◌, ◌≢◌, ◌⊎◌, ℕ, ◌+◌, ◌%◌, ◌≤◌, ◌<◌, Bool, true, false, List, []}
 use Rattle.std.specs.Prelude.{◌∷◌, ◌++◌, length}
 use Rattle.std.specs.List.{list_any}
@@ -25,10 +26,12 @@ abbrev pub active_by_items : Role → ℕ → List Item → List Item → Bool
 active_by_items role i received sent = is_active role i received sent []
 
 -- All SETTINGS that were read have been acknowledged.
+-- rule: 6.5.3 SETTINGS are acknowledged before anything else is sent
 abbrev pub HasAcknowledged : List Item → List Item → Type 0
 HasAcknowledged received sent = total one_ack sent ≡ settings_count received
 
 -- A stream on which this end goes on: it is active, and this end hasn't ended it.
+-- rule: 5.1 Each frame is sent only in states that allow it
 pub record MayContinue (role : Role) (i : ℕ) (received sent : List Item) : Type 0 where
   pub active : active_by_items role i received sent ≡ true
   pub goes : list_any (ends i) sent ≡ false
@@ -36,6 +39,7 @@ pub record MayContinue (role : Role) (i : ℕ) (received sent : List Item) : Typ
 -- A stream may be opened by a client, with an odd number of 31 bits above all before it, while
 -- fewer are active than the server allows, and no GOAWAY was written or read (RFC 9113, sections
 -- 5.1.1, 5.1.2 and 6.8).
+-- rule: 5.1.1 A client opens odd numbers, each above all before it
 pub record MayOpen (role : Role) (i : ℕ) (received sent : List Item) : Type 0 where
   pub client : role ≡ Client
   pub odd : i % 2 ≡ 1
@@ -49,6 +53,7 @@ pub record MayOpen (role : Role) (i : ℕ) (received sent : List Item) : Type 0 
 -- DATA may be written on a stream on which this end goes on, with no more octets than the peer
 -- reads in a frame, and 16,384 at most (own; section 4.2), and within both windows; of no octets
 -- always (section 6.9.1).
+-- rule: 6.9.1 DATA is sent within both windows
 pub record MaySendData (role : Role) (i count : ℕ) (received sent : List Item) : Type 0 where
   pub goes_on : MayContinue role i received sent
   pub short : count ≤ max_payload_sent_by received
@@ -56,6 +61,7 @@ pub record MaySendData (role : Role) (i count : ℕ) (received sent : List Item)
   pub fits_connection : count ≢ 0 → total data_of sent + count ≤ given_on_connection received
 
 -- No more is returned than was read, and never nothing (section 6.9).
+-- rule: 5.1 Each frame is sent only in states that allow it
 pub record MayUpdateWindow (role : Role) (i increment : ℕ)
     (received sent : List Item) : Type 0 where
   pub some : increment ≢ 0
@@ -64,12 +70,16 @@ pub record MayUpdateWindow (role : Role) (i increment : ℕ)
   pub read_at_all : i ≡ 0 → total (increment_on 0) sent + increment ≤ total data_of received
 
 -- A number may be reset, once, that was used.
+-- rule: 5.1 Each frame is sent only in states that allow it
+-- rule: 5.4.2 RST_STREAM is not answered by RST_STREAM, nor sent twice
+-- rule: 6.4 (own) An end resets a stream on request, and counts it
 pub record MayReset (role : Role) (i : ℕ) (received sent : List Item) : Type 0 where
   pub used : is_used role i received sent ≡ true
   pub once : list_any (resets i) sent ≡ false
 
 -- Settings may be changed to values within their bounds, once those before were acknowledged (own;
 -- section 6.5.3).
+-- rule: 6.5.3 (own) Own SETTINGS are changed once those before are acknowledged
 pub record MayChangeSettings (role : Role) (pairs : List (ℕ
     × ℕ)) (received sent : List Item) : Type 0 where
   pub values : Values
@@ -79,6 +89,8 @@ pub record MayChangeSettings (role : Role) (pairs : List (ℕ
 
 -- What may be written next. All but an acknowledgment stands after those of all SETTINGS that were
 -- read (section 6.5.3: at once).
+-- rule (law): 4.3 A block that may be sent is one that may be gathered
+-- rule: 5.1 Each frame is sent only in states that allow it
 abbrev pub Allowed : Role → List Item → List Item → Item → Type 0
 Allowed role received sent (block i end octets) = HasAcknowledged received sent
     × (MayOpen role i received sent ⊎ MayContinue role i received sent)

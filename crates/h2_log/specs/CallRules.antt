@@ -30,6 +30,7 @@ use Rattle.h2_frame.specs.Codes.{code_number}
 -- of them.
 
 -- the first refusal of a list of conditions
+-- rule: calls (own) A call is refused for its first condition, and changes nothing
 unfoldable pub first_of : List (Bool × Refusal) → Option Refusal
 first_of [] = None
 first_of ((holds, refusal) ∷ conditions) = if holds then Some refusal else first_of conditions
@@ -43,10 +44,12 @@ abbrev pub is_no_stream : View → ℕ → Bool
 is_no_stream view id = not (is_some (view.stream id))
 
 -- C4: a client has as many active streams as it may (section 5.1.2).
+-- rule: 5.1.2 A client has at most as many active streams as the server allows
 abbrev pub has_all_streams : View → Bool
 has_all_streams view = not (is_server view.role) && nat_le view.streams_allowed view.active_count
 
 -- C5: a server opens no stream, and a client none above the greatest number.
+-- rule: 5.1.1 When the numbers of 31 bits are used up no stream is opened
 abbrev pub has_no_number : View → Bool
 has_no_number view = is_server view.role || nat_lt greatest_number view.next_number
 
@@ -55,10 +58,13 @@ abbrev pub is_full : View → Bool
 is_full view = nat_le full_output view.waiting
 
 -- C9: as many streams were reset as may be.
+-- rule: 6.4 (own) An end resets a stream on request, and counts it
+-- rule: 10.5 (own) An end that resets 1,001 streams ends with ENHANCE_YOUR_CALM
 abbrev pub has_all_resets : View → Bool
 has_all_resets view = nat_le max_resets view.resets
 
 -- C10: the list is larger than may be sent.
+-- rule: 10.5 (own) An own list above 65,536 octets is refused
 abbrev pub is_too_large : List Field → Bool
 is_too_large fields = nat_lt max_list (list_size fields)
 
@@ -67,6 +73,15 @@ abbrev pub is_not_owed : View → ℕ → ℕ → Bool
 is_not_owed view id count = count == 0 || nat_lt (owed_on (view.stream id)) count
 
 -- the conditions of each call, in order
+-- rule: 5.1.1 When the numbers of 31 bits are used up no stream is opened
+-- rule: 5.1.2 A client has at most as many active streams as the server allows
+-- rule: 6.4 (own) An end resets a stream on request, and counts it
+-- rule: 6.5.3 (own) Own SETTINGS are changed once those before are acknowledged
+-- rule: 6.7 (own) One own PING at a time awaits its answer
+-- rule: 6.8 No stream is opened after GOAWAY was received
+-- rule: 6.8 An own GOAWAY is sent once, with the greatest stream processed
+-- rule: 10.5 (own) An own list above 65,536 octets is refused
+-- rule: calls (own) A call is refused for its first condition, and changes nothing
 unfoldable pub conditions : View → Act → List (Bool × Refusal)
 conditions view (Open fields end) =
     (has_failed view, Closed) ∷ (has_all_streams view, TooManyStreams) ∷
@@ -109,11 +124,14 @@ conditions view (ChangeSettings values) =
     (has_failed view, Closed) ∷ (is_full view, OutputFull) ∷ (view.settings_wait, SettingsWait) ∷ []
 
 -- the refusal of a call, being out of memory put aside
+-- rule: 5.1.1 When the numbers of 31 bits are used up no stream is opened
+-- rule: calls (own) A call is refused for its first condition, and changes nothing
 abbrev pub refusal_of : View → Act → Option Refusal
 refusal_of view act = first_of (conditions view act)
 
 -- Credit is returned where more is unreturned than before, and less than the full output waits
 -- (own).
+-- rule: 6.9 Nothing of the window of the connection is lost
 abbrev pub returns_credit : (more waiting : ℕ) → Bool
 returns_credit more waiting = nat_lt 0 more && nat_lt waiting full_output
 
@@ -125,6 +143,7 @@ returns_before_put_out view = not (has_failed view) && returns_credit view.unret
 abbrev pub update_size : ℕ
 update_size = 13
 
+-- rule: 6.4 (own) An end resets a stream on request, and counts it
 abbrev pub reset_size : ℕ
 reset_size = 13
 
@@ -135,6 +154,7 @@ at_least_none (negsuc n) = 0
 
 -- How many octets of a body are sent: as many as there are, as both windows let through, and at
 -- most 65,536.
+-- rule: 6.9.1 DATA is sent within both windows
 abbrev pub data_count : View → Option StreamView → ℕ → ℕ
 data_count view None count = 0
 data_count view (Some stream) count =
@@ -142,6 +162,7 @@ data_count view (Some stream) count =
     (at_least_none view.send_window)) max_data)
 
 -- the answer to a call that isn't refused
+-- rule: calls (own) A call is refused for its first condition, and changes nothing
 abbrev pub answer_of : View → Act → Answer
 answer_of view (Open fields end) = Number view.next_number
 answer_of view (SendFields id fields end) = Done
@@ -157,6 +178,7 @@ answer_of view (ChangeSettings values) = Done
 
 -- the pairs of own SETTINGS. A client that opens says that it takes no push; both say in their
 -- opening how large a list may be.
+-- rule: 3.4 Both ends begin with SETTINGS
 unfoldable pub opening_pairs : Role → Values → List (ℕ × ℕ)
 opening_pairs Client values = (1, values.table_limit) ∷ (2, 0) ∷ (4, values.initial_window) ∷
     (6, max_list) ∷ []
@@ -189,6 +211,8 @@ data_items most id octets end count =
 -- What a layer above makes of the connection that refuses a stream: the code with which it fails,
 -- where that layer has run out of memory or a limit is reached; where there is none the stream is
 -- reset.
+-- rule: 10.5 (own) An end that resets 1,001 streams ends with ENHANCE_YOUR_CALM
+-- rule: calls (own) A stream that the layer above refuses is reset
 unfoldable pub refuse_fault : View → ℕ → Option Code
 refuse_fault view code =
     if code == code_number InternalError then Some InternalError
@@ -197,6 +221,8 @@ refuse_fault view code =
     else None
 
 -- the items that a call writes with its answer, newest first
+-- rule: 6.8 An own GOAWAY is sent once, with the greatest stream processed
+-- rule: calls (own) A call is refused for its first condition, and changes nothing
 unfoldable pub items_of : View → Act → Answer → List Item
 items_of view (Open fields end) (Number id) = block id end (block_of view.encoder fields) ∷ []
 items_of view (SendFields id fields end) Done = block id end (block_of view.encoder fields) ∷ []
@@ -240,6 +266,7 @@ may_lack_memory _ = true
 
 -- The readers: what an end answers of itself. Once the connection has failed only `waiting` goes
 -- on.
+-- rule: calls (own) An end answers of its state, and of little once it has failed
 abbrev pub reader_room : View → ℕ → Option ℤ
 reader_room view id =
     if has_failed view then None

@@ -26,6 +26,7 @@ table_limit log = own_value 1 4096 (acked log) log.sent
 
 -- What was seen of a block is what it says at its place, after all blocks before it; nothing was
 -- seen where it says nothing.
+-- rule: 4.3 Each received block is decoded, also one that is ignored
 abbrev pub IsDecoded : Log → List ℕ → Option Decoded → Type 0
 IsDecoded log octets None = NoBlock log.table (table_limit log) octets
 IsDecoded log octets (Some decoded) = Block log.table

@@ -23,11 +23,15 @@ fields_of (Some decoded) = decoded.fields
 
 -- the least of a last stream and the one that was received before (RFC 9113, section 6.8: it
 -- doesn't grow)
+-- rule: 6.8 The last stream of GOAWAY never grows: the least so far is reported
 abbrev pub least_last : ℕ → Option ℕ → ℕ
 least_last last None = last
 least_last last (Some before) = min last before
 
 -- what is reported of an item with this verdict: at most one event
+-- rule: 5.4.2 A stream error is answered by RST_STREAM with its code, and reported
+-- rule: 6.2 A field block on an idle odd number opens the stream at a server
+-- rule: 6.8 The last stream of GOAWAY never grows: the least so far is reported
 unfoldable pub events_of : View → Option Decoded → Verdict → Item → List Event
 events_of view decoded (ConnectionFault code) item = []
 events_of view decoded (StreamFault code) item = ResetEvent (stream_of_item item)
@@ -46,6 +50,8 @@ events_of view decoded Reported (alone frame) = []
 
 -- octets of DATA that nobody will release: those on a stream that this end has closed, and those
 -- after the peer's end
+-- rule: 5.1 DATA on a stream that this end has reset counts for the connection
+-- rule: 6.9 What a stream owes is returned when it is released or over
 unfoldable pub discarded_flow : Verdict → Item → ℕ
 discarded_flow (ConnectionFault code) item = 0
 discarded_flow (StreamFault code) item = data_of item
@@ -53,6 +59,7 @@ discarded_flow NoEvent item = data_of item
 discarded_flow Reported item = 0
 
 -- the peer's table after an item
+-- rule: 4.3 Each received block is decoded, also one that is ignored
 abbrev pub table_after : Entries → Option Decoded → Item → Entries
 table_after table decoded (alone frame) = table
 table_after table None (block stream end octets) = table
@@ -60,6 +67,7 @@ table_after table (Some decoded) (block stream end octets) = decoded.after
 
 -- the own encoder after SETTINGS: each value 1, in order, sets its limit, to 4,096 at most (own;
 -- section 4.3.1)
+-- rule: 4.3.1 The encoder follows each HEADER_TABLE_SIZE, up to 4,096 (own)
 unfoldable pub encoder_after_settings : EncoderState → List (ℕ × ℕ) → EncoderState
 encoder_after_settings encoder [] = encoder
 encoder_after_settings encoder (pair ∷ pairs) =

@@ -14,12 +14,14 @@ stream_of_item (block stream end octets) = stream
 
 -- the octets that DATA on the stream takes of its window: all those of its payload, the padding and
 -- its length included (RFC 9113, section 6.9.1)
+-- rule: 6.1 The complete payload of DATA, padding included, counts for windows
 unfoldable pub data_on : ℕ → Item → ℕ
 data_on i (alone (Data stream end octets pad)) = if stream == i then length (payload_of
     (Data stream end octets pad)) else 0
 data_on i _ = 0
 
 -- the octets that DATA, on whatever stream, takes of the connection's window
+-- rule: 6.1 The complete payload of DATA, padding included, counts for windows
 unfoldable pub data_of : Item → ℕ
 data_of (alone (Data stream end octets pad)) = length (payload_of (Data stream end octets pad))
 data_of _ = 0
@@ -43,6 +45,7 @@ opens_from i _ = false
 
 -- Whether the item has END_STREAM on the stream: it is the last field block or DATA of its sender
 -- there (sections 6.1 and 6.2).
+-- rule: 6.1 END_STREAM of DATA ends the stream of the sender
 unfoldable pub ends : ℕ → Item → Bool
 ends i (block stream end octets) = stream == i && end
 ends i (alone (Data stream end octets pad)) = stream == i && end

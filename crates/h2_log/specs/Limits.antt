@@ -2,6 +2,7 @@
 use Rattle.std.specs.Prelude.{ℕ}
 
 -- the greatest size of a header list that is reported or sent (section 6.5.2)
+-- rule: 10.5.1 A list above 65,536 octets is a stream error ENHANCE_YOUR_CALM
 abbrev pub max_list : ℕ
 max_list = 65536
 
@@ -10,14 +11,17 @@ abbrev pub full_output : ℕ
 full_output = 65536
 
 -- the waiting output that no reply may exceed
+-- rule: 10.5 (own) Replies above 262,144 waiting octets are ENHANCE_YOUR_CALM
 abbrev pub max_output : ℕ
 max_output = 262144
 
 -- the most streams that an end resets on a connection
+-- rule: 10.5 (own) An end that resets 1,001 streams ends with ENHANCE_YOUR_CALM
 abbrev pub max_resets : ℕ
 max_resets = 1000
 
 -- the most octets of a frame's payload that an end sends, whatever its peer reads (section 4.2)
+-- rule: 4.2 (own) Payloads of at most 16,384 octets are sent
 abbrev pub max_frame_size_sent : ℕ
 max_frame_size_sent = 16384
 

@@ -70,6 +70,8 @@ abbrev pub active : Log → ℕ → Bool
 active log i = is_active log.role i log.received log.sent log.reported
 
 -- the number for the next stream that a client opens: 1, 3, 5, .. (RFC 9113, section 5.1.1)
+-- rule: 5.1.1 A client opens odd numbers, each above all before it
+-- rule: 5.1.1 When the numbers of 31 bits are used up no stream is opened
 unfoldable pub next_number : Log → ℕ
 next_number log = if greatest_block log.sent == 0 then 1 else greatest_block log.sent + 2
 
@@ -79,6 +81,7 @@ active_count log = count_below (greatest_block (openings log.role log.received l
     (active log)
 
 -- the greatest number of a peer's stream that was taken, or 0: at a client there is none
+-- rule: 6.8 An own GOAWAY is sent once, with the greatest stream processed
 unfoldable pub last_processed : Log → ℕ
 last_processed log = if is_server log.role then greatest_processed log.reported else 0
 
@@ -88,11 +91,13 @@ unfoldable pub allowed_by : List Item → ℕ
 allowed_by received = if settings_count received == 0 then 100 else min 1000
     (value_read 3 1000 received)
 
+-- rule: 5.1.2 A client has at most as many active streams as the server allows
 abbrev pub streams_allowed : Log → ℕ
 streams_allowed log = allowed_by log.received
 
 -- how many streams a server takes: the own value 3 that the peer has acknowledged last; before any,
 -- that of its first SETTINGS
+-- rule: 5.1.2 A stream above the limit of active ones is REFUSED_STREAM
 unfoldable pub max_streams : Log → ℕ
 max_streams log = own_value 3 100 (max 1 (acked log)) log.sent
 
@@ -116,12 +121,14 @@ abbrev pub settings_wait : Log → Bool
 settings_wait log = nat_lt (acked log) (settings_count log.sent)
 
 -- the octets of the newest PING that isn't an answer
+-- rule: 6.7 A PING's answer that is awaited is reported, others are ignored
 unfoldable pub newest_ping : List Item → List ℕ
 newest_ping [] = []
 newest_ping (alone (Ping false octets) ∷ items) = octets
 newest_ping (_ ∷ items) = newest_ping items
 
 -- Whether an own PING awaits its answer.
+-- rule: 6.7 A PING's answer that is awaited is reported, others are ignored
 abbrev pub ping_waits : Log → Bool
 ping_waits log = nat_lt (reported_total one_pong log.reported) (total one_ping log.sent)
 
@@ -162,6 +169,7 @@ recv_window log i = recv_window_of i (acked log) log.received log.sent
 -- the most octets of a payload that this end sends: the SETTINGS_MAX_FRAME_SIZE that was received
 -- last, which is 16,384 at first and is never below that (section 6.5.2), and not more than the own
 -- limit (own)
+-- rule: 4.2 (own) Payloads of at most 16,384 octets are sent
 unfoldable pub max_payload_sent_by : List Item → ℕ
 max_payload_sent_by received = min max_frame_size_sent (max 16384 (value_read 5 16384 received))
 
@@ -170,6 +178,7 @@ max_payload_sent log = max_payload_sent_by log.received
 
 -- the least active stream of this end above the last one that the peer takes, or 0: what is to be
 -- reported as unprocessed
+-- rule: 6.8 Own streams above GOAWAY's last are reported as unprocessed
 unfoldable pub next_unprocessed : Log → ℕ
 next_unprocessed log =
     if is_server log.role then 0 else least_block (λ j. active log j && nat_lt

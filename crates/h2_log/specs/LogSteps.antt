@@ -51,17 +51,20 @@ with_reported log (event ∷ events) = record log {
 }
 
 -- what a stream still owes where it was active in the first log and isn't in the second
+-- rule: 6.9 What a stream owes is returned when it is released or over
 unfoldable pub owed_at_close : Log → Log → ℕ → ℕ
 owed_at_close before after i = if active before i && not
     (active after i) then unreleased after i else 0
 
 -- all that is due is returned, by one WINDOW_UPDATE on stream 0
+-- rule: 6.9 Nothing of the window of the connection is lost
 abbrev pub with_credit_returned : Log → Log
 with_credit_returned log = with_sent (record log { unreturned = 0 }) (alone
     (WindowUpdate 0 log.unreturned) ∷ [])
 
 -- So much more is due: it is returned at once, and with it what was due before, where less than the
 -- full output waits. Where nothing more is due, nothing is written.
+-- rule: 6.9 Nothing of the window of the connection is lost
 unfoldable pub with_unreturned : ℕ → Log → Log
 with_unreturned more log =
     if returns_credit more (waiting log) then with_credit_returned
@@ -70,11 +73,13 @@ with_unreturned more log =
 
 -- the connection fails: GOAWAY with the greatest stream that was taken stands after what waits
 -- (sections 5.4.1 and 6.8)
+-- rule: 5.4.1 A connection error is answered by GOAWAY, and nothing is sent after
 abbrev pub with_failure : Code → ℕ → Log → Log
 with_failure code last log = record (with_sent log (alone (GoAway last
     (code_number code) []) ∷ [])) { failed = Some code }
 
 -- the log after an item that has this verdict
+-- rule: 5.4.1 A connection error is answered by GOAWAY, and nothing is sent after
 unfoldable pub with_verdict : Log → Option Decoded → Item → Verdict → Log
 with_verdict log decoded item (ConnectionFault code) = with_failure code (max (last_processed log)
     (opened_by (log_view log) decoded item)) log
@@ -90,6 +95,7 @@ abbrev pub with_item : Log → Option Decoded → Item → Log
 with_item log decoded item = with_verdict log decoded item (verdict_of (log_view log) decoded item)
 
 -- the limits of payloads, from the next octet on those that are in force now
+-- rule: 4.2 The limit of an end is its greatest MAX_FRAME_SIZE of those in force
 abbrev pub limits_from : Log → Limits
 limits_from log = λ place. if nat_le place (length log.input) then log.limits place
     else payload_limit (acked log) log.sent
@@ -112,6 +118,7 @@ with_step log decoded (begins_block begun) = record log { begun = Some begun }
 with_step log decoded (completes item) = with_item (record log { begun = None }) decoded item
 
 -- the log after a frame
+-- rule: 3.4 A first frame other than SETTINGS without ACK is PROTOCOL_ERROR
 unfoldable pub with_frame : Log → Option Decoded → Frame → Log
 with_frame log decoded frame = with_step (record log {
   frames = log.frames
@@ -132,10 +139,12 @@ took_fault log octets fault = with_failure (wire_fault_code fault) (last_process
     (used log octets [])
 
 -- It used octets, and memory was refused.
+-- rule: 5.4 (own) Out of memory is INTERNAL_ERROR
 abbrev pub took_out_of_memory : Log → List ℕ → Log
 took_out_of_memory log octets = with_failure InternalError (last_processed log) (used log octets [])
 
 -- It used none, and reported the next stream that the peer doesn't process, which closes it.
+-- rule: 6.8 Own streams above GOAWAY's last are reported as unprocessed
 abbrev pub took_none : Log → Log
 took_none log =
     with_reported (with_unreturned (owed_at_close log (with_reported log (UnprocessedEvent

@@ -24,6 +24,7 @@ stream_of_log log i =
 
 -- Whether an initial window brings the send window of an active stream above the greatest (RFC
 -- 9113, section 6.9.2).
+-- rule: 6.9.2 A shift of a window above 2^31-1 is FLOW_CONTROL_ERROR
 unfoldable pub overflows : Log → ℕ → Bool
 overflows log initial =
     any_block

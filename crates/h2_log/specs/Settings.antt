@@ -22,6 +22,11 @@ peer_of Server = Client
 -- the fault of a value that an end of this role has sent: ENABLE_PUSH is 0 or 1, and 0 from a
 -- server; an initial window is at most 2^31 - 1; a frame size is from 16,384 to 2^24 - 1 (section
 -- 6.5.2). Other identifiers are ignored.
+-- rule: 6.5.2 ENABLE_PUSH above 1 is PROTOCOL_ERROR
+-- rule: 6.5.2 ENABLE_PUSH of 1 from a server is PROTOCOL_ERROR
+-- rule: 6.5.2 INITIAL_WINDOW_SIZE above 2^31-1 is FLOW_CONTROL_ERROR
+-- rule: 6.5.2 MAX_FRAME_SIZE below 16,384 or above 2^24-1 is PROTOCOL_ERROR
+-- rule: 6.5.2 Settings of other identifiers are ignored
 unfoldable pub value_fault : Role → ℕ × ℕ → Option Code
 value_fault from pair =
     if pair.0 == 2 && (nat_lt 1 pair.1 || (is_server from && pair.1 == 1)) then Some ProtocolError
@@ -31,6 +36,7 @@ value_fault from pair =
 
 -- the value of an identifier after these pairs, in order, where it was `before`: the last pair
 -- decides
+-- rule: 6.5.3 The first setting at fault decides, and the last value counts
 unfoldable pub value_after : ℕ → ℕ → List (ℕ × ℕ) → ℕ
 value_after id before [] = before
 value_after id before (pair ∷ pairs) = value_after id (if pair.0 == id then pair.1
@@ -38,6 +44,7 @@ value_after id before (pair ∷ pairs) = value_after id (if pair.0 == id then pa
 
 -- the value of an identifier after all SETTINGS of the items, where it was `first` before them
 -- (section 6.5.3)
+-- rule: 6.5.3 The first setting at fault decides, and the last value counts
 unfoldable pub value_read : ℕ → ℕ → List Item → ℕ
 value_read id first [] = first
 value_read id first (alone (Settings false pairs) ∷ items) = value_after id
@@ -69,12 +76,14 @@ up_to_settings count (item ∷ items) =
 -- The own value of an identifier, `count` of the own SETTINGS having been acknowledged: that of the
 -- last of these, and the first value before any. The k-th acknowledgment is of the k-th own
 -- SETTINGS (section 6.5.3).
+-- rule: 6.5.3 Own SETTINGS hold once they are acknowledged, and not before
 abbrev pub own_value : ℕ → ℕ → ℕ → List Item → ℕ
 own_value id first count sent = value_read id first (up_to_settings count sent)
 
 -- The most octets of a payload that may be read, `count` of the own SETTINGS having been
 -- acknowledged: the greatest frame size of the last of these and of all own SETTINGS after it,
 -- since the peer may have applied them already (section 6.5.3). At first it is 16,384.
+-- rule: 4.2 The limit of an end is its greatest MAX_FRAME_SIZE of those in force
 unfoldable pub payload_limit : ℕ → List Item → ℕ
 payload_limit count [] = 16384
 payload_limit count (item ∷ items) =

@@ -36,16 +36,20 @@ openings Server received sent = received
 
 -- Whether the number was used: it is odd, and a stream with it or with a greater number was opened,
 -- or would have been if it hadn't been refused. Even numbers are never used.
+-- rule: 5.1 A stream has one state, by what was received and sent
+-- rule: 5.1.1 A stream that is opened closes all lower idle ones
 unfoldable pub is_used : Role → ℕ → List Item → List Item → Bool
 is_used role i received sent = i % 2 == 1 && list_any (opens_from i) (openings role received sent)
 
 -- Whether the number is above the last stream of a GOAWAY that this end wrote, where the peer opens
 -- the streams.
+-- rule: 6.8 Streams above the last of an own GOAWAY are ignored
 unfoldable pub is_above : Role → ℕ → List Item → Bool
 is_above Client i sent = false
 is_above Server i sent = list_any (is_goaway_below i) sent
 
 -- Whether the stream is over: both sides have ended it, or one has reset it.
+-- rule: 5.1 A stream has one state, by what was received and sent
 unfoldable pub is_over : ℕ → List Item → List Item → Bool
 is_over i received sent =
     (list_any (ends i) received && list_any (ends i) sent) || list_any
@@ -53,6 +57,8 @@ is_over i received sent =
 
 -- Whether the stream is active: it was opened, isn't above an own GOAWAY's last stream, isn't over,
 -- and wasn't named unprocessed.
+-- rule: 5.1 A stream has one state, by what was received and sent
+-- rule: 6.1 END_STREAM of DATA ends the stream of the sender
 unfoldable pub is_active : Role → ℕ → List Item → List Item → List Event → Bool
 is_active role i received sent reported =
     i % 2 == 1 && list_any (is_block_on i) (openings role received sent) && not
@@ -60,15 +66,18 @@ is_active role i received sent reported =
     && not (list_any (reports_unprocessed i) reported)
 
 -- Whether this end has reset the stream, or has said that it won't take it.
+-- rule: 5.1 A stream has one state, by what was received and sent
 unfoldable pub is_closed_by_us : Role → ℕ → List Item → Bool
 is_closed_by_us role i sent = list_any (resets i) sent || is_above role i sent
 
 -- the first of the states that holds
+-- rule: 5.1 A stream has one state, by what was received and sent
 abbrev pub state_by : (used active closed_by_us : Bool) → State
 state_by used active closed_by_us = if not used then Idle else if active then Active
     else if closed_by_us then ClosedByUs else Closed
 
 -- the state of a stream
+-- rule: 5.1 A stream has one state, by what was received and sent
 abbrev pub state_of : Role → ℕ → List Item → List Item → List Event → State
 state_of role i received sent reported = state_by (is_used role i received sent)
     (is_active role i received sent reported) (is_closed_by_us role i sent)

@@ -1,5 +1,6 @@
 -- What an end makes of an item, by the state of the item's stream (RFC 9113, sections 5.1, 6.1,
 -- 6.2, 6.4, 6.8 and 6.9): rules in the order in which they are tried.
+-- contract: h2_core::Endpoint::take_frame
 use Rattle.std.specs.Prelude.{ℕ, ◌==◌, Bool, true, false, if◌then◌else◌}
 use Rattle.h2_frame.specs.declared.code.Code.{Code}
 use Rattle.h2_frame.specs.declared.code.Code.TheVariants.{ProtocolError, FlowControlError}
@@ -21,6 +22,12 @@ pub data Verdict : Type 0 where
 -- it is a fault of the connection; so is what passes the connection's window; on a stream that this
 -- end has reset it is ignored; after the peer's end it is a fault of the stream; what passes the
 -- stream's window is a fault of the connection (own); otherwise it is reported.
+-- rule: 5.1 On an idle stream any but HEADERS or PRIORITY is PROTOCOL_ERROR
+-- rule: 5.1 After the peer has ended a stream DATA is STREAM_CLOSED
+-- rule: 5.1 On a closed stream DATA is STREAM_CLOSED (its scope: own)
+-- rule: 5.1 DATA on a stream that this end has reset counts for the connection
+-- rule: 6.8 Streams above the last of an own GOAWAY are ignored
+-- rule: 6.9.1 DATA above the connection's window is FLOW_CONTROL_ERROR
 unfoldable pub data_verdict : State → (passes_connection peer_ended passes_stream : Bool) → Verdict
 data_verdict Idle passes_connection peer_ended passes_stream = ConnectionFault ProtocolError
 data_verdict Closed passes_connection peer_ended passes_stream = ConnectionFault StreamClosed
@@ -34,6 +41,10 @@ data_verdict Active passes_connection peer_ended passes_stream =
 
 -- RST_STREAM: on an idle stream it is a fault; it closes an active one; otherwise it is ignored
 -- (sections 5.1 and 6.4).
+-- rule: 5.1 On an idle stream any but HEADERS or PRIORITY is PROTOCOL_ERROR
+-- rule: 5.4.2 RST_STREAM is not answered by RST_STREAM, nor sent twice
+-- rule: 6.4 RST_STREAM on an idle stream is PROTOCOL_ERROR
+-- rule: 6.4 RST_STREAM closes an active stream and is reported
 unfoldable pub reset_verdict : State → Verdict
 reset_verdict Idle = ConnectionFault ProtocolError
 reset_verdict Active = Reported
@@ -42,6 +53,8 @@ reset_verdict Closed = NoEvent
 
 -- WINDOW_UPDATE of the connection: no octets are a fault, and so is a window above 2^31 - 1
 -- (sections 6.9 and 6.9.1).
+-- rule: 6.9 An increment of 0 on the connection is PROTOCOL_ERROR
+-- rule: 6.9.1 The connection's window above 2^31-1 is FLOW_CONTROL_ERROR
 unfoldable pub connection_update_verdict : (increment : ℕ) (above : Bool) → Verdict
 connection_update_verdict increment above =
     if increment == 0 then ConnectionFault ProtocolError
@@ -50,6 +63,11 @@ connection_update_verdict increment above =
 -- WINDOW_UPDATE of a stream: on an idle one it is a fault of the connection; on one that isn't
 -- active it is ignored; then no octets, and a window above 2^31 - 1, are faults of the stream
 -- (sections 5.1, 6.9 and 6.9.1).
+-- rule: 5.1 On an idle stream any but HEADERS or PRIORITY is PROTOCOL_ERROR
+-- rule: 6.9 An increment of 0 on a stream is a stream error PROTOCOL_ERROR
+-- rule: 6.9 WINDOW_UPDATE on an idle stream is PROTOCOL_ERROR
+-- rule: 6.9 WINDOW_UPDATE on a closed stream is ignored
+-- rule: 6.9.1 A stream's window above 2^31-1 is a stream error FLOW_CONTROL_ERROR
 unfoldable pub update_verdict : State → (increment : ℕ) (above : Bool) → Verdict
 update_verdict Idle increment above = ConnectionFault ProtocolError
 update_verdict ClosedByUs increment above = NoEvent
@@ -61,6 +79,9 @@ update_verdict Active increment above =
 -- What opens a stream, where its peer may open it: after an own GOAWAY it is closed by this end;
 -- where as many streams are active as are allowed it is refused; a list that is too large is a
 -- fault of the stream; otherwise it is reported (sections 5.1.2, 6.8 and 10.5.1).
+-- rule: 5.1.2 A stream above the limit of active ones is REFUSED_STREAM
+-- rule: 6.8 Streams above the last of an own GOAWAY are ignored
+-- rule: 10.5.1 A list above 65,536 octets is a stream error ENHANCE_YOUR_CALM
 unfoldable pub opening_verdict : (left full too_large : Bool) → Verdict
 opening_verdict left full too_large =
     if left then NoEvent else if full then StreamFault RefusedStream
@@ -71,6 +92,12 @@ opening_verdict left full too_large =
 -- one, it is a fault of the connection; on a stream that this end has reset it is ignored; after the
 -- peer's end, or with a list that is too large, it is a fault of the stream; otherwise it is
 -- reported.
+-- rule: 5.1 On an idle stream any but HEADERS or PRIORITY is PROTOCOL_ERROR
+-- rule: 5.1 After the peer has ended a stream a field block is STREAM_CLOSED
+-- rule: 5.1 (own) On a closed stream a field block is PROTOCOL_ERROR
+-- rule: 5.1.1 A field block on an idle number not the peer's is PROTOCOL_ERROR
+-- rule: 6.2 A field block on an idle odd number opens the stream at a server
+-- rule: 10.5.1 A list above 65,536 octets is a stream error ENHANCE_YOUR_CALM
 unfoldable pub block_verdict : State → (opens left full peer_ended too_large : Bool) → Verdict
 block_verdict Idle opens left full peer_ended too_large =
     if opens then opening_verdict left full too_large else ConnectionFault ProtocolError

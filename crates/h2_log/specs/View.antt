@@ -65,11 +65,13 @@ pub record View : Type 0 where
 
 -- whether the peer has ended the stream, where it is active: for this end it is half-closed
 -- (remote) (section 5.1)
+-- rule: 5.1 (own) h2_flow: each side of a stream ends once, and only that side
 abbrev pub ended_in : Option StreamView → Bool
 ended_in None = false
 ended_in (Some stream) = stream.ended_in
 
 -- whether this end has: it is half-closed (local)
+-- rule: 5.1 (own) h2_flow: each side of a stream ends once, and only that side
 abbrev pub ended_out : Option StreamView → Bool
 ended_out None = false
 ended_out (Some stream) = stream.ended_out

@@ -8,6 +8,7 @@ use Rattle.h2_block.specs.Spread.{spread_frames}
 -- A frame can be sent that no refusal of writing holds for, whose numbers are those that its types
 -- hold, and whose payload isn't greater; a block on a stream that there is, with as many octets as
 -- may be gathered.
+-- rule (law): 4.1 What an end sends is read as its frames, without a fault
 abbrev pub IsSendable : (most : ℕ) → Item → Type 0
 IsSendable most (alone frame) = (is_standalone frame ≡ true) × (refusal frame ≡ None)
     × IsTyped frame × (length (payload_of frame) ≤ most)
@@ -20,6 +21,7 @@ frames_of_item most (alone frame) = frame ∷ []
 frames_of_item most (block stream end octets) = spread_frames most stream end octets
 
 -- the frames of items, those of the oldest first
+-- rule (law): 4.1 What an end sends is read as its frames, without a fault
 abbrev pub frames_of_items : (most : ℕ) → List Item → List Frame
 frames_of_items most [] = []
 frames_of_items most (item ∷ items) = frames_of_items most items ++ frames_of_item most item

@@ -12,6 +12,7 @@ ghost use Rattle.h2_log.specs.Log.{Log, max_payload_sent};
 ghost use Rattle.h2_log.specs.Histories.{IsLog};
 ghost use Rattle.h2_log_laws.specs.Sending.{IsSendable, frames_of_items, oldest_first};
 
+// contract: 4.1 What an end sends is read as its frames, without a fault
 /// What is written of items that can be sent, whatever the greatest payload is, is read as their
 /// frames, whole and without a fault, wherever payloads of so many octets may be read; and these
 /// frames group to the items (RFC 9113, sections 4.1 to 4.3).

@@ -8,6 +8,9 @@ ghost use Rattle.h2_log.specs.Events.{Event};
 ghost use Rattle.h2_log.specs.States.{Idle, Active, openings, is_used, is_active, state_of};
 ghost use Rattle.h2_log.specs.Log.{Log, active, next_active};
 
+// contract: 5.1 A stream has one state, by what was received and sent
+// contract: 5.1.1 A stream that is opened closes all lower idle ones
+// contract: 6.1 END_STREAM of DATA ends the stream of the sender
 /// A stream is idle exactly where its number isn't used, and active exactly where it is said to be
 /// (RFC 9113, section 5.1).
 pub fn states_of_streams()
@@ -23,6 +26,7 @@ pub fn states_of_streams()
         → is_active role i received sent reported ≡ true }
 {}
 
+// contract: 5.1 A stream has one state, by what was received and sent
 /// The next active stream above a number is active, above it, and the least such; where it is 0
 /// there is none. No active number is above the greatest that was opened, so all of them are
 /// counted.

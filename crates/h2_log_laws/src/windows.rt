@@ -8,6 +8,7 @@ ghost use Rattle.h2_log.specs.Windows.{first_window, window, send_window_of};
 ghost use Rattle.h2_log.specs.Windows.{connection_send_window, recv_window_of};
 ghost use Rattle.h2_log.specs.Windows.{connection_recv_window};
 
+// contract: 6.1 The complete payload of DATA, padding included, counts for windows
 /// What one end may send on the connection, with its DATA under way and the increments that come
 /// back, is what the other end lets it send (RFC 9113, section 6.9).
 pub fn connection_window_meets()
@@ -17,6 +18,9 @@ pub fn connection_window_meets()
         (increment_on 0) back) ≡ connection_recv_window other_received other_sent }
 {}
 
+// contract: 6.1 The complete payload of DATA, padding included, counts for windows
+// contract: 6.9.2 INITIAL_WINDOW_SIZE shifts the window of each stream
+// contract: 6.9.2 A new stream has its initial windows
 /// What one end may send on a stream, with its DATA under way and the increments that come back, is
 /// what the other end lets it send, as far as the initial window is the one that was read last.
 /// Where that is the one in force at the other end, as it is where no acknowledgment is under way,

@@ -21,6 +21,8 @@ pub data Entry : Type 0 where
   reset_entry : Entry
 
 -- One look-up tells the state of a number.
+-- rule: 5.1 (own) What is kept of a stream is found by its number
+-- rule: 5.1 (own) A change of a stream changes that stream alone
 abbrev pub StreamMap : Type 0
 StreamMap = map.FinMap nat_cmp Entry
 

@@ -337,6 +337,7 @@ is_active_entry (active_entry stream) = true
 is_active_entry reset_entry = false
 
 -- the least active number above another, or 0
+-- rule: 5.1 (own) The next active stream is the least above a number
 unfoldable pub first_active : ℕ → List (ℕ × Entry) → ℕ
 first_active above [] = 0
 first_active above (entry ∷ entries) =

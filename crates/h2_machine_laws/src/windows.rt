@@ -11,6 +11,7 @@ ghost use Rattle.h2_log.specs.Windows.{first_window, connection_send_window};
 ghost use Rattle.h2_log.specs.Windows.{connection_recv_window};
 ghost use Rattle.h2_log_laws.specs.Sums.{sum_below};
 
+// contract: 6.9 What a stream owes is returned when it is released or over
 /// What is owed on all streams of an end is the sum of what its log says is owed on each.
 pub fn owed_on_all_streams()
     ensures { (values : Values) (e : End) (log : Log) (n : ℕ) → Represents values e log
@@ -27,6 +28,7 @@ pub fn connection_window_of_a_log()
         +ℤ pos (sum_below n (owed log) + log.unreturned) ≡ pos first_window }
 {}
 
+// contract: 6.9 Nothing of the window of the connection is lost
 /// The connection's window is conserved: what one end may send, its DATA under way, the increments
 /// that come back, what the other end owes on all streams, and what is unreturned there, are 65,535
 /// octets.

@@ -16,6 +16,19 @@ use crate::message::Message;
 use crate::scan::{Scan, scan_fields};
 use crate::verdict::first_broken;
 
+// rule: 8.1.1 (own) A message to be sent is refused for the least of M1 to M11 it breaks
+// contract: 8.2.1 A name with an octet that it must not have breaks M1
+// contract: 8.2.1 (own) An empty name breaks M1
+// contract: 8.2.1 A value with NUL, CR or LF breaks M2
+// contract: 8.2.1 A value that begins or ends with a space or a tab breaks M2
+// rule: 8.3 A pseudo-field after a regular one, or in trailers, breaks M3
+// contract: 8.3.1 A request without :method, :scheme or :path breaks M6
+// contract: 8.3.1 A method that is no token, or is CONNECT (own), breaks M7
+// contract: 8.3.1 A path without / at its begin, but * with OPTIONS, breaks M8
+// contract: 8.1.1 A content-length that is no number, or several, breaks M11
+// contract: 8.1.1 A body to be sent that content-length denies breaks M11
+// rule: 8.1.1 A body to be sent that content-length denies breaks M11
+// contract: 8.1 M1, M2, M3 and M10 hold of trailers
 /// Whether a request that is to be sent breaks no rule. It takes no memory.
 ///
 /// # Errors
@@ -58,6 +71,20 @@ fn broken_by_request(message: &Message) -> Option<Malformed>
     ])
 }
 
+// rule: 8.1.1 (own) A message to be sent is refused for the least of M1 to M11 it breaks
+// contract: 8.2.1 A name with an octet that it must not have breaks M1
+// contract: 8.2.1 (own) An empty name breaks M1
+// contract: 8.2.1 A value with NUL, CR or LF breaks M2
+// contract: 8.2.1 A value that begins or ends with a space or a tab breaks M2
+// rule: 8.3 A pseudo-field after a regular one, or in trailers, breaks M3
+// contract: 8.3.2 A response without :status breaks M6
+// contract: 8.3.2 A status that is not three digits from 100, or is 101, breaks M9
+// contract: 8.1 (own) No interim response is sent: a status 100 to 199 breaks M9
+// rule: 8.1 (own) No interim response is sent: a status 100 to 199 breaks M9
+// contract: 8.1.1 A content-length that is no number, or several, breaks M11
+// contract: 8.1.1 A body to be sent that content-length denies breaks M11
+// contract: 8.1.1 A body of an own answer to HEAD, 204 or 304 breaks M11
+// contract: 8.1 M1, M2, M3 and M10 hold of trailers
 /// Whether a response that is to be sent breaks no rule; `to_head` says that it answers HEAD. It
 /// takes no memory.
 ///
@@ -101,6 +128,7 @@ fn broken_by_response(message: &Message, to_head: bool) -> Option<Malformed>
     ])
 }
 
+// rule: 8.1 M1, M2, M3 and M10 hold of trailers
 /// What is seen of a message's trailers; of none where it has none.
 fn scan_trailers(message: &Message) -> Scan
     ensures { IsScan Request (trailer_fields (message_value message.now).trailers) result }
@@ -111,6 +139,7 @@ fn scan_trailers(message: &Message) -> Scan
     }
 }
 
+// rule: 8.1.1 A body to be sent that content-length denies breaks M11
 /// Whether a head declares another length than this.
 fn differs_from(declared: Option<u64>, count: usize) -> bool
     ensures { result ≡ differs_from declared count }
@@ -121,6 +150,8 @@ fn differs_from(declared: Option<u64>, count: usize) -> bool
     }
 }
 
+// rule: 8.1.1 A body to be sent that content-length denies breaks M11
+// rule: 8.1.1 A body of an own answer to HEAD, 204 or 304 breaks M11
 /// Whether the length of a response's body is wrong.
 fn has_wrong_body(head: &Scan, to_head: bool, count: usize) -> bool
     ensures { (fields : List Field) → IsScan Response fields head.now

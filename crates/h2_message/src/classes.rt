@@ -43,6 +43,8 @@ pub(crate) enum Status {
     Final,
 }
 
+// contract: 8.3.1 A method that is no token, or is CONNECT (own), breaks M7
+// rule: 8.3.1 A method that is no token, or is CONNECT (own), breaks M7
 /// What a method says.
 #[tactic(auto, unfolding(crate::specs::Classes::method_class, crate::specs::Octets::is_bad_method))]
 pub(crate) fn method_class(value: &[u8]) -> Method
@@ -59,6 +61,8 @@ pub(crate) fn method_class(value: &[u8]) -> Method
     }
 }
 
+// contract: 8.3.1 A path without / at its begin, but * with OPTIONS, breaks M8
+// rule: 8.3.1 A path without / at its begin, but * with OPTIONS, breaks M8
 /// What a path is.
 #[tactic(auto, unfolding(crate::specs::Classes::path_class))]
 pub(crate) fn path_class(value: &[u8]) -> Path
@@ -73,6 +77,7 @@ pub(crate) fn path_class(value: &[u8]) -> Path
     }
 }
 
+// rule: 8.3.1 A path without / at its begin, but * with OPTIONS, breaks M8
 /// Whether the first octet is a slash.
 #[tactic(auto, unfolding(crate::specs::Octets::begins_with_slash))]
 fn begins_with_slash(value: &[u8]) -> bool
@@ -81,6 +86,11 @@ fn begins_with_slash(value: &[u8]) -> bool
     matches!(value, [b'/', ..])
 }
 
+// contract: 8.3.2 A status that is not three digits from 100, or is 101, breaks M9
+// rule: 8.3.2 A status that is not three digits from 100, or is 101, breaks M9
+// rule: 8.1 (own) No interim response is sent: a status 100 to 199 breaks M9
+// rule: 8.1.1 A body of an own answer to HEAD, 204 or 304 breaks M11
+// rule: 8.1.1 No length is compared in an answer to HEAD, in 204 and in 304
 /// What a status says.
 #[tactic(auto, unfolding(crate::specs::Classes::status_class, crate::specs::Octets::is_bad_status))]
 pub(crate) fn status_class(value: &[u8]) -> Status
@@ -97,6 +107,7 @@ pub(crate) fn status_class(value: &[u8]) -> Status
     }
 }
 
+// rule: 8.3.2 A status that is not three digits from 100, or is 101, breaks M9
 /// Three digits, of which the first one isn't 0.
 #[tactic(auto, unfolding(crate::specs::Octets::is_status_code))]
 fn is_status_code(value: &[u8]) -> bool
@@ -105,6 +116,8 @@ fn is_status_code(value: &[u8]) -> bool
     matches!(value, [b'1'..=b'9', b'0'..=b'9', b'0'..=b'9'])
 }
 
+// rule: 8.1 (own) No interim response is sent: a status 100 to 199 breaks M9
+// rule: 8.1 Interim responses come before the final head, without END_STREAM
 /// Whether the first digit is a 1.
 #[tactic(auto, unfolding(crate::specs::Octets::is_interim_status))]
 fn is_interim_status(value: &[u8]) -> bool
@@ -113,6 +126,7 @@ fn is_interim_status(value: &[u8]) -> bool
     matches!(value, [b'1', ..])
 }
 
+// rule: 8.1.1 A content-length that is no number, or several, breaks M11
 /// The number of a `content-length`: 1 to 19 digits.
 pub(crate) fn length_number(value: &[u8]) -> Option<u64>
     ensures { result ≡ (if is_bad_length value.now then None else Some (number_of value.now)) }
@@ -130,6 +144,7 @@ pub(crate) fn length_number(value: &[u8]) -> Option<u64>
     Some(number)
 }
 
+// rule: 8.3.1 A method that is no token, or is CONNECT (own), breaks M7
 /// A token: one or more of its octets (RFC 9110, section 5.6.2).
 #[tactic(auto, unfolding(crate::specs::Octets::is_token))]
 fn is_token(value: &[u8]) -> bool
@@ -145,6 +160,7 @@ fn are_token_octets(value: &[u8]) -> bool
     value.iter().all(|octet| is_token_octet(*octet))
 }
 
+// rule: 8.3.1 A method that is no token, or is CONNECT (own), breaks M7
 /// An octet of a token: a letter, a digit, or one of fifteen signs.
 #[tactic(auto, unfolding(crate::specs::Octets::is_token_octet))]
 fn is_token_octet(octet: u8) -> bool

@@ -9,6 +9,8 @@ use std::simd::prelude::*;
 /// How many octets are looked at once.
 const LANES: usize = 32;
 
+// rule: 8.2.1 A name with an octet that it must not have breaks M1
+// rule: 8.2.1 (own) An empty name breaks M1
 /// Whether no name has this octet (RFC 9113, section 8.2.1).
 #[inline]
 #[tactic(auto, unfolding(crate::specs::Octets::is_bad_in_name))]
@@ -18,6 +20,8 @@ pub(crate) fn is_bad_in_name(octet: u8) -> bool
     octet <= 0x20 || (0x41 <= octet && octet <= 0x5a) || octet >= 0x7f
 }
 
+// rule: 8.2.1 A name with an octet that it must not have breaks M1
+// rule: 8.2.1 (own) An empty name breaks M1
 /// Whether no name has this octet after its first one.
 #[inline]
 #[tactic(auto, unfolding(crate::specs::Octets::is_bad_after_first))]
@@ -27,6 +31,8 @@ fn is_bad_after_first(octet: u8) -> bool
     is_bad_in_name(octet) || octet == b':'
 }
 
+// rule: 8.2.1 A value with NUL, CR or LF breaks M2
+// rule: 8.2.1 A value that begins or ends with a space or a tab breaks M2
 /// Whether no value has this octet (section 8.2.1).
 #[inline]
 #[tactic(auto, unfolding(crate::specs::Octets::is_bad_in_value))]
@@ -36,6 +42,10 @@ fn is_bad_in_value(octet: u8) -> bool
     octet == 0 || octet == b'\n' || octet == b'\r'
 }
 
+// rule: 8.2.1 A name with an octet that it must not have breaks M1
+// rule: 8.2.1 (own) An empty name breaks M1
+// contract: 8.2.1 (own) A scan of 32 octets at once answers what each octet's condition says
+// rule: 8.2.1 (own) A scan of 32 octets at once answers what each octet's condition says
 /// Whether no name has one of these octets after its first one.
 #[inline]
 pub(crate) fn has_bad_after_first(octets: &[u8]) -> bool
@@ -54,6 +64,8 @@ pub(crate) fn has_bad_after_first(octets: &[u8]) -> bool
     bad
 }
 
+// contract: 8.2.1 (own) A scan of 32 octets at once answers what each octet's condition says
+// rule: 8.2.1 (own) A scan of 32 octets at once answers what each octet's condition says
 /// The same of 32 octets.
 #[inline]
 fn lane_is_bad_after_first(lane: &[u8; LANES]) -> bool
@@ -67,6 +79,10 @@ fn lane_is_bad_after_first(lane: &[u8; LANES]) -> bool
     (low | capital | high | colon).any()
 }
 
+// rule: 8.2.1 A value with NUL, CR or LF breaks M2
+// rule: 8.2.1 A value that begins or ends with a space or a tab breaks M2
+// contract: 8.2.1 (own) A scan of 32 octets at once answers what each octet's condition says
+// rule: 8.2.1 (own) A scan of 32 octets at once answers what each octet's condition says
 /// Whether no value has one of these octets.
 #[inline]
 pub(crate) fn has_bad_in_value(octets: &[u8]) -> bool
@@ -85,6 +101,7 @@ pub(crate) fn has_bad_in_value(octets: &[u8]) -> bool
     bad
 }
 
+// rule: 8.2.1 (own) A scan of 32 octets at once answers what each octet's condition says
 /// The same of 32 octets.
 #[inline]
 fn lane_is_bad_in_value(lane: &[u8; LANES]) -> bool

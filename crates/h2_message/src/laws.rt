@@ -6,6 +6,7 @@ ghost use Rattle.h2_message.specs.declared.reading.Reads.TheVariants.{Requests, 
 ghost use Rattle.h2_message.specs.Messages.{SentMessage, broken_by_request, broken_by_response};
 ghost use Rattle.h2_message.specs.Reading.{IsWellRead, as_read};
 
+// contract: 8.1 (own) A message that breaks no rule as sent breaks none as read
 /// A message that breaks no rule as it is sent breaks none as it is read, in however many DATA
 /// frames its body comes.
 pub fn sent_messages_are_well_read()

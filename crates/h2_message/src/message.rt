@@ -16,6 +16,8 @@ pub struct Message {
     pub trailers: Option<Vec<Field>>,
 }
 
+// contract: HTTP 9.3.2 A request asks with HEAD where the method of its head is HEAD
+// rule: HTTP 9.3.2 A request asks with HEAD where the method of its head is HEAD
 /// Whether the head of a request asks with HEAD: then its answer has no content (RFC 9110, section
 /// 9.3.2). It takes no memory.
 pub fn asks_head(head: &[Field]) -> bool

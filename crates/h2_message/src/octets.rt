@@ -7,6 +7,8 @@ ghost use Rattle.h2_message.specs.Octets.{
 
 use crate::lanes::{has_bad_after_first, has_bad_in_value, is_bad_in_name};
 
+// rule: 8.2.1 A name with an octet that it must not have breaks M1
+// rule: 8.2.1 (own) An empty name breaks M1
 /// Whether the octets are no name: empty, or with an octet that no name has.
 #[inline]
 #[tactic(auto, unfolding(crate::specs::Octets::is_bad_name))]
@@ -19,6 +21,8 @@ pub(crate) fn is_bad_name(name: &[u8]) -> bool
     is_bad_in_name(*first) || has_bad_after_first(octets)
 }
 
+// rule: 8.2.1 A value with NUL, CR or LF breaks M2
+// rule: 8.2.1 A value that begins or ends with a space or a tab breaks M2
 /// Whether the octets are no value: with an octet that no value has, or a blank at an end.
 #[inline]
 #[tactic(auto, unfolding(crate::specs::Octets::is_bad_value))]
@@ -28,6 +32,8 @@ pub(crate) fn is_bad_value(value: &[u8]) -> bool
     has_bad_in_value(value) || begins_blank(value) || ends_blank(value)
 }
 
+// rule: 8.2.1 A value with NUL, CR or LF breaks M2
+// rule: 8.2.1 A value that begins or ends with a space or a tab breaks M2
 /// Whether the first octet is a space or a tab.
 #[tactic(auto, unfolding(crate::specs::Octets::begins_blank))]
 fn begins_blank(value: &[u8]) -> bool
@@ -57,6 +63,7 @@ fn is_blank(octet: u8) -> bool
     octet == b' ' || octet == b'\t'
 }
 
+// rule: 8.3.1 An :authority with an @ in it names a user, and a call says so
 /// Whether an authority, as the value of `:authority` is one, names a user, as `user@example.com`
 /// does. "`:authority` MUST NOT include the deprecated userinfo subcomponent for `http` or `https`
 /// schemed URIs" (section 8.3.1). No check refuses it, so a server that minds asks here, and answers

@@ -66,6 +66,9 @@ pub struct Reading {
 }
 
 impl Reading {
+    // contract: 8.1 (own) A part is read where the parts so far begin a well-formed message
+    // rule: 8.1 (own) A part is read where the parts so far begin a well-formed message
+    // contract: HTTP 9.3.2 A request asks with HEAD where the method of its head is HEAD
     /// A message of which nothing was read.
     pub fn new(reads: Reads) -> Reading
         ensures { Follows reads [] result }
@@ -77,6 +80,28 @@ impl Reading {
         }
     }
 
+    // contract: 8.2.1 A name with an octet that it must not have breaks M1
+    // contract: 8.2.1 (own) An empty name breaks M1
+    // contract: 8.2.1 A value with NUL, CR or LF breaks M2
+    // contract: 8.2.1 A value that begins or ends with a space or a tab breaks M2
+    // contract: 8.3.1 A request without :method, :scheme or :path breaks M6
+    // contract: 8.3.2 A response without :status breaks M6
+    // contract: 8.3.1 A method that is no token, or is CONNECT (own), breaks M7
+    // contract: 8.3.1 A path without / at its begin, but * with OPTIONS, breaks M8
+    // contract: 8.3.2 A status that is not three digits from 100, or is 101, breaks M9
+    // contract: 8.1.1 A content-length that is no number, or several, breaks M11
+    // contract: 8.1 M1, M2, M3 and M10 hold of trailers
+    // rule: 8.1 M1, M2, M3 and M10 hold of trailers
+    // contract: 8.1 (own) A part is read where the parts so far begin a well-formed message
+    // rule: 8.1 (own) A part is read where the parts so far begin a well-formed message
+    // contract: 8.3 A final head is read only where it breaks no rule of its fields
+    // contract: 8.1 Interim responses come before the final head, without END_STREAM
+    // rule: 8.1 A field block after the final head is the trailers, with END_STREAM
+    // contract: 8.1 END_STREAM ends the message, and any further part breaks M12
+    // rule: 8.1 END_STREAM ends the message, and any further part breaks M12
+    // contract: 8.1.1 DATA that is read is as long as content-length says, or breaks M11
+    // rule: 8.1.1 DATA that is read is as long as content-length says, or breaks M11
+    // contract: 8.1.1 No length is compared in an answer to HEAD, in 204 and in 304
     /// Takes a field block, and answers which part of the message it is; or refuses it, since no
     /// message that breaks no rule begins so. Then nothing has changed.
     pub fn fields(&mut self, list: &FieldList, end: bool) -> Option<Place>
@@ -97,6 +122,8 @@ impl Reading {
         }
     }
 
+    // rule: 8.1 (own) A part is read where the parts so far begin a well-formed message
+    // rule: 8.1 Interim responses come before the final head, without END_STREAM
     /// Takes a head, where one comes next.
     fn head(&mut self, list: &FieldList, end: bool) -> Option<Place>
         requires { self.old.phase ≡ AtHead }
@@ -135,6 +162,14 @@ impl Reading {
         }
     }
 
+    // contract: 8.1 (own) A part is read where the parts so far begin a well-formed message
+    // rule: 8.1 (own) A part is read where the parts so far begin a well-formed message
+    // rule: 8.1 DATA before the final head breaks M12
+    // contract: 8.1 END_STREAM ends the message, and any further part breaks M12
+    // rule: 8.1 END_STREAM ends the message, and any further part breaks M12
+    // contract: 8.1.1 DATA that is read is as long as content-length says, or breaks M11
+    // rule: 8.1.1 DATA that is read is as long as content-length says, or breaks M11
+    // contract: 8.1.1 No length is compared in an answer to HEAD, in 204 and in 304
     /// Takes so many octets of a DATA frame, and answers whether it does; or refuses them, since no
     /// message that breaks no rule begins so. Then nothing has changed.
     pub fn data(&mut self, count: usize, end: bool) -> bool
@@ -157,6 +192,8 @@ impl Reading {
         true
     }
 
+    // contract: HTTP 9.3.2 A request asks with HEAD where the method of its head is HEAD
+    // rule: HTTP 9.3.2 A request asks with HEAD where the method of its head is HEAD
     /// Whether a request was read whose method is HEAD: then its answer has no content (RFC 9110,
     /// section 9.3.2).
     pub fn asks_head(&self) -> bool
@@ -165,6 +202,8 @@ impl Reading {
         self.asks_head
     }
 
+    // contract: 8.1 END_STREAM ends the message, and any further part breaks M12
+    // rule: 8.1 END_STREAM ends the message, and any further part breaks M12
     /// Whether the message was read whole.
     pub fn is_over(&self) -> bool
         ensures { (reads : Reads) (parts : List (Part × Bool)) → Follows reads parts self.now
@@ -174,6 +213,7 @@ impl Reading {
     }
 }
 
+// rule: 8.1.1 DATA that is read is as long as content-length says, or breaks M11
 /// What comes next where so many octets of the body are to come, and whether the message has ended;
 /// nothing where it has ended too soon.
 fn in_body(left: Option<u64>, end: bool) -> Option<Phase>
@@ -188,6 +228,7 @@ fn in_body(left: Option<u64>, end: bool) -> Option<Phase>
     Some(Phase::AtEnd)
 }
 
+// rule: 8.1.1 No length is compared in an answer to HEAD, in 204 and in 304
 /// The length of the body that is compared: none where the response has no content.
 fn compared_length(head: &Scan, to_head: bool) -> Option<u64>
     ensures { (fields : List Field) → IsScan Response fields head.now

@@ -76,6 +76,7 @@ fn empty() -> Scan
     }
 }
 
+// rule: 8.1.1 (own) A message to be sent is refused for the least of M1 to M11 it breaks
 /// What is seen of fields that are to be sent.
 pub(crate) fn scan_fields(kind: Kind, fields: &[Field]) -> Scan
     ensures { IsScan kind fields.now result }
@@ -87,6 +88,8 @@ pub(crate) fn scan_fields(kind: Kind, fields: &[Field]) -> Scan
     scan
 }
 
+// contract: 8.3 A final head is read only where it breaks no rule of its fields
+// rule: 8.3 A final head is read only where it breaks no rule of its fields
 /// What is seen of fields that were read.
 pub(crate) fn scan_list(kind: Kind, list: &FieldList) -> Scan
     ensures { IsScan kind list.now result }
@@ -101,6 +104,7 @@ pub(crate) fn scan_list(kind: Kind, list: &FieldList) -> Scan
 }
 
 impl Scan {
+    // rule: 8.3 A pseudo-field after a regular one, or in trailers, breaks M3
     /// Adds what is seen of the next field.
     #[inline]
     fn add(&mut self, kind: Kind, name: &[u8], value: &[u8])
@@ -126,6 +130,8 @@ impl Scan {
         }
     }
 
+    // rule: 8.3 A pseudo-field other than the five breaks M4
+    // rule: 8.3 A pseudo-field that stands twice breaks M5
     /// Adds a pseudo-field of a request.
     fn add_of_request(&mut self, name: &[u8], value: &[u8])
         ensures seen { (fields : List Field) (sensitive : Bool) → is_colon_first name.now ≡ true
@@ -151,6 +157,8 @@ impl Scan {
         }
     }
 
+    // rule: 8.3 A pseudo-field other than the five breaks M4
+    // rule: 8.3 A pseudo-field that stands twice breaks M5
     /// Adds a pseudo-field of a response.
     fn add_of_response(&mut self, name: &[u8], value: &[u8])
         ensures seen { (fields : List Field) (sensitive : Bool) → is_colon_first name.now ≡ true
@@ -167,6 +175,7 @@ impl Scan {
         }
     }
 
+    // rule: 8.2.2 te with another value than trailers breaks M10
     /// Adds a regular field.
     fn add_regular(&mut self, name: &[u8], value: &[u8])
         ensures seen { (fields : List Field) (sensitive : Bool) → HasSeenRegular fields self.old
@@ -183,6 +192,7 @@ impl Scan {
         }
     }
 
+    // rule: 8.1.1 A content-length that is no number, or several, breaks M11
     /// Adds a `content-length`.
     fn add_length(&mut self, value: &[u8])
         ensures seen { (fields : List Field) (sensitive : Bool) → HasSeenLength fields self.old
@@ -200,6 +210,7 @@ impl Scan {
     }
 }
 
+// rule: 8.2.2 A connection-specific field breaks M10
 /// Whether a field with this name is specific to one connection (section 8.2.2).
 fn is_connection_name(name: &[u8]) -> bool
     ensures { result ≡ list_any (λ other. bytes_eq name.now other) connection_names }

@@ -14,6 +14,7 @@ use crate::classes::{Method, Path, Status};
 use crate::malformed::Malformed;
 use crate::scan::Scan;
 
+// rule: 8.1.1 (own) A message to be sent is refused for the least of M1 to M11 it breaks
 /// The first rule whose condition holds.
 #[inline]
 pub(crate) fn first_broken(rules: &[(bool, Malformed)]) -> Option<Malformed>
@@ -28,6 +29,7 @@ pub(crate) fn first_broken(rules: &[(bool, Malformed)]) -> Option<Malformed>
 }
 
 impl Scan {
+    // rule: 8.3.1 A request without :method, :scheme or :path breaks M6
     /// Whether a request lacks a pseudo-field that it must have.
     pub(crate) fn lacks_of_request(&self) -> bool
         ensures { (fields : List Field) → IsScan Request fields self.now
@@ -36,6 +38,7 @@ impl Scan {
         self.method.is_none() || !self.scheme || self.path.is_none()
     }
 
+    // rule: 8.3.2 A response without :status breaks M6
     /// Whether a response does.
     pub(crate) fn lacks_of_response(&self) -> bool
         ensures { (fields : List Field) → IsScan Response fields self.now
@@ -44,6 +47,7 @@ impl Scan {
         self.status.is_none()
     }
 
+    // rule: 8.3.1 A method that is no token, or is CONNECT (own), breaks M7
     /// Whether the method of a request is not valid.
     pub(crate) fn has_bad_method(&self) -> bool
         ensures { (fields : List Field) → IsScan Request fields self.now
@@ -52,6 +56,7 @@ impl Scan {
         self.method.unwrap_or(Method::Bad) == Method::Bad
     }
 
+    // rule: 8.3.1 A path without / at its begin, but * with OPTIONS, breaks M8
     /// Whether the path of a request is not valid.
     pub(crate) fn has_bad_path(&self) -> bool
         ensures { (fields : List Field) → IsScan Request fields self.now
@@ -64,6 +69,7 @@ impl Scan {
         }
     }
 
+    // rule: HTTP 9.3.2 A request asks with HEAD where the method of its head is HEAD
     /// Whether a request asks with HEAD.
     pub(crate) fn asks_head(&self) -> bool
         ensures { (fields : List Field) → IsScan Request fields self.now
@@ -72,6 +78,8 @@ impl Scan {
         self.method == Some(Method::Head)
     }
 
+    // rule: 8.3.2 A status that is not three digits from 100, or is 101, breaks M9
+    // rule: 8.1 (own) No interim response is sent: a status 100 to 199 breaks M9
     /// Whether the status of a response is not valid, or that of an interim response.
     pub(crate) fn has_no_final_status(&self) -> bool
         ensures { (fields : List Field) → IsScan Response fields self.now
@@ -81,6 +89,7 @@ impl Scan {
         status == Status::Bad || status == Status::Interim
     }
 
+    // rule: 8.1 Interim responses come before the final head, without END_STREAM
     /// Whether the status of a response is that of an interim response.
     pub(crate) fn has_interim_status(&self) -> bool
         ensures { (fields : List Field) → IsScan Response fields self.now
@@ -89,6 +98,8 @@ impl Scan {
         self.status == Some(Status::Interim)
     }
 
+    // rule: 8.1.1 A body of an own answer to HEAD, 204 or 304 breaks M11
+    // rule: 8.1.1 No length is compared in an answer to HEAD, in 204 and in 304
     /// Whether a response has no content by its status.
     pub(crate) fn has_no_content(&self) -> bool
         ensures { (fields : List Field) → IsScan Response fields self.now
@@ -97,6 +108,7 @@ impl Scan {
         self.status == Some(Status::NoContent)
     }
 
+    // rule: 8.3 A final head is read only where it breaks no rule of its fields
     /// The rule that the head of a request breaks, of those of the head alone.
     pub(crate) fn broken_by_request_head(&self) -> Option<Malformed>
         ensures { (fields : List Field) → IsScan Request fields self.now
@@ -116,6 +128,7 @@ impl Scan {
         ])
     }
 
+    // rule: 8.3 A final head is read only where it breaks no rule of its fields
     /// The rule that the final head of a response breaks.
     pub(crate) fn broken_by_response_head(&self) -> Option<Malformed>
         ensures { (fields : List Field) → IsScan Response fields self.now
@@ -134,6 +147,7 @@ impl Scan {
         ])
     }
 
+    // rule: 8.1 Interim responses come before the final head, without END_STREAM
     /// The rule that the head of an interim response breaks.
     pub(crate) fn broken_by_interim(&self) -> Option<Malformed>
         ensures { (fields : List Field) → IsScan Response fields self.now
@@ -151,6 +165,8 @@ impl Scan {
         ])
     }
 
+    // rule: 8.3 A pseudo-field after a regular one, or in trailers, breaks M3
+    // rule: 8.1 M1, M2, M3 and M10 hold of trailers
     /// The rule that trailers break.
     pub(crate) fn broken_by_trailers(&self) -> Option<Malformed>
         ensures { (fields : List Field) → IsScan Request fields self.now

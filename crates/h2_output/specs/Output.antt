@@ -2,6 +2,8 @@
 use Rattle.std.specs.Prelude.{ℕ, Bool, List, [], drop, Option, Some, None}
 use Rattle.h2_output.specs.declared.last_frame.LastFrame.{LastFrame}
 
+-- rule: calls (own) Frames join the output that waits, in order
+-- rule: calls (own) Output is given out in order and once
 pub record OutputState : Type 0 where
   -- the octets that wait, the first one first
   pub waiting : List ℕ
@@ -11,6 +13,7 @@ pub record OutputState : Type 0 where
   pub ended : Bool
 
 -- what waits of the last frame
+-- rule: 5.4.1 (own) The GOAWAY of a failed connection takes no memory
 abbrev pub waiting_of_last : Option LastFrame → List ℕ
 waiting_of_last None = []
 waiting_of_last (Some last) = drop last.given last.octets

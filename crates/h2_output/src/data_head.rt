@@ -9,6 +9,7 @@ use byteorder::{BigEndian, ByteOrder};
 /// The octets of a head.
 pub(crate) const HEAD: usize = 9;
 
+// rule: calls (own) Frames join the output that waits, in order
 /// The head of DATA without padding, of so many octets (RFC 9113, sections 4.1 and 6.1): followed
 /// by them, it is the frame.
 pub(crate) fn data_head(stream: u32, length: u32, end: bool) -> [u8; HEAD]

@@ -62,6 +62,7 @@ impl Output {
         })
     }
 
+    // rule: calls (own) Output is given out in order and once
     /// How many octets wait. It takes no memory.
     pub fn len(&self) -> usize
         ensures { result ≡ length self.now.waiting }
@@ -73,6 +74,7 @@ impl Output {
         self.queue.len() + last
     }
 
+    // rule: calls (own) Output is given out in order and once
     /// Whether nothing waits. It takes no memory.
     pub fn is_empty(&self) -> bool
         ensures { result ≡ (length self.now.waiting == 0) }
@@ -80,6 +82,8 @@ impl Output {
         self.len() == 0
     }
 
+    // contract: calls (own) An end lends its output, and says the place of a fault
+    // rule: calls (own) An end lends its output, and says the place of a fault
     /// Lends what waits: the frames in the queue, and then what is left of the GOAWAY of a failed
     /// connection. It takes no memory.
     pub fn as_slices(&self) -> (&[u8], &[u8])
@@ -107,6 +111,8 @@ impl Output {
         self.queue.reserve(additional)
     }
 
+    // contract: calls (own) Frames join the output that waits, in order
+    // rule: calls (own) Frames join the output that waits, in order
     /// Adds a frame, of 64 octets at most, for which there is room. It takes no memory.
     pub fn add_frame(&mut self, frame: FrameRef<'_>)
         requires up { self.old.ended ≡ false }
@@ -123,6 +129,8 @@ impl Output {
         self.queue.extend_reserved(&self.frame);
     }
 
+    // contract: calls (own) Frames join the output that waits, in order
+    // rule: calls (own) Frames join the output that waits, in order
     /// Adds a DATA frame without padding, for which there is room: its octets are copied once. It
     /// takes no memory.
     pub fn add_data(&mut self, stream: u32, octets: &[u8], end: bool)
@@ -139,6 +147,8 @@ impl Output {
         self.add_octets(octets);
     }
 
+    // contract: calls (own) Frames join the output that waits, in order
+    // rule: calls (own) Frames join the output that waits, in order
     /// Adds octets for which there is room: the frames of a field block. It takes no memory.
     pub fn add_octets(&mut self, octets: &[u8])
         requires up { self.old.ended ≡ false }
@@ -150,6 +160,8 @@ impl Output {
         self.queue.extend_reserved(octets);
     }
 
+    // contract: 5.4.1 (own) The GOAWAY of a failed connection takes no memory
+    // rule: 5.4.1 (own) The GOAWAY of a failed connection takes no memory
     /// Adds the GOAWAY of a connection that fails, after which nothing is added (RFC 9113, section
     /// 6.8). It takes no memory and needs no room.
     pub fn end_with_goaway(&mut self, last: u32, code: u32)
@@ -169,6 +181,8 @@ impl Output {
         self.last = Some(LastFrame { octets, given: 0 });
     }
 
+    // rule: calls (own) Output is given out in order and once
+    // contract: 5.4.1 (own) The GOAWAY of a failed connection takes no memory
     /// Appends as many octets as wait, and at most `count`, to `out`, and takes them away.
     ///
     /// # Errors

@@ -23,6 +23,7 @@ AreUnderWay writer reader way = writer.sent ≡ way ++ reader.received
 -- The connection's window (RFC 9113, section 6.9): what the writer may send, DATA under way, the
 -- increments that come back, what the reader owes on its streams (of numbers below a bound), and
 -- what is unreturned there, are 65,535 octets.
+-- rule (law): joined (own) The header tables of joined ends agree, no window is lost
 abbrev pub ConservesConnection : (writer reader : Log) (way back : List Item) (bound : ℕ) → Type 0
 ConservesConnection writer reader way back bound =
     (connection_send_window writer.received writer.sent +ℤ pos (total data_of way))
@@ -42,6 +43,7 @@ pub record IsCarried (writer reader : Log) (i : ℕ) : Type 0 where
 
 -- A stream's window: what the writer may send on it, its DATA under way, the increments that come
 -- back, and what the reader owes, are the initial window that the writer has received last.
+-- rule (law): joined (own) The header tables of joined ends agree, no window is lost
 abbrev pub ConservesStream : (writer reader : Log) (way back : List Item) (i : ℕ) → Type 0
 ConservesStream writer reader way back i =
     (send_window writer i +ℤ pos (total (data_on i) way))

@@ -33,6 +33,7 @@ DecodeInOrder sent count first (block stream end octets ∷ items) lists last =
 -- The lists that the writer was given are those of the blocks that the reader has read and of those
 -- under way. The reader's table, after the blocks under way, is the writer's, and each of them
 -- decodes at its place to its list, whatever limits change meanwhile.
+-- rule (law): joined (own) The header tables of joined ends agree, no window is lost
 pub record HeaderTablesInStep (writer reader : Log) (way : List Item) : Type 0 where
   pub read : List (List Field)
   pub under_way : List (List Field)

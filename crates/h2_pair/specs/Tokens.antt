@@ -71,6 +71,7 @@ trailers_tokens None = []
 trailers_tokens (Some list) = FieldsToken list true ∷ []
 
 -- the tokens of a message
+-- rule (law): 8.1 (own) What has come of a message that breaks no rule can be read
 unfoldable pub message_tokens : SentMessage → List Token
 message_tokens message =
     FieldsToken message.head (is_head_alone message) ∷ (each OctetToken message.body

@@ -41,12 +41,14 @@ kept_by_octets [] = []
 kept_by_octets (turn ∷ turns) = by_octets (turn_value turn) ++ kept_by_octets turns
 
 -- The turns are those of a log of a replay of the acts, octet by octet.
+-- rule: replay (own) A replay keeps each act, its answer, its octets and its events
 pub record KeepsReplay (role : Role) (values : Values) (acts : List ReplayAct)
     (kept : List code.Turn) (log : Log) (turns : List Turn) : Type 0 where
   pub replay : IsReplay role values acts log turns
   pub same : kept_by_octets kept ≡ all_by_octets turns
 
 -- They are those of some log.
+-- rule: replay (own) A replay keeps each act, its answer, its octets and its events
 pub record Replays (role : Role) (values : Values) (acts : List Act) (kept : List code.Turn)
     : Type 0 where
   pub log : Log

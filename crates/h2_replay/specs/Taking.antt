@@ -93,6 +93,7 @@ TakesPiece old piece turns next kept new =
     → TakesPieceOf values log piece turns next kept new
 
 -- the fault of an answer
+-- rule: replay (own) A replay keeps each act, its answer, its octets and its events
 abbrev pub fault_of : Answer → Option Code
 fault_of (answers.Fault code) = Some code
 fault_of answer = None

@@ -14,6 +14,7 @@ use crate::turns::Answer;
 use h2_conn::{Conn, Refusal};
 use hpack::{Field, list_size};
 
+// rule: replay (own) A replay keeps each act, its answer, its octets and its events
 /// Makes a call; `put_out` appends what it gives out to `out`.
 pub(crate) fn make_call(conn: &mut Conn, act: &Act, out: &mut Vec<u8>) -> Answer
     requires call { IsCall act.now }

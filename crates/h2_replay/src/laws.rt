@@ -28,6 +28,7 @@ ghost use Rattle.h2_replay.specs.Joined.{used_in, written_in, event_in, joined};
 ghost use Rattle.h2_replay.specs.Joined.{EndsWithCall};
 ghost use Rattle.h2_replay.specs.Replay.{KeepsReplay};
 
+// contract: replay (own) A replay keeps each act, its answer, its octets and its events
 /// The octets of the turns are those of the log: those that were used are a prefix of the octets of
 /// the acts, and all of them as long as the connection has not failed; those that joined the output
 /// are all that was written. The events are those that were reported, in order.
@@ -52,6 +53,7 @@ pub fn turns_are_of_the_log()
         → joined event_in kept ≡ reverse log.reported }
 {}
 
+// contract: replay (own) A replay keeps each act, its answer, its octets and its events
 /// The output is a client's preface and then the items that were written, each of which can be
 /// sent. Each SETTINGS and each PING is replied to once, in order, and the field blocks are those
 /// of the lists that were accepted, in order (RFC 9113, sections 3.4, 4.1 to 4.3, 6.5.3 and 6.7).

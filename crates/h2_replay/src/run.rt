@@ -18,6 +18,8 @@ use crate::waiting::joined_output;
 use h2_conn::{Config, Conn, Role};
 use std::alloc::{AllocError, Global};
 
+// contract: replay (own) A replay keeps each act, its answer, its octets and its events
+// rule: replay (own) A replay keeps each act, its answer, its octets and its events
 /// Makes the acts, in order, on a new end of a connection, and answers what has happened. A refused
 /// call is an act like any other.
 ///

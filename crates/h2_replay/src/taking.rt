@@ -68,6 +68,7 @@ pub(crate) enum Next {
     Failed(Code),
 }
 
+// rule: replay (own) A replay keeps each act, its answer, its octets and its events
 /// Keeps what a call of `take` made of a piece, with what has joined the output.
 fn keep_taking(
     alloc: Global,
@@ -120,6 +121,7 @@ fn take_piece(
     Ok(next)
 }
 
+// rule: replay (own) A replay keeps each act, its answer, its octets and its events
 /// Calls `take` until the octets are used and nothing is reported, or the connection has failed,
 /// and keeps what has happened.
 ///

@@ -42,6 +42,7 @@ pub record FramesDecode (frames : List Frame) (begun : Option Begun) (table : En
     pub decoded : ItemsDecode first_table items table
 
 -- The last of the frames doesn't group; those preceding it group, and their blocks decode.
+-- rule: 6.10 Inside a block any frame but its CONTINUATION is PROTOCOL_ERROR
 pub record IsMisgrouped (frames : List Frame) (code : Code) : Type 0 where
   pub items : List Item
   pub table : Entries
@@ -51,6 +52,7 @@ pub record IsMisgrouped (frames : List Frame) (code : Code) : Type 0 where
   pub coded : code ≡ block_fault_code fault
 
 -- The last of the frames ends a block that doesn't decode; all blocks preceding it decode.
+-- rule: 4.3 A block that does not decode is COMPRESSION_ERROR, of the connection
 pub record IsUndecodable (frames : List Frame) (code : Code) : Type 0 where
   pub items : List Item
   pub table : Entries
@@ -63,10 +65,12 @@ pub record IsUndecodable (frames : List Frame) (code : Code) : Type 0 where
   pub coded : code ≡ CompressionError
 
 -- The last of the frames is at fault, with a code.
+-- rule: show (own) The status is 1 only where the stream is cut off or at fault
 abbrev pub EndsWithBlockError : List Frame → Code → Type 0
 EndsWithBlockError frames code = IsMisgrouped frames code ⊎ IsUndecodable frames code
 
 -- a gatherer's fault, as an error of the blocks
+-- rule: show (own) The status is 1 only where the stream is cut off or at fault
 abbrev pub error_of_grouping : BlockFault → BlockError
 error_of_grouping grouping.Interrupted = Fault (block_fault_code grouping.Interrupted)
 error_of_grouping grouping.Stray = Fault (block_fault_code grouping.Stray)
@@ -74,6 +78,7 @@ error_of_grouping grouping.TooLong = Fault (block_fault_code grouping.TooLong)
 error_of_grouping grouping.Memory = Memory
 
 -- a decoder's fault, as an error of the blocks
+-- rule: 4.3 A block that does not decode is COMPRESSION_ERROR, of the connection
 abbrev pub error_of_decoding : DecoderFault → BlockError
 error_of_decoding decoding.Compression = Fault CompressionError
 error_of_decoding decoding.Failed = Fault CompressionError

@@ -7,14 +7,17 @@ use Rattle.h2_show.specs.declared.hexadecimal.HexError.{HexError}
 use Rattle.h2_show.specs.declared.hexadecimal.HexError.TheVariants.{BadHex, Memory}
 
 -- a space, a tab, a line feed or a carriage return
+-- rule: show (own) Hexadecimal is read without its blanks; other text is refused
 abbrev pub is_blank : ℕ → Bool
 is_blank octet = octet == 0x20 || octet == 0x09 || octet == 0x0a || octet == 0x0d
 
 -- the text without its blanks
+-- rule: show (own) Hexadecimal is read without its blanks; other text is refused
 abbrev pub without_blanks : List ℕ → List ℕ
 without_blanks text = filter (λ octet. not (is_blank octet)) text
 
 -- The text is no hexadecimal.
+-- rule: show (own) Hexadecimal is read without its blanks; other text is refused
 abbrev pub IsBadHex : List ℕ → Type 0
 IsBadHex text = IsErr (decode_of (without_blanks text))
 
@@ -24,6 +27,7 @@ HexErrorReports text BadHex = IsBadHex text
 HexErrorReports text Memory = Unit {0}
 
 -- an error of reading a text, as the failure of a command
+-- rule: show (own) Hexadecimal is read without its blanks; other text is refused
 abbrev pub failure_of_text : HexError → Failure
 failure_of_text BadHex = failures.BadHex
 failure_of_text Memory = failures.Memory

@@ -15,36 +15,44 @@ use Rattle.h2_frame.specs.Frames.{Frame, Data, Headers, Priority, Reset, Setting
 use Rattle.h2_frame.specs.Frames.{WindowUpdate, Continuation, Unknown}
 
 -- a number below 16 as a hexadecimal digit
+-- rule: show (own) The line of a field has its mark, its name and its value
 abbrev pub hex_digit : ℕ → ℕ
 hex_digit number = if nat_lt number 10 then 48 + number else 87 + number
 
 -- an octet as two hexadecimal digits
+-- rule: show (own) The line of a field has its mark, its name and its value
 abbrev pub hex_octet : ℕ → List ℕ
 hex_octet octet = hex_digit (octet / 16) ∷ hex_digit (octet % 16) ∷ []
 
 -- whether an octet is shown as it is: printable ASCII, but for the backslash
+-- rule: show (own) The line of a field has its mark, its name and its value
 abbrev pub is_plain : ℕ → Bool
 is_plain octet = nat_le 32 octet && nat_le octet 126 && not (octet == 92)
 
 -- an octet as it is, or as `\x` and two hexadecimal digits
+-- rule: show (own) The line of a field has its mark, its name and its value
 abbrev pub shown_octet : ℕ → List ℕ
 shown_octet octet = if is_plain octet then octet ∷ [] else 92 ∷ 120 ∷ hex_octet octet
 
+-- rule: show (own) The line of a field has its mark, its name and its value
 abbrev pub shown_octets : List ℕ → List ℕ
 shown_octets octets = flat_map shown_octet octets
 
 -- the line of a field: two spaces, `!` where it is never indexed, the name, a colon and a space,
 -- and the value
+-- rule: show (own) The line of a field has its mark, its name and its value
 abbrev pub field_line : Field → List ℕ
 field_line field =
     (if field.sensitive then codes "  !" else codes "  ") ++ shown_octets field.name
     ++ codes ": " ++ shown_octets field.value ++ codes "\n"
 
 -- the greatest size of a list that is shown (own)
+-- rule: show (own) A list above 65,536 octets has one line, without fields
 abbrev pub show_list_limit : ℕ
 show_list_limit = 65536
 
 -- the lines of a block's fields, or that there are too many
+-- rule: show (own) A list above 65,536 octets has one line, without fields
 abbrev pub list_lines : List Field → List ℕ
 list_lines fields =
     if nat_le (list_size fields) show_list_limit then flat_map field_line fields
@@ -56,35 +64,42 @@ field_of field =
     record { name = field.name.now; value = field.value.now; sensitive = field.sensitive }
 
 -- the lines of a list, as a decoder answers it
+-- rule: show (own) A list above 65,536 octets has one line, without fields
 abbrev pub answered_lines : AnsweredList → List ℕ
 answered_lines (Whole fields) = flat_map field_line fields.items
 answered_lines TooLarge = codes "  list too large\n"
 
 -- a space and the word of a flag, where the flag is set
+-- rule: show (own) The line of a frame has its type, stream, octets and more
 abbrev pub flag_word : Bool → (word : List ℕ) → List ℕ
 flag_word true word = codes " " ++ word
 flag_word false word = []
 
 -- a space and how much padding there is, where there is a pad length
+-- rule: show (own) The line of a frame has its type, stream, octets and more
 abbrev pub pad_word : Option ℕ → List ℕ
 pad_word None = []
 pad_word (Some pad) = codes " pad=" ++ decimal pad
 
 -- how many octets of a payload are the pad length and the padding
+-- rule: show (own) The line of a frame has its type, stream, octets and more
 abbrev pub pad_octets : Option ℕ → ℕ
 pad_octets None = 0
 pad_octets (Some pad) = pad + 1
 
 -- the pairs of SETTINGS, in order
+-- rule: show (own) The line of a frame has its type, stream, octets and more
 abbrev pub pair_words : List (ℕ × ℕ) → List ℕ
 pair_words pairs =
     flat_map (λ pair. codes " " ++ decimal pair.0 ++ codes "=" ++ decimal pair.1) pairs
 
 -- the type of a frame, its stream and how many octets its payload has
+-- rule: show (own) The line of a frame has its type, stream, octets and more
 abbrev pub frame_head : (name : List ℕ) → (stream octets : ℕ) → List ℕ
 frame_head name stream octets = name ++ codes " " ++ decimal stream ++ codes " " ++ decimal octets
 
 -- the words of a frame, which one space divides; numbers are decimal, but the octets of a PING
+-- rule: show (own) The line of a frame has its type, stream, octets and more
 unfoldable pub frame_words : Frame → List ℕ
 frame_words (Data stream end octets pad) =
     frame_head (codes "DATA") stream (length octets + pad_octets pad)
@@ -114,22 +129,27 @@ frame_words (Unknown kind flags stream payload) =
     frame_head (codes "KIND" ++ decimal kind) stream (length payload) ++ codes " flags="
     ++ decimal flags
 
+-- rule: show (own) The line of a frame has its type, stream, octets and more
 abbrev pub frame_line : Frame → List ℕ
 frame_line frame = frame_words frame ++ codes "\n"
 
 -- the line of the preface, which comes first where it is expected and complete
+-- rule: show (own) An input has one output: preface, frames, then how it ends
 abbrev pub preface_line : List ℕ
 preface_line = codes "preface\n"
 
 -- the line of a fault: its code, and the number of the octet that is at fault, from 1 on
+-- rule: show (own) A fault is printed with the name of its code and its place
 abbrev pub fault_line : Code → (place : ℕ) → List ℕ
 fault_line code place =
     codes "fault " ++ name_of code ++ codes " at " ++ decimal place ++ codes "\n"
 
 -- the line of the octets that are left of a frame or of the preface
+-- rule: show (own) An input has one output: preface, frames, then how it ends
 abbrev pub rest_line : (count : ℕ) → List ℕ
 rest_line count = codes "rest " ++ decimal count ++ codes "\n"
 
 -- the line of a block that has begun and isn't complete
+-- rule: show (own) An input has one output: preface, frames, then how it ends
 abbrev pub unfinished_line : List ℕ
 unfinished_line = codes "unfinished block\n"

@@ -17,12 +17,14 @@ use Rattle.h2_show.specs.Blocks.{FramesDecode, EndsWithBlockError}
 use Rattle.h2_show.specs.Hexadecimal.{without_blanks}
 
 -- whether an end begins with the preface (RFC 9113, section 3.4)
+-- rule: show (own) The words choose the end and hexadecimal
 abbrev pub begins_with_preface : Side → Bool
 begins_with_preface Client = true
 begins_with_preface Server = false
 
 -- The stream is complete frames to its end, or nothing at all; they group to complete blocks, all
 -- of which decode.
+-- rule: show (own) The status is 0 only where the input is good to its end
 pub record IsComplete (expects : Bool) (limits : Limits) (stream : List ℕ) : Type 0 where
   pub frames : List Frame
   pub table : Entries
@@ -30,6 +32,7 @@ pub record IsComplete (expects : Bool) (limits : Limits) (stream : List ℕ) : T
   pub decoded : FramesDecode frames None table
 
 -- The stream ends inside the preface or inside a frame, after frames whose blocks decode.
+-- rule: show (own) The status is 1 only where the stream is cut off or at fault
 pub record EndsInsideFrame (expects : Bool) (limits : Limits) (stream : List ℕ) : Type 0 where
   pub frames : List Frame
   pub unparsed : List ℕ
@@ -41,6 +44,7 @@ pub record EndsInsideFrame (expects : Bool) (limits : Limits) (stream : List ℕ
 
 -- The stream is complete frames to its end, whose blocks decode, and a block has begun that isn't
 -- complete.
+-- rule: show (own) The status is 1 only where the stream is cut off or at fault
 pub record EndsInsideBlock (expects : Bool) (limits : Limits) (stream : List ℕ) : Type 0 where
   pub frames : List Frame
   pub begun : Begun
@@ -49,6 +53,7 @@ pub record EndsInsideBlock (expects : Bool) (limits : Limits) (stream : List ℕ
   pub decoded : FramesDecode frames (Some begun) table
 
 -- The octet of the stream at this place is at fault, after frames whose blocks decode.
+-- rule: show (own) The status is 1 only where the stream is cut off or at fault
 pub record HasWireFaultAt (expects : Bool) (limits : Limits) (stream : List ℕ) (place : ℕ)
     (fault : WireFault) : Type 0 where
   pub frames : List Frame
@@ -59,6 +64,7 @@ pub record HasWireFaultAt (expects : Bool) (limits : Limits) (stream : List ℕ)
 
 -- The octet of the stream at this place ends a frame that doesn't group with those preceding it,
 -- or that ends a block that doesn't decode.
+-- rule: show (own) The status is 1 only where the stream is cut off or at fault
 pub record HasBlockErrorAt (expects : Bool) (limits : Limits) (stream : List ℕ) (place : ℕ)
     (code : Code) : Type 0 where
   pub frames : List Frame
@@ -67,6 +73,7 @@ pub record HasBlockErrorAt (expects : Bool) (limits : Limits) (stream : List ℕ
   pub error : EndsWithBlockError frames code
 
 -- The stream is at fault, or ends inside something.
+-- rule: show (own) The status is 1 only where the stream is cut off or at fault
 pub data IsAtFault (expects : Bool) (limits : Limits) (stream : List ℕ) : Type 0 where
   inside_frame : EndsInsideFrame expects limits stream → IsAtFault expects limits stream
   inside_block : EndsInsideBlock expects limits stream → IsAtFault expects limits stream
@@ -76,6 +83,7 @@ pub data IsAtFault (expects : Bool) (limits : Limits) (stream : List ℕ) : Type
       → IsAtFault expects limits stream
 
 -- what the status reports of a stream
+-- rule: show (own) The status is 0 only where the input is good to its end
 abbrev pub StatusReports : Bool → Limits → List ℕ → Status → Type 0
 StatusReports expects limits stream Good = IsComplete expects limits stream
 StatusReports expects limits stream Fault = IsAtFault expects limits stream
@@ -88,17 +96,20 @@ abbrev pub first_limits : Limits
 first_limits place = 16384
 
 -- What the status reports of the octets that the end sent.
+-- rule: show (own) The status is 0 only where the input is good to its end
 abbrev pub StatusReportsOctets : Side → List ℕ → Status → Type 0
 StatusReportsOctets from octets status =
     StatusReports (begins_with_preface from) first_limits octets status
 
 -- What the status reports of text that gives the octets in hexadecimal.
+-- rule: show (own) The status is 0 only where the input is good to its end
 abbrev pub StatusReportsText : Side → List ℕ → Status → Type 0
 StatusReportsText from text status =
     (octets : List ℕ) × (decode_of (without_blanks text) ≡ Ok octets)
     × StatusReportsOctets from octets status
 
 -- What the status reports of the input.
+-- rule: show (own) The status is 0 only where the input is good to its end
 abbrev pub StatusReportsInput : ShowOptions → List ℕ → Status → Type 0
 StatusReportsInput options given status =
     MatchBool options.hex

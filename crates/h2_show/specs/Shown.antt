@@ -24,6 +24,7 @@ use Rattle.h2_show.specs.Lines.{unfinished_line}
 
 -- These lines show the frames of the items: each frame has its line, and under the frame that ends
 -- a block stand its fields, decoded with the table as the blocks before have left it.
+-- rule: show (own) An input has one output: preface, frames, then how it ends
 abbrev pub AreShown : (table : Entries) → List Item → List Frame → (after : Entries)
     → (lines : List ℕ) → Type 0
 AreShown table [] frames after lines = (frames ≡ []) × (after ≡ table) × (lines ≡ [])
@@ -39,6 +40,7 @@ AreShown table (block stream end octets ∷ items) frames after lines =
     × AreShown next items others after rest
 
 -- These lines show the frames so far, the last of which may have begun a block that isn't complete.
+-- rule: show (own) An input has one output: preface, frames, then how it ends
 pub record ShowsFrames (frames : List Frame) (begun : Option Begun) (lines : List ℕ) : Type 0 where
   pub items : List Item
   pub complete : List Frame
@@ -51,6 +53,7 @@ pub record ShowsFrames (frames : List Frame) (begun : Option Begun) (lines : Lis
   pub all : lines ≡ first ++ flat_map frame_line left
 
 -- The line of the preface comes first, where it is expected and the stream begins with it.
+-- rule: show (own) An input has one output: preface, frames, then how it ends
 abbrev pub preface_lines : (expects : Bool) → (stream : List ℕ) → List ℕ
 preface_lines expects stream =
     if expects && bytes_eq (take 24 stream) (expected_preface expects) then preface_line else []
@@ -58,6 +61,7 @@ preface_lines expects stream =
 -- The whole output for a stream, and the status: complete frames to its end, and complete blocks;
 -- an end inside the preface, a frame or a block; or an octet at fault, or a frame that is, after
 -- the frames before it.
+-- rule: show (own) An input has one output: preface, frames, then how it ends
 pub data Shows (expects : Bool) (limits : Limits) (stream : List ℕ) (status : Status)
     (output : List ℕ) : Type 0 where
   is_complete : (frames : List Frame) (lines : List ℕ) → Frames expects limits stream frames []
@@ -87,11 +91,13 @@ pub data Shows (expects : Bool) (limits : Limits) (stream : List ℕ) (status : 
       → Shows expects limits stream status output
 
 -- what `show` prints of the octets that an end sent
+-- rule: show (own) An input has one output: preface, frames, then how it ends
 abbrev pub ShowsOctets : Side → List ℕ → Status → (output : List ℕ) → Type 0
 ShowsOctets from octets status output =
     Shows (begins_with_preface from) first_limits octets status output
 
 -- of an input: its octets, or those that it gives in hexadecimal
+-- rule: show (own) An input has one output: preface, frames, then how it ends
 abbrev pub ShowsInput : ShowOptions → List ℕ → Status → (output : List ℕ) → Type 0
 ShowsInput options given status output =
     MatchBool options.hex

@@ -6,6 +6,8 @@ use Rattle.h2_show.specs.declared.status.Status.{Status}
 use Rattle.h2_show.specs.declared.status.Status.TheVariants.{Good, Fault, Usage, Device, Memory}
 
 -- the number of each status; only that of a good end is 0
+-- rule: show (own) The status is 0 only where the input is good to its end
+-- rule: show (own) Lines are written before the next read and before the end
 abbrev pub exit_code_of : Status → ℕ
 exit_code_of Good = 0
 exit_code_of Fault = 1
@@ -14,6 +16,9 @@ exit_code_of Device = 3
 exit_code_of Memory = 4
 
 -- the status of a command that fails
+-- rule: show (own) Hexadecimal is read without its blanks; other text is refused
+-- rule: show (own) Lines are written before the next read and before the end
+-- rule: show (own) The words choose the end and hexadecimal
 abbrev pub failure_status : Failure → Status
 failure_status failures.Device = Device
 failure_status failures.Memory = Memory

@@ -81,6 +81,8 @@ impl Blocks {
         })
     }
 
+    // contract: 4.3 A block that does not decode is COMPRESSION_ERROR, of the connection
+    // contract: show (own) A list above 65,536 octets has one line, without fields
     /// Takes the next frame, and answers the list of the block that it ends.
     ///
     /// # Errors
@@ -104,6 +106,8 @@ impl Blocks {
         }
     }
 
+    // rule: 4.3 A block that does not decode is COMPRESSION_ERROR, of the connection
+    // rule: show (own) A list above 65,536 octets has one line, without fields
     // Decodes a block.
     fn decode(&mut self, octets: &[u8]) -> Result<List, BlockError>
         ensures ok { IfOk result (λ list. (self.old.decoder.failed ≡ false)

@@ -26,6 +26,7 @@ pub enum Failure {
 }
 
 impl Failure {
+    // rule: show (own) Hexadecimal is read without its blanks; other text is refused
     /// The status of a command that fails so.
     pub fn status(self) -> Status
         ensures { result ≡ failure_status self }

@@ -19,6 +19,7 @@ pub enum HexError {
     Memory,
 }
 
+// rule: show (own) Hexadecimal is read without its blanks; other text is refused
 /// The octets that a text gives in hexadecimal, two digits each, in upper or lower case. Blanks
 /// are dropped wherever they are: spaces, tabs, line feeds and carriage returns.
 ///
@@ -54,6 +55,7 @@ fn digits_of(alloc: Global, text: &[u8]) -> Result<Vec<u8>, AllocError>
         .collect(alloc)
 }
 
+// rule: show (own) Hexadecimal is read without its blanks; other text is refused
 fn is_blank(octet: u8) -> bool
     ensures { result ≡ blank octet }
 {

@@ -14,6 +14,7 @@ pub enum Hint {
 }
 
 impl Hint {
+    // rule (tested): show (own) Without a preface a line names the option that is likely missing
     /// The hint for octets that came as they are: none unless the preface is at fault.
     /// `piece` is the piece with the fault, and `place` the number of the octet at fault.
     pub(crate) fn for_octets(error: &ShowError, piece: &[u8], place: u64) -> Option<Hint> {
@@ -21,6 +22,7 @@ impl Hint {
         Some(Hint::for_start(piece, place == 1))
     }
 
+    // rule (tested): show (own) Without a preface a line names the option that is likely missing
     /// The hint where the first octets aren't the preface, by the piece with the octet at fault.
     /// `is_first` says that this is the first octet of all.
     pub fn for_start(piece: &[u8], is_first: bool) -> Hint {
@@ -30,6 +32,7 @@ impl Hint {
         Hint::FromServer
     }
 
+    // rule (tested): show (own) Without a preface a line names the option that is likely missing
     /// The hint for octets that came in hexadecimal: none unless the preface is at fault.
     pub(crate) fn for_text(error: &ShowError) -> Option<Hint> {
         match error {

@@ -46,6 +46,7 @@ pub fn read_some<R: Read>(input: &mut R, buffer: &mut [u8]) -> io::Result<usize>
     Err(io::Error::from(ErrorKind::Interrupted))
 }
 
+// rule: show (own) Hexadecimal is read without its blanks; other text is refused
 /// Reads text to its end, and answers the octets that it gives in hexadecimal.
 ///
 /// # Errors

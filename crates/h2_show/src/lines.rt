@@ -26,6 +26,7 @@ const PRIORITY: usize = 5;
 /// The octets of GOAWAY preceding its debug data (RFC 9113, section 6.8).
 const GOAWAY: usize = 8;
 
+// rule: show (own) The line of a frame has its type, stream, octets and more
 /// Prints the line of a frame.
 pub(crate) fn write_frame<W: Write>(frame: FrameRef<'_>, out: &mut W) -> io::Result<()>
     ensures { OnOk result (Appends (W.contents out.old) (W.contents out.new)
@@ -174,6 +175,7 @@ fn hexadecimal_of(octets: [u8; 8]) -> [u8; 16]
     ]
 }
 
+// rule: show (own) The line of a frame has its type, stream, octets and more
 /// How many octets the payload of DATA has.
 fn data_length(octets: &[u8], pad: Option<u8>) -> usize
     ensures { result ≡ length octets.now + pad_octets pad }
@@ -195,6 +197,7 @@ fn goaway_length(debug: &[u8]) -> usize
     debug.len().saturating_add(GOAWAY)
 }
 
+// rule: show (own) The line of a frame has its type, stream, octets and more
 /// How many octets the payload of HEADERS has.
 fn headers_length(fragment: &[u8], pad: Option<u8>, prioritized: bool) -> usize
     ensures { result ≡ length fragment.now + pad_octets pad + (if prioritized then 5 else 0) }
@@ -217,6 +220,7 @@ fn padded(pad: Option<u8>) -> usize
     }
 }
 
+// rule: show (own) The line of a frame has its type, stream, octets and more
 #[tactic(auto, unfolding(crate::specs::Lines::frame_words))]
 fn write_settings<W: fmt::Write>(
     f: &mut fmt::Formatter<W>,
@@ -234,6 +238,8 @@ fn write_settings<W: fmt::Write>(
     Ok(())
 }
 
+// contract: show (own) A list above 65,536 octets has one line, without fields
+// rule: show (own) A list above 65,536 octets has one line, without fields
 /// Prints the lines of a block's list: one a field, or that the list is too large.
 pub(crate) fn write_list<W: Write>(list: &List, out: &mut W) -> io::Result<()>
     ensures { OnOk result (Appends (W.contents out.old) (W.contents out.new)
@@ -253,6 +259,7 @@ pub(crate) fn write_list<W: Write>(list: &List, out: &mut W) -> io::Result<()>
     Ok(())
 }
 
+// rule: show (own) The line of a field has its mark, its name and its value
 /// Prints the line of a field: two spaces, `!` where it is never indexed, the name, a colon and a
 /// space, and the value. Octets that aren't printable ASCII, and the backslash, are printed as `\x`
 /// and two hexadecimal digits.
@@ -271,6 +278,7 @@ pub fn write_field<W: Write>(field: FieldRef<'_>, out: &mut W) -> io::Result<()>
     out.write_all(b"\n")
 }
 
+// rule: show (own) The line of a field has its mark, its name and its value
 // Prints octets as text: those that aren't printable ASCII, and the backslash, escaped.
 fn write_text<W: Write>(octets: &[u8], out: &mut W) -> io::Result<()>
     ensures { OnOk result (Appends (W.contents out.old) (W.contents out.new)
@@ -285,6 +293,7 @@ fn write_text<W: Write>(octets: &[u8], out: &mut W) -> io::Result<()>
     out.write_all(rest)
 }
 
+// rule: show (own) The line of a field has its mark, its name and its value
 // How many octets precede the first that is escaped, where there is one.
 fn plain_count(octets: &[u8]) -> Option<usize>
     ensures { result ≡ position (λ octet. not (plain octet)) octets.now }
@@ -292,6 +301,7 @@ fn plain_count(octets: &[u8]) -> Option<usize>
     octets.iter().position(|octet| !is_plain(*octet))
 }
 
+// rule: show (own) The line of a field has its mark, its name and its value
 // Whether an octet is printed as it is.
 fn is_plain(octet: u8) -> bool
     ensures { result ≡ plain octet }

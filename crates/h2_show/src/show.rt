@@ -53,6 +53,10 @@ impl<W: Write> Write for Lent<'_, W> {
     }
 }
 
+// rule: show (own) The status is 0 only where the input is good to its end
+// contract: show (own) The status is 1 only where the stream is cut off or at fault
+// contract: show (own) An input has one output: preface, frames, then how it ends
+// rule: show (own) An input has one output: preface, frames, then how it ends
 /// Shows the input: a line for each frame, the fields of a block under the frame that ends it, and
 /// then a line for the fault that ends the stream, or for what its end leaves unfinished.
 ///
@@ -91,6 +95,8 @@ pub fn show_input<R: Read, W: Write>(
     shown
 }
 
+// contract: show (own) Lines are written before the next read and before the end
+// rule: show (own) Lines are written before the next read and before the end
 // Shows the input, and writes what is buffered at its end.
 fn show_lines<R: Read, W: Write + Drop>(
     alloc: Global,
@@ -116,6 +122,7 @@ fn show_lines<R: Read, W: Write + Drop>(
     shown
 }
 
+// rule: show (own) An input has one output: preface, frames, then how it ends
 // Shows the input, into the buffer.
 fn show_given<R: Read, W: Write + Drop>(
     alloc: Global,
@@ -141,6 +148,7 @@ fn show_given<R: Read, W: Write + Drop>(
     }
 }
 
+// rule: show (own) An input has one output: preface, frames, then how it ends
 // Shows the octets that an end sent, as they come.
 fn show_octets<R: Read, W: Write + Drop>(
     alloc: Global,
@@ -160,6 +168,7 @@ fn show_octets<R: Read, W: Write + Drop>(
     show_pieces(&mut viewer, input, &mut buffer, lines)
 }
 
+// rule: show (own) An input has one output: preface, frames, then how it ends
 // Shows pieces that fit the buffer, until the input ends. The lines of each are written before the
 // next one is read.
 fn show_pieces<R: Read, W: Write + Drop>(
@@ -197,6 +206,8 @@ fn show_pieces<R: Read, W: Write + Drop>(
     Err(io::Error::from(ErrorKind::Other))
 }
 
+// contract: show (own) Lines are written before the next read and before the end
+// rule: show (own) Lines are written before the next read and before the end
 // Shows a piece, and writes its lines.
 fn write_piece<W: Write + Drop>(
     viewer: &mut Viewer,

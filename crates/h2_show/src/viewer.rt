@@ -113,6 +113,7 @@ impl Viewer {
         })
     }
 
+    // rule: show (own) The status is 0 only where the input is good to its end
     /// Prints what the piece completes.
     ///
     /// By `ok` the piece was used to its end: the cutter and the blocks represent all octets so
@@ -160,6 +161,8 @@ impl Viewer {
         Ok(())
     }
 
+    // contract: show (own) Lines are written before the next read and before the end
+    // rule: show (own) Lines are written before the next read and before the end
     /// Prints the line of the fault that ends the stream.
     ///
     /// # Errors
@@ -189,6 +192,8 @@ impl Viewer {
         }
     }
 
+    // rule: show (own) The status is 1 only where the stream is cut off or at fault
+    // rule: show (own) A fault is printed with the name of its code and its place
     // Prints the line of a fault with this code.
     fn show_fault<W: Write>(&self, code: Code, out: &mut W) -> io::Result<Status>
         ensures status { IfOk result (λ status. status ≡ Status.Fault) }
@@ -199,6 +204,7 @@ impl Viewer {
         Ok(Status::Fault)
     }
 
+    // rule: show (own) The status is 1 only where the stream is cut off or at fault
     /// Prints what the end of the input leaves unfinished: the octets left of a frame or of the
     /// preface, or else a block.
     ///
@@ -224,6 +230,7 @@ impl Viewer {
         Ok(Status::Good)
     }
 
+    // rule: show (own) A fault is printed with the name of its code and its place
     /// How many octets were used, or the number of the octet at fault, from 1 on.
     pub(crate) fn place(&self) -> u64
         ensures { result ≡ self.now.cutter.place }

@@ -9,6 +9,7 @@ ghost use Rattle.h2_show.specs.declared.status.Status.TheVariants.{Good, Fault};
 ghost use Rattle.h2_show.specs.Report.{StatusReports, StatusReportsInput};
 ghost use Rattle.h2_show.specs.Shown.{Shows, ShowsInput};
 
+// contract: show (own) An input has one output: preface, frames, then how it ends
 /// A stream has one output and one status: they are determined by its octets.
 pub fn one_output()
     ensures { (expects : Bool) (limits : Limits) (stream : List ℕ) (status other : Status)
@@ -17,6 +18,7 @@ pub fn one_output()
         → (status ≡ other) × (output ≡ another) }
 {}
 
+// contract: show (own) An input has one output: preface, frames, then how it ends
 /// An input has one output and one status, under given options.
 pub fn one_output_of_an_input()
     ensures { (options : ShowOptions) (given : List ℕ) (status other : Status)

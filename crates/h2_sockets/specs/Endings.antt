@@ -6,6 +6,7 @@ use Rattle.h2_link.specs.declared.error.LinkError.{LinkError}
 use Rattle.h2_link.specs.declared.error.LinkError.TheVariants as errors
 
 -- Devices that fail and memory have their own; the peer's faults are those of `show` and `replay`.
+-- rule: engines (own) N1 to N7 end a command with their statuses
 abbrev pub status_with : LinkError → Status
 status_with errors.Device = statuses.Device
 status_with (errors.Stream code) = statuses.Fault

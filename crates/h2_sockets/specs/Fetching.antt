@@ -17,6 +17,7 @@ abbrev pub default_values : Values
 default_values = record { table_limit = 4096; initial_window = 65535; max_streams = 100 }
 
 -- a GET of a location, without a body (section 8.3.1)
+-- rule: engines (own) A URL is asked for with GET
 abbrev pub get_request : Location → SentMessage
 get_request location = record {
   head =
@@ -29,6 +30,7 @@ get_request location = record {
 
 -- The location was fetched over the link with GET, however that has ended; or there was no memory
 -- for the request, and nothing went over the link.
+-- rule: engines (own) A URL is asked for with GET
 abbrev pub FetchesLocation : Location → (start now : Traffic) → Result Fetched LinkError → Type 0
 FetchesLocation location start now result =
     Fetches default_values (get_request location) start now result

@@ -7,6 +7,7 @@ use h2_engines::LinkError;
 use h2_show::Status;
 use std::io::Write;
 
+// rule: engines (own) N1 to N7 end a command with their statuses
 /// The status of a command whose connection has ended so: [`Status::Device`] for N1 and N5,
 /// [`Status::Fault`] for N2, N4 and N6, [`Status::Memory`] for N3, and [`Status::Usage`] for N7.
 pub fn status_of(error: LinkError) -> Status
@@ -20,6 +21,7 @@ pub fn status_of(error: LinkError) -> Status
     }
 }
 
+// rule: engines (own) N1 to N7 end a command with their statuses
 /// Prints on standard error how a connection has ended, and answers the status.
 pub fn report<E: Write>(error: LinkError, err: &mut E) -> Status
     ensures { result ≡ status_with error }

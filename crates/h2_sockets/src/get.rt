@@ -19,6 +19,7 @@ use std::alloc::{AllocError, Global};
 use std::io::{self, Write};
 use std::net::{Net, TcpStream};
 
+// rule: engines (own) A URL is asked for with GET
 /// Asks for a location with GET over a new connection, and answers its response once that is whole.
 /// A host's name is looked up by the network.
 ///
@@ -45,6 +46,7 @@ pub fn get_location<N: Net>(
     fetched
 }
 
+// rule: engines (own) A URL is asked for with GET
 /// Asks for a location with GET over a link, and answers its response once that is whole.
 ///
 /// # Errors
@@ -67,6 +69,7 @@ pub fn get_over<L: Link>(
     }
 }
 
+// rule: engines (own) A URL is asked for with GET
 /// The request for a location.
 fn request_to(alloc: Global, location: &Location) -> Result<Message, AllocError>
     ensures { IfOk result (λ message. message_value message ≡ get_request location.now) }
@@ -85,6 +88,7 @@ fn request_to(alloc: Global, location: &Location) -> Result<Message, AllocError>
     })
 }
 
+// rule: engines (own) A response is printed as its status, its phrase and its body
 /// Prints the status of a response and its phrase on one line, the status alone where it has none,
 /// and then the octets of the body as they are.
 ///
@@ -110,6 +114,7 @@ fn write_response<W: Write>(fetched: &Fetched, out: &mut W) -> io::Result<()>
     out.flush()
 }
 
+// rule: engines (own) A response is printed as its status, its phrase and its body
 /// The phrase of a status (RFC 9110, section 15), if it has one.
 pub fn phrase(status: u16) -> Option<&'static str>
     ensures { option_map (λ text. text.now) result
@@ -121,6 +126,7 @@ pub fn phrase(status: u16) -> Option<&'static str>
     }
 }
 
+// rule: engines (own) A response is printed as its status, its phrase and its body
 /// Writes a status and its phrase as a line.
 fn write_status<W: Write>(value: &[u8], out: &mut W) -> io::Result<()>
     ensures { OnOk result ((phrase : Option (List ℕ)) × IsPhraseOf value.now phrase
@@ -133,6 +139,7 @@ fn write_status<W: Write>(value: &[u8], out: &mut W) -> io::Result<()>
     }
 }
 
+// rule: engines (own) A response is printed as its status, its phrase and its body
 /// The phrase of the status with these digits, if it has one.
 fn phrase_of(value: &[u8]) -> Option<&'static str>
     ensures { IsPhraseOf value.now (option_map (λ text. text.now) result) }

@@ -38,6 +38,7 @@ struct Carried {
     read: Vec<u8>,
 }
 
+// rule: engines (own) h2 loop posts octets, and its line says how many came
 /// Posts so many octets, of which octet k is k mod 251, to `/` of a server in this process, over
 /// one TCP connection of 127.0.0.1, and answers the response. Each end in turn writes at most 4,096
 /// octets, which the other then reads; it ends with a round in which neither writes.
@@ -59,6 +60,7 @@ pub fn exchange<N: Net>(net: &N, alloc: Global, count: u32) -> Result<Fetched, L
     }
 }
 
+// rule: engines (own) h2 loop posts octets, and its line says how many came
 /// Two ends, of which the client is to post so many octets, and their connection.
 fn new_ends<N: Net>(net: &N, alloc: Global, count: u32) -> Result<Ends<N::Stream>, LinkError>
     ensures { IfOk result NoneHasFailed }
@@ -75,6 +77,7 @@ fn new_ends<N: Net>(net: &N, alloc: Global, count: u32) -> Result<Ends<N::Stream
     })
 }
 
+// rule: engines (own) h2 loop posts octets, and its line says how many came
 /// Lets both ends write in turns, until neither does. Answers whether the response is whole.
 fn carry_all<S: Read + Write + OpenStream>(
     ends: &mut Ends<S>,
@@ -94,6 +97,7 @@ fn carry_all<S: Read + Write + OpenStream>(
     Ok(is_whole)
 }
 
+// rule: engines (own) h2 loop posts octets, and its line says how many came
 /// Prints how many octets were posted, how many the response's body has, and its status.
 ///
 /// # Errors

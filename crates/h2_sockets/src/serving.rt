@@ -16,6 +16,7 @@ use std::alloc::Global;
 use std::io::{Read, Write};
 use std::net::{Ipv4Addr, Net, OpenListener, OpenStream, SocketAddr, TcpListener};
 
+// rule (tested): engines (own) h2 serve serves so many connections, one after another
 /// Serves so many connections to a port of 127.0.0.1, one after another, as [`serve_link`] does
 /// with the default [`Config`], and answers the status of the first that ended early, or
 /// [`Status::Good`].
@@ -37,6 +38,7 @@ pub fn serve_port<N: Net, E: Write>(
     }
 }
 
+// rule (tested): engines (own) h2 serve serves so many connections, one after another
 /// Serves so many connections that a listener accepts, as [`serve_port`] does. One that can't be
 /// accepted counts as one that ended with N1.
 pub fn serve_connections<L: OpenListener, E: Write>(
@@ -76,6 +78,7 @@ where
     }
 }
 
+// rule (tested): engines (own) After N2 and N3 input is dropped up to 16 MiB
 /// Serves one connection, and sends all that is held for it. After N2 and N3 the peer has the time
 /// to read the GOAWAY.
 fn serve_stream<S: Read + Write + OpenStream>(

@@ -12,6 +12,7 @@ ghost use Rattle.h2_wire.specs.Streams.{Limits, Frames, WireFaultAt};
 ghost use Rattle.h2_block.specs.declared.fault.BlockFault.{BlockFault};
 ghost use Rattle.h2_block.specs.Grouping.{Item, Begun, Groups, GroupingFaultAt};
 
+// contract: 4.1 Octets encode a frame exactly where they have no fault
 /// Octets that encode a frame have no fault: neither their head, whose form is checked whatever the
 /// limit is, nor their payload.
 pub fn frames_have_no_fault()
@@ -21,6 +22,7 @@ pub fn frames_have_no_fault()
         → payload_fault (head_of octets) (drop 9 octets) ≡ None }
 {}
 
+// contract: 4.1 Octets encode a frame exactly where they have no fault
 /// Octets without a fault, as many as their head asks for, encode a frame.
 pub fn octets_without_fault_are_a_frame()
     ensures { (octets : List ℕ) → length octets ≡ 9 + (head_of octets).length
@@ -29,6 +31,7 @@ pub fn octets_without_fault_are_a_frame()
         → (frame : Frame) × Encodes frame octets }
 {}
 
+// contract: 5.4.1 Each stream of octets has a reading or a fault; prefixes agree
 /// The frames of a stream are the first of those of a longer one.
 pub fn frames_continue()
     ensures { (expects : Bool) (limits : Limits) (stream more : List ℕ) (frames others : List Frame)
@@ -47,6 +50,7 @@ pub fn frames_before_a_fault_continue()
         → (following : List Frame) × (others ≡ frames ++ following) }
 {}
 
+// contract: 5.4.1 Each stream of octets has a reading or a fault; prefixes agree
 /// Each stream has a reading, or a fault.
 pub fn reading_or_fault()
     ensures { (expects : Bool) (limits : Limits) (stream : List ℕ)
@@ -56,6 +60,7 @@ pub fn reading_or_fault()
         × WireFaultAt expects limits stream frames place fault) }
 {}
 
+// contract: 4.3 Each list of frames groups or has a fault; prefixes agree
 /// The items of frames are the first of those of more frames.
 pub fn items_continue()
     ensures { (frames more : List Frame) (items others : List Item) (begun other : Option Begun)
@@ -63,6 +68,7 @@ pub fn items_continue()
         → (following : List Item) × (others ≡ items ++ following) }
 {}
 
+// contract: 4.3 Each list of frames groups or has a fault; prefixes agree
 /// Each list of frames has a grouping, or a fault at one of its frames.
 pub fn grouping_or_fault()
     ensures { (frames : List Frame)

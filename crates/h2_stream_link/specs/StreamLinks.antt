@@ -6,10 +6,12 @@ use Rattle.h2_link.specs.declared.link.LinkFault.{LinkFault}
 use Rattle.h2_stream_link.specs.declared.stream_link.StreamLink.{StreamLink}
 
 -- the octets that a link has taken: what its stream holds, where that is known, and what is held
+-- rule: engines (own) A link over TCP holds 65,536 octets at most, then sends them
 abbrev pub octets_taken : {S : Type 0} → (S → Option (List ℕ)) → StreamLink S → Option (List ℕ)
 octets_taken contents link = append_known (contents link.stream) link.held.items
 
 -- Some first octets of those held were sent, or none or all, and the others are held.
+-- rule: engines (own) A link over TCP sends octets in order and once
 pub record SendsFirst (before after : Option (List ℕ)) (held held_now : List ℕ) : Type 0 where
   pub count : ℕ
   pub within : count ≤ length held
@@ -17,6 +19,8 @@ pub record SendsFirst (before after : Option (List ℕ)) (held held_now : List �
   pub unsent : held_now ≡ drop count held
 
 -- All octets held were sent; or sending has failed, and some octets are still held.
+-- rule: engines (own) A link over TCP holds 65,536 octets at most, then sends them
+-- rule: engines (own) A link over TCP sends octets in order and once
 abbrev pub Sends : (before after : Option (List ℕ)) → Result (Unit {0}) LinkFault
     → (held held_now : List ℕ) → Type 0
 Sends before after (Ok done) held held_now = Appends before after held × (held_now ≡ [])
@@ -25,6 +29,7 @@ Sends before after (Err fault) held held_now =
 
 -- All octets held were sent, and the next ones of the stream were then read to the front of the
 -- buffer: none only at its end, or where there was no room.
+-- rule: engines (own) A link over TCP holds 65,536 octets at most, then sends them
 pub record ReadsNext {S : Type 0} (contents remaining : S → Option (List ℕ)) (before after : S)
     (held : List ℕ) (count : ℕ) (buffer : List ℕ) : Type 0 where
   pub between : S
@@ -33,6 +38,7 @@ pub record ReadsNext {S : Type 0} (contents remaining : S → Option (List ℕ))
   pub end : count ≡ 0 → 0 < length buffer → IsAtEnd (remaining after)
 
 -- A read sent all octets held before it; one that failed sent some first ones, or none or all.
+-- rule: engines (own) A link over TCP holds 65,536 octets at most, then sends them
 abbrev pub Reads : {S : Type 0} → (contents remaining : S → Option (List ℕ)) → (before after : S)
     → Result ℕ LinkFault → (held held_now buffer : List ℕ) → Type 0
 Reads contents remaining before after (Ok count) held held_now buffer =

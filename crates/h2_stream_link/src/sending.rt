@@ -5,6 +5,7 @@ ghost use Rattle.std.specs.Io.KnownBytes.{Appends, Keeps};
 
 use std::io::{self, ErrorKind, Write};
 
+// rule: engines (own) A link over TCP sends octets in order and once
 /// Writes once, and again where a signal interrupts. Answers how many first octets were written.
 ///
 /// # Errors
@@ -25,6 +26,7 @@ fn write_some<W: Write>(out: &mut W, octets: &[u8]) -> io::Result<usize>
     Err(io::Error::from(ErrorKind::Interrupted))
 }
 
+// rule: engines (own) A link over TCP sends octets in order and once
 /// Writes until all octets are written, or a write fails or takes none. Answers how many first
 /// octets were written.
 pub fn send<W: Write>(out: &mut W, octets: &[u8]) -> usize
@@ -41,6 +43,7 @@ pub fn send<W: Write>(out: &mut W, octets: &[u8]) -> usize
     sent
 }
 
+// rule: engines (own) A link over TCP sends octets in order and once
 /// Takes so many first octets away.
 pub fn remove_first(octets: &mut Vec<u8>, count: usize)
     requires { count ≤ length octets.old.items }

@@ -38,6 +38,8 @@ pub struct StreamLink<S> {
 }
 
 impl<S: Read + Write + OpenStream> StreamLink<S> {
+    // rule: engines (own) A link over TCP holds 65,536 octets at most, then sends them
+    // rule: engines (own) A link over TCP counts the calls that have failed
     /// A link over a stream, with room for what it holds. The stream sends at once what it is given
     /// (TCP_NODELAY).
     ///
@@ -77,6 +79,9 @@ impl<S: Read + Write + OpenStream> StreamLink<S> {
         &self.stream
     }
 
+    // rule: engines (own) A link over TCP holds 65,536 octets at most, then sends them
+    // rule: engines (own) A link over TCP sends octets in order and once
+    // rule: engines (own) A link over TCP counts the calls that have failed
     /// Sends all that is held, in as many writes as it takes; one that a signal interrupts is
     /// tried again.
     ///
@@ -101,6 +106,7 @@ impl<S: Read + Write + OpenStream> StreamLink<S> {
         Err(LinkFault)
     }
 
+    // rule (tested): engines (own) After N2 and N3 input is dropped up to 16 MiB
     /// Ends what is written, and reads and drops what comes until the peer ends too, at most 16
     /// MiB. A stream that is closed while octets are unread resets the connection, and then the
     /// peer may lose what was sent last. What is held isn't sent.

@@ -12,6 +12,8 @@ use Rattle.h2_machine.specs.End.{active_entry, reset_entry, StreamMap}
 use Rattle.h2_streams.specs.declared.table.Kept.{Kept}
 
 -- what is kept of numbers, with windows as they are now, and the initial windows in force
+-- rule: 5.1 (own) What is kept of a stream is found by its number
+-- rule: 5.1 (own) A change of a stream changes that stream alone
 pub record TableState : Type 0 where
   pub entries : StreamMap
   pub send_initial : ℕ

@@ -78,6 +78,7 @@ impl StreamTable {
         }
     }
 
+    // rule: 5.1 (own) What is kept of a stream is found by its number
     /// What is kept of a number. It takes no memory.
     pub fn get(&self, id: u32) -> Option<Entry>
         ensures { option_map entry_value result ≡ map.get self.now.entries id }
@@ -89,6 +90,7 @@ impl StreamTable {
         }
     }
 
+    // rule: 5.1 (own) What is kept of a stream is found by its number
     /// The stream with this number, if it is active. It takes no memory.
     pub fn stream(&self, id: u32) -> Option<Stream>
         ensures { option_map stream_view result ≡ stream_in (map.get self.now.entries id) }
@@ -102,6 +104,7 @@ impl StreamTable {
         })
     }
 
+    // rule: 5.1 (own) A change of a stream changes that stream alone
     /// Adds an active stream with a number of which nothing is kept. Its windows are no further
     /// than 2<sup>32</sup> from zero.
     ///
@@ -122,6 +125,7 @@ impl StreamTable {
         Ok(())
     }
 
+    // rule: 5.1 (own) A change of a stream changes that stream alone
     /// Changes an active stream. Its windows are no further than 2<sup>32</sup> from zero. It takes
     /// no memory.
     pub fn set(&mut self, id: u32, stream: Stream)
@@ -138,6 +142,7 @@ impl StreamTable {
         }
     }
 
+    // rule: 5.1 (own) A change of a stream changes that stream alone
     /// Forgets an active stream, since both sides have ended it, or the peer has reset it, or will
     /// not process it. It takes no memory.
     pub fn close(&mut self, id: u32)
@@ -147,6 +152,7 @@ impl StreamTable {
         self.active.remove(&id);
     }
 
+    // rule: 5.1 (own) A change of a stream changes that stream alone
     /// Keeps of a number, whether a stream was active with it or not, that this end has reset it.
     ///
     /// # Errors
@@ -172,6 +178,8 @@ impl StreamTable {
         self.recv_initial
     }
 
+    // contract: 6.9.2 INITIAL_WINDOW_SIZE shifts the window of each stream
+    // rule: 6.9.2 INITIAL_WINDOW_SIZE shifts the window of each stream
     /// Puts another initial window of the peer's in force: the send windows of all active streams
     /// are shifted by the difference (RFC 9113, section 6.9.2), in one step whatever their number.
     /// It takes no memory.
@@ -184,6 +192,7 @@ impl StreamTable {
         self.send_initial = initial;
     }
 
+    // rule: 6.9.2 INITIAL_WINDOW_SIZE shifts the window of each stream
     /// Puts another own initial window in force: the receive windows of all active streams are
     /// shifted. It takes no memory.
     pub fn set_recv_initial(&mut self, initial: u32)
@@ -195,6 +204,8 @@ impl StreamTable {
         self.recv_initial = initial;
     }
 
+    // contract: 6.9.2 A shift of a window above 2^31-1 is FLOW_CONTROL_ERROR
+    // rule: 6.9.2 A shift of a window above 2^31-1 is FLOW_CONTROL_ERROR
     /// The greatest send window of the active streams, if there are any: by it alone it is decided
     /// whether an initial window would bring one of them above 2<sup>31</sup> - 1. It goes over all
     /// active streams, and takes no memory.
@@ -207,6 +218,7 @@ impl StreamTable {
         Some(window_of(offset, self.send_initial))
     }
 
+    // rule: 5.1 (own) The next active stream is the least above a number
     /// The least active number above another. It takes no memory.
     pub fn next_active(&self, above: u32) -> Option<u32>
         ensures number { number_or_none result

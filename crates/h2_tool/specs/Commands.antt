@@ -30,6 +30,7 @@ use Rattle.h2_sockets.specs.Printing.{PrintsResponse, exchange_line}
 
 -- How words that give no options end, by the kind of clap's error: help and the version are printed,
 -- and memory that ran out is no fault of the words.
+-- rule: show (own) The words choose the end and hexadecimal
 abbrev pub AnswersWords : ErrorKind → Status → Type 0
 AnswersWords kind Good = (kind ≡ kinds.DisplayHelp) ⊎ (kind ≡ kinds.DisplayVersion)
 AnswersWords kind Fault = ⊥
@@ -63,6 +64,7 @@ ProgramFaults words faults = (shown replayed : SideNames) × AreSides shown × A
 
 -- The input was read, and what was appended to the output is its lines, under the options that the
 -- words give.
+-- rule: show (own) The words choose the end and hexadecimal
 pub record ShowsLines (words : List (List ℕ)) (given : List ℕ) (before after : Option (List ℕ))
     (status : Status) : Type 0 where
   pub options : ShowOptions
@@ -80,6 +82,7 @@ pub record ShowsHelp (words : List (List ℕ)) (remaining left : Option (List �
 
 -- The words after `show` are wrong, and nothing was read or printed; or they say that the input is
 -- hexadecimal, and it isn't.
+-- rule: show (own) The words choose the end and hexadecimal
 pub data RefusesShow (words : List (List ℕ)) (remaining left before after : Option (List ℕ)) : Type 0
   where
     wrong_words : (faults : Kinds) → ShowFaults words faults → HasWrongWords faults
@@ -89,6 +92,7 @@ pub data RefusesShow (words : List (List ℕ)) (remaining left before after : Op
 
 -- How `h2 show` ends: of a reader whose octets are known, `remaining` of which `left` are not read,
 -- and a writer whose contents are, before and after.
+-- rule: show (own) The words choose the end and hexadecimal
 abbrev pub EndsShow : (words : List (List ℕ)) → (remaining left : Option (List ℕ))
     → (before after : Option (List ℕ)) → Status → Type 0
 EndsShow words remaining left before after Good =
@@ -102,6 +106,7 @@ EndsShow words remaining left before after Device = Unit {0}
 EndsShow words remaining left before after Memory = Unit {0}
 
 -- An end has taken the input, as the words say, and the status reports it.
+-- rule: replay (own) The words of replay choose the end and hexadecimal
 pub record Replays (words : List (List ℕ)) (given : List ℕ) (status : Status) : Type 0 where
   pub options : ReplayOptions
   pub asked : ReplayWordsGive words options
@@ -116,6 +121,7 @@ pub record ReplaysHelp (words : List (List ℕ)) (remaining left : Option (List 
 
 -- The words after `replay` are wrong, and nothing was read; or they say that the input is
 -- hexadecimal, and it isn't.
+-- rule: replay (own) The words of replay choose the end and hexadecimal
 pub data RefusesReplay (words : List (List ℕ)) (remaining left : Option (List ℕ)) : Type 0 where
   wrong_words : (faults : Kinds) → ReplayFaults words faults → HasWrongWords faults
       → left ≡ remaining → RefusesReplay words remaining left
@@ -123,6 +129,7 @@ pub data RefusesReplay (words : List (List ℕ)) (remaining left : Option (List 
       → IfSome remaining IsBadHex → RefusesReplay words remaining left
 
 -- How `h2 replay` ends.
+-- rule: replay (own) The words of replay choose the end and hexadecimal
 abbrev pub EndsReplay : (words : List (List ℕ)) → (remaining left : Option (List ℕ)) → Status
     → Type 0
 EndsReplay words remaining left Good =
@@ -134,6 +141,7 @@ EndsReplay words remaining left Device = Unit {0}
 EndsReplay words remaining left Memory = Unit {0}
 
 -- How `h2 serve` ends.
+-- rule: engines (own) serve, get and loop have their words
 abbrev pub EndsServe : (words : List (List ℕ)) → Status → Type 0
 EndsServe words Good =
     ((options : ServeOptions) × (serve_options_of words ≡ Some options))
@@ -180,6 +188,7 @@ RefusesUrl fault Device = Unit {0}
 RefusesUrl fault Memory = ⊥
 
 -- How `h2 get` ends, with a writer whose contents are known.
+-- rule: engines (own) serve, get and loop have their words
 abbrev pub EndsGet : (words : List (List ℕ)) → (before after : Option (List ℕ)) → Status → Type 0
 EndsGet words before after Good = PrintsGot words before after ⊎ AsksHelp (get_faults words)
 EndsGet words before after Fault = FailsToGet words Fault
@@ -195,6 +204,7 @@ pub record PrintsPosted (words : List (List ℕ)) (before after : Option (List �
   pub printed : Appends before after (exchange_line count fetched)
 
 -- How `h2 loop` ends, with a writer whose contents are known.
+-- rule: engines (own) serve, get and loop have their words
 abbrev pub EndsLoop : (words : List (List ℕ)) → (before after : Option (List ℕ)) → Status → Type 0
 EndsLoop words before after Good = PrintsPosted words before after ⊎ AsksHelp (loop_faults words)
 EndsLoop words before after Fault = (count : ℕ) × (octets_of words ≡ Some count)
@@ -211,6 +221,7 @@ NamesNoCommand (name ∷ others) =
     × ((name ≢ codes "get") × (name ≢ codes "loop"))))
 
 -- How the program ends with such words: well only where they ask for help or the version.
+-- rule: show (own) The words choose the end and hexadecimal
 abbrev pub EndsProgram : (words : List (List ℕ)) → Status → Type 0
 EndsProgram words Good = (faults : Kinds) × ProgramFaults words faults × AsksHelp faults
 EndsProgram words Fault = ⊥

@@ -17,6 +17,9 @@ use std::alloc::Global;
 use std::io::{self, Read, Write};
 use std::net::Net;
 
+// rule: show (own) The words choose the end and hexadecimal
+// contract: replay (own) The status is 0 only where an end took the whole input
+// contract: replay (own) The words of replay choose the end and hexadecimal
 /// Runs the program with the words after its name, and answers the status that it ends with: that
 /// of the command, or for words without one [`Status::Good`] where they ask for help or the version
 /// and [`Status::Usage`] where they are wrong. Sockets are opened by the network alone.
@@ -103,6 +106,7 @@ pub(crate) fn give_up<E: Write>(failure: Failure, err: &mut E) -> Status
     failure.status()
 }
 
+// rule (tested): show (own) Without a preface a line names the option that is likely missing
 /// Prints on standard error which option is likely missing; `from_server` is that for octets of a
 /// server.
 pub(crate) fn give_hint<E: Write>(hint: Option<Hint>, from_server: &str, err: &mut E) {

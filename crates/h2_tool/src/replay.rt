@@ -10,6 +10,10 @@ use h2_show::Status;
 use std::alloc::Global;
 use std::io::{Read, Write};
 
+// contract: replay (own) The status is 0 only where an end took the whole input
+// rule: replay (own) The status is 0 only where an end took the whole input
+// contract: replay (own) The words of replay choose the end and hexadecimal
+// rule: replay (own) The words of replay choose the end and hexadecimal
 /// Runs `h2 replay` with the words after `replay`: hands the input to one end of a new connection,
 /// and prints a line for each event, then the fault with which the connection fails, if it does,
 /// and then all that the end sends. Where the first octets aren't the preface that a server

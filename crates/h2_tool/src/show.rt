@@ -9,6 +9,9 @@ use h2_show::{Status, show_input};
 use std::alloc::Global;
 use std::io::{Read, Write};
 
+// rule: show (own) The status is 0 only where the input is good to its end
+// contract: show (own) The words choose the end and hexadecimal
+// rule: show (own) The words choose the end and hexadecimal
 /// Runs `h2 show` with the words after `show`: prints the frames of the input, one line each, the
 /// header fields under each block, and then the fault that ends the stream or what its end leaves
 /// unfinished. Where the first octets aren't the preface, a line on standard error names the option

@@ -17,6 +17,7 @@ use std::alloc::Global;
 use std::io::Write;
 use std::net::Net;
 
+// rule: engines (own) serve, get and loop have their words
 /// Runs `h2 serve` with the words after `serve`: serves so many connections to a port of 127.0.0.1,
 /// one after another, and answers each request with what it asked. A connection that ends early has
 /// a line on standard error. Only help is printed on standard output.

@@ -20,6 +20,7 @@ unparsed_of phases.Lent octets = []
 unparsed_of (phases.Failed fault) octets = []
 
 -- whether the preface is expected and not complete
+-- rule: 3.4 (own) No octet of the preface is stored, so memory is not refused in it
 abbrev pub is_in_preface : Phase → Bool
 is_in_preface (phases.Preface matched) = true
 is_in_preface phases.Head = false

@@ -1,5 +1,6 @@
 -- What a cutter is between calls, and what each call makes of it, whatever the stream has been so
 -- far.
+-- contract: h2_wire::Cutter::cut
 use Rattle.std.specs.Prelude.{◌≡◌, ℕ, ◌+◌, ◌-◌, ◌^◌, ◌<◌, min, nat_lt, ◌&&◌, Bool, List, [], ◌∷◌}
 use Rattle.std.specs.Prelude.{◌++◌, length, take, drop, Option, None, Some, MatchOption, IsSome}
 use Rattle.std.specs.Prelude.{Result, Ok, Err, false, ◌≤◌}
@@ -34,11 +35,15 @@ pub record CutterState : Type 0 where
   pub fault : Option WireFault
 
 -- a count of octets, saturated at the greatest number of 64 bits
+-- rule: 5.4.1 The place of a fault counts the octets up to it, with the preface
+-- rule: calls (own) An end lends its output, and says the place of a fault
 abbrev pub saturated : ℕ → ℕ
 saturated count = min count (2 ^ 64 - 1)
 
 -- The cutter represents the stream so far, from which these frames were answered: it has used all
 -- of it, without fault, and keeps what is unparsed.
+-- rule: 3.4 (own) A cutter says whether the preface is complete or none is expected
+-- rule: 4.1 The frames of a stream do not depend on the pieces of its octets
 pub record CutterRepresents (state : CutterState) (expects : Bool) (limits : Limits)
     (stream : List ℕ) (frames : List Frame) : Type 0 where
   pub sound : state.fault ≡ None
@@ -49,6 +54,7 @@ pub record CutterRepresents (state : CutterState) (expects : Bool) (limits : Lim
 
 -- After a call that used these octets and answered these frames the cutter has met no fault: if it
 -- represented `stream` and `so_far`, it now represents `stream ++ used` and `so_far ++ frames`.
+-- rule: 4.1 Each frame is answered once, in the call that uses its last octet
 pub record CutterContinues (old : CutterState) (used : List ℕ) (frames : List Frame)
     (new : CutterState) : Type 0 where
   pub sound : new.fault ≡ None
@@ -60,6 +66,7 @@ pub record CutterContinues (old : CutterState) (used : List ℕ) (frames : List 
 -- After a call that met the fault in the piece: if the cutter represented `stream` and `so_far`,
 -- then `stream ++ piece` is at fault right after `so_far`, at the place that the cutter now
 -- answers.
+-- rule: 5.4.1 After a fault each layer answers that fault and changes nothing
 pub record CutterFaults (old : CutterState) (piece : List ℕ) (fault : WireFault)
     (new : CutterState) : Type 0 where
   pub known : new.fault ≡ Some fault
@@ -72,12 +79,14 @@ pub record CutterFaults (old : CutterState) (piece : List ℕ) (fault : WireFaul
       × (new.place ≡ saturated place)
 
 -- These octets begin with a head with this fault.
+-- rule: 4.2 A fault of a head is known at its ninth octet, whatever memory is
 pub record IsFaultyHead (octets : List ℕ) (limit : ℕ) (code : Code) : Type 0 where
   pub nine : 9 ≤ length octets
   pub faulty : head_fault (head_of octets) limit ≡ Some code
 
 -- After the preface, with no fault so far, the ninth octet of a head is in the piece, and the head
 -- is at fault.
+-- rule: 4.2 A fault of a head is known at its ninth octet, whatever memory is
 pub record FaultsAtHead (old : CutterState) (piece : List ℕ) (code : Code) : Type 0 where
   pub sound : old.fault ≡ None
   pub after_preface : old.in_preface ≡ false
@@ -86,6 +95,7 @@ pub record FaultsAtHead (old : CutterState) (piece : List ℕ) (code : Code) : T
 
 -- After the preface, with no fault so far and nothing unparsed, the piece begins with a frame: a
 -- head and as many octets as it asks for.
+-- rule: 4.1 (own) A frame whole in its piece is lent from there and takes no memory
 pub record BeginsWithFrame (old : CutterState) (piece : List ℕ) : Type 0 where
   pub sound : old.fault ≡ None
   pub after_preface : old.in_preface ≡ false
@@ -98,11 +108,13 @@ abbrev pub octets_at : List ℕ → List ℕ → ℕ → Source → List ℕ
 octets_at kept piece count (sources.Piece start) = take count (drop start piece)
 octets_at kept piece count sources.Kept = kept
 
+-- rule: 4.1 (own) A frame whole in its piece is lent from there and takes no memory
 abbrev pub octets_of : CutterState → List ℕ → Complete → List ℕ
 octets_of cutter piece frame =
     octets_at cutter.kept piece (9 + frame.head.length) frame.source
 
 -- The complete frame lies in the piece, or in the cutter, with its head and without fault.
+-- rule: 4.1 (own) A frame that is cut in two is kept until the next call
 pub record HasFrame (cutter : CutterState) (piece : List ℕ) (frame : Complete) : Type 0 where
   pub complete : length (octets_of cutter piece frame) ≡ 9 + frame.head.length
   pub is_head : frame.head ≡ head_of (octets_of cutter piece frame)
@@ -117,6 +129,7 @@ cut_frames (Some frame) = frame_of frame ∷ []
 
 -- What a call that fails leaves. Lack of memory changes nothing, but the frame that was answered
 -- last need not be kept. After a fault the cutter stays as it is.
+-- rule: 5.4.1 After a fault each layer answers that fault and changes nothing
 abbrev pub CutterFails : CutterState → List ℕ → WireFault → CutterState → Type 0
 CutterFails old piece faults.Memory new = new ≡ record old { kept = new.kept }
 CutterFails old piece faults.BadPreface new =
@@ -134,6 +147,7 @@ pub record CutterAdvances (old : CutterState) (piece : List ℕ) (cut : Cut)
   pub none_unparsed_after_a_frame : IsSome cut.frame → new.unparsed ≡ []
 
 -- what a call makes of the cutter
+-- rule: 4.1 Each frame is answered once, in the call that uses its last octet
 abbrev pub Cuts : CutterState → List ℕ → Result Cut WireFault → CutterState → Type 0
 Cuts old piece (Ok cut) new = CutterAdvances old piece cut new
 Cuts old piece (Err fault) new = CutterFails old piece fault new
@@ -145,6 +159,7 @@ pub record CutterPasses (old : CutterState) (piece : List ℕ) (used : ℕ) (new
     pub continues : CutterContinues old piece [] new
 
 -- A call that used the piece up to the end of this frame, which isn't lent yet.
+-- rule: 4.1 (own) A frame that is cut in two is kept until the next call
 pub record CutterCompletes (old : CutterState) (piece : List ℕ) (used : ℕ) (frame : Complete)
     (new : CutterState) : Type 0 where
   pub within : used ≤ length piece
@@ -155,6 +170,7 @@ pub record CutterCompletes (old : CutterState) (piece : List ℕ) (used : ℕ) (
       → CutterContinues old (take used piece) (value ∷ []) new
 
 -- what a call that lends nothing makes of the cutter
+-- rule: 4.1 (own) A frame whole in its piece is lent from there and takes no memory
 abbrev pub Advances : CutterState → List ℕ → Result Advance WireFault → CutterState → Type 0
 Advances old piece (Ok advance) new =
     MatchOption advance.frame (CutterPasses old piece advance.used new)

@@ -1,5 +1,6 @@
 -- A stream of frames as its octets: what has been read of it, and where it is at fault (RFC 9113,
 -- sections 3.4 and 4.1).
+-- contract: h2_wire::Cutter::cut
 use Rattle.std.specs.Prelude.{◌≡◌, ◌≢◌, ◌⊎◌, ℕ, ◌+◌, ◌<◌, ◌≤◌, Bool, if◌then◌else◌, List, [], ◌∷◌}
 use Rattle.std.specs.Prelude.{◌++◌, length, take, drop, None, Some}
 use Rattle.h2_frame.specs.declared.code.Code.{Code}
@@ -10,6 +11,7 @@ use Rattle.h2_wire.specs.declared.fault.WireFault.TheVariants as faults
 
 -- The octets with which a client begins: PRI * HTTP/2.0, two line ends, SM, and two line ends
 -- (section 3.4).
+-- rule: 3.4 A client sends the 24 octets of the preface and then frames
 unfoldable pub preface : List ℕ
 preface =
     0x50 ∷ 0x52 ∷ 0x49 ∷ 0x20 ∷ 0x2a ∷ 0x20 ∷ 0x48 ∷ 0x54 ∷ 0x54 ∷ 0x50 ∷ 0x2f ∷ 0x32 ∷ 0x2e ∷ 0x30
@@ -22,6 +24,7 @@ pub record BeginsWithPreface (octets : List ℕ) : Type 0 where
   pub joined : octets ≡ preface ++ following
 
 -- what precedes the first frame: the preface, where one is expected
+-- rule: 3.4 A server sends frames at once, without a preface
 unfoldable pub expected_preface : Bool → List ℕ
 expected_preface expects = if expects then preface else []
 
@@ -39,6 +42,7 @@ pub record IsFrame (limit : ℕ) (frame : Frame) (octets : List ℕ) : Type 0 wh
 
 -- The octets, after so many octets of the stream, are frames without fault, joined. The limit of
 -- each is the one in force at the ninth octet of its head.
+-- rule: 4.1 Each frame is answered once, in the call that uses its last octet
 abbrev pub AreFrames : Limits → ℕ → List Frame → List ℕ → Type 0
 AreFrames limits preceding [] octets = octets ≡ []
 AreFrames limits preceding (frame ∷ frames) octets =
@@ -55,11 +59,14 @@ pub record IsSound (expects : Bool) (limits : Limits) (frames : List Frame)
 
 -- A partial frame, no prefix of which is a frame, or a head or a frame at fault: it has fewer than
 -- nine octets, or a head without fault and fewer octets than that head asks for.
+-- rule: 4.1 Unparsed octets hold no complete frame and no fault
+-- rule: 10.5 (own) What an end holds of a stream is bounded
 abbrev pub IsPartial : ℕ → List ℕ → Type 0
 IsPartial limit unparsed = 9 ≤ length unparsed → (head_fault (head_of unparsed) limit ≡ None)
     × (length unparsed < 9 + (head_of unparsed).length)
 
 -- Of the stream less than the preface has come.
+-- rule: 3.4 A client sends the 24 octets of the preface and then frames
 pub record IsInsidePreface (expects : Bool) (stream : List ℕ) (frames : List Frame)
     (unparsed : List ℕ) : Type 0 where
   pub missing : List ℕ
@@ -77,11 +84,14 @@ pub record IsAfterPreface (expects : Bool) (limits : Limits) (stream : List ℕ)
   pub partial : IsPartial (limits (length part + 9)) unparsed
 
 -- So far the stream is the frames, and then octets that are unparsed.
+-- rule: 4.1 The frames of a stream do not depend on the pieces of its octets
+-- rule (law): 5.4.1 Each stream of octets has a reading or a fault; prefixes agree
 abbrev pub Frames : Bool → Limits → List ℕ → List Frame → List ℕ → Type 0
 Frames expects limits stream frames unparsed = IsInsidePreface expects stream frames unparsed
     ⊎ IsAfterPreface expects limits stream frames unparsed
 
 -- The octets are a prefix of the preface, but for the last one; so no frame precedes it.
+-- rule: 3.4 The first octet that differs from the preface is PROTOCOL_ERROR, there
 pub record IsWrongPreface (expects : Bool) (frames : List Frame) (octets : List ℕ) : Type 0 where
   pub none : frames ≡ []
   pub prefix : List ℕ
@@ -93,6 +103,7 @@ pub record IsWrongPreface (expects : Bool) (frames : List Frame) (octets : List 
   pub differs : wrong ≢ right
 
 -- The octets are a sound part with the frames, and then the nine octets of a head with this fault.
+-- rule: 4.2 A fault of a head is known at its ninth octet, whatever memory is
 pub record IsWrongHead (expects : Bool) (limits : Limits) (frames : List Frame) (octets : List ℕ)
     (code : Code) : Type 0 where
   pub part : List ℕ
@@ -104,6 +115,7 @@ pub record IsWrongHead (expects : Bool) (limits : Limits) (frames : List Frame) 
 
 -- The octets are a sound part with the frames, and then a frame with a sound head and this fault of
 -- its payload.
+-- rule: 6.1 A fault of a payload is known at its last octet
 pub record IsWrongPayload (expects : Bool) (limits : Limits) (frames : List Frame) (octets : List ℕ)
     (code : Code) : Type 0 where
   pub part : List ℕ
@@ -116,6 +128,7 @@ pub record IsWrongPayload (expects : Bool) (limits : Limits) (frames : List Fram
 
 -- The octets make the fault right after the frames, with the last of them. Lack of memory is no
 -- fault of the stream.
+-- rule: 4.2 A fault of a head is known at its ninth octet, whatever memory is
 abbrev pub EndsWithFault : Bool → Limits → List Frame → List ℕ → WireFault → Type 0
 EndsWithFault expects limits frames octets faults.BadPreface = IsWrongPreface expects frames octets
 EndsWithFault expects limits frames octets (faults.HeadFault code) =
@@ -125,6 +138,9 @@ EndsWithFault expects limits frames octets (faults.PayloadFault code) =
 EndsWithFault expects limits frames octets faults.Memory = ⊥
 
 -- The stream is at fault right after the frames, known at its octet of this place, counted from 1.
+-- rule: 4.2 A fault of a head is known at its ninth octet, whatever memory is
+-- rule (law): 5.4.1 A stream of octets has one fault at most, at one place
+-- rule (law): 5.4.1 Each stream of octets has a reading or a fault; prefixes agree
 pub record WireFaultAt (expects : Bool) (limits : Limits) (stream : List ℕ) (frames : List Frame)
     (place : ℕ) (fault : WireFault) : Type 0 where
   pub within : place ≤ length stream

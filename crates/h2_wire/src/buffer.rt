@@ -124,6 +124,7 @@ impl Buffer {
         }
     }
 
+    // rule: 4.1 (own) A frame that is cut in two is kept until the next call
     // The frame that was answered last is kept no longer.
     fn forget(&mut self)
         ensures none { self.new.octets.items ≡ [] }
@@ -136,6 +137,9 @@ impl Buffer {
         self.phase = Phase::Head;
     }
 
+    // rule: 3.4 A client sends the 24 octets of the preface and then frames
+    // rule: 3.4 The first octet that differs from the preface is PROTOCOL_ERROR, there
+    // rule: 3.4 (own) No octet of the preface is stored, so memory is not refused in it
     // Takes octets inside the preface, of which so many were matched.
     fn take_preface(&mut self, matched: usize, piece: &[u8]) -> Result<Advance, WireFault>
         requires phase { self.old.phase ≡ Phase.Preface matched }
@@ -158,6 +162,7 @@ impl Buffer {
         })
     }
 
+    // rule: 4.2 A fault of a head is known at its ninth octet, whatever memory is
     // A head begins or continues after so many octets of the piece.
     fn take_head(&mut self, piece: &[u8], start: usize) -> Result<Advance, WireFault>
         requires starts { StartsFrame self.old piece.now start }
@@ -186,6 +191,7 @@ impl Buffer {
         self.take_payload(piece, start, head)
     }
 
+    // rule: 4.1 The frames of a stream do not depend on the pieces of its octets
     // The head has no fault, and its frame begins or continues after so many octets of the piece.
     fn take_payload(&mut self, piece: &[u8], start: usize, head: Head) -> Result<Advance, WireFault>
         requires starts { StartsPayload self.old piece.now start head }
@@ -213,6 +219,7 @@ impl Buffer {
         self.end_frame(piece, used, Complete { head, source })
     }
 
+    // rule: 4.1 (own) A frame that is cut in two is kept until the next call
     // So many octets of the piece complete this frame, which may have a fault of its payload.
     fn end_frame(
         &mut self,
@@ -235,6 +242,7 @@ impl Buffer {
         })
     }
 
+    // rule: 4.1 (own) A frame that is cut in two is kept until the next call
     /// The payload of a complete frame, where it lies.
     pub(crate) fn payload<'a>(&'a self, piece: &'a [u8], frame: Complete) -> &'a [u8]
         requires { length (octets_of (state_of self.now) piece.now frame) ≡ 9 + frame.head.length }
@@ -258,6 +266,7 @@ impl Buffer {
             .map_err(|_| WireFault::Memory)
     }
 
+    // rule: 5.4.1 The place of a fault counts the octets up to it, with the preface
     // So many octets were used, and then this is expected.
     fn pass(&mut self, phase: Phase, used: usize)
         ensures { self.new ≡ record self.old {
@@ -269,6 +278,7 @@ impl Buffer {
         self.place = self.place.saturating_add(used as u64);
     }
 
+    // rule: 5.4.1 After a fault each layer answers that fault and changes nothing
     // The stream is at fault, with the last of so many octets of the piece.
     fn fail(&mut self, fault: WireFault, used: usize) -> WireFault
         ensures fault { result ≡ fault }
@@ -282,6 +292,7 @@ impl Buffer {
     }
 }
 
+// rule: 4.2 A fault of a head is known at its ninth octet, whatever memory is
 // The first nine octets of two slices, joined, where there are so many.
 fn nine(partial: &[u8], following: &[u8]) -> Option<[u8; HEAD]>
     requires { length partial.now < 9 }

@@ -38,6 +38,7 @@ impl Model for Cutter {
 }
 
 impl Cutter {
+    // contract: 3.4 A server sends frames at once, without a preface
     /// A cutter that has used nothing. Payloads may have at most `limit` octets, and where
     /// `expect_preface` is set, the stream begins with the client's preface (RFC 9113, section
     /// 3.4).
@@ -52,6 +53,9 @@ impl Cutter {
         }
     }
 
+    // contract: 4.1 (own) A frame whole in its piece is lent from there and takes no memory
+    // rule: 4.1 (own) A frame whole in its piece is lent from there and takes no memory
+    // contract: 4.1 (own) A frame that is cut in two is kept until the next call
     /// Uses octets of the piece, up to the end of one frame, and says where that frame lies; or
     /// uses all of them, where they complete no frame. The octets that follow a frame are for the
     /// next call. [`Cutter::frame`] lends the frame, until the next call.
@@ -87,6 +91,9 @@ impl Cutter {
         self.buffer.take(piece)
     }
 
+    // contract: 4.1 (own) A frame whole in its piece is lent from there and takes no memory
+    // rule: 4.1 (own) A frame whole in its piece is lent from there and takes no memory
+    // contract: 4.1 (own) A frame that is cut in two is kept until the next call
     /// Lends the frame that the last call of [`Cutter::advance`] answered; `piece` is the one that
     /// it was given. It allocates nothing.
     pub fn frame<'a>(&'a self, piece: &'a [u8], frame: Complete) -> FrameRef<'a>
@@ -100,6 +107,14 @@ impl Cutter {
         payload_frame(&frame.head, self.buffer.payload(piece, frame))
     }
 
+    // contract: 3.4 (own) No octet of the preface is stored, so memory is not refused in it
+    // rule: 4.1 Each frame is answered once, in the call that uses its last octet
+    // contract: 4.1 (own) A frame whole in its piece is lent from there and takes no memory
+    // contract: 4.1 (own) A frame that is cut in two is kept until the next call
+    // contract: 5.4.1 After a fault each layer answers that fault and changes nothing
+    // contract: 5.4.1 The place of a fault counts the octets up to it, with the preface
+    // contract: 5.4 (own) Out of memory is INTERNAL_ERROR
+    // contract: 6.1 A fault of a payload is known at its last octet
     /// Uses octets of the piece, up to the end of one frame, and lends that frame; or uses all of
     /// them, where they complete no frame. The octets that follow a frame are for the next call. It
     /// is [`Cutter::advance`], and then [`Cutter::frame`].
@@ -149,6 +164,10 @@ impl Cutter {
         })
     }
 
+    // contract: 4.1 Unparsed octets hold no complete frame and no fault
+    // rule: 4.1 Unparsed octets hold no complete frame and no fault
+    // contract: 10.5 (own) What an end holds of a stream is bounded
+    // rule: 10.5 (own) What an end holds of a stream is bounded
     /// How many octets are unparsed: those of a preface or a frame that has begun and isn't
     /// complete. It allocates nothing.
     pub fn held(&self) -> usize
@@ -159,6 +178,8 @@ impl Cutter {
         self.buffer.unparsed_len()
     }
 
+    // contract: 5.4.1 The place of a fault counts the octets up to it, with the preface
+    // rule: 5.4.1 The place of a fault counts the octets up to it, with the preface
     /// The place in the stream, counted from 1, of the octet that was used last, or of the octet
     /// that made the fault; the greatest number of 64 bits where it is more than that. It allocates
     /// nothing.
@@ -168,6 +189,8 @@ impl Cutter {
         self.buffer.place
     }
 
+    // contract: 3.4 (own) A cutter says whether the preface is complete or none is expected
+    // rule: 3.4 (own) A cutter says whether the preface is complete or none is expected
     /// Whether the client's preface is complete, or none is expected (RFC 9113, section 3.4). After
     /// [`WireFault::BadPreface`] it isn't. It allocates nothing.
     pub fn is_past_preface(&self) -> bool

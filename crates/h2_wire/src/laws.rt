@@ -7,6 +7,8 @@ ghost use Rattle.h2_frame.specs.Frames.{Frame, payload_fault};
 ghost use Rattle.h2_wire.specs.declared.fault.WireFault.{WireFault as Fault};
 ghost use Rattle.h2_wire.specs.Streams.{Limits, IsFrame, IsPartial, Frames, WireFaultAt};
 
+// contract: 4.1 The frames of a stream do not depend on the pieces of its octets
+// contract: 4.1 Each frame is answered once, in the call that uses its last octet
 /// A stream has one reading: its frames and its unparsed octets are the same, however it was cut.
 pub fn one_reading()
     ensures { (expects : Bool) (limits : Limits) (stream : List ℕ) (frames others : List Frame)
@@ -15,6 +17,7 @@ pub fn one_reading()
         → (frames ≡ others) × (unparsed ≡ other) }
 {}
 
+// contract: 5.4.1 A stream of octets has one fault at most, at one place
 /// A stream has one fault at most, at one place after the same frames, also with octets that
 /// follow.
 pub fn one_fault()
@@ -25,6 +28,7 @@ pub fn one_fault()
         → (frames ≡ others) × (place ≡ other) × (fault ≡ another) }
 {}
 
+// contract: 5.4.1 A stream of octets has one fault at most, at one place
 /// A stream that is at fault has no reading, whatever follows it.
 pub fn no_reading_past_a_fault()
     ensures { (expects : Bool) (limits : Limits) (stream more : List ℕ) (frames others : List Frame)
@@ -33,6 +37,7 @@ pub fn no_reading_past_a_fault()
         → Frames expects limits (stream ++ more) others unparsed → ⊥ }
 {}
 
+// contract: 4.1 Unparsed octets hold no complete frame and no fault
 /// No prefix of a partial frame is a frame, a head at fault, or a frame with a payload at fault.
 pub fn nothing_in_a_partial_frame()
     ensures frame { (limit : ℕ) (prefix more : List ℕ) (frame : Frame)

@@ -12,6 +12,7 @@ use Rattle.hpack.specs.Hashes.{hash_from, bucket_of}
 
 -- The first of the entries in the bucket is the one at this place. Where there is no entry at the
 -- place, none is in the bucket.
+-- rule: HPACK 6.1 (own) A field with an exact entry is its least index
 unfoldable pub LeadsTo : (Entry → ℕ) → ℕ → List Entry → ℕ → Type 0
 LeadsTo bucket sought [] place = Unit {0}
 LeadsTo bucket sought (one ∷ others) zero = bucket one ≡ sought
@@ -49,6 +50,7 @@ abbrev pub name_bucket : Entry → ℕ
 name_bucket one = bucket_of 128 (hash_from 0 one.name)
 
 -- The chains by names, and those by names and values, are those of the entries.
+-- rule: HPACK 6.1 (own) A field with an exact entry is its least index
 pub record IsIndexOf (index : Index) (entries : List Entry) : Type 0 where
   pub names : AreChains (bucket_by Name (length index.names.newest.items)) entries index.names
   pub exacts : AreChains (bucket_by Exact (length index.exacts.newest.items)) entries index.exacts

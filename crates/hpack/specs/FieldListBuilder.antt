@@ -8,6 +8,7 @@ use Rattle.hpack.specs.Lists.{list_size}
 
 -- The builder has the fields, and so much remains of the limit; or their size is above it, and it
 -- has none. The octets may go on after those of the fields.
+-- rule: HPACK 3.2 (own) A list that the caller keeps is emptied, then has the block's fields
 pub record RepresentsList (list_limit : ℕ) (fields : List Field) (builder : FieldListBuilder)
     : Type 0 where
   pub within : AreWithin builder.octets.items builder.places.items

@@ -10,6 +10,7 @@ abbrev pub octets_between : List ℕ → ℕ → ℕ → List ℕ
 octets_between octets start end = take (end - start) (drop start octets)
 
 -- the field at a place
+-- rule: HPACK 3.2 (own) A kept list says its fields and their number
 unfoldable pub field_of : List ℕ → FieldPlace → Field
 field_of octets place = record {
   name = octets_between octets place.start place.name_end;
@@ -18,6 +19,7 @@ field_of octets place = record {
 }
 
 -- the fields at places
+-- rule: HPACK 3.2 (own) A kept list says its fields and their number
 abbrev pub fields_of : List ℕ → List FieldPlace → List Field
 fields_of octets places = map (field_of octets) places
 

@@ -34,6 +34,7 @@ fell_below maximum limits = list_any (λ limit. nat_lt limit maximum) limits
 -- block, and the limits that were set since then, in order. If the limit fell below the maximum, an
 -- update to the least of them, and, if the last one isn't that number, an update to it. If it never
 -- fell below the maximum and is above it now, one update to it.
+-- rule: HPACK 4.2 After the limit fell a block begins with one update or two
 unfoldable pub updates_for_limits : ℕ → List ℕ → List ℕ
 updates_for_limits maximum limits =
     if fell_below maximum limits then

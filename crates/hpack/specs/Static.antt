@@ -3,6 +3,7 @@ use Rattle.std.specs.Prelude.{ℕ, zero, suc, List, [], ◌∷◌, ◌++◌, Opt
 use Rattle.hpack.specs.Entry.{Entry}
 
 -- the static table, from its first entry on
+-- rule: HPACK A The static table has 61 entries
 unfoldable pub static_entries : List Entry
 static_entries =
     record { name = codes ":authority"; value = [] } ∷
@@ -70,6 +71,7 @@ static_entries =
 
 -- The entry that an index names: the static table from 1 on, then the dynamic one, its newest entry
 -- first.
+-- rule: HPACK 2.3.3 Indices 1 to 61 name the static table, those from 62 the dynamic
 unfoldable pub entry : List Entry → ℕ → Option Entry
 entry entries zero = None
 entry entries (suc place) = slice_get (static_entries ++ entries) place

@@ -9,6 +9,7 @@ use Rattle.hpack.specs.Lists.{EncoderState}
 
 -- Limits and maxima are numbers of 32 bits, the least limit is no greater than the one now, and the
 -- table is within its maximum.
+-- rule: HPACK 3.1 What is encoded is a block of the list
 pub record IsValidEncoder (state : EncoderState) : Type 0 where
   pub least : state.least ≤ state.limit
   pub limit : state.limit < 2 ^ 32
@@ -16,6 +17,7 @@ pub record IsValidEncoder (state : EncoderState) : Type 0 where
   pub within : table_size state.table.entries ≤ state.table.maximum
 
 -- Names and values are octets.
+-- rule: HPACK 3.1 What is encoded is a block of the list
 abbrev pub AreOctets : List Field → Type 0
 AreOctets fields = AllByRecursion
     (λ field. AllByRecursion IsOctet field.name × AllByRecursion IsOctet field.value) fields

@@ -15,6 +15,7 @@ pub record Group : Type 0 where
   pub symbols : List ℕ
 
 -- The code, by lengths. The symbols are the octets, and 256, which is EOS, the end of a text.
+-- rule: HPACK 5.2 With H the octets are the codes of appendix B
 unfoldable pub groups : List Group
 groups =
     record {
@@ -111,19 +112,23 @@ code_in (group ∷ others) symbol =
     (code_in others symbol)
 
 -- the code of a symbol
+-- rule: HPACK 5.2 With H the octets are the codes of appendix B
 unfoldable pub code : ℕ → List Bool
 code symbol = code_in groups symbol
 
 -- the end of a text, which no text holds
+-- rule: HPACK 5.2 The code of EOS inside a string is a fault
 abbrev pub end_symbol : ℕ
 end_symbol = 256
 
 -- the codes of a text's octets, joined
+-- rule: HPACK 5.2 With H the octets are the codes of appendix B
 abbrev pub codes : List ℕ → List Bool
 codes text = flat_map code text
 
 -- The octets encode the text: the codes of its octets, then at most seven ones, which pad the last
 -- octet.
+-- rule: HPACK 5.2 With H the octets are the codes of appendix B
 pub record Huff (text octets : List ℕ) : Type 0 where
   pub text_octets : AllByRecursion IsOctet text
   pub octets_octets : AllByRecursion IsOctet octets
@@ -143,6 +148,7 @@ abbrev pub EncodesNone : List ℕ → Type 0
 EncodesNone octets = (text : List ℕ) → Huff text octets → ⊥
 
 -- After the longest text comes the code of EOS.
+-- rule: HPACK 5.2 The code of EOS inside a string is a fault
 pub record HasEndSymbol (octets : List ℕ) : Type 0 where
   pub none : EncodesNone octets
   pub text : List ℕ
@@ -151,6 +157,8 @@ pub record HasEndSymbol (octets : List ℕ) : Type 0 where
 
 -- After the longest text comes something else than the code of EOS, and it isn't at most seven
 -- ones.
+-- rule: HPACK 5.2 Padding of more than seven bits is a fault
+-- rule: HPACK 5.2 Padding of others than ones is a fault
 pub record HasBadPadding (octets : List ℕ) : Type 0 where
   pub none : EncodesNone octets
   pub text : List ℕ
@@ -159,6 +167,8 @@ pub record HasBadPadding (octets : List ℕ) : Type 0 where
   pub no_end : (more : List Bool) → following ≡ code end_symbol ++ more → ⊥
 
 -- what a fault of reading a Huffman-encoded string says of its octets
+-- rule: HPACK 5.2 Padding of more than seven bits is a fault
+-- rule: HPACK 5.2 Padding of others than ones is a fault
 abbrev pub HuffFault : List ℕ → TextFault → Type 0
 HuffFault octets faults.EndSymbol = HasEndSymbol octets
 HuffFault octets faults.BadPadding = HasBadPadding octets
@@ -167,13 +177,16 @@ HuffFault octets faults.Truncated = ⊥
 HuffFault octets faults.TooLong = ⊥
 
 -- how many ones pad the last octet after so many bits
+-- rule: HPACK 5.2 A Huffman-encoded string is padded with ones
 abbrev pub padding_of : ℕ → ℕ
 padding_of count = (8 - count % 8) % 8
 
 -- the octets that encode a text
+-- rule: HPACK 5.2 A Huffman-encoded string is written with the codes
 unfoldable pub huffman_bits : List ℕ → List ℕ
 huffman_bits text = octets_of (codes text ++ replicate (padding_of (length (codes text))) true)
 
 -- how many octets encode a text
+-- rule: HPACK 5.2 A Huffman-encoded string is written with the codes
 abbrev pub huffman_length : List ℕ → ℕ
 huffman_length text = (length (codes text) + 7) / 8

@@ -15,14 +15,17 @@ paths_from (node after_zero after_one) path =
 
 -- The states: the 256 proper prefixes of codes. A state's number is its place: 0 for no bits, and n
 -- for n ones, up to 29.
+-- rule: HPACK B The code is read by half octets, from state to state
 unfoldable pub states : List (List Bool)
 states = paths_from tree []
 
 -- the bits of a state
+-- rule: HPACK B The code is read by half octets, from state to state
 abbrev pub prefix_of : ℕ → List Bool
 prefix_of state = get_or states state []
 
 -- the bits of a state, and four more
+-- rule: HPACK B The code is read by half octets, from state to state
 abbrev pub stepped : ℕ → ℕ → List Bool
 stepped state half = prefix_of state ++ bits_of 4 half
 
@@ -32,11 +35,13 @@ code_if_some (Some symbol) = code symbol
 code_if_some None = []
 
 -- The bits begin with the code of EOS.
+-- rule: HPACK B The code is read by half octets, from state to state
 abbrev pub BeginsWithEnd : List Bool → Type 0
 BeginsWithEnd bit_list = (more : List Bool) × (bit_list ≡ code end_symbol ++ more)
 
 -- A step as it is packed: the next state, 256 times the symbol, and 65536 where there is a symbol;
 -- or 131072 where the bits begin with the code of EOS.
+-- rule: HPACK B The code is read by half octets, from state to state
 pub record IsStep (state half step : ℕ) : Type 0 where
   pub ended : 131072 ≤ step → BeginsWithEnd (stepped state half)
   pub symbol : 65536 ≤ step → step < 131072

@@ -9,11 +9,13 @@ use Rattle.hpack_text.specs.Huffman.{Huff, HasEndSymbol, HasBadPadding, huffman_
 use Rattle.hpack_text.specs.Integers.{Int, IsTruncated, IsTooLong, integer}
 
 -- The bit H, the top bit of the first octet, says that the string is Huffman-encoded.
+-- rule: HPACK 5.2 A string is the bit H, its length and its octets
 abbrev pub has_bit_h : List ℕ → Bool
 has_bit_h [] = false
 has_bit_h (first ∷ more) = nat_le 128 first
 
 -- These octets are a string's text, Huffman-encoded or as it is.
+-- rule: HPACK 5.2 A string is the bit H, its length and its octets
 abbrev pub Holds : Bool → List ℕ → List ℕ → Type 0
 Holds true text octets = Huff text octets
 Holds false text octets = (text ≡ octets) × AllByRecursion IsOctet text
@@ -28,6 +30,7 @@ BodyFault is_huffman body faults.TooLong = ⊥
 
 -- The octets encode the text: the bit H and the length of what follows, with a prefix of seven
 -- bits, then so many octets of the text.
+-- rule: HPACK 5.2 A string is the bit H, its length and its octets
 pub record Str (text octets : List ℕ) : Type 0 where
   pub head : List ℕ
   pub body : List ℕ
@@ -36,6 +39,7 @@ pub record Str (text octets : List ℕ) : Type 0 where
   pub holds : Holds (has_bit_h head) text body
 
 -- The head names more octets than there are.
+-- rule: HPACK 5.2 Octets that end inside a string are a fault
 pub record IsShort (octets : List ℕ) : Type 0 where
   pub head : List ℕ
   pub following : List ℕ
@@ -55,6 +59,7 @@ pub record HasHuffmanFault (Fault : List ℕ → Type 0) (octets : List ℕ) : T
   pub fault : Fault body
 
 -- The octets begin with a head and as many octets as it names.
+-- rule: HPACK 5.2 Octets that end inside a string are a fault
 pub record IsCompleteString (octets : List ℕ) : Type 0 where
   pub head : List ℕ
   pub body : List ℕ
@@ -64,6 +69,7 @@ pub record IsCompleteString (octets : List ℕ) : Type 0 where
 
 -- What a fault of reading a string says of the octets. Memory is allocated only for a complete
 -- string. Where the octets end inside the string it is Truncated, whatever its text is.
+-- rule: HPACK 5.2 Octets that end inside a string are a fault
 abbrev pub StrFault : List ℕ → TextFault → Type 0
 StrFault octets faults.Truncated = IsTruncated 7 octets ⊎ IsShort octets
 StrFault octets faults.TooLong = IsTooLong 7 octets
@@ -72,12 +78,14 @@ StrFault octets faults.EndSymbol = HasHuffmanFault HasEndSymbol octets
 StrFault octets faults.Memory = IsCompleteString octets
 
 -- The most octets that a text has whose string holds so many: a code has five bits at least.
+-- rule: HPACK 5.2 (own) A text is appended to what stands there, or nothing is
 abbrev pub most_text : Bool → ℕ → ℕ
 most_text true count = 8 * count / 5
 most_text false count = count
 
 -- The octets begin with a complete string, and a vector of this length and capacity lacks room for
 -- the longest text that so many octets can hold.
+-- rule: HPACK 5.2 (own) A text is appended to what stands there, or nothing is
 pub record LacksRoom (octets : List ℕ) (len capacity : ℕ) : Type 0 where
   pub head : List ℕ
   pub body : List ℕ
@@ -87,6 +95,7 @@ pub record LacksRoom (octets : List ℕ) (len capacity : ℕ) : Type 0 where
   pub lacks : capacity < len + most_text (has_bit_h head) (length body)
 
 -- The encoding that is written: Huffman-encoded where that isn't longer than raw.
+-- rule: HPACK 5.2 (own) A string is Huffman-encoded where that is not longer
 unfoldable pub string : List ℕ → List ℕ
 string text =
     if nat_le (length (huffman_bits text)) (length text)

@@ -19,6 +19,8 @@ pub use reader::append_text;
 use steps::{END, HAS_SYMBOL, next_state, step_at, symbol_of};
 use writer::append_huffman;
 
+// contract: HPACK 5.2 A Huffman-encoded string is written with the codes
+// contract: HPACK 5.2 A Huffman-encoded string is padded with ones
 /// How many octets [`huff_write`] appends for the text. It takes no memory.
 pub fn huff_len(text: &[u8]) -> usize
     requires { length text.now < 2 ^ 35 }
@@ -31,6 +33,9 @@ pub fn huff_len(text: &[u8]) -> usize
     count.div_ceil(8)
 }
 
+// contract: HPACK 5.2 A Huffman-encoded string is written with the codes
+// rule: HPACK 5.2 A Huffman-encoded string is written with the codes
+// contract: HPACK 5.2 A Huffman-encoded string is padded with ones
 /// Appends the text in the Huffman code: the codes of its octets, and ones that pad the last octet.
 ///
 /// # Errors
@@ -54,6 +59,11 @@ pub fn huff_write(text: &[u8], out: &mut Vec<u8>) -> Result<(), TextFault>
     Ok(())
 }
 
+// contract: HPACK 5.2 With H the octets are the codes of appendix B
+// rule: HPACK 5.2 With H the octets are the codes of appendix B
+// contract: HPACK 5.2 Padding of more than seven bits is a fault
+// contract: HPACK 5.2 Padding of others than ones is a fault
+// contract: HPACK 5.2 The code of EOS inside a string is a fault
 /// Reads all of `octets` as a text in the Huffman code.
 ///
 /// # Errors
@@ -75,6 +85,7 @@ pub fn huff_read(alloc: Global, octets: &[u8]) -> Result<Vec<u8>, TextFault>
     Ok(text)
 }
 
+// rule: HPACK B The code is read by half octets, from state to state
 /// Reads four bits more, the most significant one first, from a state, and answers the next state
 /// and the octet whose code the bits end, if any. A state is a proper prefix of a code, numbered;
 /// 0 is the empty one. No four bits end two codes, as each code has five bits at least. None comes

@@ -13,6 +13,10 @@ use std::alloc::AllocError;
 /// The most continuation octets of an integer that are read.
 const MAX_CONTINUATION_OCTETS: usize = 5;
 
+// contract: HPACK 5.1 A value below 2^N-1 stands in the prefix of N bits
+// rule: HPACK 5.1 A value below 2^N-1 stands in the prefix of N bits
+// contract: HPACK 5.1 After a prefix of ones follow at most five (own) octets
+// contract: HPACK 5.1 An integer that is cut off or too long is a fault
 /// Reads the integer at the start of `octets`, whose first octet has `prefix` bits of it, and
 /// answers its value and how many octets encode it. The bits above the prefix are ignored, and
 /// octets may follow. At most five continuation octets are read; superfluous ones of zeros count
@@ -36,6 +40,8 @@ pub fn read_int(prefix: u8, octets: &[u8]) -> Result<(u64, usize), TextFault>
     leading_int(prefix, octets)
 }
 
+// contract: HPACK 5.1 (own) The shortest encoding of an integer is written
+// rule: HPACK 5.1 (own) The shortest encoding of an integer is written
 /// Appends the shortest encoding of `value` with a prefix of `prefix` bits. `first_bits` are the
 /// bits above the prefix in the first octet (RFC 7541, section 5.1).
 ///
@@ -63,6 +69,7 @@ pub fn write_int(prefix: u8, first_bits: u8, value: u64, out: &mut Vec<u8>) -> R
     Ok(())
 }
 
+// rule: HPACK 5.1 A value below 2^N-1 stands in the prefix of N bits
 /// Reads the integer at the start of `octets`.
 fn leading_int(prefix: u8, octets: &[u8]) -> Result<(u64, usize), TextFault>
     requires at_least { 1 ≤ prefix }
@@ -83,6 +90,8 @@ fn leading_int(prefix: u8, octets: &[u8]) -> Result<(u64, usize), TextFault>
     Ok((all_ones + above, count + 1))
 }
 
+// rule: HPACK 5.1 After a prefix of ones follow at most five (own) octets
+// rule: HPACK 5.1 An integer that is cut off or too long is a fault
 /// Reads continuation octets: the number that they encode, seven bits each, and how many they are.
 fn read_continuation(octets: &[u8]) -> Result<(u64, usize), TextFault>
     ensures answer { MatchResult result (λ read. HasContinuation octets.now read.0 read.1)
@@ -128,6 +137,7 @@ fn append_integer(
     append_continuation(value - all_ones, out)
 }
 
+// rule: HPACK 5.1 (own) The shortest encoding of an integer is written
 /// Appends the continuation octets of a number. On `Err` the first of them, or none, were appended.
 fn append_continuation(number: u64, out: &mut Vec<u8>) -> Result<(), AllocError>
     requires { number < 2 ^ 35 }

@@ -8,6 +8,7 @@ ghost use Rattle.hpack_text.specs.Huffman.{huffman_length};
 ghost use Rattle.hpack_text.specs.Integers.{Int, integer};
 ghost use Rattle.hpack_text.specs.Strings.{Str, has_bit_h, string};
 
+// contract: HPACK 5.2 With H the octets are the codes of appendix B
 /// No code of a symbol begins the code of another one, EOS included.
 pub fn no_code_begins_another()
     ensures { (symbol other : ℕ) (more following : List Bool) → symbol < 257 → other < 257
@@ -20,11 +21,14 @@ pub fn some_code_begins()
         → (symbol : ℕ) × (more : List Bool) × (symbol < 257) × (bit_list ≡ code symbol ++ more) }
 {}
 
+// contract: HPACK 5.2 With H the octets are the codes of appendix B
 /// Octets encode one text at most.
 pub fn one_text()
     ensures { (text other octets : List ℕ) → Huff text octets → Huff other octets → text ≡ other }
 {}
 
+// contract: HPACK 5.2 A Huffman-encoded string is written with the codes
+// contract: HPACK 5.2 A Huffman-encoded string is padded with ones
 /// A text has one encoding, which is the one that is written, and its length is the bits of its
 /// codes, rounded up.
 pub fn one_coding()
@@ -34,11 +38,15 @@ pub fn one_coding()
     ensures counted { (text : List ℕ) → length (huffman_bits text) ≡ huffman_length text }
 {}
 
+// contract: HPACK 5.2 Padding of more than seven bits is a fault
+// contract: HPACK 5.2 Padding of others than ones is a fault
+// contract: HPACK 5.2 The code of EOS inside a string is a fault
 /// No octets have both faults of Huffman-encoded strings.
 pub fn one_coding_fault()
     ensures { (octets : List ℕ) → HasEndSymbol octets → HasBadPadding octets → ⊥ }
 {}
 
+// contract: HPACK 5.1 A value below 2^N-1 stands in the prefix of N bits
 /// No encoding of an integer begins another one, so what was written is read again, whatever
 /// follows it.
 pub fn no_integer_begins_another()
@@ -47,6 +55,7 @@ pub fn no_integer_begins_another()
         → octets ++ more ≡ others ++ following → (octets ≡ others) × (value ≡ other) }
 {}
 
+// contract: HPACK 5.1 (own) The shortest encoding of an integer is written
 /// What is written for an integer encodes it, and no encoding of it is shorter.
 pub fn shortest_integer()
     ensures encoded { (prefix first_bits value : ℕ) → 1 ≤ prefix → prefix ≤ 8
@@ -56,6 +65,7 @@ pub fn shortest_integer()
         → Int prefix value octets → length (integer prefix first_bits value) ≤ length octets }
 {}
 
+// contract: HPACK 5.2 A string is the bit H, its length and its octets
 /// No encoding of a string begins a different one, so what was written is read again, whatever
 /// follows it.
 pub fn no_string_begins_another()
@@ -64,6 +74,7 @@ pub fn no_string_begins_another()
         → octets ++ more ≡ others ++ following → (octets ≡ others) × (text ≡ other) }
 {}
 
+// contract: HPACK 5.2 (own) A string is Huffman-encoded where that is not longer
 /// What is written for a string encodes it, and it is Huffman-encoded exactly where that isn't
 /// longer than raw.
 pub fn written_string()

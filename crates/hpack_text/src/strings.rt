@@ -18,6 +18,9 @@ const PREFIX: u8 = 7;
 /// The bit H, which says that the string is Huffman-encoded.
 const BIT_H: u8 = 128;
 
+// contract: HPACK 5.2 A string is the bit H, its length and its octets
+// rule: HPACK 5.2 A string is the bit H, its length and its octets
+// contract: HPACK 5.2 Octets that end inside a string are a fault
 /// Reads the string at the start of `octets`, and answers its text and how many octets encode it.
 /// Octets may follow.
 ///
@@ -43,6 +46,9 @@ pub fn read_string(alloc: Global, octets: &[u8]) -> Result<(Vec<u8>, usize), Tex
     Ok((text, count))
 }
 
+// contract: HPACK 5.2 A string is the bit H, its length and its octets
+// rule: HPACK 5.2 A string is the bit H, its length and its octets
+// rule: HPACK 5.2 (own) A text is appended to what stands there, or nothing is
 /// Reads the string at the start of `octets` as [`read_string`] does, appends its text to `out`,
 /// and answers how many octets encode it.
 ///
@@ -70,6 +76,7 @@ pub fn read_string_into(octets: &[u8], out: &mut Vec<u8>) -> Result<usize, TextF
     leading_string(octets, out)
 }
 
+// contract: HPACK 5.2 (own) A string is Huffman-encoded where that is not longer
 /// Appends the text as a string: Huffman-encoded where that isn't longer than raw.
 ///
 /// # Errors
@@ -92,6 +99,8 @@ pub fn write_string(text: &[u8], out: &mut Vec<u8>) -> Result<(), TextFault>
     written
 }
 
+// rule: HPACK 5.2 A string is the bit H, its length and its octets
+// rule: HPACK 5.2 Octets that end inside a string are a fault
 /// Appends the text of the string at the start of `octets`, and answers how many octets encode it.
 fn leading_string(octets: &[u8], out: &mut Vec<u8>) -> Result<usize, TextFault>
     ensures answer { MatchResult result
@@ -113,6 +122,8 @@ fn leading_string(octets: &[u8], out: &mut Vec<u8>) -> Result<usize, TextFault>
     Ok(head_len + body_len)
 }
 
+// rule: HPACK 5.2 Octets that end inside a string are a fault
+// rule: HPACK 5.2 (own) A text is appended to what stands there, or nothing is
 /// Appends a string's text, which all of `body` holds.
 fn append_body(is_huffman: bool, body: &[u8], out: &mut Vec<u8>) -> Result<(), TextFault>
     ensures answer { MatchResult result
@@ -130,6 +141,7 @@ fn append_body(is_huffman: bool, body: &[u8], out: &mut Vec<u8>) -> Result<(), T
     out.extend_from_slice(body).map_err(|_| TextFault::Memory)
 }
 
+// rule: HPACK 5.2 (own) A string is Huffman-encoded where that is not longer
 /// Appends the text as a string. On `Err` a prefix of it was appended.
 fn append_string(text: &[u8], out: &mut Vec<u8>) -> Result<(), TextFault>
     requires { length text.now < 2 ^ 35 }

@@ -17,6 +17,7 @@ hexadecimal : show_options_of sides (codes "--hex" ∷ [])
 unfolding clap_on_literals
 hexadecimal = refl
 
+-- rule: show (own) The words choose the end and hexadecimal
 from_server : show_options_of sides (codes "--from" ∷ codes "server" ∷ [])
     ≡ Some (record { hex = false; from = Server })
 unfolding clap_on_literals
@@ -32,6 +33,7 @@ both_options : show_options_of sides (codes "--from=server" ∷ codes "--hex" �
 unfolding clap_on_literals
 both_options = refl
 
+-- rule: show (own) The words choose the end and hexadecimal
 hex_twice : show_faults sides (codes "--hex" ∷ codes "--hex" ∷ []) ≡ ArgumentConflict ∷ []
 unfolding clap_on_literals
 hex_twice = refl
@@ -52,6 +54,7 @@ a_file : show_faults sides (codes "file" ∷ []) ≡ UnknownArgument ∷ []
 unfolding clap_on_literals
 a_file = refl
 
+-- rule: show (own) The words choose the end and hexadecimal
 help : show_faults sides (codes "--help" ∷ []) ≡ DisplayHelp ∷ []
 unfolding clap_on_literals
 help = refl

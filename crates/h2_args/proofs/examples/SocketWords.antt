@@ -6,6 +6,7 @@ use Rattle.clap.specs.declared.error.kind.ErrorKind.TheVariants.{UnknownArgument
 use Rattle.h2_args.specs.Words.{get_faults, loop_faults, octets_of, serve_faults}
 use Rattle.h2_args.specs.Words.{serve_options_of, url_of}
 
+-- rule: engines (own) serve, get and loop have their words
 port_and_count : serve_options_of (codes "9001" ∷ codes "2" ∷ [])
     ≡ Some (record { port = 9001; count = 2 })
 unfolding clap_on_literals
@@ -20,6 +21,7 @@ port_above_the_greatest : serve_faults (codes "65536" ∷ codes "1" ∷ []) ≡ 
 unfolding clap_on_literals
 port_above_the_greatest = refl
 
+-- rule: engines (own) serve, get and loop have their words
 no_connections : serve_faults (codes "9001" ∷ codes "0" ∷ []) ≡ ValueValidation ∷ []
 unfolding clap_on_literals
 no_connections = refl
@@ -44,6 +46,7 @@ no_octets : octets_of (codes "0" ∷ []) ≡ Some 0
 unfolding clap_on_literals
 no_octets = refl
 
+-- rule: engines (own) serve, get and loop have their words
 most_octets : octets_of (codes "1048576" ∷ []) ≡ Some 1048576
 unfolding clap_on_literals
 most_octets = refl

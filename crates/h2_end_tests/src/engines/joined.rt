@@ -127,11 +127,14 @@ fn plays(alloc: Global) -> Result<bool, AllocError> {
     Ok(holds)
 }
 
+// rule: joined (own) Accepted messages, what was handed out, octets on a pipe are kept
+// rule: joined (own) What one end has handed out is a prefix of what the other accepted
 #[test]
 fn a_list_of_acts(rt: HostRuntime) {
     assert!(rt; runs(rt.alloc()).unwrap_or(false));
 }
 
+// rule: joined (own) Two joined ends are a new client and a new server, pipes empty
 #[test]
 fn no_acts(rt: HostRuntime) {
     assert!(rt; runs_nothing(rt.alloc()).unwrap_or(false));
@@ -142,6 +145,7 @@ fn a_refused_allocation_at_joined_ends(rt: HostRuntime) {
     assert!(rt; plays(rt.alloc()).unwrap_or(true));
 }
 
+// rule: joined (own) The header tables of joined ends agree, no window is lost
 #[test]
 fn laws_are_called() {
     connection_windows_are_conserved();

@@ -41,6 +41,7 @@ fn is_list_shown(alloc: Global, octets: &[u8]) -> Option<bool> {
     is_value_shown(coders.shown_list()?.as_str())
 }
 
+// rule: HPACK 2.1 (own) The octets of a name and a value are those that were given
 /// The value of a sensitive field isn't shown; that of another is.
 #[test]
 fn debug_form_of_fields(rt: HostRuntime) {
@@ -52,6 +53,7 @@ fn debug_form_of_fields(rt: HostRuntime) {
     );
 }
 
+// rule: HPACK 3.2 (own) A kept list says its fields and their number
 /// The same in a list.
 #[test]
 fn debug_form_of_a_list(rt: HostRuntime) {
@@ -79,6 +81,7 @@ fn is_entry(alloc: Global, octets: &[u8], shown: &str) -> bool {
     }
 }
 
+// rule: HPACK 2.1 (own) The octets of a name and a value are those that were given
 /// An entry is a name and a value.
 #[test]
 fn debug_form_of_entries(rt: HostRuntime) {
@@ -97,6 +100,7 @@ fn is_encoder(alloc: Global, maximum: u32, shown: &str) -> bool {
     }
 }
 
+// rule: HPACK 2.1 (own) The octets of a name and a value are those that were given
 #[test]
 fn debug_form_of_an_encoder(rt: HostRuntime) {
     let shown = "Encoder { table: Table { len: 0, size: 0, maximum: 64 }, least: 64, limit: 64 }";

@@ -27,6 +27,8 @@ fn longest_is_written(alloc: Global) -> bool {
         && out.starts_with(b"\xff\xff\xff\x0a\x00\x00\x00\x00\x00")
 }
 
+// rule: 4.1 (own) A frame of an unknown type is sent with a type from 10 on
+// rule: 4.2 No payload above 16,777,215 octets is written
 #[test]
 fn the_longest_frame_is_written(rt: HostRuntime) {
     assert!(rt; longest_is_written(rt.alloc()));

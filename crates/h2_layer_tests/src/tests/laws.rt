@@ -23,6 +23,7 @@ fn laws_of_hpack() {
     hpack::written_block();
 }
 
+// rule: 4.1 Octets encode at most one frame
 #[test]
 fn laws_of_h2_frame() {
     h2_frame::one_frame();
@@ -31,6 +32,7 @@ fn laws_of_h2_frame() {
     h2_frame::written_frame_is_read();
 }
 
+// rule: 5.4.1 A stream of octets has one fault at most, at one place
 #[test]
 fn laws_of_h2_wire() {
     h2_wire::one_reading();
@@ -58,6 +60,8 @@ fn laws_of_h2_log() {
     h2_log::frames_of_a_log();
 }
 
+// rule: 4.1 What an end sends is read as its frames, without a fault
+// rule: 4.3 A block that may be sent is one that may be gathered
 #[test]
 fn laws_of_h2_log_laws_first() {
     h2_log_laws::acknowledgment_is_awaited();
@@ -74,6 +78,8 @@ fn laws_of_h2_log_laws_first() {
     h2_log_laws::opening_is_no_fault();
 }
 
+// rule: 4.1 What an end sends is read as its frames, without a fault
+// rule: 4.3 A block that may be sent is one that may be gathered
 #[test]
 fn laws_of_h2_log_laws_second() {
     h2_log_laws::origin();
@@ -91,6 +97,10 @@ fn laws_of_h2_log_laws_second() {
     h2_log_laws::written_items_are_read();
 }
 
+// rule: 5.1 A used number stays used, and a stream that is over stays over
+// rule: 5.1 A stream becomes active, and ceases to be, by calls and events alone
+// rule: 6.9 Where nothing is owed nothing is, until octets are reported
+// rule: calls (own) take uses octets up to one frame's end, and answers one event at most
 #[test]
 fn laws_of_h2_end_laws_first() {
     h2_end_laws::active_streams_stay_active();
@@ -106,6 +116,10 @@ fn laws_of_h2_end_laws_first() {
     h2_end_laws::owed_octets_are_reported();
 }
 
+// rule: 5.1 A used number stays used, and a stream that is over stays over
+// rule: 5.1 A stream becomes active, and ceases to be, by calls and events alone
+// rule: 6.9 Where nothing is owed nothing is, until octets are reported
+// rule: calls (own) take uses octets up to one frame's end, and answers one event at most
 #[test]
 fn laws_of_h2_end_laws_second() {
     h2_end_laws::pieces_do_not_matter();
@@ -179,6 +193,9 @@ fn laws_of_h2_show_laws() {
     h2_show_laws::shown_status_reports();
 }
 
+// rule: 4.1 Octets encode a frame exactly where they have no fault
+// rule: 5.4.1 Each stream of octets has a reading or a fault; prefixes agree
+// rule: 4.3 Each list of frames groups or has a fault; prefixes agree
 #[test]
 fn laws_of_h2_stream_laws() {
     h2_stream_laws::frames_before_a_fault_continue();

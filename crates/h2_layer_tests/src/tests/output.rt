@@ -110,6 +110,7 @@ fn first_wrong(alloc: Global) -> Option<usize> {
     None
 }
 
+// rule: calls (own) Frames join the output that waits, in order
 #[test]
 fn frames_wait_in_their_encoding(rt: HostRuntime) {
     assert_eq!(rt; first_wrong(rt.alloc()), None);
@@ -188,6 +189,7 @@ fn is_long_data_given(alloc: Global) -> bool {
         && gives(alloc, &mut output, &octets)
 }
 
+// rule: calls (own) Frames join the output that waits, in order
 #[test]
 fn data_waits_in_its_encoding(rt: HostRuntime) {
     assert!(rt; is_data_given(rt.alloc()) && is_long_data_given(rt.alloc()));
@@ -232,6 +234,7 @@ fn leaves_with(alloc: Global, last: u32, code: u32, octets: &[u8]) -> bool {
     gives(alloc, &mut output, octets)
 }
 
+// rule: 5.4.1 (own) The GOAWAY of a failed connection takes no memory
 #[test]
 fn a_failed_connection_leaves_with_goaway(rt: HostRuntime) {
     let octets = b"\x00\x00\x08\x07\x00\x00\x00\x00\x00\x7f\xff\xff\xff\xff\xff\xff\xff";
@@ -290,6 +293,8 @@ fn first_wrong_size(alloc: Global) -> Option<usize> {
     None
 }
 
+// rule: calls (own) Output is given out in order and once
+// rule: 5.4.1 (own) The GOAWAY of a failed connection takes no memory
 #[test]
 fn output_goes_out_in_pieces(rt: HostRuntime) {
     assert_eq!(rt; first_wrong_size(rt.alloc()), None);

@@ -78,6 +78,7 @@ fn loses_nothing(alloc: Global) -> bool {
     gives_all(alloc, &mut output)
 }
 
+// rule: calls (own) Output is given out in order and once
 /// Each call that takes memory is tried again where an allocation was refused, and then nothing is
 /// lost: so this test passes under `rt try --test --fail-alloc N`, by which the allocation N is
 /// refused, for each N.
@@ -114,6 +115,7 @@ fn first_not_filled(alloc: Global, rounds: usize) -> Option<usize> {
     None
 }
 
+// rule: calls (own) Output is given out in order and once
 /// A queue that is filled and emptied takes its memory once: `rt try --test --fail-alloc N` fails
 /// this test only for N up to 4.
 #[test]

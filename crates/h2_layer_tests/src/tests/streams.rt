@@ -172,6 +172,8 @@ const HALF_CLOSED: Stream = Stream {
     },
 };
 
+// rule: 5.1 (own) What is kept of a stream is found by its number
+// rule: 5.1 (own) A change of a stream changes that stream alone
 #[test]
 fn streams_are_opened_and_changed(rt: HostRuntime) {
     assert_eq!(rt; first_undone(rt.alloc(), 1000, CHANGED), None);
@@ -190,6 +192,8 @@ const CLOSED: &[Step] = &[
     Step::IsActive(3, OPENED),
 ];
 
+// rule: 5.1 (own) What is kept of a stream is found by its number
+// rule: 5.1 (own) A change of a stream changes that stream alone
 #[test]
 fn closed_streams_are_forgotten(rt: HostRuntime) {
     assert_eq!(rt; first_undone(rt.alloc(), INITIAL, CLOSED), None);
@@ -213,6 +217,8 @@ const RESETS: &[Step] = &[
     Step::Next(5, None),
 ];
 
+// rule: 5.1 (own) What is kept of a stream is found by its number
+// rule: 5.1 (own) A change of a stream changes that stream alone
 #[test]
 fn resets_are_kept(rt: HostRuntime) {
     assert_eq!(rt; first_undone(rt.alloc(), INITIAL, RESETS), None);
@@ -297,6 +303,7 @@ const ORDER: &[Step] = &[
     Step::Next(u32::MAX, None),
 ];
 
+// rule: 5.1 (own) The next active stream is the least above a number
 #[test]
 fn active_numbers_in_their_order(rt: HostRuntime) {
     assert_eq!(rt; first_undone(rt.alloc(), INITIAL, ORDER), None);

@@ -82,6 +82,7 @@ fn all_hold(alloc: Global) -> bool {
     changes_all(&mut table) && keeps_all(&table)
 }
 
+// rule: 5.1 (own) The next active stream is the least above a number
 #[test]
 fn a_thousand_streams(rt: HostRuntime) {
     assert!(rt; all_hold(rt.alloc()));

@@ -43,6 +43,8 @@ fn refused_allocations_have_their_code(rt: HostRuntime) {
     );
 }
 
+// rule: 7 Each error code has its name
+// rule: 7 Each error code has its number
 #[test]
 fn faults_of_payloads_have_their_text(rt: HostRuntime) {
     let error = PayloadError::Code(Code::ProtocolError);

@@ -130,6 +130,7 @@ server_with_block_after_the_end =
 
 -- A block after the peer's END_STREAM, on a stream that this end goes on with, is a STREAM_CLOSED
 -- of the stream (section 5.1).
+-- rule: 5.1 After the peer has ended a stream a field block is STREAM_CLOSED
 block_after_the_end :
     (outcome server_with_block_after_the_end
     ≡ come_to (preface_octets ++ client_settings ++ request_octets
@@ -157,6 +158,8 @@ streams_passed_over = refl
 -- A block may come on an active stream, and on an odd idle one at a server, which it opens; not on
 -- an even one or a closed one. On one that this end has reset it is ignored (sections 5.1 and
 -- 5.1.1).
+-- rule: 5.1 (own) On a closed stream a field block is PROTOCOL_ERROR
+-- rule: 5.1.1 A field block on an idle number not the peer's is PROTOCOL_ERROR
 blocks_by_state :
     (block_verdicts active_view short_request (block 1 true [] ∷ block 2 true [] ∷ block 3 true
     [] ∷ [])
@@ -176,6 +179,8 @@ abbrev pub list_of_size : ℕ → List Field
 list_of_size = λ size. plain (codes "a") (replicate (size - 33) 0x62) ∷ []
 
 -- A list has a size of at most 65,536 (own; section 10.5.1).
+-- rule: 4.3 Each received block is decoded, also one that is ignored
+-- rule: 10.5.1 A list above 65,536 octets is a stream error ENHANCE_YOUR_CALM
 sizes_of_lists :
     (block_verdicts active_view (list_of_size 65536) (block 1 true [] ∷ block 3 true [] ∷ [])
     ≡ Reported ∷ Reported ∷ [])

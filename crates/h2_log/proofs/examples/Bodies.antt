@@ -48,6 +48,8 @@ bodies =
 
 -- DATA of one octet more than the connection's window ends the connection; DATA of no octets never
 -- does (RFC 9113, section 6.9.1).
+-- rule: 6.9.1 DATA above the connection's window is FLOW_CONTROL_ERROR
+-- rule: 6.9.1 DATA of no octets is within any window
 connection_windows :
     (verdicts (record active_view { recv_window = pos 4 }) (bodies 1)
     ≡ Reported ∷ Reported ∷ Reported ∷ ConnectionFault FlowControlError ∷ [])
@@ -58,6 +60,8 @@ connection_windows = (refl, refl)
 
 -- So does DATA of one octet more than the stream's window, which can be negative (sections 6.9.1
 -- and 6.9.2; own).
+-- rule: 6.9.1 DATA above its stream's window is FLOW_CONTROL_ERROR (scope: own)
+-- rule: 6.9.1 DATA of no octets is within any window
 stream_windows :
     (verdicts (record active_view { stream = λ i. Some (stream_with (pos 4) false) }) (bodies 1)
     ≡ Reported ∷ Reported ∷ Reported ∷ ConnectionFault FlowControlError ∷ [])
@@ -68,6 +72,7 @@ unfolding computing
 stream_windows = (refl, refl)
 
 -- Padding counts, and so does its length (section 6.9.1).
+-- rule: 6.1 The complete payload of DATA, padding included, counts for windows
 padding_and_windows :
     verdicts (record active_view { recv_window = pos 4 })
     (alone (Data 1 false [] (Some 3)) ∷ alone (Data 1 false [] (Some 4)) ∷ [])
@@ -77,6 +82,7 @@ padding_and_windows = refl
 
 -- After the peer's END_STREAM, DATA is a STREAM_CLOSED of the stream, whatever the stream's window;
 -- the connection's window comes first (section 6.1).
+-- rule: 5.1 After the peer has ended a stream DATA is STREAM_CLOSED
 bodies_after_the_end :
     (verdicts (record active_view {
       stream = λ i. Some (stream_with
@@ -94,6 +100,7 @@ bodies_after_the_end = (refl, refl)
 -- DATA on an idle stream is a PROTOCOL_ERROR, on a closed one a STREAM_CLOSED, both of the
 -- connection, whatever the windows. On one that this end has reset it is ignored as far as the
 -- connection's window goes (sections 5.1 and 6.9).
+-- rule: 5.1 On a closed stream DATA is STREAM_CLOSED (its scope: own)
 bodies_by_state :
     (verdicts (record active_view { recv_window = pos 4 }) (bodies 2 ++ bodies 3)
     ≡ replicate 8 (ConnectionFault ProtocolError))
@@ -114,6 +121,9 @@ unfolding computing
 body_on_an_idle_stream = refl
 
 -- DATA on a closed stream.
+-- rule: 5.1 A stream has one state, by what was received and sent
+-- rule: 5.1 On a closed stream DATA is STREAM_CLOSED (its scope: own)
+-- rule: 5.1.1 A stream that is opened closes all lower idle ones
 body_on_a_closed_stream :
     outcome (takes server_with_third (Data 1 false (0x61 ∷ []) None)) ≡ come_to
     (preface_octets ++ empty_settings
@@ -128,6 +138,7 @@ server_with_body_after_the_end = takes (server_with_body true) (Data 1 false (0x
 
 -- DATA after the peer's END_STREAM resets the stream; its octet, and the four that weren't
 -- released, go back to the connection (sections 5.1 and 6.9).
+-- rule: 5.1 After the peer has ended a stream DATA is STREAM_CLOSED
 body_after_the_end :
     outcome server_with_body_after_the_end ≡ come_to
     (active_octets ++ octets (codes "000004 00 01 00000001 61626364 000001 00 00 00000001 61"))
@@ -142,6 +153,7 @@ server_with_padding = takes active_server (Data 1 false [] (Some 4))
 
 -- It is reported with no octets and a flow of five, which it takes of both windows (sections 6.1
 -- and 6.9.1).
+-- rule: 6.1 The complete payload of DATA, padding included, counts for windows
 padding_alone :
     (outcome server_with_padding ≡ come_to
     (active_octets ++ octets (codes "000005 00 08 00000001 04 00000000"))
@@ -160,6 +172,7 @@ long_pad = octets (codes "000005 00 08 00000001 05 00000000")
 abbrev pub no_pad_length : List ℕ
 no_pad_length = octets (codes "000000 00 08 00000001")
 
+-- rule: 6.1 Padding as long as the payload of DATA, or longer, is PROTOCOL_ERROR
 faults_of_padding :
     WireFaultAt false (λ place. 16384) long_pad [] 14 (PayloadFault ProtocolError)
     × WireFaultAt false (λ place. 16384) no_pad_length [] 9 (HeadFault FrameSizeError)
@@ -215,6 +228,9 @@ one_octet_after_it = takes no_octets_after_it (Data 1 false (0x61 ∷ []) None)
 
 -- The own initial window is in force once the peer has acknowledged it, also for what came before
 -- (sections 6.5.3 and 6.9.2).
+-- rule: 6.5.3 Own SETTINGS hold once they are acknowledged, and not before
+-- rule: 6.5.3 An acknowledgment that is awaited is reported, others are ignored
+-- rule: 6.9.1 DATA above the connection's window is FLOW_CONTROL_ERROR
 own_window_from_the_acknowledgment_on :
     (outcome before_the_acknowledgment ≡ come_to (active_octets ++ eleven_frame)
     (FieldsEvent 1 short_request false ∷ DataEvent 1 eleven 11 false ∷ [])
@@ -231,6 +247,7 @@ unfolding computing
 own_window_from_the_acknowledgment_on = (refl, refl, refl, refl)
 
 -- With it acknowledged, ten octets are within it and eleven aren't.
+-- rule: 6.9.1 DATA above its stream's window is FLOW_CONTROL_ERROR (scope: own)
 ten_octets_and_eleven :
     verdicts (log_view (takes server_with_small_window (Settings true [])))
     (alone (Data 1 false (octets (codes "6162636465666768696a")) None)

@@ -21,6 +21,9 @@ use Rattle.h2_log.proofs.examples.Words.{short_request}
 -- DATA is reported with the octets that it took of the windows. No more of these are released than
 -- were reported, and not none. What is released goes back to the stream, and to the connection (RFC
 -- 9113, sections 6.9 and 6.9.1).
+-- rule: 6.9 Nothing of the window of the connection is lost
+-- rule: 6.9 What a stream owes is returned when it is released or over
+-- rule: calls (own) A call is refused for its first condition, and changes nothing
 releases_a_body :
     (outcome (server_with_body false)
     ≡ come_to (active_octets ++ body_frame) (FieldsEvent 1 short_request false
@@ -45,6 +48,8 @@ unfolding computing
 releases_in_part = (refl, refl)
 
 -- Where the peer has ended the stream it goes back to the connection alone.
+-- rule: 6.9 Nothing of the window of the connection is lost
+-- rule: 6.9 What a stream owes is returned when it is released or over
 releases_a_last_body : output (server_with_release true) ≡ active_output ++ increment_frame 0 4
 unfolding computing
 releases_a_last_body = refl

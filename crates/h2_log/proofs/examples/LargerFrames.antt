@@ -22,6 +22,8 @@ continuations_of octets long =
 
 -- Where the greatest payload has 16,384 octets, a block of 20,016 octets is two frames (RFC 9113,
 -- section 4.3).
+-- rule: 4.3 A block is sent as HEADERS and CONTINUATION frames, each full but one
+-- rule: 4.3 Of the frames of a block that is sent the last has END_HEADERS
 block_in_two : (octets : List ℕ) → length octets ≡ 20016
     → encoding_of_item 16384 (block 1 false octets)
     ≡ encoding_of (Headers 1 false false (take 16384 octets) None None)
@@ -36,6 +38,8 @@ block_in_two octets long =
     ++ other) (append-nil (encoding_of (Continuation 1 true (drop 16384 octets))))
 
 -- Where it has 65,536, the block is one.
+-- rule: 4.3 A block is sent as HEADERS and CONTINUATION frames, each full but one
+-- rule: 4.3 Of the frames of a block that is sent the last has END_HEADERS
 block_in_one : (octets : List ℕ) → length octets ≡ 20016
     → encoding_of_item 65536 (block 1 false octets)
     ≡ encoding_of (Headers 1 false true octets None None)
@@ -50,6 +54,7 @@ body_in_one : (octets : List ℕ) → length octets ≡ 65535
 body_in_one octets long = frames_last 65535 65536 1 octets false (omega (arith, long))
 
 -- A peer that reads more than 16,384 octets is sent no more.
+-- rule: 4.2 (own) Payloads of at most 16,384 octets are sent
 peer_reads_more : max_payload_sent_by (alone (Settings false ((5, 65536) ∷ [])) ∷ []) ≡ 16384
 unfolding computing
 peer_reads_more = refl

@@ -40,6 +40,7 @@ view_with = λ count. record active_view { waiting = count }
 
 -- A reply may bring the waiting output to 262,144 octets and no further (own; RFC 9113, section
 -- 10.5).
+-- rule: 10.5 (own) Replies above 262,144 waiting octets are ENHANCE_YOUR_CALM
 replies_at_the_limit :
     (map (λ count. verdicts (view_with count) (alone (Ping false one_to_eight) ∷ []))
     (262127 ∷ 262128 ∷ []) ≡ (NoEvent ∷ []) ∷ (ConnectionFault EnhanceYourCalm ∷ []) ∷ [])
@@ -71,6 +72,7 @@ resets_at_the_limit = (refl, refl)
 
 -- A flood of PINGs after one SETTINGS: 262,131 octets wait after 15,417 answers, and one more is
 -- too many.
+-- rule: 10.5 (own) Replies above 262,144 waiting octets are ENHANCE_YOUR_CALM
 flood_of_pings :
     (33 + 9 + 15417 * 17 ≡ 262131)
     × (verdicts (view_with (262131 - 17)) (alone (Ping false one_to_eight) ∷ []) ≡ NoEvent ∷ [])

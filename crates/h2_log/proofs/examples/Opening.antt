@@ -26,6 +26,8 @@ use Rattle.h2_log.proofs.examples.Words.{request_octets, server_settings, short_
 
 -- A new client's output is the preface and its SETTINGS, a new server's its SETTINGS (RFC 9113,
 -- sections 3.4 and 6.5).
+-- rule: 3.4 Both ends begin with SETTINGS
+-- rule: 5.1.1 A client opens odd numbers, each above all before it
 opens_with_settings :
     (outcome new_client ≡ come_to [] [] (preface_octets ++ client_settings) None)
     × (outcome new_server ≡ come_to [] [] server_settings None)
@@ -46,6 +48,9 @@ opens_stream_1 = (refl, refl)
 
 -- A server acknowledges the client's SETTINGS, and reports the request, which ends its stream
 -- (sections 6.5.3 and 8.1).
+-- rule: 3.4 Both ends begin with SETTINGS
+-- rule: 6.2 A field block on an idle odd number opens the stream at a server
+-- rule: 6.5.3 SETTINGS are acknowledged before anything else is sent
 reports_a_request :
     outcome server_with_request ≡ come_to (preface_octets ++ client_settings ++ request_octets)
     (FieldsEvent 1 request true ∷ []) (server_settings ++ acknowledgment) None
@@ -53,6 +58,8 @@ unfolding computing
 reports_a_request = refl
 
 -- A request that doesn't end its stream leaves it active (section 5.1).
+-- rule: 5.1 A stream has one state, by what was received and sent
+-- rule: 6.2 A field block on an idle odd number opens the stream at a server
 reports_the_start_of_a_request :
     (outcome active_server
     ≡ come_to active_octets (FieldsEvent 1 short_request false ∷ []) active_output None)
@@ -64,6 +71,7 @@ reports_the_start_of_a_request = (refl, refl, refl, refl)
 
 -- The first frame must be SETTINGS that are no acknowledgment: PING with any octets, and an
 -- acknowledgment, end the connection (section 3.4).
+-- rule: 3.4 A first frame other than SETTINGS without ACK is PROTOCOL_ERROR
 server_refuses_a_first_ping : (a b c d e f g h : ℕ)
     → outcome (takes new_server (Ping false (a ∷ b ∷ c ∷ d ∷ e ∷ f ∷ g ∷ h ∷ [])))
     ≡ come_to
@@ -73,6 +81,7 @@ server_refuses_a_first_ping : (a b c d e f g h : ℕ)
 unfolding computing
 server_refuses_a_first_ping a b c d e f g h = refl
 
+-- rule: 3.4 A first frame other than SETTINGS without ACK is PROTOCOL_ERROR
 client_refuses_a_first_ping : (a b c d e f g h : ℕ)
     → outcome (takes new_client (Ping false (a ∷ b ∷ c ∷ d ∷ e ∷ f ∷ g ∷ h ∷ [])))
     ≡ come_to (octets (codes "000008 06 00 00000000") ++ a ∷ b ∷ c ∷ d ∷ e ∷ f ∷ g ∷ h ∷ []) []
@@ -110,6 +119,7 @@ abbrev pub server_at_a_wrong_preface : Log
 server_at_a_wrong_preface = took_fault new_server wrong_octets BadPreface
 
 -- A wrong octet of the preface ends the connection at once (section 3.4).
+-- rule: 3.4 The first octet that differs from the preface is PROTOCOL_ERROR, there
 refuses_a_wrong_preface :
     outcome server_at_a_wrong_preface
     ≡ come_to wrong_octets [] (server_settings ++ goaway_frame 0 1) (Some ProtocolError)

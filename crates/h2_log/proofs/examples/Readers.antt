@@ -46,6 +46,7 @@ unfolding computing
 windows_read = (refl, refl, refl, refl)
 
 -- `owed` answers what wasn't released of an active stream, and 0 after a failure.
+-- rule: calls (own) An end answers of its state, and of little once it has failed
 octets_owed :
     (map (reader_owed (log_view server_with_part)) (0 ∷ 1 ∷ 3 ∷ []) ≡ 0 ∷ 4 ∷ 0 ∷ [])
     × (reader_owed (log_view (with_call (server_with_body false) (Release 1 3) Done)) 1 ≡ 1)

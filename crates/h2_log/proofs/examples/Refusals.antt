@@ -81,6 +81,7 @@ unfolding computing
 refused_after_the_end = refl
 
 -- C4: as many streams are active as the client may have (RFC 9113, section 5.1.2).
+-- rule: 5.1.2 A client has at most as many active streams as the server allows
 too_many_streams :
     (map (λ count. answered (record (log_view new_client) { active_count = count })
     (Open short_request true))
@@ -92,6 +93,7 @@ unfolding computing
 too_many_streams = (refl, refl)
 
 -- C5: the next number is above 2^31 - 1; a server opens no stream (section 5.1.1).
+-- rule: 5.1.1 When the numbers of 31 bits are used up no stream is opened
 no_number_left :
     (map (λ number. answered (record asking_view { next_number = number })
     (Open short_request true))
@@ -138,6 +140,7 @@ unfolding computing
 too_many_resets = refl
 
 -- C10: the list's size is above 65,536.
+-- rule: 10.5 (own) An own list above 65,536 octets is refused
 list_too_large :
     (map (λ size. answered body_view (SendFields 1 (list_of_size size) true)) (65536 ∷ 65537 ∷ [])
     ≡ Done ∷ Refused ListTooLarge ∷ [])

@@ -29,6 +29,8 @@ three_resets = alone (Reset 1 8) ∷ alone (Reset 2 8) ∷ alone (Reset 3 8) ∷
 
 -- RST_STREAM closes an active stream; on an idle one it ends the connection; otherwise it is
 -- ignored (RFC 9113, sections 5.1 and 6.4).
+-- rule: 5.4.2 RST_STREAM is not answered by RST_STREAM, nor sent twice
+-- rule: 6.4 RST_STREAM on an idle stream is PROTOCOL_ERROR
 resets_by_state :
     (verdicts active_view three_resets
     ≡ Reported ∷ ConnectionFault ProtocolError ∷ ConnectionFault ProtocolError ∷ [])
@@ -42,6 +44,9 @@ abbrev pub server_with_reset : Log
 server_with_reset = takes (server_with_body false) (Reset 1 8)
 
 -- What it still owes goes back to the connection (section 6.9).
+-- rule: 6.4 RST_STREAM closes an active stream and is reported
+-- rule: 6.9 Nothing of the window of the connection is lost
+-- rule: 6.9 What a stream owes is returned when it is released or over
 reset_by_the_peer :
     (outcome server_with_reset ≡ come_to (active_octets ++ body_frame ++ reset_frame 1 8)
     (FieldsEvent 1 short_request false ∷ DataEvent 1 abcd 4 false ∷ ResetEvent 1 8 false ∷ [])
@@ -71,6 +76,8 @@ server_with_late_body =
 
 -- It is ignored, and what it took of the connection's window is returned, as is what the stream
 -- owed (sections 5.1 and 6.9).
+-- rule: 5.1 DATA on a stream that this end has reset counts for the connection
+-- rule: 6.4 (own) An end resets a stream on request, and counts it
 credit_of_a_reset_stream :
     (output server_resetting_a_body ≡ active_output ++ reset_frame 1 8 ++ increment_frame 0 4)
     × (outcome server_with_late_body ≡ come_to
@@ -87,6 +94,8 @@ abbrev pub server_with_refusal : Log
 server_with_refusal = with_call (server_with_body false) (Refuse 1 1) Done
 
 -- It is reset, and what it owed is returned; nothing is reported (section 5.4.2).
+-- rule: 5.4.2 A stream error is answered by RST_STREAM with its code, and reported
+-- rule: calls (own) A stream that the layer above refuses is reset
 refuses_a_stream :
     outcome server_with_refusal ≡ come_to (active_octets ++ body_frame)
     (FieldsEvent 1 short_request false ∷ DataEvent 1 abcd 4 false ∷ []) (active_output
@@ -110,6 +119,7 @@ refuses_for_memory = (refl, refl)
 
 -- The connection fails with ENHANCE_YOUR_CALM where 1,000 streams were reset, or RST_STREAM would
 -- bring the waiting output above 262,144 octets (own; section 10.5).
+-- rule: 10.5 (own) An end that resets 1,001 streams ends with ENHANCE_YOUR_CALM
 refuses_at_the_limits :
     (map (λ view. refuse_fault view 1)
     (record active_view { resets = 999 } ∷ record active_view { resets = 1000 }

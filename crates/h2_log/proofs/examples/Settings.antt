@@ -60,6 +60,7 @@ use Rattle.h2_log.proofs.examples.Words.{
 }
 
 -- ENABLE_PUSH is 0 or 1, and 0 from a server (RFC 9113, section 6.5.2).
+-- rule: 6.5.2 ENABLE_PUSH above 1 is PROTOCOL_ERROR
 values_of_push :
     (map (settings_fault (log_view new_client)) (((2, 0) ∷ []) ∷ ((2, 1) ∷ []) ∷ ((2, 2) ∷ []) ∷ [])
     ≡ None ∷ Some ProtocolError ∷ Some ProtocolError ∷ [])
@@ -70,6 +71,9 @@ unfolding computing
 values_of_push = (refl, refl)
 
 -- An initial window is at most 2^31 - 1, a frame size from 16,384 to 2^24 - 1.
+-- rule: 6.5.2 INITIAL_WINDOW_SIZE above 2^31-1 is FLOW_CONTROL_ERROR
+-- rule: 6.5.2 MAX_FRAME_SIZE below 16,384 or above 2^24-1 is PROTOCOL_ERROR
+-- rule: 6.5.2 Settings of other identifiers are ignored
 values_of_windows_and_frames :
     (map (settings_fault (log_view new_server))
     (((4, 2147483647) ∷ []) ∷ ((4, 2147483648) ∷ []) ∷ [])
@@ -97,6 +101,10 @@ unfolding computing
 first_fault_of_several = (refl, refl, refl, refl)
 
 -- A fault ends the connection without an acknowledgment.
+-- rule: 6.5.2 ENABLE_PUSH of 1 from a server is PROTOCOL_ERROR
+-- rule: 6.5.2 INITIAL_WINDOW_SIZE above 2^31-1 is FLOW_CONTROL_ERROR
+-- rule: 6.5.2 MAX_FRAME_SIZE below 16,384 or above 2^24-1 is PROTOCOL_ERROR
+-- rule: 6.5.2 Settings of other identifiers are ignored
 push_from_a_server :
     outcome (takes new_client (Settings false ((2, 1) ∷ [])))
     ≡ come_to (octets (codes "000006 04 00 00000000 000200000001")) []
@@ -160,6 +168,7 @@ two_answers =
 
 -- The limit of the peer's table holds from the next block on, which begins with a size update
 -- (section 4.3.1; RFC 7541, sections 4.2 and 6.3).
+-- rule: 4.3.1 The encoder follows each HEADER_TABLE_SIZE, up to 4,096 (own)
 follows_the_table_limit :
     (output server_with_two_answers ≡ two_answers)
     × (output server_with_table_again
@@ -172,6 +181,8 @@ abbrev pub server_with_limits : Log
 server_with_limits = takes server_with_two (Settings false ((1, 0) ∷ (1, 4096) ∷ []))
 
 -- Each of them counts: the next block has an update to the least of them, and one to the last.
+-- rule: 4.3.1 The encoder follows each HEADER_TABLE_SIZE, up to 4,096 (own)
+-- rule: 6.5.3 The first setting at fault decides, and the last value counts
 follows_each_table_limit :
     output (with_call server_with_limits (SendFields 1 short_answer false) Done)
     ≡ active_output ++ acknowledgment ++ octets (codes "000005 01 04 00000001 203fe11f88")
@@ -196,6 +207,7 @@ changed_server = with_call acknowledged_server (ChangeSettings small_values) Don
 
 -- Own SETTINGS are changed one at a time: those before, the first included, are acknowledged before
 -- that (section 6.5.3).
+-- rule: 6.5.3 (own) Own SETTINGS are changed once those before are acknowledged
 changes_its_settings :
     (answered active_view (ChangeSettings small_values) ≡ Refused SettingsWait)
     × (answered (log_view acknowledged_server) (ChangeSettings small_values) ≡ Done)
@@ -217,6 +229,7 @@ changed_client =
     with_call (takes asking_client (Settings true [])) (ChangeSettings tableless_values) Done
 
 -- A client's don't name a number of streams.
+-- rule: 6.5.3 (own) Own SETTINGS are changed once those before are acknowledged
 client_changes_its_settings :
     output changed_client
     ≡ asked_output ++ octets (codes "00000c 04 00 00000000 000100000000 00040000ffff")
@@ -246,6 +259,7 @@ streams_of_a_server = refl
 
 -- A client may have 100 streams before a server's SETTINGS, then as many as those name, and 1,000
 -- at most (section 5.1.2; own).
+-- rule: 5.1.2 A client has at most as many active streams as the server allows
 streams_of_a_client :
     map (λ log. (log_view log).streams_allowed)
     (new_client ∷ asking_client ∷ takes new_client (Settings false ((3, 5) ∷ []))
@@ -254,6 +268,7 @@ unfolding computing
 streams_of_a_client = refl
 
 -- An end sends at most 16,384 octets in a payload (own; section 4.2).
+-- rule: 4.2 The limit of an end is its greatest MAX_FRAME_SIZE of those in force
 payloads :
     map (λ log. (log_view log).max_payload)
     (new_client ∷ takes new_client (Settings false ((5, 65536) ∷ [])) ∷ []) ≡ 16384 ∷ 16384 ∷ []

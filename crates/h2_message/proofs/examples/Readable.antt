@@ -21,6 +21,7 @@ whole =
     }
 
 -- its parts: the last one alone has END_STREAM (RFC 9113, section 8.1)
+-- rule: 8.1 (own) A part is read where the parts so far begin a well-formed message
 parts_of_the_whole :
     message_parts whole
     ≡ block (answering "103") false ∷ block (answering "100") false
@@ -30,6 +31,7 @@ unfolding computing
 parts_of_the_whole = refl
 
 -- It is well read by a client.
+-- rule: 8.1 (own) A part is read where the parts so far begin a well-formed message
 pub whole_is_well : IsWellRead (Responses false) whole
 unfolding computing
 whole_is_well =
@@ -77,6 +79,7 @@ messages_begin message =
     (map OctetsPart message.data_parts ++ trailers_parts message.trailers)
 
 -- DATA before the final head is not readable (M12), also without octets.
+-- rule: 8.1 DATA before the final head breaks M12
 pub data_first_is_not_readable : (reads : Reads) (octets : List ℕ) (end : Bool)
     (more : List (Part × Bool)) → IsReadable reads ((OctetsPart octets, end) ∷ more) → ⊥
 unfolding begin_with_fields

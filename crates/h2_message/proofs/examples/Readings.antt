@@ -76,6 +76,7 @@ lengths = (refl, refl)
 
 -- Interim responses come before the final one, without END_STREAM (M12); their `content-length`
 -- says nothing.
+-- rule: 8.1 Interim responses come before the final head, without END_STREAM
 interim_responses :
     (phases (Responses false) (
     (block (answering "103") false ∷ []) ∷ (block (answering "100" ++ five) false ∷ [])
@@ -127,6 +128,8 @@ unfolding computing
 parts_of_messages = (refl, refl, refl, refl, refl, refl)
 
 -- A request asks with HEAD by its head alone, and is over with END_STREAM.
+-- rule: 8.1 END_STREAM ends the message, and any further part breaks M12
+-- rule: HTTP 9.3.2 A request asks with HEAD where the method of its head is HEAD
 heads_and_ends :
     (map asks_head_first (
     (block (asking "HEAD" "/") true ∷ []) ∷ (block (asking "HEAD" "/") false ∷ data_of 1 true ∷ [])

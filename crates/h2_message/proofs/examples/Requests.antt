@@ -28,6 +28,10 @@ unfolding computing
 names_and_values = (refl, refl, refl)
 
 -- M3 to M6: where pseudo-fields stand, and which.
+-- rule: 8.3 A pseudo-field after a regular one, or in trailers, breaks M3
+-- rule: 8.3 A pseudo-field other than the five breaks M4
+-- rule: 8.3 A pseudo-field that stands twice breaks M5
+-- rule: 8.3.1 A request without :method, :scheme or :path breaks M6
 pseudo_fields :
     (of_requests (
     (field ":method" "GET" ∷ field ":scheme" "http" ∷ field "accept" "x" ∷ field ":path" "/"
@@ -69,6 +73,7 @@ unfolding computing
 methods_and_paths = (refl, refl, refl)
 
 -- M10: the five fields, and `te`, whose letters may be of any case.
+-- rule: 8.2.2 A connection-specific field breaks M10
 connection_fields :
     (of_requests (
     (r ++ field "connection" "close" ∷ []) ∷ (r ++ field "proxy-connection" "x" ∷ [])
@@ -87,6 +92,7 @@ unfolding computing
 connection_fields = (refl, refl)
 
 -- M11: all texts are numbers and equal ones, and the body has so many octets.
+-- rule: 8.1.1 A body to be sent that content-length denies breaks M11
 lengths :
     (map broken_by_request (
     with_body (r ++ field "content-length" "5" ∷ []) 4
@@ -108,6 +114,7 @@ unfolding computing
 lengths = (refl, refl)
 
 -- Trailers: M1, M2, M3 and M10. They may be empty, and their `content-length` says nothing.
+-- rule: 8.1 M1, M2, M3 and M10 hold of trailers
 trailers :
     (map (λ fields. broken_by_request (with_trailers r fields)) (
     (field "X" "y" ∷ []) ∷ (field "x" "y " ∷ []) ∷ (field ":path" "/" ∷ [])
@@ -123,6 +130,7 @@ unfolding computing
 trailers = (refl, refl)
 
 -- Of two rules the least number counts, of the head and of the trailers together.
+-- rule: 8.1.1 (own) A message to be sent is refused for the least of M1 to M11 it breaks
 least_numbers :
     (of_requests (
     (r ++ field "a" " x" ∷ field "A" "x" ∷ []) ∷ (field "a" " x" ∷ r)

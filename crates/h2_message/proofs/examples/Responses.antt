@@ -11,6 +11,7 @@ use Rattle.h2_message.proofs.examples.Words.{computing, field, with_body, with_t
 use Rattle.h2_message.proofs.examples.Words.{of_responses, r, answering}
 
 -- M1 to M6 and M10, each beside a response that doesn't break it.
+-- rule: 8.3.2 A response without :status breaks M6
 heads :
     (of_responses (
     (answering "200" ++ field "Server" "x" ∷ []) ∷ (answering "200" ++ field "a" "x " ∷ [])
@@ -60,6 +61,7 @@ bodies = (refl, refl)
 
 -- M11: an answer to HEAD, 204 and 304 have no body, and their length isn't compared; its text is
 -- looked at all the same.
+-- rule: 8.1.1 A body of an own answer to HEAD, 204 or 304 breaks M11
 without_content :
     (map (broken_by_response true) (
     with_body (answering "200") 0
@@ -85,6 +87,7 @@ unfolding computing
 without_content = (refl, refl, refl, refl)
 
 -- Trailers are those of a request; of two rules the least number counts.
+-- rule: 8.1 M1, M2, M3 and M10 hold of trailers
 trailers_and_order :
     (map (λ fields. broken_by_response false (with_trailers (answering "200") fields)) (
     [] ∷ (field "x" "y" ∷ []) ∷ (field "content-length" "x" ∷ []) ∷ [])

@@ -14,11 +14,13 @@ plain_field : field_line (record { name = codes ":path"; value = codes "/"; sens
     ≡ codes "  :path: /\n"
 plain_field = refl
 
+-- rule: show (own) The line of a field has its mark, its name and its value
 sensitive_field : field_line (record { name = codes "a"; value = []; sensitive = true })
     ≡ codes "  !a: \n"
 sensitive_field = refl
 
 -- octets that aren't printable, the backslash, and the first and last that are printable
+-- rule: show (own) The line of a field has its mark, its name and its value
 escaped_field : field_line (record {
   name = 0x00 ∷ 0x5c ∷ 0x7f ∷ 0xff ∷ [];
   value = 0x1f ∷ 0x20 ∷ 0x7e ∷ 0x80 ∷ [];
@@ -35,12 +37,14 @@ no_fields : list_lines [] ≡ []
 no_fields = refl
 
 -- a list is shown to its limit, and not one above it
+-- rule: show (own) A list above 65,536 octets has one line, without fields
 at_the_limit : (fields : List Field) → list_size fields ≡ 65536
     → list_lines fields ≡ flat_map field_line fields
 at_the_limit fields size =
     ap (λ (count : ℕ). if nat_le count 65536 then flat_map field_line fields
     else codes "  list too large\n") size
 
+-- rule: show (own) A list above 65,536 octets has one line, without fields
 above_the_limit : (fields : List Field) → list_size fields ≡ 65537
     → list_lines fields ≡ codes "  list too large\n"
 above_the_limit fields size =
@@ -72,6 +76,7 @@ ends_in_a_frame_of_a_block = refl
 ends_in_a_block : end_lines 0 true ≡ codes "unfinished block\n"
 ends_in_a_block = refl
 
+-- rule: show (own) An input has one output: preface, frames, then how it ends
 whole_preface : preface_lines true (codes "PRI * HTTP/2.0\r\n\r\nSM\r\n\r\n" ++ 0 ∷ [])
     ≡ codes "preface\n"
 unfolding expected_preface preface

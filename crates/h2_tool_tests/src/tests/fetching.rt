@@ -14,6 +14,7 @@ fn reports(alloc: Global, error: LinkError, status: Status, line: &str) -> bool 
         && err.as_slice() == line.as_bytes()
 }
 
+// rule: engines (own) N1 to N7 end a command with their statuses
 #[test]
 fn statuses_of_errors(rt: HostRuntime) {
     let cases = [
@@ -48,6 +49,7 @@ fn prints(alloc: Global, fetched: &Fetched, text: &str) -> bool {
     print_response(fetched, &mut out) == Ok(()) && out.as_slice() == text.as_bytes()
 }
 
+// rule: engines (own) A response is printed as its status, its phrase and its body
 #[test]
 fn responses_are_printed(rt: HostRuntime) -> Result<(), Fail> {
     let cases = [
@@ -86,6 +88,7 @@ fn gets(alloc: Global, link: &mut MemoryLink) -> bool {
     }
 }
 
+// rule: engines (own) A URL is asked for with GET
 #[test]
 fn get_over_a_link_in_memory(rt: HostRuntime) -> Result<(), Fail> {
     let mut link = MemoryLink::new(rt.alloc(), Vec::from_slice(rt.alloc(), RESPONSE)?);
@@ -93,6 +96,7 @@ fn get_over_a_link_in_memory(rt: HostRuntime) -> Result<(), Fail> {
     Ok(())
 }
 
+// rule: engines (own) A response is printed as its status, its phrase and its body
 #[test]
 fn phrases_of_statuses(rt: HostRuntime) {
     assert_eq!(rt; phrase(200), Some("OK"));

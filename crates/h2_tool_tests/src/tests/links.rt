@@ -28,6 +28,7 @@ fn writes(link: &mut MemoryLink, answer: Result<(), LinkError>, written: usize) 
     Some(link.output()) == OCTETS.get(..written) && link.failures() == failures
 }
 
+// rule: links (own) Writing all octets ends once they are taken, or with N1 or N5
 // How many octets a call takes at most, which call fails, the answer, and how many are written.
 #[test]
 fn writes_of_all_octets(rt: HostRuntime) -> Result<(), Fail> {
@@ -53,6 +54,7 @@ fn writes_nothing(link: &mut MemoryLink) -> bool {
     link.failures() == 0 && write_all(link, &[]) == Ok(()) && link.failures() == 0
 }
 
+// rule: links (own) Writing all octets ends once they are taken, or with N1 or N5
 #[test]
 fn no_octets_are_written(rt: HostRuntime) -> Result<(), Fail> {
     let mut link = new_link(rt.alloc(), 0, Some(0))?;
@@ -88,6 +90,9 @@ fn reads_all(
     Ok(link.failures() == failures && link.output().is_empty())
 }
 
+// rule: links (own) A link gives and takes octets in order
+// rule: links (own) A link counts the calls that fail
+// rule: links (own) The end of the input is a read that gives nothing
 #[test]
 fn reads_of_the_input(rt: HostRuntime) -> Result<(), Fail> {
     let first = Some(b"abcdefg".as_slice());
@@ -106,6 +111,7 @@ fn reads_of_the_input(rt: HostRuntime) -> Result<(), Fail> {
     Ok(())
 }
 
+// rule: links (own) N1 to N7 are printed with their names and codes
 #[test]
 fn errors_have_their_texts(rt: HostRuntime) -> Result<(), Fail> {
     let rules = [

@@ -50,6 +50,7 @@ fn fails(alloc: Global, replayed: &Replayed, room: usize) -> bool {
         && Some(out.octets.as_slice()) == replayed.lines.as_bytes().get(..room)
 }
 
+// rule: replay (own) Each event has a line, written with its piece
 #[test]
 fn full_writers(rt: HostRuntime) {
     for replayed in [REQUEST, FAULT] {
@@ -59,6 +60,7 @@ fn full_writers(rt: HostRuntime) {
     }
 }
 
+// rule: replay (own) The line of an event has its type, stream and more
 #[test]
 fn events_of_own_calls(rt: HostRuntime) -> Result<(), Fail> {
     let mut out = Vec::new(rt.alloc());

@@ -76,6 +76,8 @@ fn serves<R: Net>(
     Ok(err.as_slice() == lines.as_bytes() && ended == status)
 }
 
+// rule: engines (own) A link over TCP counts the calls that have failed
+// rule: engines (own) h2 serve serves so many connections, one after another
 #[test]
 fn connections_one_after_another(rt: HostRuntime) -> Result<(), Fail> {
     let rows: [(&[Client<'_>], &str, Status); 4] = [
@@ -94,6 +96,7 @@ fn connections_one_after_another(rt: HostRuntime) -> Result<(), Fail> {
     Ok(())
 }
 
+// rule: engines (own) After N2 and N3 input is dropped up to 16 MiB
 // 24 octets that are no preface, and 100,000 more, all written before one is read. They are read
 // too: a stream that is closed while octets are unread resets the connection.
 #[test]

@@ -71,6 +71,8 @@ fn shows(alloc: Global, stream: &Stream, reads: usize, writes: usize, is_complet
     is_printed(stream, &out.inner, ended, is_complete)
 }
 
+// rule: show (own) The status is 1 only where the stream is cut off or at fault
+// rule: show (own) Lines are written before the next read and before the end
 // The octets are 58, and the end is read too.
 #[test]
 fn failing_reads(rt: HostRuntime) {
@@ -80,6 +82,8 @@ fn failing_reads(rt: HostRuntime) {
     }
 }
 
+// rule: show (own) The status is 1 only where the stream is cut off or at fault
+// rule: show (own) Lines are written before the next read and before the end
 // Each line is written for itself.
 #[test]
 fn failing_writes(rt: HostRuntime) {
@@ -103,6 +107,7 @@ fn shows_at_once(alloc: Global, stream: &Stream, fails: bool) -> bool {
     is_printed(stream, &out.inner, ended, true)
 }
 
+// rule: show (own) Lines are written before the next read and before the end
 #[test]
 fn failing_writes_in_hexadecimal(rt: HostRuntime) {
     for stream in [OPENING, FAULT, INSIDE] {
@@ -150,6 +155,7 @@ fn shows_interrupted(alloc: Global, stream: &Stream, reads: usize) -> bool {
     is_printed(stream, &out, ended, true)
 }
 
+// rule: show (own) Lines are written before the next read and before the end
 #[test]
 fn interrupted_reads(rt: HostRuntime) {
     for reads in 0..4 {
@@ -157,6 +163,7 @@ fn interrupted_reads(rt: HostRuntime) {
     }
 }
 
+// rule: show (own) The status is 0 only where the input is good to its end
 #[test]
 fn exit_codes(rt: HostRuntime) {
     let codes = [

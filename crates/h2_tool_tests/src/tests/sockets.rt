@@ -50,6 +50,7 @@ fn error_of<R: Net>(rt: &R, alloc: Global, url: &str) -> Option<LinkError> {
     }
 }
 
+// rule: engines (own) A URL is asked for with GET
 #[test]
 fn get_of_a_location_where_nothing_listens(rt: HostRuntime) -> Result<(), Fail> {
     let port = closed_port(&rt)?;
@@ -69,6 +70,7 @@ fn serve_at_a_taken_port(rt: HostRuntime) -> Result<(), Fail> {
     Ok(())
 }
 
+// rule: engines (own) h2 serve serves so many connections, one after another
 #[test]
 fn serving_a_port_that_is_taken(rt: HostRuntime) -> Result<(), Fail> {
     let listener = TcpListener::bind(&rt, SocketAddr::from((Ipv4Addr::LOCALHOST, 0)))?;

@@ -61,6 +61,7 @@ fn sends_at_the_next_read(link: &mut Recorded) -> bool {
     true
 }
 
+// rule: engines (own) A link over TCP holds 65,536 octets at most, then sends them
 #[test]
 fn octets_are_sent_at_the_next_read(rt: HostRuntime) {
     match new_link(rt.alloc(), Recorder::new(rt.alloc(), usize::MAX, 20)) {
@@ -69,6 +70,7 @@ fn octets_are_sent_at_the_next_read(rt: HostRuntime) {
     }
 }
 
+// rule: engines (own) A link over TCP holds 65,536 octets at most, then sends them
 // Each write, how many of its octets are taken, and how many octets are sent then, in how many
 // writes.
 #[test]
@@ -93,6 +95,7 @@ fn octets_are_sent_once_65536_are_held(rt: HostRuntime) -> Result<(), Fail> {
     Ok(())
 }
 
+// rule: engines (own) A link over TCP holds 65,536 octets at most, then sends them
 #[test]
 fn options_of_the_stream(rt: HostRuntime) {
     match new_link(rt.alloc(), Recorder::new(rt.alloc(), usize::MAX, 0)) {
@@ -124,6 +127,8 @@ fn reports(alloc: Global, most: usize, count: usize, wrong: usize, kind: ErrorKi
         && has_sent(&link, OCTETS, count, 1)
 }
 
+// rule: engines (own) A link over TCP sends octets in order and once
+// rule: engines (own) A link over TCP counts the calls that have failed
 // Octets that are held are sent in writes of so many, with the wrong one so many writes.
 #[test]
 fn writes_that_go_wrong(rt: HostRuntime) {
@@ -145,6 +150,7 @@ fn sends_interrupted(alloc: Global, after: usize) -> bool {
     writes(&mut link, OCTETS, Ok(10)) && flushes(&mut link, Ok(())) && has_sent(&link, OCTETS, 5, 0)
 }
 
+// rule: engines (own) A link over TCP sends octets in order and once
 // A write that is interrupted is tried again.
 #[test]
 fn writes_that_are_interrupted(rt: HostRuntime) {
@@ -162,6 +168,8 @@ fn sends_though_the_read_fails(link: &mut Recorded) -> bool {
         && has_sent(link, OCTETS, 1, 1)
 }
 
+// rule: engines (own) A link over TCP sends octets in order and once
+// rule: engines (own) A link over TCP counts the calls that have failed
 #[test]
 fn reads_that_fail(rt: HostRuntime) {
     let stream = Recorder::new(rt.alloc(), usize::MAX, 5).with_failing_read();
@@ -183,6 +191,7 @@ fn left_of(alloc: Global, stream: Recorder) -> Option<usize> {
     }
 }
 
+// rule: engines (own) After N2 and N3 input is dropped up to 16 MiB
 // How many octets come, and how many of them are left unread: at most 16 MiB are dropped.
 #[test]
 fn octets_are_dropped(rt: HostRuntime) {

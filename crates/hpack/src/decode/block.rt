@@ -18,6 +18,7 @@ use crate::types::field_list::FieldList;
 use std::alloc::Global;
 use std::mem::replace;
 
+// rule: HPACK 3.1 A block is decoded exactly where its octets are one
 /// Decodes a complete block to a list of its own.
 pub(crate) fn decode_owned(
     alloc: Global,
@@ -34,6 +35,8 @@ pub(crate) fn decode_owned(
     read_owned_fields(alloc, table, unparsed, list_limit)
 }
 
+// rule: HPACK 4.2 A block without the update that a lower limit asks for is a fault
+// rule: HPACK 3.1 A block is decoded exactly where its octets are one
 /// Decodes a complete block into a list.
 pub(crate) fn decode_block(
     alloc: Global,

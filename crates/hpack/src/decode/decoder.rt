@@ -67,6 +67,7 @@ impl Decoder {
         self.limit = limit;
     }
 
+    // rule: HPACK 2.3.2 (own) The table that is lent is the decoder's or the encoder's own
     /// The dynamic table, to be read. It takes no memory.
     pub fn table(&self) -> &Table
         ensures { result.now ≡ self.now.table }
@@ -74,6 +75,15 @@ impl Decoder {
         &self.table
     }
 
+    // contract: 5.4.1 After a fault each layer answers that fault and changes nothing
+    // rule: 5.4.1 After a fault each layer answers that fault and changes nothing
+    // contract: 10.5.1 A list above 65,536 octets is a stream error ENHANCE_YOUR_CALM
+    // contract: HPACK 2.3.3 Indices 1 to 61 name the static table, those from 62 the dynamic
+    // contract: HPACK 6.3 A size update sets the maximum
+    // contract: HPACK 4.4 An entry larger than the maximum empties the table
+    // contract: HPACK 3.1 A block is decoded exactly where its octets are one
+    // rule: HPACK 3.1 A block is decoded exactly where its octets are one
+    // contract: HPACK 4.2 Size updates stand at the beginning of a block
     /// Decodes a complete block: its fields in order, or [`List::TooLarge`] where their size is
     /// above `list_limit` octets, by [`list_size`](crate::list_size) (RFC 9113, section 6.5.2); the
     /// table is as after the complete block in either case. Past the limit no further field is
@@ -104,6 +114,10 @@ impl Decoder {
         list
     }
 
+    // contract: HPACK 3.1 A block is decoded exactly where its octets are one
+    // rule: HPACK 3.1 A block is decoded exactly where its octets are one
+    // contract: HPACK 4.2 Size updates stand at the beginning of a block
+    // rule: HPACK 3.2 (own) A list that the caller keeps is emptied, then has the block's fields
     /// Decodes a complete block as [`Decoder::decode`] does, into a list that the caller keeps. The
     /// list is emptied first, and its room is used again; it is empty where the answer is
     /// [`Decoded::TooLarge`]. Past the limit no further field is stored.

@@ -73,6 +73,7 @@ pub(crate) fn owned_at(
     Ok((field, read.count))
 }
 
+// rule: HPACK 6.2 A literal has its name from an index or a string
 /// Reads the field at the start of `octets` as [`field_at`] does, and answers only how many octets
 /// encode it: of what an index names nothing is appended.
 pub(crate) fn skip_at(
@@ -101,6 +102,9 @@ fn begins_with_index(octets: &[u8]) -> bool
     matches!(octets, [0x80..=0xff, ..])
 }
 
+// rule: HPACK 6.2.1 A literal with incremental indexing is added to the table
+// rule: HPACK 6.2.2 A literal without indexing is not added
+// rule: HPACK 6.2.3 A literal never indexed is not added, and is sensitive
 /// The kind of a literal, by its first octet, or nothing where that is an update's.
 fn kind_of(first: u8) -> Option<Literal>
     requires { first < 0x80 }

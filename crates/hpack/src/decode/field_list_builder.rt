@@ -27,6 +27,7 @@ impl FieldListBuilder {
     ghost use Rattle.hpack.specs.FieldLists.{AreWithin};
     ghost use Rattle.hpack.specs.FieldListBuilder.{Builds, RepresentsList, AddsRead};
 
+    // rule: HPACK 3.2 (own) A list that the caller keeps is emptied, then has the block's fields
     /// An empty list in the room of another one, for a limit in octets.
     pub(crate) fn in_room_of(list: FieldList, list_limit: u32) -> FieldListBuilder
         ensures { RepresentsList list_limit [] result }
@@ -48,6 +49,7 @@ impl FieldListBuilder {
         self.remaining.is_none()
     }
 
+    // rule: HPACK 3.2 (own) A list that the caller keeps is emptied, then has the block's fields
     /// Adds the field whose octets were appended from `start` on, where the size stays within the
     /// limit; otherwise the list is too large, and nothing of it is kept.
     #[inline]
@@ -75,6 +77,7 @@ impl FieldListBuilder {
         Ok(())
     }
 
+    // rule: HPACK 3.2 (own) A list that the caller keeps is emptied, then has the block's fields
     /// The list, and what it holds.
     pub(crate) fn into_list(self) -> (FieldList, Decoded)
         requires { AreWithin self.octets.items self.places.items }

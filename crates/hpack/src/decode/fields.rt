@@ -12,6 +12,7 @@ use crate::table::dynamic_table::Table;
 use crate::types::fault::Fault;
 use std::alloc::Global;
 
+// rule: HPACK 4.2 Size updates stand at the beginning of a block
 /// Reads all of `octets` as fields, into an empty list.
 pub(crate) fn read_fields(
     alloc: Global,

@@ -20,6 +20,8 @@ use std::alloc::{AllocError, Global};
 /// How many bits of an indexed field's index are in its first octet.
 const INDEX_PREFIX: u8 = 7;
 
+// rule: HPACK 6.1 An indexed field is the entry
+// rule: HPACK 6.1 An indexed field of index 0 is a fault
 /// The name and the value of the field that the index at the start of `octets` names, lent, and how
 /// many octets encode the index.
 #[inline(always)]
@@ -38,6 +40,7 @@ pub(crate) fn indexed<'a>(
     }
 }
 
+// rule: HPACK 6.1 An indexed field is the entry
 /// Appends the name and the value of the field that the index at the start of `octets` names, and
 /// answers how long the name is and how many octets encode the index.
 #[inline(always)]
@@ -58,6 +61,10 @@ pub(crate) fn indexed_at(
     Ok((name.len(), count))
 }
 
+// rule: HPACK 4.4 A name by index is looked up before entries leave
+// rule: HPACK 6.2.1 A literal with incremental indexing is added to the table
+// rule: HPACK 6.2.2 A literal without indexing is not added
+// rule: HPACK 6.2.3 A literal never indexed is not added, and is sensitive
 /// Appends the name and the value of the literal at the start of `octets`, and answers what was
 /// read. What is to be added to the table is added.
 pub(crate) fn literal_at(
@@ -108,6 +115,7 @@ fn add_literal(
     Ok(())
 }
 
+// rule: HPACK 4.4 An entry larger than the maximum empties the table
 /// Adds a copy of the name and the value to the table. No copy is made of what is larger than the
 /// table's maximum, which empties it.
 fn add_copy(alloc: Global, table: &mut Table, name: &[u8], value: &[u8]) -> Result<(), AllocError>
@@ -132,6 +140,7 @@ fn index_prefix_bits(kind: Literal) -> u8
     }
 }
 
+// rule: HPACK 6.2 A literal has its name from an index or a string
 /// Appends the name and the value of a literal, and answers how long the name is and how many
 /// octets encode the literal.
 fn parts_at(
@@ -158,6 +167,8 @@ fn parts_at(
     Ok((name_len, head_len + name_octets + value_octets))
 }
 
+// rule: HPACK 4.4 A name by index is looked up before entries leave
+// rule: HPACK 6.2 A literal has its name from an index or a string
 /// Appends the name of a literal, after its index, and answers how many octets encode it: none
 /// where the index is that of an entry.
 fn name_at(table: &Table, index: u64, octets: &[u8], out: &mut Vec<u8>) -> Result<usize, Fault>

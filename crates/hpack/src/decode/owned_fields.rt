@@ -14,6 +14,7 @@ use crate::types::fault::Fault;
 use crate::types::field::List;
 use std::alloc::Global;
 
+// rule: HPACK 4.2 Size updates stand at the beginning of a block
 /// Reads all of `octets` as fields, and answers those, or that their size is above `list_limit`.
 pub(crate) fn read_owned_fields(
     alloc: Global,

@@ -38,6 +38,7 @@ impl OwnedListBuilder {
         matches!(self.list, List::TooLarge)
     }
 
+    // rule: 10.5.1 A list above 65,536 octets is a stream error ENHANCE_YOUR_CALM
     /// Appends a field where the size stays within the limit; otherwise the list is too large.
     #[inline(always)]
     pub(crate) fn push(&mut self, field: Field) -> Result<(), Fault>

@@ -12,6 +12,9 @@ use crate::types::fault::Fault;
 /// How many bits of a new maximum are in its first octet.
 const MAXIMUM_PREFIX: u8 = 5;
 
+// rule: HPACK 6.3 A size update above the limit is a fault
+// rule: HPACK 4.2 A block without the update that a lower limit asks for is a fault
+// rule: HPACK 4.2 Size updates stand at the beginning of a block
 /// Applies the size updates at the beginning of `octets`, and answers the octets after them. The
 /// table is changed once, after the last update.
 pub(crate) fn apply_updates<'a>(
@@ -40,6 +43,7 @@ pub(crate) fn apply_updates<'a>(
     Ok(unparsed)
 }
 
+// rule: HPACK 6.3 A size update sets the maximum
 /// The least maximum of those before the last update, and that of the last, after one more. Of the
 /// first update it is both.
 fn with_maximum(maxima: Option<(u32, u32)>, maximum: u32) -> (u32, u32)

@@ -27,6 +27,10 @@ pub(crate) enum Choice {
     Literal(Literal, u64),
 }
 
+// rule: HPACK 6.1 (own) A field with an exact entry is its least index
+// rule: HPACK 6.2.3 A sensitive field is never indexed
+// rule: HPACK 6.2.1 (own) Any other field is added to the table
+// rule: HPACK 6.2.2 (own) A field larger than the maximum is not added
 /// The choice for a field: a sensitive one is never indexed. Otherwise an exact entry gives its
 /// index; a field that is larger than the maximum isn't added, and any other is. Where it is added,
 /// its hashes are answered too.
@@ -57,6 +61,7 @@ pub(crate) fn choose(pending: &PendingTable, table: &Table, field: &Field) -> (C
     (Choice::Literal(Literal::WithIndexing, named), hashes)
 }
 
+// rule: HPACK 6.2 (own) A literal is encoded with the least index of its name
 /// The least index of the entries with the field's name, those of the static table first, or 0.
 fn name_index(pending: &PendingTable, table: &Table, name_hash: u64, field: &Field) -> u64
     requires pending { IsPendingTable pending.now table.now }
@@ -72,6 +77,8 @@ fn name_index(pending: &PendingTable, table: &Table, name_hash: u64, field: &Fie
     pending.dynamic_index(table, Sought::Name, name_hash, field)
 }
 
+// contract: HPACK 6.1 (own) A field with an exact entry is its least index
+// rule: HPACK 6.1 (own) A field with an exact entry is its least index
 /// The least index of the entries with the field's name and value, those of the static table first,
 /// or 0 and the hash of both.
 fn exact_index(pending: &PendingTable, table: &Table, name_hash: u64, field: &Field) -> (u64, u64)

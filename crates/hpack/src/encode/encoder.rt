@@ -72,6 +72,7 @@ impl Encoder {
         })
     }
 
+    // rule: HPACK 4.2 After the limit fell a block begins with one update or two
     /// Sets the limit, in octets, of the peer's table (RFC 7541, section 4.2). The next block
     /// announces what changed. It takes no memory; the next block takes room for `limit / 32`
     /// entries, and [`Encoder::encode`] answers [`Fault::Memory`] as long as that is refused. So a
@@ -83,6 +84,7 @@ impl Encoder {
         self.limit = limit;
     }
 
+    // rule: HPACK 2.3.2 (own) The table that is lent is the decoder's or the encoder's own
     /// The dynamic table, to be read. It takes no memory.
     pub fn table(&self) -> &Table
         ensures { result.now ≡ self.now.table }
@@ -90,6 +92,10 @@ impl Encoder {
         &self.table
     }
 
+    // contract: 5.4 (own) Out of memory is INTERNAL_ERROR
+    // contract: HPACK 6.1 (own) A field with an exact entry is its least index
+    // contract: HPACK 3.1 What is encoded is a block of the list
+    // rule: HPACK 3.1 What is encoded is a block of the list
     /// Appends the block of the fields (RFC 7541, section 6): the updates that are due, then each
     /// field as the least index that names it, or as a literal with the least index of its name,
     /// added to the table unless it is sensitive or larger than the maximum. Strings are
@@ -119,6 +125,7 @@ impl Encoder {
         Ok(())
     }
 
+    // rule: HPACK 3.1 What is encoded is a block of the list
     /// Appends the block of the fields. What can fail comes first: the table is changed once all is
     /// written and copied. On `Err` a prefix of the block has been appended.
     fn append_block(&mut self, fields: &[Field], out: &mut Vec<u8>) -> Result<(), Fault>

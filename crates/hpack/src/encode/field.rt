@@ -29,6 +29,8 @@ pub(crate) fn append_field(choice: Choice, field: &Field, out: &mut Vec<u8>) -> 
     }
 }
 
+// rule: HPACK 6.2.3 A sensitive field is never indexed
+// rule: HPACK 6.2 (own) A literal is encoded with the least index of its name
 /// Appends a field as a literal. On `Err` a prefix of it has been appended.
 fn append_literal(kind: Literal, index: u64, field: &Field, out: &mut Vec<u8>) -> Result<(), Fault>
     requires index { index < 2 ^ 35 }
@@ -45,6 +47,7 @@ fn append_literal(kind: Literal, index: u64, field: &Field, out: &mut Vec<u8>) -
     append_string(field.value.as_slice(), out)
 }
 
+// rule: HPACK 6.2 (own) A literal is encoded with the least index of its name
 /// Appends the head of a literal. On `Err` a prefix of it has been appended.
 fn append_head(kind: Literal, index: u64, out: &mut Vec<u8>) -> Result<(), Fault>
     requires { index < 2 ^ 35 }
@@ -58,6 +61,7 @@ fn append_head(kind: Literal, index: u64, out: &mut Vec<u8>) -> Result<(), Fault
     }
 }
 
+// rule: HPACK 6.2 (own) A literal is encoded with the least index of its name
 /// Appends an integer. On `Err` nothing has changed. Most integers have one octet.
 #[inline(always)]
 pub(crate) fn append_int(

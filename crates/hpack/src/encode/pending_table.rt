@@ -81,6 +81,7 @@ impl PendingTable {
         self.maximum = table.maximum();
     }
 
+    // rule: HPACK 3.1 What is encoded is a block of the list
     /// The table itself again, and no change of it. It takes no memory.
     pub(crate) fn undo(&mut self, table: &Table)
         requires { table.now.maximum / 32 < capacity_of self.old }
@@ -129,6 +130,7 @@ impl PendingTable {
         Ok(())
     }
 
+    // rule: HPACK 6.1 (own) A field with an exact entry is its least index
     /// The least index of the dynamic entries that are looked for, or 0.
     pub(crate) fn dynamic_index(
         &self,
@@ -160,6 +162,7 @@ impl PendingTable {
         self.maximum
     }
 
+    // rule: HPACK 6.2.1 (own) Any other field is added to the table
     /// Adds to the table the entries that were added here. It takes no memory.
     pub(crate) fn commit(&mut self, table: &mut Table)
         ensures table { table.new ≡ all_added table.old self.old.added.items }

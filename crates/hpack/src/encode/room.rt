@@ -16,6 +16,7 @@ const UPDATES: usize = 12;
 /// 32 octets, and three integers of six octets.
 const SPARE: usize = 14;
 
+// rule: HPACK 3.1 What is encoded is a block of the list
 /// Reserves room for the block of the fields, whatever the encoder chooses.
 pub(crate) fn reserve_block(fields: &[Field], out: &mut Vec<u8>) -> Result<(), Fault>
     requires { size_of_list fields.now < 2 ^ 35 }

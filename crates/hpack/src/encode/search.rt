@@ -35,6 +35,7 @@ pub(crate) fn is_match(sought: Sought, field: &Field, name: &[u8], value: &[u8])
     is_same(name, field.name.as_slice())
 }
 
+// rule: HPACK 6.1 (own) A field with an exact entry is its least index
 /// The least index of the static table's entries that are looked for, or 0, by the hash of the
 /// field's name. Only names in the bucket of the hash are compared.
 pub(crate) fn static_index(sought: Sought, hash: u64, field: &Field) -> u64

@@ -31,6 +31,8 @@ pub(crate) enum SizeUpdates {
 }
 
 impl SizeUpdates {
+    // rule: HPACK 4.2 After the limit fell a block begins with one update or two
+    // rule: HPACK 4.2 After the limit only rose the block begins with one update to it
     /// What is due at a table with this maximum: where the limit fell below the maximum, the least
     /// limit, and the limit now if that is another; where it didn't and is above the maximum, the
     /// limit now.

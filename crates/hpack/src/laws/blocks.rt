@@ -8,6 +8,7 @@ ghost use Rattle.hpack.specs.Tables.{Entries};
 ghost use Rattle.hpack.specs.Blocks.{Block, Update};
 ghost use Rattle.hpack.specs.Lists.{NoBlock};
 
+// contract: HPACK 3.1 A block is decoded exactly where its octets are one
 /// Octets are one block at most: one list of fields, and one table after it.
 pub fn one_block()
     ensures { (table after other : Entries) (limit : ℕ) (octets : List ℕ)
@@ -16,6 +17,7 @@ pub fn one_block()
         → (fields ≡ others) × (after ≡ other) }
 {}
 
+// contract: HPACK 4.4 The oldest entries leave until the size is at most the maximum
 /// The entries of a table that fit a bound (RFC 7541, sections 4.3 and 4.4) are its longest prefix
 /// whose size is at most the bound.
 pub fn longest_prefix()
@@ -26,6 +28,7 @@ pub fn longest_prefix()
         → length prefix ≤ length (fit (prefix ++ left) bound) }
 {}
 
+// contract: HPACK 4.2 Size updates stand at the beginning of a block
 /// Size updates are at the beginning of a block alone (RFC 7541, section 4.2): octets in which an
 /// update follows a field are no block.
 pub fn no_update_after_a_field()

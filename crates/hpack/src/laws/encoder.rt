@@ -8,6 +8,7 @@ ghost use Rattle.hpack.specs.Choice.{block_of, after_block, most_octets};
 ghost use Rattle.hpack.specs.Written.{IsValidEncoder, AreOctets};
 ghost use Rattle.hpack.specs.Limits.{after_limit, chosen, IsSettled};
 
+// contract: HPACK 3.1 What is encoded is a block of the list
 /// What an encoder writes for a list is a block of that list, for every decoder with the encoder's
 /// table whose limit isn't below the encoder's, and it leaves the encoder's table.
 pub fn written_block()
@@ -30,6 +31,7 @@ pub fn written_block()
         → (after_block state fields).table.maximum ≡ state.limit }
 {}
 
+// contract: HPACK 4.2 After the limit fell a block begins with one update or two
 /// Of the limits that are set between two blocks, in order, the least and the last decide all that
 /// is written: what an encoder writes, which records no more of them, is what the list of them all
 /// says.
@@ -48,6 +50,7 @@ pub fn least_and_last()
         → IsValidEncoder (after_limit state limit) }
 {}
 
+// contract: HPACK 3.1 What is encoded is a block of the list
 /// A block has at most the octets of its fields' names and values, 18 for each field, and 12.
 pub fn most_octets_of_a_block()
     ensures { (state : EncoderState) (fields : List Field)

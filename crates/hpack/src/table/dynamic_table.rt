@@ -53,6 +53,7 @@ impl Table {
         })
     }
 
+    // rule: HPACK 2.3.2 (own) A table says its length, size and maximum
     /// How many entries there are: at most the maximum divided by 32. It takes no memory.
     pub fn len(&self) -> usize
         ensures value { result ≡ length self.now.entries }
@@ -61,6 +62,7 @@ impl Table {
         self.ring.len()
     }
 
+    // rule: HPACK 2.3.2 (own) A table says its length, size and maximum
     /// Whether there is no entry. It takes no memory.
     pub fn is_empty(&self) -> bool
         ensures { result ≡ (length self.now.entries == 0) }
@@ -68,6 +70,10 @@ impl Table {
         self.ring.is_empty()
     }
 
+    // contract: 10.5 (own) What an end holds of a stream is bounded
+    // rule: 10.5 (own) What an end holds of a stream is bounded
+    // contract: HPACK 4.4 The oldest entries leave until the size is at most the maximum
+    // rule: HPACK 2.3.2 (own) A table says its length, size and maximum
     /// The size of the entries: at most the maximum (RFC 7541, section 4.1). It takes no memory.
     pub fn size(&self) -> usize
         ensures value { result ≡ table_size self.now.entries }
@@ -76,6 +82,7 @@ impl Table {
         self.size
     }
 
+    // rule: HPACK 2.3.2 (own) A table says its length, size and maximum
     /// The maximum (section 4.2). It takes no memory.
     pub fn maximum(&self) -> u32
         ensures { result ≡ self.now.maximum }
@@ -83,6 +90,7 @@ impl Table {
         self.maximum
     }
 
+    // rule: HPACK 2.3.2 The dynamic table has its newest entry first
     /// The name and the value of an entry, by its place: 1 is the newest. It takes no memory.
     pub fn get(&self, place: usize) -> Option<(&[u8], &[u8])>
         ensures { MatchOption result ((place ≡ 0) ⊎ (length self.now.entries < place))
@@ -96,6 +104,7 @@ impl Table {
         Some((entry.name(), entry.value()))
     }
 
+    // rule: HPACK 2.3.2 The dynamic table has its newest entry first
     /// The ring of the entries, the newest at the front. Its capacity is the maximum divided by 32,
     /// but at least 1. It takes no memory.
     pub fn ring(&self) -> &HeapCircularBuffer<Entry>
@@ -105,6 +114,8 @@ impl Table {
         &self.ring
     }
 
+    // contract: HPACK 6.3 A size update sets the maximum
+    // rule: HPACK 6.3 A size update sets the maximum
     /// Sets the maximum; the oldest entries leave until the size is at most that (section 4.3). It
     /// takes memory only where the ring's capacity changes.
     ///
@@ -120,6 +131,7 @@ impl Table {
         self.resize_twice(maximum, maximum)
     }
 
+    // rule: HPACK 6.3 A size update sets the maximum
     /// Sets the maximum to one and then to another; the oldest entries leave until the size is at
     /// most either. It takes memory only where the ring's capacity changes.
     ///
@@ -166,6 +178,9 @@ impl Table {
         self.size = 0;
     }
 
+    // rule: HPACK 2.3.2 The dynamic table has its newest entry first
+    // contract: HPACK 4.4 An entry larger than the maximum empties the table
+    // rule: HPACK 4.4 An entry larger than the maximum empties the table
     /// Adds the entry as the newest; the oldest leave until the size is at most the maximum, and
     /// the table is empty where the entry alone is larger (section 4.4). It takes no memory.
     pub(crate) fn add(&mut self, entry: Entry)

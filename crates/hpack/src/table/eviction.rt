@@ -11,6 +11,7 @@ use circular_buffer::HeapCircularBuffer;
 /// What an entry takes beside its name and value.
 const OVERHEAD: usize = 32;
 
+// rule: HPACK 4.1 The size of an entry is that of name and value, and 32
 /// The size of an entry, or the greatest number where that is less.
 pub(crate) fn size_of(entry: &Entry) -> usize
     ensures { result ≡ min (entry_size entry.now) (2 ^ 64 - 1) }
@@ -18,6 +19,7 @@ pub(crate) fn size_of(entry: &Entry) -> usize
     size_of_octets(entry.name(), entry.value())
 }
 
+// rule: HPACK 4.1 The size of an entry is that of name and value, and 32
 /// The size of an entry or a field of this name and value, or the greatest number where that is
 /// less.
 pub(crate) fn size_of_octets(name: &[u8], value: &[u8]) -> usize
@@ -32,6 +34,8 @@ pub(crate) fn size_of_octets(name: &[u8], value: &[u8]) -> usize
         .saturating_add(OVERHEAD)
 }
 
+// contract: HPACK 4.4 The oldest entries leave until the size is at most the maximum
+// rule: HPACK 4.4 The oldest entries leave until the size is at most the maximum
 /// Removes the oldest entries until the size of the others is at most the bound, and answers that
 /// size.
 pub(crate) fn evict(ring: &mut HeapCircularBuffer<Entry>, size: usize, bound: usize) -> usize

@@ -9,6 +9,9 @@ use crate::table::static_table::static_entry;
 /// How many entries the static table has.
 const STATIC_COUNT: u64 = 61;
 
+// contract: HPACK A The static table has 61 entries
+// contract: HPACK 2.3.3 Indices 1 to 61 name the static table, those from 62 the dynamic
+// rule: HPACK 2.3.3 Indices 1 to 61 name the static table, those from 62 the dynamic
 /// The name and the value of the entry that an index names: of the static table from 1 on, and then
 /// of the dynamic one.
 #[inline(always)]

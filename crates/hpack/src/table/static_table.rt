@@ -3,6 +3,8 @@
 ghost use Rattle.std.specs.Prelude.{◌≡◌, ◌-◌, ◌≤◌, ◌<◌, ◌⊎◌, slice_get, Some, MatchOption};
 ghost use Rattle.hpack.specs.Static.{static_entries};
 
+// contract: HPACK A The static table has 61 entries
+// rule: HPACK A The static table has 61 entries
 /// The name and the value of an entry of the static table, by its index, which begins with 1.
 #[inline(always)]
 #[tactic(auto, unfolding(crate::specs::Static::static_entries))]

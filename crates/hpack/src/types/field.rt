@@ -19,6 +19,7 @@ pub struct Field {
 }
 
 impl Field {
+    // rule (contract): HPACK 2.1 (own) The octets of a name and a value are those that were given
     /// A field of copies of a name and a value.
     ///
     /// # Errors

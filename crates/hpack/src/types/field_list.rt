@@ -34,6 +34,7 @@ impl Model for FieldList {
 impl FieldList {
     ghost use Rattle.hpack.specs.FieldLists.{AreWithin, fields_of};
 
+    // contract: HPACK 3.2 (own) A kept list says its fields and their number
     /// An empty list, without room. It takes no memory.
     pub fn new(alloc: Global) -> FieldList
         ensures { result ≡ [] }
@@ -44,6 +45,8 @@ impl FieldList {
         }
     }
 
+    // contract: HPACK 3.2 (own) A kept list says its fields and their number
+    // rule: HPACK 3.2 (own) A kept list says its fields and their number
     /// How many fields there are. It takes no memory.
     pub fn len(&self) -> usize
         ensures { result ≡ length self.now }
@@ -51,6 +54,7 @@ impl FieldList {
         self.places.len()
     }
 
+    // rule: HPACK 3.2 (own) A kept list says its fields and their number
     /// Whether there is no field. It takes no memory.
     pub fn is_empty(&self) -> bool
         ensures { result ≡ (length self.now == 0) }
@@ -58,6 +62,8 @@ impl FieldList {
         self.places.is_empty()
     }
 
+    // contract: HPACK 3.2 (own) A kept list says its fields and their number
+    // rule: HPACK 3.2 (own) A kept list says its fields and their number
     /// A field, by its place: 0 is the first. It takes no memory.
     pub fn get(&self, place: usize) -> Option<FieldRef<'_>>
         ensures { MatchOption result (length self.now ≤ place)
@@ -78,6 +84,7 @@ impl FieldList {
         })
     }
 
+    // rule: HPACK 3.2 (own) A kept list says its fields and their number
     /// Removes all fields, and keeps their room. It takes no memory.
     pub fn clear(&mut self)
         ensures { self.new ≡ [] }

@@ -21,6 +21,8 @@ impl Model for Octets {
 }
 
 impl Octets {
+    // contract: HPACK 2.1 (own) The octets of a name and a value are those that were given
+    // rule (contract): HPACK 2.1 (own) The octets of a name and a value are those that were given
     /// The octets of a vector.
     pub fn new(octets: Vec<u8>) -> Octets
         ensures { result ≡ octets.items }
@@ -28,6 +30,8 @@ impl Octets {
         Octets { octets }
     }
 
+    // contract: HPACK 2.1 (own) The octets of a name and a value are those that were given
+    // rule (contract): HPACK 2.1 (own) The octets of a name and a value are those that were given
     /// A copy of the octets of a slice.
     ///
     /// # Errors
@@ -41,6 +45,8 @@ impl Octets {
         })
     }
 
+    // contract: HPACK 2.1 (own) The octets of a name and a value are those that were given
+    // rule (contract): HPACK 2.1 (own) The octets of a name and a value are those that were given
     /// The octets.
     pub fn as_slice(&self) -> &[u8]
         ensures { result.now ≡ self.now }

@@ -11,6 +11,7 @@ pub struct Code {
     pub value: u32,
 }
 
+// rule: HPACK 5.2 A Huffman-encoded string is written with the codes
 /// The code of an octet.
 #[inline]
 pub fn code_of(octet: u8) -> Code

@@ -16,6 +16,7 @@ use std::mem::replace;
 /// The most ones that may pad the last octet. The state of so many ones has their number.
 const MAX_PADDING: u8 = 7;
 
+// rule: HPACK 5.2 (own) A text is appended to what stands there, or nothing is
 /// Appends the text that all of `octets` encode.
 pub fn append_text(octets: &[u8], out: &mut Vec<u8>) -> Result<(), TextFault>
     ensures answer { MatchResult result
@@ -42,6 +43,9 @@ pub fn append_text(octets: &[u8], out: &mut Vec<u8>) -> Result<(), TextFault>
     read
 }
 
+// rule: HPACK 5.2 Padding of more than seven bits is a fault
+// rule: HPACK 5.2 Padding of others than ones is a fault
+// rule: HPACK 5.2 The code of EOS inside a string is a fault
 /// Reads all of `octets` as a text. On `Err` a prefix of it was appended.
 #[inline(always)]
 fn read_text(octets: &[u8], out: &mut Vec<u8>) -> Result<(), TextFault>
@@ -66,6 +70,7 @@ fn read_text(octets: &[u8], out: &mut Vec<u8>) -> Result<(), TextFault>
     Ok(())
 }
 
+// rule: HPACK 5.2 With H the octets are the codes of appendix B
 /// Reads the bits of an octet from a state, and appends the octets whose codes they end. None comes
 /// where they end the code of EOS.
 #[inline]
@@ -81,6 +86,8 @@ fn read_octet(state: u8, octet: u8, out: &mut Vec<u8>) -> Option<u8>
     read_half(between, octet % 16, out)
 }
 
+// rule: HPACK 5.2 With H the octets are the codes of appendix B
+// rule: HPACK 5.2 The code of EOS inside a string is a fault
 /// Reads four bits from a state, and appends the octet whose code they end. None comes where they
 /// end the code of EOS.
 #[inline]

@@ -9,6 +9,8 @@ pub const HAS_SYMBOL: u32 = 0x1_0000;
 /// The step where the bits begin with the code of EOS.
 pub const END: u32 = 0x2_0000;
 
+// rule: HPACK 5.2 With H the octets are the codes of appendix B
+// rule: HPACK B The code is read by half octets, from state to state
 /// The step from a state by four bits, packed.
 #[inline]
 pub fn step_at(state: u8, half: u8) -> u32
@@ -18,6 +20,7 @@ pub fn step_at(state: u8, half: u8) -> u32
     STEPS[usize::from(state) * 16 + usize::from(half)]
 }
 
+// rule: HPACK B The code is read by half octets, from state to state
 /// The state that a step leads to.
 #[inline]
 pub fn next_state(step: u32) -> u8
@@ -26,6 +29,7 @@ pub fn next_state(step: u32) -> u8
     (step % 256) as u8
 }
 
+// rule: HPACK B The code is read by half octets, from state to state
 /// The symbol of a step that has one.
 #[inline]
 pub fn symbol_of(step: u32) -> u8

@@ -71,6 +71,7 @@ fn append_code(pending: Pending, code: Code, out: &mut Vec<u8>) -> Result<Pendin
     })
 }
 
+// rule: HPACK 5.2 A Huffman-encoded string is written with the codes
 /// Appends the octets that are full, and answers the bits that are left.
 fn append_octets(pending: Pending, out: &mut Vec<u8>) -> Result<LastBits, AllocError>
     ensures ok { IfOk result (λ last. Appends out.old.items out.new.items
@@ -90,6 +91,7 @@ fn append_octets(pending: Pending, out: &mut Vec<u8>) -> Result<LastBits, AllocE
     Ok(LastBits { count, value })
 }
 
+// rule: HPACK 5.2 A Huffman-encoded string is padded with ones
 /// Appends the bits that are left, if any, and ones that pad their octet.
 fn append_padded(last: LastBits, out: &mut Vec<u8>) -> Result<(), AllocError>
     ensures ok { OnOk result
