@@ -87,12 +87,18 @@ def without_comments(text):
     return "\n".join(it for it in text.split("\n") if it.strip() and not it.lstrip().startswith(("//", "--")))
 
 
+def bare(path, text):
+    """Returns what counts of a file of a crate: no comments, and of a file of code no layout."""
+    text = without_comments(text)
+    return " ".join(text.split()) if path.endswith(".rt") else text
+
+
 def without_bodies(text):
-    """Returns the text of a file of src/ without blank lines, comments and the bodies of functions."""
+    """Returns the text of a file of src/ without comments, layout and the bodies of functions."""
     lines = text.split("\n")
     for it in reversed(functions_of(text)):
         del lines[it.body : it.end]
-    return without_comments("\n".join(lines))
+    return bare("src/.rt", "\n".join(lines))
 
 
 def module_of(crate, file):
@@ -250,9 +256,10 @@ def self_test():
     found = functions_of(SOURCE)
     assert [it.name for it in found] == ["Gate::take", "GateFromIoFault*::from", "law", "last"], found
     assert without_comments("-- a\n\nb -- c\n  // d\n  /// e\nf\n") == "b -- c\nf"
-    bare = without_bodies(SOURCE)
-    assert "self.value -= 1" not in bare and "A comment" not in bare and "Gate { value: 4 }" not in bare
-    assert "ensures { result" in bare and "MOST ≡ 7" in bare and "value: u32" in bare and ") -> Gate {" in bare
+    assert bare("src/a.rt", "a {\n    b,\n}") == bare("src/a.rt", "a { b,\n}\n// c") == "a { b, }"
+    promised = without_bodies(SOURCE)
+    assert "self.value -= 1" not in promised and "A comment" not in promised and "Gate { value: 4 }" not in promised
+    assert "ensures { result" in promised and "MOST ≡ 7" in promised and "value: u32" in promised
     pairs = pairs_of("# text\nfile: src/gate.rt\nold: > 0\nnew: > 1\nold: = 7;\nnew:  8;\n")
     assert pairs == [("src/gate.rt", "> 0", "> 1"), ("src/gate.rt", "= 7;", " 8;")]
     texts = {}

@@ -2,7 +2,11 @@
 
 ghost use Rattle.std.specs.Prelude.{◌≡◌, reverse};
 ghost use Rattle.h2_message.specs.Octets.{
-    begins_blank, is_bad_name, is_bad_value, is_blank, names_user,
+  begins_blank,
+  is_bad_name,
+  is_bad_value,
+  is_blank,
+  names_user,
 };
 
 use crate::lanes::{has_bad_after_first, has_bad_in_value, is_bad_in_name};
