@@ -1,5 +1,5 @@
 -- What the calls of a link over a stream make of the stream, and of the octets that are held.
-use Rattle.std.specs.Prelude.{◌≡◌, ◌≤◌, ◌<◌, ℕ, List, [], length, take, drop}
+use Rattle.std.specs.Prelude.{◌≡◌, ◌⊎◌, ◌≤◌, ◌<◌, ◌-◌, ℕ, List, [], ◌++◌, length, take, drop}
 use Rattle.std.specs.Prelude.{Option, Result, Ok, Err}
 use Rattle.std.specs.Io.KnownBytes.{Appends, Consumes, IsAtEnd, append_known}
 use Rattle.h2_link.specs.declared.link.LinkFault.{LinkFault}
@@ -45,3 +45,14 @@ Reads contents remaining before after (Ok count) held held_now buffer =
     ReadsNext contents remaining before after held count buffer × (held_now ≡ [])
 Reads {S = S} contents remaining before after (Err fault) held held_now buffer =
     (between : S) × SendsFirst (contents before) (contents between) held held_now
+
+-- Of the first octets that are kept, with those of a piece: as many as are missing to 24; or none,
+-- where memory for them was refused.
+abbrev pub KeepsFirst : (kept piece kept_now : List ℕ) → Type 0
+KeepsFirst kept piece kept_now =
+    (kept_now ≡ kept ++ take (24 - length kept) piece) ⊎ (kept_now ≡ kept)
+
+-- The first octets that are kept after a read: with those that it gave.
+abbrev pub KeepsRead : (kept : List ℕ) → Result ℕ LinkFault → (buffer kept_now : List ℕ) → Type 0
+KeepsRead kept (Ok count) buffer kept_now = KeepsFirst kept (take count buffer) kept_now
+KeepsRead kept (Err fault) buffer kept_now = kept_now ≡ kept

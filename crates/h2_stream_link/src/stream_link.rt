@@ -5,12 +5,13 @@ ghost use Rattle.std.specs.Prelude.{false};
 ghost use Rattle.std.specs.Io.KnownBytes.{Appends};
 ghost use Rattle.h2_link.specs.Links.{failures_after, ended_after, stalled_after, Gives, Takes};
 ghost use Rattle.h2_stream_link.specs.StreamLinks.{octets_taken, Sends, Reads};
+ghost use Rattle.h2_stream_link.specs.StreamLinks.{KeepsRead};
 
-use crate::sending::{remove_first, send};
+use crate::sending::{MOST_FIRST, keep_first, remove_first, send};
 use h2_link::{Link, LinkError, LinkFault};
 use h2_show::read_some;
 use std::alloc::Global;
-use std::io::{Read, Write};
+use std::io::{ErrorKind, Read, Write};
 use std::net::{OpenStream, Shutdown};
 
 /// So many octets are held before they are sent, at most.
@@ -35,6 +36,8 @@ pub struct StreamLink<S> {
     ended: bool,
     stalled: bool,
     failures: u64,
+    first: Vec<u8>,
+    last_error: Option<ErrorKind>,
 }
 
 impl<S: Read + Write + OpenStream> StreamLink<S> {
@@ -51,6 +54,8 @@ impl<S: Read + Write + OpenStream> StreamLink<S> {
         S: Drop,
         ensures stream { IfOk result (λ link. link.stream ≡ stream) }
         ensures held { IfOk result (λ link. link.held.items ≡ []) }
+        ensures first { IfOk result (λ link. link.first.items ≡ []) }
+        ensures last_error { IfOk result (λ link. link.last_error ≡ None) }
         ensures failures { IfOk result (λ link. link.failures ≡ 0) }
         ensures ended { IfOk result (λ link. link.ended ≡ false) }
         ensures stalled { IfOk result (λ link. link.stalled ≡ false) }
@@ -63,12 +68,17 @@ impl<S: Read + Write + OpenStream> StreamLink<S> {
         let Ok(held) = Vec::with_capacity(alloc, MOST_HELD) else {
             return Err(LinkError::Memory);
         };
+        let Ok(first) = Vec::with_capacity(alloc, MOST_FIRST) else {
+            return Err(LinkError::Memory);
+        };
         Ok(StreamLink {
             stream,
             held,
             ended: false,
             stalled: false,
             failures: 0,
+            first,
+            last_error: None,
         })
     }
 
@@ -77,6 +87,21 @@ impl<S: Read + Write + OpenStream> StreamLink<S> {
         ensures { result.now ≡ self.now.stream }
     {
         &self.stream
+    }
+
+    /// The first octets that were read, 24 at most: as many as the preface has.
+    pub fn first_octets(&self) -> &[u8]
+        ensures { result.now ≡ self.now.first.items }
+    {
+        &self.first
+    }
+
+    /// Of which kind the error was of the stream's last read or write that failed, if one has. A
+    /// write that took nothing has none.
+    pub fn last_error(&self) -> Option<ErrorKind>
+        ensures { result ≡ self.now.last_error }
+    {
+        self.last_error
     }
 
     // rule: engines (own) A link over TCP holds 65,536 octets at most, then sends them
@@ -96,12 +121,15 @@ impl<S: Read + Write + OpenStream> StreamLink<S> {
         ensures failures { self.new.failures ≡ failures_after self.old.failures result }
         ensures ended { self.new.ended ≡ self.old.ended }
         ensures stalled { self.new.stalled ≡ self.old.stalled }
+        ensures first { self.new.first ≡ self.old.first }
+        ensures last_error { OnOk result (self.new.last_error ≡ self.old.last_error) }
     {
-        let count = send(&mut self.stream, &self.held);
+        let (count, error) = send(&mut self.stream, &self.held);
         remove_first(&mut self.held, count);
         if self.held.is_empty() {
             return Ok(());
         }
+        self.last_error = error;
         self.failures += 1;
         Err(LinkFault)
     }
@@ -151,14 +179,18 @@ impl<S: Read + Write + OpenStream> Link for StreamLink<S> {
         ensures failures { self.new.failures ≡ failures_after self.old.failures result }
         ensures reads { Reads S.contents S.remaining self.old.stream self.new.stream result
             self.old.held.items self.new.held.items buffer.new }
+        ensures first { KeepsRead self.old.first.items result buffer.new self.new.first.items }
+        ensures last_error { OnOk result (self.new.last_error ≡ self.old.last_error) }
     {
         self.flush()?;
         match read_some(&mut self.stream, buffer) {
             Ok(count) => {
                 self.ended = (!buffer.is_empty() && count == 0) || self.ended;
+                keep_first(&mut self.first, &buffer[..count]);
                 Ok(count)
             }
-            Err(_) => {
+            Err(error) => {
+                self.last_error = Some(error.kind());
                 self.failures += 1;
                 Err(LinkFault)
             }
@@ -181,10 +213,13 @@ impl<S: Read + Write + OpenStream> Link for StreamLink<S> {
             → length self.new.held.items ≤ 65536 }
         ensures full { length self.old.held.items ≤ 65536
             → OnOk result (length self.new.held.items < 65536) }
+        ensures first { self.new.first ≡ self.old.first }
+        ensures last_error { OnOk result (self.new.last_error ≡ self.old.last_error) }
     {
         let room = MOST_HELD.saturating_sub(self.held.len());
         let count = octets.len().min(room);
         if self.held.extend_from_slice(&octets[..count]).is_err() {
+            self.last_error = Some(ErrorKind::OutOfMemory);
             self.failures += 1;
             return Err(LinkFault);
         }

@@ -1,0 +1,72 @@
+-- Which hint is due beside the line of a failure, and its text.
+use Rattle.std.specs.Prelude.{◌≡◌, ◌<◌, ℕ, Bool, ◌||◌, List, [], ◌∷◌, ◌++◌, Option, Some, None}
+use Rattle.std.specs.Prelude.{MatchBool, codes, decimal, nat_eq}
+use Rattle.std.specs.List.{starts_with}
+use Rattle.h2_frame.specs.declared.code.Code.{Code}
+use Rattle.h2_frame.specs.Codes.{code_number, name_of}
+use Rattle.h2_hints.specs.declared.hint.Hint.{Hint}
+use Rattle.h2_hints.specs.declared.hint.Hint.TheVariants as hints
+
+-- the octets begin with these
+abbrev pub begins_with : List ℕ → List ℕ → Bool
+begins_with octets first = starts_with nat_eq octets first
+
+-- the octets are those of a capture in the format pcap: they begin with its magic number, of which
+-- there are two, for times in microseconds and in nanoseconds, each in two orders of octets
+abbrev pub is_pcap : List ℕ → Bool
+is_pcap octets = begins_with octets (0xd4 ∷ 0xc3 ∷ 0xb2 ∷ 0xa1 ∷ [])
+    || begins_with octets (0xa1 ∷ 0xb2 ∷ 0xc3 ∷ 0xd4 ∷ [])
+    || begins_with octets (0x4d ∷ 0x3c ∷ 0xb2 ∷ 0xa1 ∷ [])
+    || begins_with octets (0xa1 ∷ 0xb2 ∷ 0x3c ∷ 0x4d ∷ [])
+
+-- the octets are those of a capture in the format pcapng: they begin with the type of its first block
+abbrev pub is_pcapng : List ℕ → Bool
+is_pcapng octets = begins_with octets (0x0a ∷ 0x0d ∷ 0x0d ∷ 0x0a ∷ [])
+
+-- the octets are those of a capture
+abbrev pub is_capture : List ℕ → Bool
+is_capture octets = is_pcap octets || is_pcapng octets
+
+-- the octets are a response of HTTP/1.0 or HTTP/1.1 (RFC 9112, section 4)
+abbrev pub answers_http1 : List ℕ → Bool
+answers_http1 octets = begins_with octets (codes "HTTP/1")
+
+-- the octets are a request of HTTP/1.0 or HTTP/1.1 (RFC 9112, section 3): they begin with a method
+-- (RFC 9110, section 9; RFC 5789) and a space
+abbrev pub asks_http1 : List ℕ → Bool
+asks_http1 octets = begins_with octets (codes "GET ") || begins_with octets (codes "HEAD ")
+    || begins_with octets (codes "POST ") || begins_with octets (codes "PUT ")
+    || begins_with octets (codes "DELETE ") || begins_with octets (codes "OPTIONS ")
+    || begins_with octets (codes "PATCH ")
+
+-- The hint names the error code with this number (RFC 9113, section 7); there is none where no code
+-- has it.
+abbrev pub NamesCode : (number : ℕ) → Option Hint → Type 0
+NamesCode number None = 13 < number
+NamesCode number (Some (hints.ErrorCode code)) = code_number code ≡ number
+NamesCode number (Some other) = ⊥
+
+-- The hint that is due at a client whose connection has failed with this code, by the first octets
+-- that the server sent.
+abbrev pub IsDueAtClient : (number : ℕ) → (first : List ℕ) → Option Hint → Type 0
+IsDueAtClient number first hint =
+    MatchBool (answers_http1 first) (hint ≡ Some hints.Http1Server) (NamesCode number hint)
+
+-- The hint that is due at a server whose connection has failed with this code, by the first octets
+-- that the client sent.
+abbrev pub IsDueAtServer : (number : ℕ) → (first : List ℕ) → Option Hint → Type 0
+IsDueAtServer number first hint =
+    MatchBool (asks_http1 first) (hint ≡ Some hints.Http1Client) (NamesCode number hint)
+
+-- the text of a hint
+abbrev pub hint_text : Hint → List ℕ
+hint_text hints.Capture =
+    codes "the input is a capture: see its recipe in h2 show --help"
+hint_text hints.Http1Server = codes "the server answers in HTTP/1.1"
+hint_text hints.Http1Client =
+    codes "the client asks in HTTP/1.1: try curl --http2-prior-knowledge"
+hint_text (hints.ErrorCode code) = decimal (code_number code) ++ (codes " is " ++ name_of code)
+hint_text hints.ConnectionRefused = codes "the connection was refused: nothing listens at that port"
+hint_text hints.ConnectionReset = codes "the peer has reset the connection"
+hint_text hints.PortInUse = codes "the port is in use"
+hint_text hints.UnknownHost = codes "the host is unknown"
