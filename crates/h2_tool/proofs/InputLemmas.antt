@@ -1,7 +1,9 @@
 -- How `show` and `replay` end with an input that was read.
 use Rattle.std.proofs.Common.{◌≡◌, inl, inr, ℕ, Bool, true, false, List, Option, Some, None, refl}
 use Rattle.std.proofs.Common.{IfSome, MatchBool}
-use Rattle.std.specs.Io.KnownBytes.{Appends}
+use Rattle.std.proofs.Common.{◌++◌, sym, subst}
+use Rattle.core.specs.Fmt.{option_append}
+use Rattle.std.specs.Io.KnownBytes.{Appends, Consumes}
 use Rattle.h2_show.specs.declared.failure.Failure.{Failure}
 use Rattle.h2_show.specs.declared.failure.Failure.TheVariants as failures
 use Rattle.h2_show.specs.declared.options.ShowOptions.{ShowOptions}
@@ -96,3 +98,10 @@ replay_gives_up options words remaining left failures.Memory asked bad = tt
 replay_gives_up options words None left failures.BadHex asked bad = tt
 replay_gives_up options words (Some given) left failures.BadHex asked bad =
     RefusesReplay.bad_hex options asked (bad refl).0 (bad refl).1
+
+-- What holds of a first piece and what is left after it holds of the input.
+pub of_input : (P : List ℕ → Type 0) (before after : Option (List ℕ)) (first : List ℕ)
+    → Consumes before after first → IfSome (option_append (Some first) after) P → IfSome before P
+of_input P None after first read holds = tt
+of_input P (Some given) None first read holds = absurd read
+of_input P (Some given) (Some left) first read holds = subst P (sym read) holds
