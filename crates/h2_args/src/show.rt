@@ -47,7 +47,20 @@ const FROM: &str = "from";
 /// The lines that `show` prints, how it ends, and an example.
 const LINES_AND_STATUSES: &str =
     r"Each frame has a line: its kind, its stream, the length of its payload, and what
-the kind adds. The fields of a block follow the frame that ends it. Other lines:
+the kind adds, in this order:
+  end, whole, ack    its flag END_STREAM, END_HEADERS or ACK is set
+  pad=N              N octets of padding
+  priority           HEADERS has a priority
+  code=N             an error code (RFC 9113, section 7)
+  ID=VALUE           a setting: 1 HEADER_TABLE_SIZE, 2 ENABLE_PUSH,
+                     3 MAX_CONCURRENT_STREAMS, 4 INITIAL_WINDOW_SIZE,
+                     5 MAX_FRAME_SIZE, 6 MAX_HEADER_LIST_SIZE
+  last=N code=N debug=COUNT
+                     of GOAWAY: its last stream, and its octets of debug data
+  add=N              an increment of a window
+  KIND66, flags=N    a kind that the RFC doesn't define, and its flags
+PING has its octets in hexadecimal, and PRIORITY the length alone. The fields of
+a block follow the frame that ends it. Other lines:
   preface            the client's preface
     name: value      a header field; `!` before the name: it is never to be
                      indexed; `\x00`: an octet that is no printable ASCII, or a
@@ -66,6 +79,15 @@ Exit status, with the line on standard error:
   2  wrong words; or `bad hex`: the input isn't hexadecimal text
   3  `N1 Device`: a read or a write failed
   4  `N3 Memory`: out of memory
+
+A hint may follow that line. It is for people, and no status depends on it.
+
+A capture of packets is no stream. Of its first connection, tshark gives what
+the client sent, and what the server sent:
+  $ tshark -r FILE -q -z follow,tcp,raw,0 | grep -E '^[0-9a-f]+$' |
+      h2 show --hex
+  $ tshark -r FILE -q -z follow,tcp,raw,0 | sed -n 's/^\t//p' |
+      h2 show --hex --from server
 
 Example:
   $ echo 000004 08 00 00000000 0000000f | h2 show --hex --from server

@@ -2,6 +2,8 @@
 use Rattle.std.specs.Prelude.{◌≡◌, ◌<◌, ℕ, Bool, ◌||◌, List, [], ◌∷◌, ◌++◌, Option, Some, None}
 use Rattle.std.specs.Prelude.{MatchBool, codes, decimal, nat_eq}
 use Rattle.std.specs.List.{starts_with}
+use Rattle.std.specs.declared.io.ErrorKind.{ErrorKind}
+use Rattle.std.specs.declared.io.ErrorKind.TheVariants as kinds
 use Rattle.h2_frame.specs.declared.code.Code.{Code}
 use Rattle.h2_frame.specs.Codes.{code_number, name_of}
 use Rattle.h2_hints.specs.declared.hint.Hint.{Hint}
@@ -58,6 +60,25 @@ abbrev pub IsDueAtServer : (number : ℕ) → (first : List ℕ) → Option Hint
 IsDueAtServer number first hint =
     MatchBool (asks_http1 first) (hint ≡ Some hints.Http1Client) (NamesCode number hint)
 
+-- the hint for a call of a socket that has failed with an error of this kind, if there is one
+abbrev pub device_hint : ErrorKind → Option Hint
+device_hint kinds.ConnectionRefused = Some hints.ConnectionRefused
+device_hint kinds.ConnectionReset = Some hints.ConnectionReset
+device_hint kinds.ConnectionAborted = Some hints.ConnectionReset
+device_hint kinds.BrokenPipe = Some hints.ConnectionReset
+device_hint kinds.HostUnreachable = Some hints.HostUnreachable
+device_hint kinds.NetworkUnreachable = Some hints.HostUnreachable
+device_hint kinds.TimedOut = Some hints.HostUnreachable
+device_hint kinds.AddrInUse = Some hints.PortInUse
+device_hint kinds.PermissionDenied = Some hints.PortForbidden
+device_hint kind = None
+
+-- The same for a host that could not be connected to: its name is looked up first, and an error of
+-- that has no kind of its own.
+abbrev pub connect_hint : ErrorKind → Option Hint
+connect_hint kinds.Uncategorized = Some hints.UnknownHost
+connect_hint kind = device_hint kind
+
 -- the text of a hint
 abbrev pub hint_text : Hint → List ℕ
 hint_text hints.Capture =
@@ -68,5 +89,16 @@ hint_text hints.Http1Client =
 hint_text (hints.ErrorCode code) = decimal (code_number code) ++ (codes " is " ++ name_of code)
 hint_text hints.ConnectionRefused = codes "the connection was refused: nothing listens at that port"
 hint_text hints.ConnectionReset = codes "the peer has reset the connection"
+hint_text hints.HostUnreachable = codes "the host can't be reached"
 hint_text hints.PortInUse = codes "the port is in use"
+hint_text hints.PortForbidden = codes "the port needs a permission"
 hint_text hints.UnknownHost = codes "the host is unknown"
+
+-- the line of a hint
+abbrev pub hint_line : Hint → List ℕ
+hint_line hint = codes "hint: " ++ (hint_text hint ++ codes "\n")
+
+-- the line of the hint that is due, if one is
+abbrev pub lines_of_hint : Option Hint → List ℕ
+lines_of_hint None = []
+lines_of_hint (Some hint) = hint_line hint

@@ -7,5 +7,7 @@
 mod hint;
 mod opening;
 
-pub use hint::{Hint, hint_at_client, hint_at_server};
+pub use hint::{
+    Hint, hint_at_client, hint_at_server, hint_of_connecting, hint_of_device, write_hint,
+};
 pub use opening::{answers_http1, asks_http1, is_capture};

@@ -1,9 +1,13 @@
 -- The status of a command, by how its connection has ended.
-use Rattle.std.specs.Prelude.{◌≡◌, ◌⊎◌, ℕ, Result, Ok, Err}
+use Rattle.std.specs.Prelude.{◌≡◌, ◌⊎◌, ℕ, List, Option, Some, None, Result, Ok, Err}
+use Rattle.std.specs.declared.io.ErrorKind.{ErrorKind}
 use Rattle.h2_show.specs.declared.status.Status.{Status}
 use Rattle.h2_show.specs.declared.status.Status.TheVariants as statuses
 use Rattle.h2_link.specs.declared.error.LinkError.{LinkError}
 use Rattle.h2_link.specs.declared.error.LinkError.TheVariants as errors
+use Rattle.h2_hints.specs.declared.hint.Hint.{Hint}
+use Rattle.h2_hints.specs.Hints.{IsDueAtClient, IsDueAtServer, device_hint}
+use Rattle.h2_sockets.specs.declared.ending.Ending.{Ending}
 
 -- Devices that fail and memory have their own; the peer's faults are those of `show` and `replay`.
 -- rule: engines (own) N1 to N7 end a command with their statuses
@@ -28,3 +32,27 @@ EndsStream (Ok count) (Ok done) = Unit {0}
 EndsStream (Err error) (Ok done) = ⊥
 EndsStream (Ok count) (Err error) = error ≡ errors.Device
 EndsStream (Err reason) (Err error) = (error ≡ reason) ⊎ (error ≡ errors.Device)
+
+-- what came of a connection, without the hint
+abbrev pub without_hint : {T : Type 0} → Result T Ending → Result T LinkError
+without_hint (Ok value) = Ok value
+without_hint (Err ending) = Err ending.error
+
+-- the hint for the last error of a link, if it has had one
+abbrev pub link_hint : Option ErrorKind → Option Hint
+link_hint None = None
+link_hint (Some kind) = device_hint kind
+
+-- rule: engines (own) A hint after the line names the likely cause of N1 and N2
+-- The hint that is due at a client whose connection has ended so, by the first octets that were read
+-- and the last error of the link: for N1 and N2 alone.
+abbrev pub IsClientHint : LinkError → (first : List ℕ) → Option ErrorKind → Option Hint → Type 0
+IsClientHint (errors.Stream code) first last_error hint = IsDueAtClient code first hint
+IsClientHint errors.Device first last_error hint = hint ≡ link_hint last_error
+IsClientHint error first last_error hint = hint ≡ None
+
+-- The hint that is due at a server.
+abbrev pub IsServerHint : LinkError → (first : List ℕ) → Option ErrorKind → Option Hint → Type 0
+IsServerHint (errors.Stream code) first last_error hint = IsDueAtServer code first hint
+IsServerHint errors.Device first last_error hint = hint ≡ link_hint last_error
+IsServerHint error first last_error hint = hint ≡ None

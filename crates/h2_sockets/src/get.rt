@@ -8,10 +8,13 @@ ghost use Rattle.h2_message.specs.Fields.{status_of};
 ghost use Rattle.h2_message.specs.Values.{message_value};
 ghost use Rattle.h2_engines.specs.Failures.{failures_at_end};
 ghost use Rattle.h2_engines.specs.Linked.{traffic};
+ghost use Rattle.h2_sockets.specs.Endings.{without_hint};
 ghost use Rattle.h2_sockets.specs.Fetching.{FetchesLocation, GetsLocation, get_request};
 ghost use Rattle.h2_sockets.specs.Printing.{IsPhraseOf, PrintsResponse, status_line};
 
+use crate::ending::{Ending, client_hint};
 use h2_engines::{Config, Fetched, Field, Link, LinkError, Message, fetch_link};
+use h2_hints::hint_of_connecting;
 use h2_location::Location;
 use h2_stream_link::StreamLink;
 use http::StatusCode;
@@ -25,25 +28,35 @@ use std::net::{Net, TcpStream};
 ///
 /// # Errors
 ///
-/// N1 also where no connection can be made; else as [`fetch_link`].
-pub fn get_location<N: Net>(
-    net: &N,
-    alloc: Global,
-    location: &Location,
-) -> Result<Fetched, LinkError>
-    ensures { GetsLocation location.now result }
+/// N1 also where no connection can be made; else as [`fetch_link`]. The hint says what is likely
+/// the cause of N1 and N2.
+pub fn get_location<N: Net>(net: &N, alloc: Global, location: &Location) -> Result<Fetched, Ending>
+    ensures { GetsLocation location.now (without_hint result) }
 {
-    let Ok(stream) = TcpStream::connect(net, (location.host.as_str(), location.port)) else {
-        return Err(LinkError::Device);
+    let stream = match TcpStream::connect(net, (location.host.as_str(), location.port)) {
+        Ok(stream) => stream,
+        Err(fault) => {
+            return Err(Ending {
+                error: LinkError::Device,
+                hint: hint_of_connecting(fault.kind()),
+            });
+        }
     };
     let mut link = match StreamLink::new(alloc, stream) {
         Ok(link) => link,
-        Err(error) => return Err(error),
+        Err(error) => return Err(Ending { error, hint: None }),
     };
     let fetched = get_over(alloc, &mut link, location);
+    let last_error = link.last_error();
     // A GOAWAY may be held. That it can't be sent changes nothing of what was fetched.
     let _ = link.flush();
-    fetched
+    match fetched {
+        Ok(fetched) => Ok(fetched),
+        Err(error) => Err(Ending {
+            error,
+            hint: client_hint(error, link.first_octets(), last_error),
+        }),
+    }
 }
 
 // rule: engines (own) A URL is asked for with GET

@@ -9,9 +9,10 @@ mod get;
 mod loopback;
 mod serving;
 
-pub use ending::{report, status_of};
+pub use ending::{Ending, report, status_of};
 pub use get::{get_location, get_over, phrase, print_response};
 pub use h2_engines::{Fetched, LinkError};
+pub use h2_hints::Hint;
 pub use h2_location::{Location, TargetFault, target};
 pub use h2_stream_link::StreamLink;
 pub use loopback::{exchange, print_exchange};

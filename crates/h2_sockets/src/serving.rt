@@ -1,15 +1,16 @@
 //! Serving connections to a port.
 
 ghost use Rattle.std.specs.Prelude.{◌≡◌, ℕ, Result as Outcome, OnOk, IfErr, None, true};
-ghost use Rattle.h2_link.specs.declared.error.LinkError.{LinkError as Ending};
+ghost use Rattle.h2_link.specs.declared.error.LinkError.{LinkError as Reason};
 ghost use Rattle.h2_engines.specs.Failures.{EndsServing};
 ghost use Rattle.h2_engines.specs.Linked.{traffic};
 ghost use Rattle.h2_engines.specs.Serves.{Serves};
-ghost use Rattle.h2_sockets.specs.Endings.{EndsStream, IsServingStatus};
+ghost use Rattle.h2_sockets.specs.Endings.{EndsStream, IsServerHint, IsServingStatus};
 ghost use Rattle.h2_sockets.specs.Fetching.{default_values};
 
-use crate::ending::report;
+use crate::ending::{Ending, report, server_hint};
 use h2_engines::{Config, LinkError, serve_link};
+use h2_hints::hint_of_device;
 use h2_show::Status;
 use h2_stream_link::StreamLink;
 use std::alloc::Global;
@@ -21,8 +22,8 @@ use std::net::{Ipv4Addr, Net, OpenListener, OpenStream, SocketAddr, TcpListener}
 /// with the default [`Config`], and answers the status of the first that ended early, or
 /// [`Status::Good`].
 ///
-/// A connection that ends early has a line on standard error, and the next one is served. Where the
-/// port can't be had no connection is served: that is N1.
+/// A connection that ends early has a line on standard error, with a hint where the cause is known,
+/// and the next one is served. Where the port can't be had no connection is served: that is N1.
 pub fn serve_port<N: Net, E: Write>(
     net: &N,
     alloc: Global,
@@ -34,7 +35,11 @@ pub fn serve_port<N: Net, E: Write>(
 {
     match TcpListener::bind(net, SocketAddr::from((Ipv4Addr::LOCALHOST, port))) {
         Ok(listener) => serve_connections(alloc, &listener, count, err),
-        Err(_) => report(LinkError::Device, err),
+        Err(fault) => {
+            let hint = hint_of_device(fault.kind());
+            let error = LinkError::Device;
+            report(Ending { error, hint }, err)
+        }
     }
 }
 
@@ -53,8 +58,8 @@ where
 {
     let mut status = Status::Good;
     for _ in 0..count {
-        if let Err(error) = serve_next(alloc, listener) {
-            let of_error = report(error, err);
+        if let Err(ending) = serve_next(alloc, listener) {
+            let of_error = report(ending, err);
             if status == Status::Good {
                 status = of_error;
             }
@@ -64,17 +69,44 @@ where
 }
 
 /// Serves the next connection that a listener accepts.
-fn serve_next<L: OpenListener>(alloc: Global, listener: &L) -> Result<(), LinkError>
+fn serve_next<L: OpenListener>(alloc: Global, listener: &L) -> Result<(), Ending>
 where
     L::Stream: Read + Write + OpenStream,
-    ensures { IfErr result EndsServing }
+    ensures { IfErr result (λ ending. EndsServing ending.error) }
 {
-    let Ok((stream, _)) = listener.accept() else {
-        return Err(LinkError::Device);
+    let stream = match listener.accept() {
+        Ok((stream, _)) => stream,
+        Err(fault) => {
+            return Err(Ending {
+                error: LinkError::Device,
+                hint: hint_of_device(fault.kind()),
+            });
+        }
     };
     match StreamLink::new(alloc, stream) {
-        Ok(mut link) => serve_stream(alloc, &mut link),
-        Err(error) => Err(error),
+        Ok(mut link) => serve_with_hint(alloc, &mut link),
+        Err(error) => Err(Ending { error, hint: None }),
+    }
+}
+
+/// Serves one connection, as [`serve_stream`] does. Where it ends early the hint says what is likely
+/// the cause.
+fn serve_with_hint<S: Read + Write + OpenStream>(
+    alloc: Global,
+    link: &mut StreamLink<S>,
+) -> Result<(), Ending>
+    requires { link.old.failures ≡ 0 }
+    ensures ended { OnOk result (link.new.ended ≡ true) }
+    ensures err { IfErr result (λ ending. EndsServing ending.error) }
+    ensures hint { IfErr result (λ ending. IsServerHint ending.error link.new.first.items
+        link.new.last_error ending.hint) }
+{
+    match serve_stream(alloc, link) {
+        Ok(()) => Ok(()),
+        Err(error) => Err(Ending {
+            error,
+            hint: server_hint(error, link.first_octets(), link.last_error()),
+        }),
     }
 }
 
@@ -86,7 +118,7 @@ fn serve_stream<S: Read + Write + OpenStream>(
     link: &mut StreamLink<S>,
 ) -> Result<(), LinkError>
     requires { link.old.failures ≡ 0 }
-    ensures serves { (served : Outcome ℕ Ending) × EndsStream served result
+    ensures serves { (served : Outcome ℕ Reason) × EndsStream served result
         × Serves default_values (traffic None None link.old.stalled)
         (traffic None None link.new.stalled) served }
     ensures ended { OnOk result (link.new.ended ≡ true) }

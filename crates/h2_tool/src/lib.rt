@@ -5,8 +5,6 @@
 //! sockets opens them by the network that it is given.
 #![tactic(auto)]
 
-mod first;
-mod hints;
 mod program;
 mod replay;
 mod show;

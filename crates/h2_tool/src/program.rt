@@ -12,7 +12,7 @@ use crate::sockets::{cmd_get, cmd_loop, cmd_serve};
 use clap::Error;
 use clap::error::ErrorKind;
 use h2_args::no_command;
-use h2_show::{Failure, Status};
+use h2_show::{Failure, Hint, Status};
 use std::alloc::Global;
 use std::io::{self, Read, Write};
 use std::net::Net;
@@ -104,4 +104,24 @@ pub(crate) fn give_up<E: Write>(failure: Failure, err: &mut E) -> Status
     // There is no place left to report that this write fails.
     let _ = writeln!(err, "{failure}");
     failure.status()
+}
+
+// rule (tested): show (own) Without a preface a line names the option that is likely missing
+/// Prints on standard error which option is likely missing; `from_server` is that for octets of a
+/// server.
+pub(crate) fn give_hint<E: Write>(hint: Option<Hint>, from_server: &str, err: &mut E) {
+    // The status is that of the stream, whether or not these writes fail.
+    let _ = match hint {
+        None => Ok(()),
+        Some(Hint::Hexadecimal) => {
+            writeln!(
+                err,
+                "hint: the input looks like hexadecimal text: try --hex"
+            )
+        }
+        Some(Hint::FromServer) => writeln!(
+            err,
+            "hint: the input begins with no client's preface: try {from_server}"
+        ),
+    };
 }

@@ -3,12 +3,9 @@
 ghost use Rattle.std.specs.Prelude.{map, string_bytes};
 ghost use Rattle.h2_tool.specs.Commands.{EndsReplay};
 
-use crate::first::read_first;
-use crate::hints::give_hint;
-use crate::program::{answer, give_up};
+use crate::program::{answer, give_hint, give_up};
 use h2_args::replay_args;
 use h2_events::replay_input;
-use h2_hints::is_capture;
 use h2_show::Status;
 use std::alloc::Global;
 use std::io::{Read, Write};
@@ -20,8 +17,7 @@ use std::io::{Read, Write};
 /// Runs `h2 replay` with the words after `replay`: hands the input to one end of a new connection,
 /// and prints a line for each event, then the fault with which the connection fails, if it does,
 /// and then all that the end sends. Where the first octets aren't the preface that a server
-/// expects, a line on standard error names the option that is likely missing, or says that the
-/// input is a capture of packets.
+/// expects, a line on standard error names the option that is likely missing.
 ///
 /// The words are checked before anything is read. Lines are written at the end of each piece that
 /// was read.
@@ -42,14 +38,9 @@ pub fn cmd_replay<R: Read, W: Write, E: Write>(
         Ok(options) => options,
         Err(error) => return answer(&error, out, err),
     };
-    let first = match read_first(alloc, input) {
-        Ok(first) => first,
-        Err(failure) => return give_up(failure, err),
-    };
-    match replay_input(alloc, options, &mut first.as_slice().chain(input), out) {
+    match replay_input(alloc, options, input, out) {
         Ok(shown) => {
-            let is_capture = !options.hex && is_capture(&first);
-            give_hint(is_capture, shown.hint, "--as client", err);
+            give_hint(shown.hint, "--as client", err);
             shown.status
         }
         Err(failure) => give_up(failure, err),

@@ -3,11 +3,8 @@
 ghost use Rattle.std.specs.Prelude.{map, string_bytes};
 ghost use Rattle.h2_tool.specs.Commands.{EndsShow};
 
-use crate::first::read_first;
-use crate::hints::give_hint;
-use crate::program::{answer, give_up};
+use crate::program::{answer, give_hint, give_up};
 use h2_args::show_args;
-use h2_hints::is_capture;
 use h2_show::{Status, show_input};
 use std::alloc::Global;
 use std::io::{Read, Write};
@@ -18,7 +15,7 @@ use std::io::{Read, Write};
 /// Runs `h2 show` with the words after `show`: prints the frames of the input, one line each, the
 /// header fields under each block, and then the fault that ends the stream or what its end leaves
 /// unfinished. Where the first octets aren't the preface, a line on standard error names the option
-/// that is likely missing, or says that the input is a capture of packets.
+/// that is likely missing.
 ///
 /// The words are checked before anything is read. Lines are written at the end of each piece that
 /// was read.
@@ -40,14 +37,9 @@ pub fn cmd_show<R: Read, W: Write, E: Write>(
         Ok(options) => options,
         Err(error) => return answer(&error, out, err),
     };
-    let first = match read_first(alloc, input) {
-        Ok(first) => first,
-        Err(failure) => return give_up(failure, err),
-    };
-    match show_input(alloc, options, &mut first.as_slice().chain(input), out) {
+    match show_input(alloc, options, input, out) {
         Ok(shown) => {
-            let is_capture = !options.hex && is_capture(&first);
-            give_hint(is_capture, shown.hint, "--from server", err);
+            give_hint(shown.hint, "--from server", err);
             shown.status
         }
         Err(failure) => give_up(failure, err),

@@ -11,7 +11,7 @@ use h2_args::{get_args, loop_args, serve_args};
 use h2_location::{TargetFault, target};
 use h2_show::{Failure, Status};
 use h2_sockets::{
-    LinkError, exchange, get_location, print_exchange, print_response, report, serve_port,
+    Ending, LinkError, exchange, get_location, print_exchange, print_response, report, serve_port,
 };
 use std::alloc::Global;
 use std::io::Write;
@@ -20,7 +20,7 @@ use std::net::Net;
 // rule: engines (own) serve, get and loop have their words
 /// Runs `h2 serve` with the words after `serve`: serves so many connections to a port of 127.0.0.1,
 /// one after another, and answers each request with what it asked. A connection that ends early has
-/// a line on standard error. Only help is printed on standard output.
+/// a line on standard error, and a hint where the cause is known. Only help is printed on standard output.
 ///
 /// The status is that of [`serve_port`]; for help it is [`Status::Good`], and for wrong words
 /// [`Status::Usage`].
@@ -40,7 +40,8 @@ pub fn cmd_serve<N: Net, W: Write, E: Write>(
 }
 
 /// Runs `h2 get` with the words after `get`: fetches a URL, and prints the status with its phrase,
-/// and the body.
+/// and the body. A fetch that fails has a line on standard error, and a hint where the cause is
+/// known.
 ///
 /// The status is [`Status::Good`] for a response that has come, whatever its own status is, and for
 /// help; [`Status::Usage`] for wrong words and a URL that can't be fetched; and else that of
@@ -65,7 +66,7 @@ pub fn cmd_get<N: Net, W: Write, E: Write>(
     };
     match get_location(net, alloc, &target) {
         Ok(fetched) => status_of_end(print_response(&fetched, out), err),
-        Err(error) => report(error, err),
+        Err(ending) => report(ending, err),
     }
 }
 
@@ -90,7 +91,7 @@ pub fn cmd_loop<N: Net, W: Write, E: Write>(
     };
     match exchange(net, alloc, count) {
         Ok(fetched) => status_of_end(print_exchange(count, &fetched, out), err),
-        Err(error) => report(error, err),
+        Err(error) => report(Ending { error, hint: None }, err),
     }
 }
 
@@ -113,6 +114,6 @@ fn status_of_end<E: Write>(ended: Result<(), LinkError>, err: &mut E) -> Status
 {
     match ended {
         Ok(()) => Status::Good,
-        Err(error) => report(error, err),
+        Err(error) => report(Ending { error, hint: None }, err),
     }
 }

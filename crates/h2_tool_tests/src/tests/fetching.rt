@@ -2,16 +2,18 @@
 
 use h2_engines::{Field, Link, MemoryLink};
 use h2_show::Status;
-use h2_sockets::{Fetched, LinkError, get_over, phrase, print_response, report, status_of, target};
+use h2_sockets::{
+    Ending, Fetched, Hint, LinkError, get_over, phrase, print_response, report, status_of, target,
+};
 use std::alloc::{AllocError, Global};
 use std::test::Fail;
 
-/// Whether a connection that ends so has this status, and this line.
-fn reports(alloc: Global, error: LinkError, status: Status, line: &str) -> bool {
+/// Whether a connection that ends so has this status, and these lines.
+fn reports(alloc: Global, ending: Ending, status: Status, lines: &str) -> bool {
     let mut err = Vec::new(alloc);
-    status_of(error) == status
-        && report(error, &mut err) == status
-        && err.as_slice() == line.as_bytes()
+    status_of(ending.error) == status
+        && report(ending, &mut err) == status
+        && err.as_slice() == lines.as_bytes()
 }
 
 // rule: engines (own) N1 to N7 end a command with their statuses
@@ -27,8 +29,20 @@ fn statuses_of_errors(rt: HostRuntime) {
         (LinkError::Refused, Status::Usage, "N7 Refused\n"),
     ];
     for (error, status, line) in cases {
-        assert!(rt; reports(rt.alloc(), error, status, line), "{error}");
+        let ending = Ending { error, hint: None };
+        assert!(rt; reports(rt.alloc(), ending, status, line), "{error}");
     }
+}
+
+// rule: engines (own) A hint after the line names the likely cause of N1 and N2
+#[test]
+fn hint_after_the_line(rt: HostRuntime) {
+    let ending = Ending {
+        error: LinkError::Stream(6),
+        hint: Some(Hint::Http1Server),
+    };
+    let lines = "N2 Stream 6\nhint: the server answers in HTTP/1.1\n";
+    assert!(rt; reports(rt.alloc(), ending, Status::Fault, lines));
 }
 
 /// A response with this status.

@@ -43,6 +43,14 @@ fn new_client<R: Net>(rt: &R, address: SocketAddr, octets: &[u8]) -> Result<R::S
     Ok(stream)
 }
 
+/// What is reported of a client that asks in HTTP/1.1.
+const ASKED: &str =
+    "N2 Stream 1\nhint: the client asks in HTTP/1.1: try curl --http2-prior-knowledge\n";
+
+/// What is reported of one whose input is cut off, and then of such a client.
+const CUT_AND_ASKED: &str = "N4 CutOff\nN2 Stream 1\n\
+    hint: the client asks in HTTP/1.1: try curl --http2-prior-knowledge\n";
+
 /// Whether what is read of a stream ends with these octets.
 fn ends_with<S: Read>(alloc: Global, stream: &mut S, last: &[u8]) -> Result<bool, Fail> {
     let mut octets = Vec::new(alloc);
@@ -83,12 +91,8 @@ fn connections_one_after_another(rt: HostRuntime) -> Result<(), Fail> {
     let rows: [(&[Client<'_>], &str, Status); 4] = [
         (&[WHOLE], "", Status::Good),
         (&[WHOLE, WHOLE, WHOLE], "", Status::Good),
-        (&[WHOLE, BAD, WHOLE], "N2 Stream 1\n", Status::Fault),
-        (
-            &[CUT, WHOLE, BAD],
-            "N4 CutOff\nN2 Stream 1\n",
-            Status::Fault,
-        ),
+        (&[WHOLE, BAD, WHOLE], ASKED, Status::Fault),
+        (&[CUT, WHOLE, BAD], CUT_AND_ASKED, Status::Fault),
     ];
     for (clients, lines, status) in rows {
         assert!(rt; serves(&rt, rt.alloc(), clients, lines, status)?, "{lines}");
@@ -103,7 +107,7 @@ fn connections_one_after_another(rt: HostRuntime) -> Result<(), Fail> {
 fn octets_after_a_bad_preface(rt: HostRuntime) -> Result<(), Fail> {
     let octets = vec![in rt.alloc(); b'x'; 100_024]?;
     let clients = [(octets.as_slice(), GOAWAY)];
-    let lines = "N2 Stream 1\n";
+    let lines = "N2 Stream 1\nhint: 1 is PROTOCOL_ERROR\n";
     assert!(rt; serves(&rt, rt.alloc(), &clients, lines, Status::Fault)?);
     Ok(())
 }

@@ -9,12 +9,19 @@ use std::alloc::Global;
 use std::net::{Ipv4Addr, Net, OpenListener, SocketAddr, TcpListener};
 use std::test::Fail;
 
-/// Whether a line prints nothing and ends with N1. Nothing is read.
-fn fails<R: Net>(rt: &R, alloc: Global, line: &str) -> Result<bool, Fail> {
+/// What is reported where nothing listens at a port.
+const REFUSED: &str = "N1 Device\nhint: the connection was refused: nothing listens at that port\n";
+
+/// What is reported where another listens at a port.
+const IN_USE: &str = "N1 Device\nhint: the port is in use\n";
+
+/// Whether a line prints nothing and ends with N1, and with these lines on standard error. Nothing
+/// is read.
+fn fails<R: Net>(rt: &R, alloc: Global, line: &str, lines: &str) -> Result<bool, Fail> {
     let words = words_of(alloc, line)?;
     let (mut out, mut err) = (Vec::new(alloc), Vec::new(alloc));
     let ended = run(rt, alloc, &words, &mut Failing, &mut out, &mut err);
-    let is_reported = err.as_slice() == b"N1 Device\n".as_slice();
+    let is_reported = err.as_slice() == lines.as_bytes();
     Ok(ended == Status::Device && is_reported && out.is_empty())
 }
 
@@ -38,14 +45,16 @@ fn loop_to_a_full_device(rt: HostRuntime) -> Result<(), Fail> {
 fn get_where_nothing_listens(rt: HostRuntime) -> Result<(), Fail> {
     let port = closed_port(&rt)?;
     let line = format!(in rt.alloc(); "get http://127.0.0.1:{port}/")?;
-    assert!(rt; fails(&rt, rt.alloc(), &line)?);
+    assert!(rt; fails(&rt, rt.alloc(), &line, REFUSED)?);
     Ok(())
 }
 
 /// The error of a GET of this URL.
 fn error_of<R: Net>(rt: &R, alloc: Global, url: &str) -> Option<LinkError> {
     match target(alloc, url.as_bytes()) {
-        Ok(target) => get_location(rt, alloc, &target).err(),
+        Ok(target) => get_location(rt, alloc, &target)
+            .err()
+            .map(|ending| ending.error),
         Err(_) => None,
     }
 }
@@ -66,7 +75,7 @@ fn serve_at_a_taken_port(rt: HostRuntime) -> Result<(), Fail> {
     let port = listener.local_addr()?.port();
     let free = closed_port(&rt)?;
     let line = format!(in rt.alloc(); "serve {port} {free}")?;
-    assert!(rt; fails(&rt, rt.alloc(), &line)?);
+    assert!(rt; fails(&rt, rt.alloc(), &line, IN_USE)?);
     Ok(())
 }
 
@@ -80,6 +89,6 @@ fn serving_a_port_that_is_taken(rt: HostRuntime) -> Result<(), Fail> {
         serve_port(&rt, rt.alloc(), port, 1, &mut err),
         Status::Device
     );
-    assert_eq!(rt; err.as_slice(), b"N1 Device\n".as_slice());
+    assert_eq!(rt; err.as_slice(), IN_USE.as_bytes());
     Ok(())
 }

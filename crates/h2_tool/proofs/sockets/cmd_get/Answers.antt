@@ -31,7 +31,8 @@ returns-in-Ok-get_location g c =
 
 pub returns : goal.returns
 returns g c =
-    let gets : Gets (map string_bytes c.args.words.now) (Err c.in-Err-get_location.error) = record {
+    let error = c.in-Err-get_location.ending.error in
+    let gets : Gets (map string_bytes c.args.words.now) (Err error) = record {
       url = c.in-Ok.url.now;
       asked = c.in-Ok.ensures.ok;
       location = c.in-Ok-target.target;
@@ -39,4 +40,4 @@ returns g c =
           c.in-Ok-target.ensures.ok;
       gets = rw c.in-Err-get_location.is at c.get_location.ensures;
     } in
-    rw c.report.ensures (get_ends_early _ _ _ c.in-Err-get_location.error gets)
+    rw c.report.ensures (get_ends_early _ _ _ error gets)
