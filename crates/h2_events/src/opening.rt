@@ -1,6 +1,7 @@
 //! What is still to come of the client's preface.
 
 use h2_conn::Role;
+use h2_hints::is_capture;
 use h2_show::Hint;
 
 /// The client's preface (RFC 9113, section 3.4).
@@ -10,14 +11,22 @@ const PREFACE: &[u8] = b"PRI * HTTP/2.0\r\n\r\nSM\r\n\r\n";
 #[derive(Clone, Copy, Debug)]
 pub(crate) struct Opening {
     left: &'static [u8],
+    /// Whether no octet has come.
+    is_new: bool,
 }
 
 impl Opening {
     /// Before the first octet: a server expects the preface, a client nothing.
     pub(crate) fn new(role: Role) -> Opening {
         match role {
-            Role::Server => Opening { left: PREFACE },
-            Role::Client => Opening { left: &[] },
+            Role::Server => Opening {
+                left: PREFACE,
+                is_new: true,
+            },
+            Role::Client => Opening {
+                left: &[],
+                is_new: true,
+            },
         }
     }
 
@@ -25,12 +34,17 @@ impl Opening {
     pub(crate) fn advance(&mut self, piece: &[u8]) {
         let count = piece.len().min(self.left.len());
         self.left = &self.left[count..];
+        self.is_new = false;
     }
 
     // rule: replay (own) The words of replay choose the end and hexadecimal
-    /// What is likely wrong with the options, where the connection fails in this piece: none unless
-    /// the piece isn't what is still to come of the preface.
+    /// What is likely wrong with the options or the input, where the connection fails in this piece:
+    /// none unless it is the first one and begins as a capture does, or isn't what is still to come
+    /// of the preface.
     pub(crate) fn hint(&self, piece: &[u8]) -> Option<Hint> {
+        if self.is_new && is_capture(piece) {
+            return Some(Hint::Capture);
+        }
         if piece.starts_with(self.left) {
             return None;
         }

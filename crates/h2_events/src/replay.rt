@@ -25,7 +25,7 @@ use std::io::{BufWriter, Read, Write};
 struct Ended {
     /// The code with which the connection failed, for a fault of the peer.
     fault: Option<Code>,
-    /// What is likely wrong with the options, where the first octets aren't the preface.
+    /// What is likely wrong with the options or the input, where that shows.
     hint: Option<Hint>,
 }
 
@@ -195,7 +195,7 @@ fn replay_all<W: Write>(
         },
         Err(ReplayError::Fault(code)) => Ended {
             fault: Some(code),
-            hint: Opening::new(role).hint(octets).map(|_| Hint::FromServer),
+            hint: Opening::new(role).hint(octets).map(Hint::of_decoded),
         },
         Err(ReplayError::Failed(failure)) => return Err(failure),
     };

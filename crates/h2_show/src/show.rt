@@ -25,7 +25,7 @@ use std::io::{self, BufWriter, ErrorKind, Read, Write};
 pub struct Shown {
     /// How the command ends: [`Status::Good`] or [`Status::Fault`].
     pub status: Status,
-    /// What is likely wrong with the options, where the first octets aren't the preface.
+    /// What is likely wrong with the options or the input, where that shows.
     pub hint: Option<Hint>,
 }
 
@@ -267,7 +267,7 @@ fn show_all<W: Write>(alloc: Global, from: Side, octets: &[u8], out: &mut W) -> 
             Ok(Shown { status, hint: None })
         }
         Err(error) => {
-            let hint = Hint::for_text(&error);
+            let hint = Hint::for_octets(&error, octets, viewer.place()).map(Hint::of_decoded);
             let status = viewer.show_error(error, out)?;
             Ok(Shown { status, hint })
         }

@@ -12,6 +12,7 @@ use crate::sockets::{cmd_get, cmd_loop, cmd_serve};
 use clap::Error;
 use clap::error::ErrorKind;
 use h2_args::no_command;
+use h2_hints::write_hint;
 use h2_show::{Failure, Hint, Status};
 use std::alloc::Global;
 use std::io::{self, Read, Write};
@@ -106,13 +107,14 @@ pub(crate) fn give_up<E: Write>(failure: Failure, err: &mut E) -> Status
     failure.status()
 }
 
-// rule (tested): show (own) Without a preface a line names the option that is likely missing
-/// Prints on standard error which option is likely missing; `from_server` is that for octets of a
-/// server.
+// rule (tested): show (own) A hint names a capture, or the option that is likely missing
+/// Prints on standard error what is likely wrong with the input or the options; `from_server` is the
+/// option for octets of a server.
 pub(crate) fn give_hint<E: Write>(hint: Option<Hint>, from_server: &str, err: &mut E) {
     // The status is that of the stream, whether or not these writes fail.
     let _ = match hint {
         None => Ok(()),
+        Some(Hint::Capture) => write_hint(Some(h2_hints::Hint::Capture), err),
         Some(Hint::Hexadecimal) => {
             writeln!(
                 err,
