@@ -6,7 +6,7 @@ use Rattle.h2_show.specs.declared.status.Status.TheVariants as statuses
 use Rattle.h2_link.specs.declared.error.LinkError.{LinkError}
 use Rattle.h2_link.specs.declared.error.LinkError.TheVariants as errors
 use Rattle.h2_hints.specs.declared.hint.Hint.{Hint}
-use Rattle.h2_hints.specs.Hints.{IsDueAtClient, IsDueAtServer, device_hint}
+use Rattle.h2_hints.specs.Hints.{IsDueAtClient, IsDueAtServer, device_hint, connect_hint}
 use Rattle.h2_sockets.specs.declared.ending.Ending.{Ending}
 
 -- Devices that fail and memory have their own; the peer's faults are those of `show` and `replay`.
@@ -50,6 +50,14 @@ abbrev pub IsClientHint : LinkError → (first : List ℕ) → Option ErrorKind 
 IsClientHint (errors.Stream code) first last_error hint = IsDueAtClient code first hint
 IsClientHint errors.Device first last_error hint = hint ≡ link_hint last_error
 IsClientHint error first last_error hint = hint ≡ None
+
+-- The hint of a fetch that has ended so: the one that is due at its client, by some first octets and
+-- a last error; or for N1, where no connection could be made, by the error of that.
+abbrev pub HasClientHint : Ending → Type 0
+HasClientHint ending =
+    ((first : List ℕ) × (last_error : Option ErrorKind)
+        × IsClientHint ending.error first last_error ending.hint)
+    ⊎ ((kind : ErrorKind) × (ending.error ≡ errors.Device) × (ending.hint ≡ connect_hint kind))
 
 -- The hint that is due at a server.
 abbrev pub IsServerHint : LinkError → (first : List ℕ) → Option ErrorKind → Option Hint → Type 0

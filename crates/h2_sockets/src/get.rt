@@ -3,12 +3,13 @@
 ghost use Rattle.std.specs.Prelude.{◌≡◌, ◌<◌, ◌-◌, ◌^◌, IfOk, OnOk, option_map, nat_lt};
 ghost use Rattle.std.specs.Prelude.{◌&&◌, None, if◌then◌else◌, IfErr, List, Option, ℕ};
 ghost use Rattle.std.specs.Io.KnownBytes.{Appends};
+ghost use Rattle.std.specs.declared.io.ErrorKind.{ErrorKind};
 ghost use Rattle.http.specs.StatusCode.{reason_phrase};
 ghost use Rattle.h2_message.specs.Fields.{status_of};
 ghost use Rattle.h2_message.specs.Values.{message_value};
 ghost use Rattle.h2_engines.specs.Failures.{failures_at_end};
 ghost use Rattle.h2_engines.specs.Linked.{traffic};
-ghost use Rattle.h2_sockets.specs.Endings.{without_hint};
+ghost use Rattle.h2_sockets.specs.Endings.{HasClientHint, IsClientHint, without_hint};
 ghost use Rattle.h2_sockets.specs.Fetching.{FetchesLocation, GetsLocation, get_request};
 ghost use Rattle.h2_sockets.specs.Printing.{IsPhraseOf, PrintsResponse, status_line};
 
@@ -19,10 +20,11 @@ use h2_location::Location;
 use h2_stream_link::StreamLink;
 use http::StatusCode;
 use std::alloc::{AllocError, Global};
-use std::io::{self, Write};
-use std::net::{Net, TcpStream};
+use std::io::{self, Read, Write};
+use std::net::{Net, OpenStream, TcpStream};
 
 // rule: engines (own) A URL is asked for with GET
+// contract: engines (own) A hint after the line names the likely cause of N1 and N2
 /// Asks for a location with GET over a new connection, and answers its response once that is whole.
 /// A host's name is looked up by the network.
 ///
@@ -31,7 +33,8 @@ use std::net::{Net, TcpStream};
 /// N1 also where no connection can be made; else as [`fetch_link`]. The hint says what is likely
 /// the cause of N1 and N2.
 pub fn get_location<N: Net>(net: &N, alloc: Global, location: &Location) -> Result<Fetched, Ending>
-    ensures { GetsLocation location.now (without_hint result) }
+    ensures gets { GetsLocation location.now (without_hint result) }
+    ensures hint { IfErr result HasClientHint }
 {
     let stream = match TcpStream::connect(net, (location.host.as_str(), location.port)) {
         Ok(stream) => stream,
@@ -42,11 +45,25 @@ pub fn get_location<N: Net>(net: &N, alloc: Global, location: &Location) -> Resu
             });
         }
     };
-    let mut link = match StreamLink::new(alloc, stream) {
-        Ok(link) => link,
-        Err(error) => return Err(Ending { error, hint: None }),
-    };
-    let fetched = get_over(alloc, &mut link, location);
+    match StreamLink::new(alloc, stream) {
+        Ok(mut link) => get_with_hint(alloc, &mut link, location),
+        Err(error) => Err(Ending { error, hint: None }),
+    }
+}
+
+/// Asks over a link, as [`get_over`] does, and sends all that is held for it. Where the fetch fails
+/// the hint says what is likely the cause.
+fn get_with_hint<S: Read + Write + OpenStream>(
+    alloc: Global,
+    link: &mut StreamLink<S>,
+    location: &Location,
+) -> Result<Fetched, Ending>
+    requires { link.old.failures ≡ 0 }
+    ensures gets { GetsLocation location.now (without_hint result) }
+    ensures hint { IfErr result (λ ending. (last_error : Option ErrorKind)
+        × IsClientHint ending.error link.new.first.items last_error ending.hint) }
+{
+    let fetched = get_over(alloc, link, location);
     let last_error = link.last_error();
     // A GOAWAY may be held. That it can't be sent changes nothing of what was fetched.
     let _ = link.flush();

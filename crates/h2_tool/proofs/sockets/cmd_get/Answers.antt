@@ -24,7 +24,7 @@ returns-in-Ok-get_location g c =
       location = c.in-Ok-target.target;
       names = subst (λ (url : List ℕ). Names url c.in-Ok-target.target) c.as_bytes.ensures.value
           c.in-Ok-target.ensures.ok;
-      gets = rw c.in-Ok-get_location.is at c.get_location.ensures;
+      gets = rw c.in-Ok-get_location.is at c.get_location.ensures.gets;
     } in
     get_prints _ _ _ c.in-Ok-get_location.fetched c.print_response.result c.status_of_end.result
     gets c.print_response.ensures.prints c.print_response.ensures.err c.status_of_end.ensures
@@ -38,6 +38,6 @@ returns g c =
       location = c.in-Ok-target.target;
       names = subst (λ (url : List ℕ). Names url c.in-Ok-target.target) c.as_bytes.ensures.value
           c.in-Ok-target.ensures.ok;
-      gets = rw c.in-Err-get_location.is at c.get_location.ensures;
+      gets = rw c.in-Err-get_location.is at c.get_location.ensures.gets;
     } in
     rw c.report.ensures (get_ends_early _ _ _ error gets)
