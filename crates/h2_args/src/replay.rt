@@ -62,7 +62,7 @@ Each event has a line:
   goaway last=N code=M
                      the peer takes no streams above N
   unprocessed ID, pong OCTETS
-                     of a stream or a PING of this end, which makes none here
+                     answers to what this end has sent: none come here
   acked              the peer has applied this end's settings
 Then, once the input has ended or the connection has failed:
   fault CODE         the connection has failed with this code (RFC 9113,
@@ -73,11 +73,13 @@ Then, once the input has ended or the connection has failed:
 Exit status, with the line on standard error:
   0  the connection has not failed, wherever the input ends
   1  a fault
-  2  wrong words; or `bad hex`: the input isn't hexadecimal text
+  2  wrong arguments; or `bad hex`: the input isn't hexadecimal text
   3  `N1 Device`: a read or a write failed
   4  `N3 Memory`: out of memory
 
-It reads octets, no capture and no socket. What a client sends first is had so:
+A hint may follow that line. It is for people, and no status depends on it.
+
+It reads octets, no capture and no socket. This keeps what a client sends first:
   $ nc -l 127.0.0.1 9002 > client.octets &
   $ curl --http2-prior-knowledge --max-time 1 http://127.0.0.1:9002/
   $ h2 replay < client.octets

@@ -76,7 +76,7 @@ a block follow the frame that ends it. Other lines:
 Exit status, with the line on standard error:
   0  the input is complete frames and field blocks
   1  a fault, or the end inside the preface, a frame or a field block
-  2  wrong words; or `bad hex`: the input isn't hexadecimal text
+  2  wrong arguments; or `bad hex`: the input isn't hexadecimal text
   3  `N1 Device`: a read or a write failed
   4  `N3 Memory`: out of memory
 

@@ -122,14 +122,16 @@ prints nothing on standard output.
 A connection that ends early has a line on standard error, and the next one is
 served. Exit status, that of the first such connection, with its line:
   0  each connection was served until its client ended it
-  1  `N2 Stream CODE`: it failed with this code (RFC 9113, section 7), or no
-     stream of it could be reset any more: then it is 11
+  1  `N2 Stream CODE`: it failed with this code (RFC 9113, section 7), or with
+     11, where no more of its streams could be reset
      `N4 CutOff`: it ended inside the preface or a frame, or while a stream was
      active
-  2  wrong words
+  2  wrong arguments
   3  `N1 Device`: the port can't be had, or a read or a write failed
      `N5 NoProgress`: a write took nothing
   4  `N3 Memory`: out of memory
+
+A hint may follow that line. It is for people, and no status depends on it.
 
 Example:
   $ h2 serve 9001 1 &
@@ -154,13 +156,15 @@ Exit status, with the line on standard error:
   1  `N2 Stream CODE`: the connection failed with this code (RFC 9113, section
      7)
      `N4 CutOff`: it ended before the response was complete
-     `N6 Reset CODE`: the request was reset with this code, or was not
-     processed: then it is 7
-  2  wrong words, or a URL that can't be fetched
+     `N6 Reset CODE`: the request was reset with this code, or with 7, where it
+     was not processed
+  2  wrong arguments, or a URL that can't be fetched
      `N7 Refused`: the request breaks a rule, or its fields are too many
   3  `N1 Device`: no connection can be made, or a read or a write failed
      `N5 NoProgress`: a write took nothing
   4  `N3 Memory`: out of memory
+
+A hint may follow that line. It is for people, and no status depends on it.
 
 Example, beside `h2 serve 9001 1`:
   $ h2 get http://127.0.0.1:9001/a
@@ -179,7 +183,7 @@ Exit status, with the line on standard error:
      with M = N + 7
   1  `N4 CutOff`: the response isn't complete, and neither end writes any more;
      `N2 Stream CODE` and `N6 Reset CODE` as at `h2 get`
-  2  wrong words
+  2  wrong arguments
   3  `N1 Device`: no connection can be made, or a read or a write failed
      `N5 NoProgress`: an end can't go on
   4  `N3 Memory`: out of memory
