@@ -37,10 +37,10 @@ pub enum TargetFault {
     #[error("the URL has no host")]
     NoHost,
     /// It has no port, or one that isn't from 1 to 65,535.
-    #[error("the URL has no port of 1 to 65535")]
+    #[error("the URL names no port from 1 to 65535, as :80")]
     NoPort,
     /// It has a userinfo, which is not to be sent (RFC 9113, section 8.3.1).
-    #[error("the URL has a user's name")]
+    #[error("the URL names a user")]
     UserInfo,
     /// Out of memory.
     #[error("N3 Memory")]
