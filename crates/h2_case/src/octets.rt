@@ -96,6 +96,26 @@ fn push_repeated(octets: &mut Vec<u8>, words: &mut Words<'_>, repeated: &[u8], t
     }
 }
 
+/// An octet, after which others are written; it has to stay as it is.
+pub(crate) fn marked(alloc: Global, text: &mut Text) -> Vec<u8> {
+    let mut out = Vec::new(alloc);
+    if out.push(7).is_err() {
+        text.refuse();
+    }
+    out
+}
+
+/// What was written after the octet of [`marked`]. If that hasn't stayed as it was, a line says so.
+pub(crate) fn written_after<'a>(text: &mut Text, out: &'a [u8]) -> &'a [u8] {
+    match out {
+        [7, written @ ..] => written,
+        _ => {
+            text.push_line("what was written before has changed");
+            &[]
+        }
+    }
+}
+
 // A digit of hexadecimal.
 fn digit(half: u8) -> char {
     match half {

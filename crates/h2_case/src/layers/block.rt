@@ -12,7 +12,9 @@
 use crate::case::{Case, CaseError};
 use crate::driver::{Answer, Driver, answers};
 use crate::layers::frames::{add_frame, cut_frame, read_frame};
-use crate::octets::{add_hex, add_last, add_octets, read_octets, split_frame};
+use crate::octets::{
+    add_hex, add_last, add_octets, marked, read_octets, split_frame, written_after,
+};
 use crate::text::Text;
 use crate::words::Words;
 use h2_block::{BlockFault, Gather, Gathered, spread};
@@ -176,15 +178,10 @@ fn write_spread(words: &mut Words<'_>, block: Block<'_>, out: &mut Vec<u8>) {
 
 // Spreads a block, after an octet.
 fn spread_block(alloc: Global, words: &mut Words<'_>, text: &mut Text, block: Block<'_>) {
-    let mut out = Vec::new(alloc);
-    if out.push(7).is_err() {
-        text.refuse();
-    }
+    let mut out = marked(alloc, text);
     write_spread(words, block, &mut out);
-    match out.as_slice() {
-        [7, octets @ ..] => add_spread(alloc, text, octets, block),
-        _ => text.push_line("what was written before has changed"),
-    }
+    let octets = written_after(text, &out);
+    add_spread(alloc, text, octets, block);
 }
 
 // Spreads the block of a command.

@@ -14,7 +14,7 @@
 use crate::case::Case;
 use crate::driver::{Answer, Driver, answers};
 use crate::layers::frames::{add_frame, cut_frame, read_frame};
-use crate::octets::{add_frames, read_octets};
+use crate::octets::{add_frames, marked, read_octets, written_after};
 use crate::text::Text;
 use crate::words::Words;
 use h2_frame::{
@@ -194,15 +194,12 @@ fn add_written(
     written: Result<(), Unwritable>,
     out: &[u8],
 ) {
-    match (written, out) {
-        (Ok(()), [7, octets @ ..]) => {
-            add_frames(alloc, text, octets);
-            if !is_read_again(alloc, octets, line) {
-                text.push_line("it is read or written again otherwise");
-            }
-        }
-        (Err(error), [7]) => write!(text, "{error}"),
-        _ => text.push_line("what was written before has changed"),
+    let octets = written_after(text, out);
+    add_frames(alloc, text, octets);
+    match written {
+        Ok(()) if is_read_again(alloc, octets, line) => {}
+        Ok(()) => text.push_line("it is read or written again otherwise"),
+        Err(error) => write!(text, "{error}"),
     }
 }
 
@@ -210,10 +207,7 @@ fn add_written(
 fn write_frame(alloc: Global, words: &mut Words<'_>, text: &mut Text) {
     let mut others = *words;
     let frame = read_frame(alloc, words);
-    let mut out = Vec::new(alloc);
-    if out.push(7).is_err() {
-        text.refuse();
-    }
+    let mut out = marked(alloc, text);
     let written = write(&frame, &mut out);
     add_written(alloc, text, others.rest(), written, &out);
 }

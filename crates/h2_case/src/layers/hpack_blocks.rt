@@ -19,7 +19,7 @@ use crate::case::{Case, CaseError};
 use crate::driver::{Answer, Driver, answers};
 use crate::fields::read_fields;
 use crate::layers::coders::{Coders, NO_LIMIT};
-use crate::octets::{add_octets, read_octets};
+use crate::octets::{add_octets, marked, read_octets, written_after};
 use crate::text::Text;
 use crate::words::Words;
 use hpack::Field;
@@ -59,27 +59,13 @@ fn decode(coders: &mut Coders, words: &mut Words<'_>, text: &mut Text) {
     coders.add_decoded(text, &octets, limit);
 }
 
-// An octet and, after it, the block of a list.
-fn encoded(coders: &mut Coders, words: &mut Words<'_>, fields: &[Field]) -> Vec<u8> {
-    let mut out = Vec::new(coders.alloc);
-    if out.push(0xaa).is_err() {
-        words.fail(CaseError::Memory);
-    }
-    coders.encode(words, fields, &mut out);
-    out
-}
-
 // Whether a block is decoded to its list, and all have the same table then.
 fn is_passed(coders: &mut Coders, block: &[u8], fields: &[Field]) -> bool {
     coders.is_decoded(block, fields) && coders.are_in_step()
 }
 
 // Adds the octets of a list's block.
-fn add_block(coders: &mut Coders, text: &mut Text, written: &[u8], fields: &[Field]) {
-    let [0xaa, block @ ..] = written else {
-        text.push_str("what was written before has changed");
-        return;
-    };
+fn add_block(coders: &mut Coders, text: &mut Text, block: &[u8], fields: &[Field]) {
     add_octets(text, block);
     if !is_passed(coders, block, fields) {
         text.push_str("\nit is decoded otherwise, or the tables differ");
@@ -89,8 +75,10 @@ fn add_block(coders: &mut Coders, text: &mut Text, written: &[u8], fields: &[Fie
 // Encodes a list.
 fn encode(coders: &mut Coders, words: &mut Words<'_>, text: &mut Text) {
     let fields = read_fields(coders.alloc, words);
-    let written = encoded(coders, words, &fields);
-    add_block(coders, text, &written, &fields);
+    let mut out = marked(coders.alloc, text);
+    coders.encode(words, &fields, &mut out);
+    let block = written_after(text, &out);
+    add_block(coders, text, block, &fields);
 }
 
 // So many fields, each with a name and a value of its own.
@@ -114,11 +102,7 @@ fn push_numbered(alloc: Global, words: &mut Words<'_>, fields: &mut Vec<Field>, 
 }
 
 // Adds how many octets a list's block has, and how many entries the table.
-fn add_counts(coders: &mut Coders, text: &mut Text, written: &[u8], fields: &[Field]) {
-    let [0xaa, block @ ..] = written else {
-        text.push_str("what was written before has changed");
-        return;
-    };
+fn add_counts(coders: &mut Coders, text: &mut Text, block: &[u8], fields: &[Field]) {
     let is_passed = is_passed(coders, block, fields);
     write!(
         text,
@@ -135,8 +119,10 @@ fn add_counts(coders: &mut Coders, text: &mut Text, written: &[u8], fields: &[Fi
 fn encode_numbered(coders: &mut Coders, words: &mut Words<'_>, text: &mut Text) {
     let count = words.number();
     let fields = numbered_fields(coders.alloc, words, count);
-    let written = encoded(coders, words, &fields);
-    add_counts(coders, text, &written, &fields);
+    let mut out = marked(coders.alloc, text);
+    coders.encode(words, &fields, &mut out);
+    let block = written_after(text, &out);
+    add_counts(coders, text, block, &fields);
 }
 
 // They are new ones.

@@ -24,7 +24,7 @@ use crate::fields::read_text;
 use crate::layers::text_again::{
     add_wrong_lengths, add_wrong_octets, huffman_of, is_again, string_of, walk_halves,
 };
-use crate::octets::{add_last, add_octets, read_octets};
+use crate::octets::{add_last, add_octets, marked, read_octets, written_after};
 use crate::text::Text;
 use crate::words::Words;
 use hpack_text::{
@@ -167,19 +167,8 @@ fn is_found_after(
     found: Result<usize, TextFault>,
     read: &[u8],
 ) -> bool {
-    let mut out = Vec::new(alloc);
-    if out.push(7).is_err() {
-        text.refuse();
-    }
-    read_string_into(octets, &mut out) == found && has_after(&out, read)
-}
-
-// Whether octets are an octet and these.
-fn has_after(out: &[u8], read: &[u8]) -> bool {
-    match out {
-        [7, others @ ..] => others == read,
-        _ => false,
-    }
+    let mut out = marked(alloc, text);
+    read_string_into(octets, &mut out) == found && written_after(text, &out) == read
 }
 
 // Adds of how many octets a string is, and its text; or the fault.
