@@ -17,21 +17,16 @@ pub fn read_text(alloc: Global, words: &mut Words<'_>) -> Vec<u8> {
 // The octets of a text.
 fn octets_of_text(alloc: Global, words: &mut Words<'_>, text: &str) -> Vec<u8> {
     let mut octets = Vec::new(alloc);
-    append_text(alloc, &mut octets, words, text);
-    octets
-}
-
-// Appends the octets of a text.
-fn append_text(alloc: Global, octets: &mut Vec<u8>, words: &mut Words<'_>, text: &str) {
     let mut others = text;
     for _ in 0..text.len() {
         let Some((plain, escape)) = others.split_once('\\') else {
             break;
         };
-        append_plain(octets, words, plain);
-        others = append_escape(alloc, octets, words, escape);
+        append_plain(&mut octets, words, plain);
+        others = append_escape(alloc, &mut octets, words, escape);
     }
-    append_plain(octets, words, others);
+    append_plain(&mut octets, words, others);
+    octets
 }
 
 // Appends a text's own octets.
@@ -65,8 +60,11 @@ fn split_escape(escape: &str) -> Option<(&str, &str)> {
     if let Some(braced) = escape.strip_prefix('{') {
         return braced.split_once('}');
     }
-    let digits = escape.strip_prefix('x')?;
-    Some((digits.get(..2)?, digits.get(2..)?))
+    let digits = escape.strip_prefix('x').unwrap_or("");
+    match (digits.get(..2), digits.get(2..)) {
+        (Some(octet), Some(others)) => Some((octet, others)),
+        _ => None,
+    }
 }
 
 // A field: `NAME: VALUE`, with `!` before it where it is sensitive. The name ends at the first
@@ -76,23 +74,18 @@ fn read_field(alloc: Global, words: &mut Words<'_>, text: &str) -> Field {
         Some(text) => (true, text),
         None => (false, text),
     };
-    let (name, value) = split_field(words, text);
-    Field {
-        name: Octets::new(octets_of_text(alloc, words, name)),
-        value: Octets::new(octets_of_text(alloc, words, value)),
-        sensitive,
-    }
-}
-
-// The name and the value of a field.
-fn split_field<'a>(words: &mut Words<'_>, text: &'a str) -> (&'a str, &'a str) {
-    match (text.split_once(": "), text.strip_suffix(':')) {
+    let (name, value) = match (text.split_once(": "), text.strip_suffix(':')) {
         (Some(parts), _) => parts,
         (None, Some(name)) => (name, ""),
         (None, None) => {
             words.unread();
             ("", "")
         }
+    };
+    Field {
+        name: Octets::new(octets_of_text(alloc, words, name)),
+        value: Octets::new(octets_of_text(alloc, words, value)),
+        sensitive,
     }
 }
 
@@ -105,21 +98,16 @@ pub fn read_fields(alloc: Global, words: &mut Words<'_>) -> Vec<Field> {
 /// The fields of a text, as [`read_fields`] reads them. A fault is noted in the words.
 pub(crate) fn fields_of(alloc: Global, words: &mut Words<'_>, text: &str) -> Vec<Field> {
     let mut fields = Vec::new(alloc);
-    append_fields(alloc, &mut fields, words, text.trim_matches(' '));
-    fields
-}
-
-// Appends the fields of a text.
-fn append_fields(alloc: Global, fields: &mut Vec<Field>, words: &mut Words<'_>, text: &str) {
-    let mut others = text;
-    for _ in 0..text.len() {
+    let mut others = text.trim_matches(' ');
+    for _ in 0..others.len() {
         let Some((field, following)) = others.split_once(" | ") else {
-            append_field(alloc, fields, words, others);
+            append_field(alloc, &mut fields, words, others);
             break;
         };
-        append_field(alloc, fields, words, field);
+        append_field(alloc, &mut fields, words, field);
         others = following;
     }
+    fields
 }
 
 // Appends the field of a text.

@@ -27,23 +27,16 @@ fn split_part<'a>(text: &'a str, start: &str, within: &str) -> (&'a str, Option<
 pub fn read_message(alloc: Global, words: &mut Words<'_>) -> Message {
     let (others, trailers) = split_part(words.rest(), "; trailers", " ; trailers");
     let (head, body) = split_part(others, "; body ", " ; body ");
-    let head = fields_of(alloc, words, head);
-    let trailers = read_trailers(alloc, words, trailers);
     let mut message = Message {
-        head,
+        head: fields_of(alloc, words, head),
         body: Vec::new(alloc),
-        trailers,
+        trailers: None,
     };
     append_octets(alloc, &mut message.body, words, body.unwrap_or(""));
-    message
-}
-
-// The trailers of a message.
-fn read_trailers(alloc: Global, words: &mut Words<'_>, list: Option<&str>) -> Option<Vec<Field>> {
-    match list {
-        Some(list) => Some(fields_of(alloc, words, list)),
-        None => None,
+    if let Some(list) = trailers {
+        message.trailers = Some(fields_of(alloc, words, list));
     }
+    message
 }
 
 /// Adds fields to a line, which ` | ` divides.

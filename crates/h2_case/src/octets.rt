@@ -26,30 +26,21 @@ pub(crate) fn append_octets(
 ) {
     let mut parts = Words::of(text);
     for _ in 0..text.len() {
-        match parts.next_or_empty() {
-            "" => break,
-            part => append_part(alloc, octets, words, part),
+        let part = parts.next_or_empty();
+        if part.is_empty() {
+            break;
         }
-    }
-}
-
-// Appends the octets of a word.
-fn append_part(alloc: Global, octets: &mut Vec<u8>, words: &mut Words<'_>, part: &str) {
-    match part.strip_prefix("count:") {
-        Some(count) => append_counted(octets, words, count),
-        None => append_digits(alloc, octets, words, part),
+        match part.strip_prefix("count:") {
+            Some(count) => append_counted(octets, words, count),
+            None => append_digits(alloc, octets, words, part),
+        }
     }
 }
 
 // Appends the octets of `N` or of `N:S`, which follows `count:`.
 fn append_counted(octets: &mut Vec<u8>, words: &mut Words<'_>, part: &str) {
     let (count, first) = part.split_once(':').unwrap_or((part, "0"));
-    let (count, first) = (words.parse(count), words.parse(first));
-    push_counted(octets, words, count, first);
-}
-
-// Appends so many octets, of which each is one more than the one before it, modulo 251.
-fn push_counted(octets: &mut Vec<u8>, words: &mut Words<'_>, count: u32, first: u32) {
+    let (count, first): (u32, u32) = (words.parse(count), words.parse(first));
     let mut octet = u8::try_from(first % 251).unwrap_or(0);
     for _ in 0..count {
         if octets.push(octet).is_err() {
@@ -135,24 +126,24 @@ pub fn add_hex(text: &mut Text, octets: &[u8]) {
 /// Adds octets as [`read_octets`] reads them: of many equal ones, and of many that count on, the
 /// count.
 pub fn add_octets(text: &mut Text, octets: &[u8]) {
-    match octets.first() {
-        Some(first) if octets.len() > 16 => add_many(text, octets, *first),
+    match octets {
+        [first, others @ ..] if others.len() > 15 => add_many(text, octets, *first, others),
         _ => add_hex(text, octets),
     }
 }
 
-// Adds many octets, of which this is the first.
-fn add_many(text: &mut Text, octets: &[u8], first: u8) {
-    let count = octets.len();
-    if octets.iter().all(|octet| *octet == first) {
+// Adds many octets: this one, and others.
+fn add_many(text: &mut Text, octets: &[u8], first: u8, others: &[u8]) {
+    if octets.starts_with(others) {
         add_hex(text, &[first]);
-        write!(text, "x{count}");
-    } else if !is_counted(octets, first) {
-        add_hex(text, octets);
-    } else if first == 0 {
-        write!(text, "count:{count}");
+        text.push_labeled("x", octets.len());
+    } else if is_counted(octets, first) {
+        text.push_labeled("count:", octets.len());
+        if first > 0 {
+            text.push_labeled(":", first);
+        }
     } else {
-        write!(text, "count:{count}:{first}");
+        add_hex(text, octets);
     }
 }
 
@@ -180,24 +171,18 @@ pub fn split_frame(octets: &[u8]) -> Option<(&[u8; 9], &[u8], &[u8])> {
 /// no complete frame at the end has a line of its own. The client's preface, where the octets begin
 /// with it, has a line too.
 pub fn add_frames(_alloc: Global, text: &mut Text, octets: &[u8]) {
-    let preface = b"PRI * HTTP/2.0\r\n\r\nSM\r\n\r\n";
-    match octets.strip_prefix(preface.as_slice()) {
-        Some(following) => {
-            text.push_line("preface");
-            add_each_frame(text, following);
-        }
-        None => add_each_frame(text, octets),
-    }
-}
-
-// Adds a line for each frame, and one for what is no complete frame at the end.
-fn add_each_frame(text: &mut Text, octets: &[u8]) {
     let mut others = octets;
+    if let Some(following) = octets.strip_prefix(b"PRI * HTTP/2.0\r\n\r\nSM\r\n\r\n".as_slice()) {
+        text.push_line("preface");
+        others = following;
+    }
     for _ in 0..octets.len() {
         let Some((head, payload, following)) = split_frame(others) else {
             break;
         };
-        add_one_frame(text, head, payload);
+        add_hex(text, head);
+        add_last(text, payload);
+        text.push_str("\n");
         others = following;
     }
     if !others.is_empty() {
@@ -205,13 +190,6 @@ fn add_each_frame(text: &mut Text, octets: &[u8]) {
         add_octets(text, others);
         text.push_str("\n");
     }
-}
-
-// Adds the line of a frame.
-fn add_one_frame(text: &mut Text, head: &[u8; 9], payload: &[u8]) {
-    add_hex(text, head);
-    add_last(text, payload);
-    text.push_str("\n");
 }
 
 /// Adds the octets with which a line ends, after a space, where there are some.

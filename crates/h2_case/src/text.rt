@@ -51,6 +51,17 @@ impl Text {
 
     /// Adds a value: `write!(text, ..)` comes to this.
     pub fn write_fmt<D: Display + Drop>(&mut self, value: D) {
+        self.push_value(value);
+    }
+
+    /// Adds words, and a value after them.
+    pub fn push_labeled<D: Display + Drop>(&mut self, label: &str, value: D) {
+        self.push_str(label);
+        self.push_value(value);
+    }
+
+    /// Adds a value.
+    pub fn push_value<D: Display + Drop>(&mut self, value: D) {
         if self.lines.write(value).is_err() {
             self.is_refused = true;
         }

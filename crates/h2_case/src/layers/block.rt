@@ -38,7 +38,7 @@ struct Block<'a> {
 
 // Adds a block.
 fn add_block(text: &mut Text, stream: u32, end: bool, octets: &[u8]) {
-    write!(text, "block {stream}");
+    text.push_labeled("block ", stream);
     if end {
         text.push_str(" end");
     }
@@ -60,7 +60,10 @@ fn add_taken(gather: &mut Gather, text: &mut Text, frame: FrameRef<'_>) {
                 octets,
             },
         ) => add_block(text, stream, end, &octets),
-        Err(fault) => write!(text, "{fault}, {}", fault.code()),
+        Err(fault) => {
+            text.push_value(fault);
+            text.push_labeled(", ", fault.code());
+        }
     }
 }
 
@@ -74,7 +77,8 @@ fn add_last_taken(gather: &mut Gather, text: &mut Text, count: u32, frame: Frame
     }
     text.push_str("\n");
     if gather.is_inside() {
-        write!(text, "inside a block, {} octets", gather.held());
+        text.push_labeled("inside a block, ", gather.held());
+        text.push_str(" octets");
     } else if gather.held() > 0 {
         text.push_line("it holds octets outside a block");
     }
@@ -104,7 +108,9 @@ fn add_part(text: &mut Text, head: &[u8; 9], payload: &[u8], block: &[u8], start
     let end = start.saturating_add(payload.len());
     add_hex(text, head);
     if block.get(start..end) == Some(payload) {
-        write!(text, " octets {start} to {end}\n");
+        text.push_labeled(" octets ", start);
+        text.push_labeled(" to ", end);
+        text.push_str("\n");
     } else {
         text.push_str(" ");
         add_octets(text, payload);
@@ -157,15 +163,6 @@ fn is_gathered(gather: &mut Gather, octets: &[u8], block: Block<'_>) -> bool {
     is_last
 }
 
-// Adds the frames over which a block is spread.
-fn add_spread(alloc: Global, text: &mut Text, octets: &[u8], block: Block<'_>) {
-    add_parts(text, octets, block.octets);
-    let mut gather = Gather::new(alloc);
-    if !is_gathered(&mut gather, octets, block) {
-        text.push_line("it is gathered otherwise");
-    }
-}
-
 // Writes the frames over which a block is spread.
 fn write_spread(words: &mut Words<'_>, block: Block<'_>, out: &mut Vec<u8>) {
     let (stream, octets) = (block.stream, block.octets);
@@ -176,16 +173,8 @@ fn write_spread(words: &mut Words<'_>, block: Block<'_>, out: &mut Vec<u8>) {
     }
 }
 
-// Spreads a block, after an octet.
-fn spread_block(alloc: Global, words: &mut Words<'_>, text: &mut Text, block: Block<'_>) {
-    let mut out = marked(alloc, text);
-    write_spread(words, block, &mut out);
-    let octets = written_after(text, &out);
-    add_spread(alloc, text, octets, block);
-}
-
-// Spreads the block of a command.
-fn read_and_spread(alloc: Global, words: &mut Words<'_>, text: &mut Text) {
+// Adds the frames over which a block is spread, and whether they are gathered to it again.
+fn add_spread(alloc: Global, words: &mut Words<'_>, text: &mut Text) {
     let stream = words.number();
     let end = words.has("end");
     let octets = read_octets(alloc, words);
@@ -194,7 +183,14 @@ fn read_and_spread(alloc: Global, words: &mut Words<'_>, text: &mut Text) {
         end,
         octets: &octets,
     };
-    spread_block(alloc, words, text, block);
+    let mut out = marked(alloc, text);
+    write_spread(words, block, &mut out);
+    let written = written_after(text, &out);
+    add_parts(text, written, block.octets);
+    let mut gather = Gather::new(alloc);
+    if !is_gathered(&mut gather, written, block) {
+        text.push_line("it is gathered otherwise");
+    }
 }
 
 impl Driver for Blocks {
@@ -202,7 +198,7 @@ impl Driver for Blocks {
         match name {
             "take" => take(self, words, text),
             "new" => self.gather = Gather::new(self.alloc),
-            "spread" => read_and_spread(self.alloc, words, text),
+            "spread" => add_spread(self.alloc, words, text),
             _ => words.unread(),
         }
     }

@@ -47,16 +47,6 @@ fn let_go(_decoder: Decoder) {}
 // Lets go of a list.
 fn let_go_of_list(_list: FieldList) {}
 
-// A new decoder.
-fn new_decoder(alloc: Global, maximum: u32) -> Result<Decoder, CaseError> {
-    Decoder::new(alloc, maximum).map_err(|_| CaseError::Memory)
-}
-
-// A new encoder.
-fn new_encoder(alloc: Global, maximum: u32) -> Result<Encoder, CaseError> {
-    Encoder::new(alloc, maximum).map_err(|_| CaseError::Memory)
-}
-
 // Decodes a block.
 fn decode(decoder: &mut Decoder, octets: &[u8], limit: u32) -> Result<List, Fault> {
     decoder.decode(octets, limit)
@@ -81,12 +71,18 @@ fn encode(encoder: &mut Encoder, words: &mut Words<'_>, fields: &[Field], out: &
     }
 }
 
+// Adds the line of a fault.
+fn add_fault(text: &mut Text, fault: Fault) {
+    text.push_value(fault);
+    text.push_str("\n");
+}
+
 // Adds what a block was decoded to: the lines of its fields.
 fn add_list(alloc: Global, text: &mut Text, found: &Result<List, Fault>) {
     match found {
         Ok(List::Whole(fields)) => add_fields(alloc, text, fields),
         Ok(List::TooLarge) => text.push_line("too large"),
-        Err(fault) => write!(text, "{fault}\n"),
+        Err(fault) => add_fault(text, *fault),
     }
 }
 
@@ -115,7 +111,7 @@ fn add_decoded_into(
     match decode_into(decoder, octets, limit, list) {
         Ok(Decoded::Whole) => {}
         Ok(Decoded::TooLarge) => text.push_line("too large"),
-        Err(fault) => write!(text, "{fault}\n"),
+        Err(fault) => add_fault(text, fault),
     }
     add_kept(alloc, text, list);
 }
@@ -151,15 +147,15 @@ fn are_kept(list: &FieldList, fields: &[Field]) -> bool {
 }
 
 impl Coders {
-    /// New ones, with this maximum.
-    pub(crate) fn new(alloc: Global, maximum: u32) -> Result<Coders, CaseError> {
-        let encoder = new_encoder(alloc, maximum)?;
-        let maker = new_decoder(alloc, maximum)?;
-        Ok(Coders {
+    /// New ones, with this maximum; none where memory was refused.
+    pub(crate) fn new(alloc: Global, maximum: u32) -> Option<Coders> {
+        let encoder = Encoder::new(alloc, maximum).ok()?;
+        let maker = Decoder::new(alloc, maximum).ok()?;
+        Some(Coders {
             alloc,
             encoder,
             maker,
-            keeper: new_decoder(alloc, maximum)?,
+            keeper: Decoder::new(alloc, maximum).ok()?,
             kept: FieldList::new(alloc),
         })
     }
@@ -227,7 +223,7 @@ impl Coders {
 
     /// Another decoder puts a field into the list that is kept; adds the lines of the list.
     pub(crate) fn add_filled(&mut self, text: &mut Text) {
-        match new_decoder(self.alloc, 0) {
+        match Decoder::new(self.alloc, 0) {
             Ok(mut decoder) => {
                 add_decoded_into(
                     self.alloc,

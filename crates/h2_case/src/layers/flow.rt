@@ -17,7 +17,7 @@ use crate::case::Case;
 use crate::driver::{Answer, Driver, answers};
 use crate::text::Text;
 use crate::words::Words;
-use h2_config::{BadConfig, Config};
+use h2_config::Config;
 use h2_flow::{Closed, Settings, StreamState, Window};
 use h2_log::Role;
 use std::alloc::Global;
@@ -33,18 +33,20 @@ struct Flow {
 // Adds a limit, or `none`.
 fn add_limit(text: &mut Text, limit: Option<u32>) {
     match limit {
-        Some(limit) => write!(text, "{limit}"),
+        Some(limit) => text.push_value(limit),
         None => text.push_str("none"),
     }
 }
 
 // Adds the line of settings.
 fn add_settings(text: &mut Text, settings: &Settings) {
-    let (table, push) = (settings.header_table_size, settings.enable_push);
-    let (window, frame) = (settings.initial_window_size, settings.max_frame_size);
-    write!(text, "table {table}, push {push}, streams ");
+    text.push_labeled("table ", settings.header_table_size);
+    text.push_labeled(", push ", settings.enable_push);
+    text.push_str(", streams ");
     add_limit(text, settings.max_concurrent_streams);
-    write!(text, ", window {window}, frame {frame}, list ");
+    text.push_labeled(", window ", settings.initial_window_size);
+    text.push_labeled(", frame ", settings.max_frame_size);
+    text.push_str(", list ");
     add_limit(text, settings.max_header_list_size);
 }
 
@@ -53,7 +55,9 @@ fn apply(text: &mut Text, settings: &mut Settings, from: Role, words: &mut Words
     let id = words.number();
     let value = words.number();
     if let Err(bad) = settings.apply(from, id, value) {
-        write!(text, "{bad}, {}\n", bad.0);
+        text.push_value(bad);
+        text.push_labeled(", ", bad.0);
+        text.push_str("\n");
     }
 }
 
@@ -97,9 +101,10 @@ fn read_window(words: &mut Words<'_>) -> Window {
 // Adds the value of a window, after a refusal.
 fn add_window<E: Display + Drop>(text: &mut Text, window: Window, answer: Result<(), E>) {
     if let Err(refusal) = answer {
-        write!(text, "{refusal}\n");
+        text.push_value(refusal);
+        text.push_str("\n");
     }
-    write!(text, "{}", window.value());
+    text.push_value(window.value());
 }
 
 // Octets are taken of a window.
@@ -134,17 +139,19 @@ fn add_new_window(words: &mut Words<'_>, text: &mut Text) {
     if octets > 0x7fff_ffff {
         words.unread();
     } else {
-        write!(text, "{}", Window::new(octets).value());
+        text.push_value(Window::new(octets).value());
     }
 }
 
 // Adds which sides of a stream have ended, after a refusal.
 fn add_sides(text: &mut Text, state: &StreamState, answer: Result<(), Closed>) {
     if let Err(refusal) = answer {
-        write!(text, "{refusal}\n");
+        text.push_value(refusal);
+        text.push_str("\n");
     }
-    let (ended_in, ended_out, closed) = (state.ended_in, state.ended_out, state.closed());
-    write!(text, "in {ended_in}, out {ended_out}, closed {closed}");
+    text.push_labeled("in ", state.ended_in);
+    text.push_labeled(", out ", state.ended_out);
+    text.push_labeled(", closed ", state.closed());
 }
 
 // A stream is open.
@@ -165,25 +172,22 @@ fn end_out(text: &mut Text, state: &mut StreamState) {
     add_sides(text, state, answer);
 }
 
-// Adds the values of an end, or the first that is refused.
-fn add_config(text: &mut Text, config: Result<Config, BadConfig>) {
-    match config {
-        Ok(config) => {
-            let (table, window) = (config.table_limit(), config.initial_window());
-            let streams = config.max_streams();
-            write!(text, "table {table}, window {window}, streams {streams}");
-        }
-        Err(bad) => write!(text, "{bad}"),
-    }
-}
-
-// The values of an end that a command gives, or those of a new one.
-fn config(words: &mut Words<'_>, text: &mut Text) {
-    if words.is_empty() {
-        add_config(text, Ok(Config::default()));
+// Adds the values of an end that a command gives, or the first that is refused; those of a new one
+// where it gives none.
+fn add_config(words: &mut Words<'_>, text: &mut Text) {
+    let config = if words.is_empty() {
+        Ok(Config::default())
     } else {
         let (table, window, streams) = (words.number(), words.number(), words.number());
-        add_config(text, Config::new(table, window, streams));
+        Config::new(table, window, streams)
+    };
+    match config {
+        Ok(config) => {
+            text.push_labeled("table ", config.table_limit());
+            text.push_labeled(", window ", config.initial_window());
+            text.push_labeled(", streams ", config.max_streams());
+        }
+        Err(bad) => text.push_value(bad),
     }
 }
 
@@ -195,7 +199,7 @@ impl Driver for Flow {
             "take" => take(words, text),
             "give" => give(words, text),
             "shift" => shift(words, text),
-            "config" => config(words, text),
+            "config" => add_config(words, text),
             "open" => open(text, &mut self.state),
             "end_in" => end_in(text, &mut self.state),
             "end_out" => end_out(text, &mut self.state),

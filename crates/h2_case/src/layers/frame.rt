@@ -36,18 +36,15 @@ struct Frames {
 fn add_head(alloc: Global, words: &mut Words<'_>, text: &mut Text) {
     let octets = read_octets(alloc, words);
     match octets.first_chunk::<9>() {
-        Some(nine) => add_head_of(text, &head(nine)),
+        Some(nine) => {
+            let read = head(nine);
+            write!(text, "{:?}", read.kind);
+            text.push_labeled(" flags ", read.flags);
+            text.push_labeled(" stream ", read.stream);
+            text.push_labeled(" length ", read.length);
+        }
         None => words.unread(),
     }
-}
-
-// Adds what a head says.
-fn add_head_of(text: &mut Text, read: &Head) {
-    let (kind, flags, stream, length) = (read.kind, read.flags, read.stream, read.length);
-    write!(
-        text,
-        "{kind:?} flags {flags} stream {stream} length {length}"
-    );
 }
 
 // Adds the code of a head's fault.
@@ -68,7 +65,7 @@ fn add_head_fault(words: &mut Words<'_>, text: &mut Text) {
 // Adds the name of a code.
 fn add_code(text: &mut Text, code: Option<Code>) {
     match code {
-        Some(code) => write!(text, "{code}"),
+        Some(code) => text.push_value(code),
         None => text.push_str("none"),
     }
 }
@@ -139,7 +136,7 @@ fn add_read_frame(text: &mut Text, read: &Head, frame: FrameRef<'_>) {
 // Adds the frame of a payload, or its fault.
 fn add_payload(text: &mut Text, words: &mut Words<'_>, read: &Head, payload: &[u8]) {
     if let Some(code) = head_fault(read, LIMIT) {
-        write!(text, "fault of a head: {code}");
+        text.push_labeled("fault of a head: ", code);
         return;
     }
     if payload.len() != read.length as usize {
@@ -149,7 +146,7 @@ fn add_payload(text: &mut Text, words: &mut Words<'_>, read: &Head, payload: &[u
     let found = read_payload(read, payload);
     match found {
         Ok(frame) => add_read_frame(text, read, frame),
-        Err(error) => write!(text, "{error}"),
+        Err(error) => text.push_value(error),
     }
     if !is_read_alike(read, payload, found.ok()) {
         text.push_str("\nanother fault or frame where both are asked for");
@@ -165,23 +162,15 @@ fn add_read(alloc: Global, words: &mut Words<'_>, text: &mut Text) {
     }
 }
 
-// Whether a frame has this line.
-fn has_line(alloc: Global, frame: FrameRef<'_>, line: &str) -> bool {
-    let mut text = Text::new(alloc);
-    add_frame(&mut text, frame);
-    text.as_str() == line
-}
-
-// Whether a frame has this encoding.
-fn has_encoding(alloc: Global, frame: FrameRef<'_>, octets: &[u8]) -> bool {
-    let mut out = Vec::new(alloc);
-    write_ref(frame, &mut out).is_ok() && out.as_slice() == octets
-}
-
 // Whether octets are read as the frame of a line, and it is written as them again.
 fn is_read_again(alloc: Global, octets: &[u8], line: &str) -> bool {
+    let (mut text, mut out) = (Text::new(alloc), Vec::new(alloc));
     match cut_frame(octets) {
-        Some((frame, [])) => has_line(alloc, frame, line) && has_encoding(alloc, frame, octets),
+        Some((frame, [])) => {
+            add_frame(&mut text, frame);
+            let is_written = write_ref(frame, &mut out).is_ok();
+            is_written && out.as_slice() == octets && text.as_str() == line
+        }
         _ => false,
     }
 }
@@ -199,7 +188,7 @@ fn add_written(
     match written {
         Ok(()) if is_read_again(alloc, octets, line) => {}
         Ok(()) => text.push_line("it is read or written again otherwise"),
-        Err(error) => write!(text, "{error}"),
+        Err(error) => text.push_value(error),
     }
 }
 

@@ -24,44 +24,103 @@ use std::alloc::Global;
 /// The frame of the words that are left.
 pub(crate) fn read_frame(alloc: Global, words: &mut Words<'_>) -> Frame {
     match words.word() {
-        "DATA" => read_data(alloc, words),
-        "HEADERS" => read_headers(alloc, words),
-        "PRIORITY" => read_priority(alloc, words),
-        "RST_STREAM" => read_reset(words),
-        "SETTINGS" => read_settings(alloc, words),
-        "PING" => read_ping(alloc, words),
-        "GOAWAY" => read_goaway(alloc, words),
-        "WINDOW_UPDATE" => read_window_update(words),
-        "CONTINUATION" => read_continuation(alloc, words),
-        "UNKNOWN" => read_unknown(alloc, words),
-        _ => no_frame(words),
+        "DATA" => Frame::Data {
+            stream: words.number(),
+            end: words.has("end"),
+            pad: read_pad(words),
+            octets: read_octets(alloc, words),
+        },
+        "HEADERS" => Frame::Headers {
+            stream: words.number(),
+            end: words.has("end"),
+            whole: words.has("whole"),
+            pad: read_pad(words),
+            priority: read_priority(alloc, words),
+            fragment: read_octets(alloc, words),
+        },
+        "CONTINUATION" => Frame::Continuation {
+            stream: words.number(),
+            whole: words.has("whole"),
+            fragment: read_octets(alloc, words),
+        },
+        "SETTINGS" => Frame::Settings {
+            ack: words.has("ack"),
+            pairs: read_pairs(alloc, words),
+        },
+        kind => read_other(alloc, words, kind),
     }
 }
 
-// Some frame, where the words are none.
-fn no_frame(words: &mut Words<'_>) -> Frame {
-    words.unread();
-    Frame::Reset { stream: 0, code: 0 }
+// The frame of this kind and of the words that are left.
+fn read_other(alloc: Global, words: &mut Words<'_>, kind: &str) -> Frame {
+    match kind {
+        "PRIORITY" => Frame::Priority {
+            stream: words.number(),
+            octets: read_exactly(alloc, words),
+        },
+        "PING" => Frame::Ping {
+            ack: words.has("ack"),
+            octets: read_exactly(alloc, words),
+        },
+        "GOAWAY" => Frame::GoAway {
+            last: words.number(),
+            code: words.number(),
+            debug: read_octets(alloc, words),
+        },
+        "WINDOW_UPDATE" => Frame::WindowUpdate {
+            stream: words.number(),
+            increment: words.number(),
+        },
+        "UNKNOWN" => Frame::Unknown {
+            kind: words.number(),
+            flags: words.number(),
+            stream: words.number(),
+            payload: read_octets(alloc, words),
+        },
+        "RST_STREAM" => Frame::Reset {
+            stream: words.number(),
+            code: words.number(),
+        },
+        _ => {
+            words.unread();
+            Frame::Reset { stream: 0, code: 0 }
+        }
+    }
 }
 
 // The end of the next word, where it begins so; the word is used then.
 fn read_tagged<'a>(words: &mut Words<'a>, tag: &str) -> Option<&'a str> {
     let mut others = *words;
-    let found = others.next_or_empty().strip_prefix(tag)?;
-    *words = others;
-    Some(found)
+    let found = others.next_or_empty().strip_prefix(tag);
+    if found.is_some() {
+        *words = others;
+    }
+    found
 }
 
 // How much padding there is, where that is the next word.
 fn read_pad(words: &mut Words<'_>) -> Option<u8> {
-    let pad = read_tagged(words, "pad:")?;
-    Some(words.parse(pad))
+    match read_tagged(words, "pad:") {
+        Some(pad) => Some(words.parse(pad)),
+        None => None,
+    }
 }
 
-// So many octets, no more and no less.
-fn read_exactly<const N: usize>(alloc: Global, words: &mut Words<'_>, text: &str) -> [u8; N] {
-    let mut octets = Vec::new(alloc);
-    append_octets(alloc, &mut octets, words, text);
+// The five octets of a priority, where that is the next word.
+fn read_priority(alloc: Global, words: &mut Words<'_>) -> Option<[u8; 5]> {
+    match read_tagged(words, "priority:") {
+        Some(text) => {
+            let mut octets = Vec::new(alloc);
+            append_octets(alloc, &mut octets, words, text);
+            Some(array_of(words, &octets))
+        }
+        None => None,
+    }
+}
+
+// All octets that are left, which have to be so many.
+fn read_exactly<const N: usize>(alloc: Global, words: &mut Words<'_>) -> [u8; N] {
+    let octets = read_octets(alloc, words);
     array_of(words, &octets)
 }
 
@@ -76,129 +135,20 @@ fn array_of<const N: usize>(words: &mut Words<'_>, octets: &[u8]) -> [u8; N] {
     }
 }
 
-// The five octets of a priority, where that is the next word.
-fn read_priority_word(alloc: Global, words: &mut Words<'_>) -> Option<[u8; 5]> {
-    let octets = read_tagged(words, "priority:")?;
-    Some(read_exactly(alloc, words, octets))
-}
-
-fn read_data(alloc: Global, words: &mut Words<'_>) -> Frame {
-    let stream = words.number();
-    let end = words.has("end");
-    let pad = read_pad(words);
-    Frame::Data {
-        stream,
-        end,
-        octets: read_octets(alloc, words),
-        pad,
-    }
-}
-
-fn read_headers(alloc: Global, words: &mut Words<'_>) -> Frame {
-    let stream = words.number();
-    let end = words.has("end");
-    let whole = words.has("whole");
-    let pad = read_pad(words);
-    let priority = read_priority_word(alloc, words);
-    Frame::Headers {
-        stream,
-        end,
-        whole,
-        fragment: read_octets(alloc, words),
-        pad,
-        priority,
-    }
-}
-
-fn read_priority(alloc: Global, words: &mut Words<'_>) -> Frame {
-    let stream = words.number();
-    let octets = words.rest();
-    Frame::Priority {
-        stream,
-        octets: read_exactly(alloc, words, octets),
-    }
-}
-
-fn read_reset(words: &mut Words<'_>) -> Frame {
-    let stream = words.number();
-    Frame::Reset {
-        stream,
-        code: words.number(),
-    }
-}
-
-fn read_window_update(words: &mut Words<'_>) -> Frame {
-    let stream = words.number();
-    Frame::WindowUpdate {
-        stream,
-        increment: words.number(),
-    }
-}
-
-// The pair of a word.
-fn read_pair(words: &mut Words<'_>) -> (u16, u32) {
-    match words.word().split_once('=') {
-        Some((id, value)) => (words.parse(id), words.parse(value)),
-        None => {
-            words.unread();
-            (0, 0)
-        }
-    }
-}
-
-fn read_settings(alloc: Global, words: &mut Words<'_>) -> Frame {
-    let ack = words.has("ack");
+// The pairs `ID=VALUE` that are left.
+fn read_pairs(alloc: Global, words: &mut Words<'_>) -> Vec<(u16, u32)> {
     let mut pairs = Vec::new(alloc);
     for _ in 0..100 {
         if words.is_empty() {
             break;
         }
-        if pairs.push(read_pair(words)).is_err() {
+        let (id, value) = words.word().split_once('=').unwrap_or(("", ""));
+        let pair = (words.parse(id), words.parse(value));
+        if pairs.push(pair).is_err() {
             words.fail(CaseError::Memory);
         }
     }
-    Frame::Settings { ack, pairs }
-}
-
-fn read_ping(alloc: Global, words: &mut Words<'_>) -> Frame {
-    let ack = words.has("ack");
-    let octets = words.rest();
-    Frame::Ping {
-        ack,
-        octets: read_exactly(alloc, words, octets),
-    }
-}
-
-fn read_goaway(alloc: Global, words: &mut Words<'_>) -> Frame {
-    let last = words.number();
-    let code = words.number();
-    Frame::GoAway {
-        last,
-        code,
-        debug: read_octets(alloc, words),
-    }
-}
-
-fn read_continuation(alloc: Global, words: &mut Words<'_>) -> Frame {
-    let stream = words.number();
-    let whole = words.has("whole");
-    Frame::Continuation {
-        stream,
-        whole,
-        fragment: read_octets(alloc, words),
-    }
-}
-
-fn read_unknown(alloc: Global, words: &mut Words<'_>) -> Frame {
-    let kind = words.number();
-    let flags = words.number();
-    let stream = words.number();
-    Frame::Unknown {
-        kind,
-        flags,
-        stream,
-        payload: read_octets(alloc, words),
-    }
+    pairs
 }
 
 // Adds a word where it is said.
@@ -211,7 +161,7 @@ fn add_word(text: &mut Text, is_said: bool, word: &str) {
 // Adds how much padding there is.
 fn add_pad(text: &mut Text, pad: Option<u8>) {
     if let Some(pad) = pad {
-        write!(text, " pad:{pad}");
+        text.push_labeled(" pad:", pad);
     }
 }
 
@@ -232,7 +182,7 @@ pub(crate) fn add_frame(text: &mut Text, frame: FrameRef<'_>) {
             octets,
             pad,
         } => {
-            write!(text, "DATA {stream}");
+            text.push_labeled("DATA ", stream);
             add_word(text, end, " end");
             add_pad(text, pad);
             add_last(text, octets);
@@ -245,7 +195,7 @@ pub(crate) fn add_frame(text: &mut Text, frame: FrameRef<'_>) {
             pad,
             priority,
         } => {
-            write!(text, "HEADERS {stream}");
+            text.push_labeled("HEADERS ", stream);
             add_word(text, end, " end");
             add_word(text, whole, " whole");
             add_pad(text, pad);
@@ -264,7 +214,7 @@ fn add_other(text: &mut Text, frame: FrameRef<'_>) {
             whole,
             fragment,
         } => {
-            write!(text, "CONTINUATION {stream}");
+            text.push_labeled("CONTINUATION ", stream);
             add_word(text, whole, " whole");
             add_last(text, fragment);
         }
@@ -272,7 +222,8 @@ fn add_other(text: &mut Text, frame: FrameRef<'_>) {
             text.push_str("SETTINGS");
             add_word(text, ack, " ack");
             for (id, value) in pairs.iter() {
-                write!(text, " {id}={value}");
+                text.push_labeled(" ", id);
+                text.push_labeled("=", value);
             }
         }
         FrameRef::Unknown {
@@ -281,7 +232,9 @@ fn add_other(text: &mut Text, frame: FrameRef<'_>) {
             stream,
             payload,
         } => {
-            write!(text, "UNKNOWN {kind} {flags} {stream}");
+            text.push_labeled("UNKNOWN ", kind);
+            text.push_labeled(" ", flags);
+            text.push_labeled(" ", stream);
             add_last(text, payload);
         }
         _ => add_small(text, frame),
@@ -297,16 +250,21 @@ fn add_small(text: &mut Text, frame: FrameRef<'_>) {
             add_last(text, &octets);
         }
         FrameRef::GoAway { last, code, debug } => {
-            write!(text, "GOAWAY {last} {code}");
+            text.push_labeled("GOAWAY ", last);
+            text.push_labeled(" ", code);
             add_last(text, debug);
         }
         FrameRef::Priority { stream, octets } => {
-            write!(text, "PRIORITY {stream}");
+            text.push_labeled("PRIORITY ", stream);
             add_last(text, &octets);
         }
-        FrameRef::Reset { stream, code } => write!(text, "RST_STREAM {stream} {code}"),
+        FrameRef::Reset { stream, code } => {
+            text.push_labeled("RST_STREAM ", stream);
+            text.push_labeled(" ", code);
+        }
         FrameRef::WindowUpdate { stream, increment } => {
-            write!(text, "WINDOW_UPDATE {stream} {increment}");
+            text.push_labeled("WINDOW_UPDATE ", stream);
+            text.push_labeled(" ", increment);
         }
         _ => {}
     }

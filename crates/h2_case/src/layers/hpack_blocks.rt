@@ -85,31 +85,24 @@ fn encode(coders: &mut Coders, words: &mut Words<'_>, text: &mut Text) {
 fn numbered_fields(alloc: Global, words: &mut Words<'_>, count: u16) -> Vec<Field> {
     let mut fields = Vec::new(alloc);
     for number in 0..count {
-        push_numbered(alloc, words, &mut fields, &number.to_be_bytes());
+        let octets = number.to_be_bytes();
+        let is_pushed = match Field::copy_of(alloc, &octets, &octets, false) {
+            Ok(field) => fields.push(field).is_ok(),
+            Err(_) => false,
+        };
+        if !is_pushed {
+            words.fail(CaseError::Memory);
+        }
     }
     fields
-}
-
-// Adds a field whose name and value are these octets.
-fn push_numbered(alloc: Global, words: &mut Words<'_>, fields: &mut Vec<Field>, octets: &[u8]) {
-    let is_pushed = match Field::copy_of(alloc, octets, octets, false) {
-        Ok(field) => fields.push(field).is_ok(),
-        Err(_) => false,
-    };
-    if !is_pushed {
-        words.fail(CaseError::Memory);
-    }
 }
 
 // Adds how many octets a list's block has, and how many entries the table.
 fn add_counts(coders: &mut Coders, text: &mut Text, block: &[u8], fields: &[Field]) {
     let is_passed = is_passed(coders, block, fields);
-    write!(
-        text,
-        "{} octets, entries {}\n",
-        block.len(),
-        coders.entries()
-    );
+    text.push_value(block.len());
+    text.push_labeled(" octets, entries ", coders.entries());
+    text.push_str("\n");
     if !is_passed {
         text.push_line("it is decoded otherwise, or the tables differ");
     }
@@ -128,8 +121,8 @@ fn encode_numbered(coders: &mut Coders, words: &mut Words<'_>, text: &mut Text) 
 // They are new ones.
 fn renew(coders: &mut Coders, words: &mut Words<'_>) {
     match Coders::new(coders.alloc, words.number()) {
-        Ok(others) => *coders = others,
-        Err(fault) => words.fail(fault),
+        Some(others) => *coders = others,
+        None => words.fail(CaseError::Memory),
     }
 }
 
@@ -152,7 +145,7 @@ impl Driver for Coders {
 /// The answers to a case's commands, up to the first that has none.
 pub fn run_case(alloc: Global, case: &Case) -> Vec<Answer> {
     match Coders::new(alloc, 4_096) {
-        Ok(mut coders) => answers(alloc, case, &mut coders),
-        Err(_) => Vec::new(alloc),
+        Some(mut coders) => answers(alloc, case, &mut coders),
+        None => Vec::new(alloc),
     }
 }

@@ -71,9 +71,11 @@ fn add_entry(alloc: Global, text: &mut Text, table: &Table, place: usize) {
 /// Adds how many entries a table has, their size and its maximum; and the line of each entry, the
 /// newest first.
 pub(crate) fn add_table(alloc: Global, text: &mut Text, table: &Table) {
-    let (len, size, maximum) = (table.len(), table.size(), table.maximum());
-    write!(text, "entries {len}, size {size} of {maximum}\n");
-    for place in 0..len {
+    text.push_labeled("entries ", table.len());
+    text.push_labeled(", size ", table.size());
+    text.push_labeled(" of ", table.maximum());
+    text.push_str("\n");
+    for place in 0..table.len() {
         add_entry(alloc, text, table, place.saturating_add(1));
     }
     if !has_its_length(table) || !has_its_ends(table) {

@@ -90,10 +90,10 @@ fn add_integers(alloc: Global, words: &mut Words<'_>, text: &mut Text) {
 
 // Appends an integer below first bits.
 fn append_below(out: &mut Vec<u8>, words: &mut Words<'_>) {
-    let (prefix, first, value) = (words.number(), words.number(), words.number());
+    let (prefix, first, value): (u8, u8, u64) = (words.number(), words.number(), words.number());
     let is_small = value < 1 << 35;
     match prefix {
-        4u8 if is_small && first % 16 == 0 => note(words, write_int(4, first, value, out)),
+        4 if is_small && first % 16 == 0 => note(words, write_int(4, first, value, out)),
         7 if is_small && first % 128 == 0 => note(words, write_int(7, first, value, out)),
         _ => words.unread(),
     }
@@ -112,22 +112,20 @@ fn add_below(alloc: Global, words: &mut Words<'_>, text: &mut Text) {
 }
 
 // Adds the integer with which octets begin.
-fn add_read(words: &mut Words<'_>, text: &mut Text, prefix: u8, octets: &[u8]) {
+fn add_read(alloc: Global, words: &mut Words<'_>, text: &mut Text) {
+    let prefix: u8 = words.number();
+    let octets = read_octets(alloc, words);
     if prefix < 1 || prefix > 8 {
         words.unread();
-        return;
+    } else {
+        match read_int(prefix, &octets) {
+            Ok((value, count)) => {
+                text.push_value(value);
+                text.push_labeled(" of ", count);
+            }
+            Err(fault) => text.push_value(fault),
+        }
     }
-    match read_int(prefix, octets) {
-        Ok((value, count)) => write!(text, "{value} of {count}"),
-        Err(fault) => write!(text, "{fault}"),
-    }
-}
-
-// Reads an integer.
-fn read(alloc: Global, words: &mut Words<'_>, text: &mut Text) {
-    let prefix = words.number();
-    let octets = read_octets(alloc, words);
-    add_read(words, text, prefix, &octets);
 }
 
 // Adds the octets of an encoding; there is none where memory was refused.
@@ -155,23 +153,12 @@ fn add_huffman(alloc: Global, words: &mut Words<'_>, text: &mut Text) {
     let octets = read_octets(alloc, words);
     match huff_read(alloc, &octets) {
         Ok(read) => add_octets(text, &read),
-        Err(fault) => write!(text, "{fault}"),
+        Err(fault) => text.push_value(fault),
     }
 }
 
-// Whether a string is read so after an octet, which stays as it is.
-fn is_found_after(
-    alloc: Global,
-    text: &mut Text,
-    octets: &[u8],
-    found: Result<usize, TextFault>,
-    read: &[u8],
-) -> bool {
-    let mut out = marked(alloc, text);
-    read_string_into(octets, &mut out) == found && written_after(text, &out) == read
-}
-
-// Adds of how many octets a string is, and its text; or the fault.
+// Adds of how many octets a string is, and its text; or the fault. It is read again after an octet,
+// which stays as it is.
 fn add_found(
     alloc: Global,
     text: &mut Text,
@@ -181,12 +168,14 @@ fn add_found(
 ) {
     match found {
         Ok(count) => {
-            write!(text, "used {count}");
+            text.push_labeled("used ", count);
             add_last(text, read);
         }
-        Err(fault) => write!(text, "{fault}"),
+        Err(fault) => text.push_value(fault),
     }
-    if !is_found_after(alloc, text, octets, found, read) {
+    let mut out = marked(alloc, text);
+    let again = read_string_into(octets, &mut out);
+    if written_after(text, &out) != read || again != found {
         text.push_str("\nit is read otherwise after an octet");
     }
 }
@@ -208,21 +197,11 @@ fn add_appended(alloc: Global, words: &mut Words<'_>, text: &mut Text) {
     add_octets(text, &octets);
 }
 
-// Whether a text has hexadecimal digits alone, letters in lower case.
-fn is_hexadecimal(text: &str) -> bool {
-    text.chars()
-        .all(|digit| matches!(digit, '0'..='9' | 'a'..='f'))
-}
-
 // Adds where half octets lead.
 fn add_steps(alloc: Global, words: &mut Words<'_>, text: &mut Text) {
-    let digits = words.rest();
-    if !is_hexadecimal(digits) {
-        words.unread();
-    }
     let mut symbols = Vec::new(alloc);
-    match walk_halves(digits, &mut symbols) {
-        Some(state) if state < 8 => write!(text, "state {state}"),
+    match walk_halves(words, &mut symbols) {
+        Some(state) if state < 8 => text.push_labeled("state ", state),
         Some(_) => text.push_str("state above 7"),
         None => text.push_str("end"),
     }
@@ -243,7 +222,7 @@ impl Driver for Texts {
         match name {
             "integers" => add_integers(self.alloc, words, text),
             "below" => add_below(self.alloc, words, text),
-            "read" => read(self.alloc, words, text),
+            "read" => add_read(self.alloc, words, text),
             "text" => add_text(self.alloc, words, text),
             "huffman" => add_huffman(self.alloc, words, text),
             "string" => add_string(self.alloc, words, text),

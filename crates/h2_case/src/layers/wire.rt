@@ -70,23 +70,17 @@ fn add_end(cutter: &mut Cutter, text: &mut Text, fault: Option<WireFault>) {
     if !cutter.is_past_preface() {
         text.push_line("in the preface");
     }
-    write!(
-        text,
-        "{} unparsed, place {}\n",
-        cutter.held(),
-        cutter.place()
-    );
+    text.push_value(cutter.held());
+    text.push_labeled(" unparsed, place ", cutter.place());
+    text.push_str("\n");
     if let Some(fault) = fault {
-        write!(text, "{fault}, {}\n", fault.code());
+        text.push_value(fault);
+        text.push_labeled(", ", fault.code());
+        text.push_str("\n");
         if !is_again(cutter, fault) {
             text.push_line("another answer after the fault");
         }
     }
-}
-
-// A cutter of a stream.
-fn cutter_of(alloc: Global, stream: Stream<'_>) -> Cutter {
-    Cutter::new(alloc, stream.limit, stream.client)
 }
 
 // Cuts octets in two at a place.
@@ -117,7 +111,7 @@ fn feed_pieces(cutter: &mut Cutter, text: &mut Text, octets: &[u8], most: usize)
 // What a stream comes to, cut in two at a place.
 fn in_two(alloc: Global, stream: Stream<'_>, at: usize) -> Text {
     let mut text = Text::new(alloc);
-    let mut cutter = cutter_of(alloc, stream);
+    let mut cutter = Cutter::new(alloc, stream.limit, stream.client);
     feed_two(&mut cutter, &mut text, stream.octets, at);
     text
 }
@@ -125,7 +119,7 @@ fn in_two(alloc: Global, stream: Stream<'_>, at: usize) -> Text {
 // What it comes to, in pieces of so many octets.
 fn in_pieces(alloc: Global, stream: Stream<'_>, most: usize) -> Text {
     let mut text = Text::new(alloc);
-    let mut cutter = cutter_of(alloc, stream);
+    let mut cutter = Cutter::new(alloc, stream.limit, stream.client);
     feed_pieces(&mut cutter, &mut text, stream.octets, most);
     text
 }
@@ -160,14 +154,7 @@ fn add_differences(alloc: Global, text: &mut Text, stream: Stream<'_>, whole: &s
 }
 
 // Adds what a stream comes to, and where it comes to something else in pieces.
-fn add_cut(alloc: Global, text: &mut Text, stream: Stream<'_>) {
-    let whole = in_two(alloc, stream, 0);
-    text.push_text(&whole);
-    add_differences(alloc, text, stream, whole.as_str());
-}
-
-// Cuts a stream.
-fn cut(alloc: Global, words: &mut Words<'_>, text: &mut Text) {
+fn add_cut(alloc: Global, words: &mut Words<'_>, text: &mut Text) {
     let client = words.has("client");
     if !client {
         words.expect("server");
@@ -179,13 +166,15 @@ fn cut(alloc: Global, words: &mut Words<'_>, text: &mut Text) {
         limit,
         client,
     };
-    add_cut(alloc, text, stream);
+    let whole = in_two(alloc, stream, 0);
+    text.push_text(&whole);
+    add_differences(alloc, text, stream, whole.as_str());
 }
 
 impl Driver for Streams {
     fn answer(&mut self, name: &str, words: &mut Words<'_>, text: &mut Text) {
         match name {
-            "cut" => cut(self.alloc, words, text),
+            "cut" => add_cut(self.alloc, words, text),
             _ => words.unread(),
         }
     }
