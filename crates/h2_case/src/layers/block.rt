@@ -17,7 +17,7 @@ use crate::octets::{
 };
 use crate::text::Text;
 use crate::words::Words;
-use h2_block::{BlockFault, Gather, Gathered, spread};
+use h2_block::{Gather, Gathered, spread};
 use h2_frame::{FrameRef, write};
 use std::alloc::Global;
 
@@ -135,20 +135,6 @@ fn add_parts(text: &mut Text, octets: &[u8], block: &[u8]) {
     }
 }
 
-// Whether what a frame comes to is this block.
-fn is_block(found: &Result<Gathered<'_>, BlockFault>, block: Block<'_>) -> bool {
-    match found {
-        Ok(
-            Gathered::Block {
-                stream,
-                end,
-                octets,
-            },
-        ) => *stream == block.stream && *end == block.end && octets.as_slice() == block.octets,
-        _ => false,
-    }
-}
-
 // Whether the last of the frames of octets comes to this block, by a gatherer.
 fn is_gathered(gather: &mut Gather, octets: &[u8], block: Block<'_>) -> bool {
     let mut others = octets;
@@ -157,7 +143,16 @@ fn is_gathered(gather: &mut Gather, octets: &[u8], block: Block<'_>) -> bool {
         let Some((frame, following)) = cut_frame(others) else {
             break;
         };
-        is_last = is_block(&gather.take(frame), block);
+        is_last = match gather.take(frame) {
+            Ok(
+                Gathered::Block {
+                    stream,
+                    end,
+                    octets,
+                },
+            ) => stream == block.stream && end == block.end && octets.as_slice() == block.octets,
+            _ => false,
+        };
         others = following;
     }
     is_last

@@ -10,19 +10,12 @@ fn is_same(one: (&[u8], &[u8]), other: (&[u8], &[u8])) -> bool {
     one.0 == other.0 && one.1 == other.1
 }
 
-// Whether two tables have the same entry at a place.
-fn have_same_entry(table: &Table, other: &Table, place: usize) -> bool {
-    match (table.get(place), other.get(place)) {
-        (Some(one), Some(other)) => is_same(one, other),
-        _ => false,
-    }
-}
-
 /// Whether two tables are the same.
 pub(crate) fn are_same_tables(table: &Table, other: &Table) -> bool {
-    for place in 0..table.len() {
-        if !have_same_entry(table, other, place.saturating_add(1)) {
-            return false;
+    for place in 1..=table.len() {
+        match (table.get(place), other.get(place)) {
+            (Some(one), Some(other)) if is_same(one, other) => {}
+            _ => return false,
         }
     }
     table.len() == other.len() && table.size() == other.size() && table.maximum() == other.maximum()

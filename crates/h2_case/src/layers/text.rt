@@ -46,33 +46,22 @@ fn note(words: &mut Words<'_>, written: Result<(), TextFault>) {
     }
 }
 
-// The octets of an integer.
-fn integer(alloc: Global, words: &mut Words<'_>, prefix: u8, value: u64) -> Vec<u8> {
-    let mut out = Vec::new(alloc);
-    if prefix < 1 || prefix > 8 || value >= 1 << 35 {
-        words.unread();
-    } else {
-        note(words, write_int(prefix, 0, value, &mut out));
-    }
-    out
-}
-
-// Whether octets are read as an integer, of so many of them.
-fn is_read(prefix: u8, octets: &[u8], value: u64, count: usize) -> bool {
-    1 <= prefix && prefix <= 8 && read_int(prefix, octets) == Ok((value, count))
-}
-
-// Adds the octets of an integer.
+// Adds the octets of an integer, and whether it is read again, whatever follows.
 fn add_integer(alloc: Global, words: &mut Words<'_>, text: &mut Text, prefix: u8) {
     let value = words.number();
-    let mut out = integer(alloc, words, prefix, value);
+    if prefix < 1 || prefix > 8 || value >= 1 << 35 {
+        words.unread();
+        return;
+    }
+    let mut out = Vec::new(alloc);
+    note(words, write_int(prefix, 0, value, &mut out));
     add_octets(text, &out);
     text.push_str("\n");
     let count = out.len();
     if out.push(0xff).is_err() {
         text.refuse();
     }
-    if !is_read(prefix, &out, value, count) {
+    if read_int(prefix, &out) != Ok((value, count)) {
         text.push_line("it is read otherwise");
     }
 }

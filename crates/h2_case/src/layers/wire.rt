@@ -83,36 +83,16 @@ fn add_end(cutter: &mut Cutter, text: &mut Text, fault: Option<WireFault>) {
     }
 }
 
-// Cuts octets in two at a place.
-fn feed_two(cutter: &mut Cutter, text: &mut Text, octets: &[u8], at: usize) {
-    let at = at.min(octets.len());
-    let mut fault = feed(cutter, text, &octets[..at]);
-    if fault.is_none() {
-        fault = feed(cutter, text, &octets[at..]);
-    }
-    add_end(cutter, text, fault);
-}
-
-// Cuts octets in pieces of so many.
-fn feed_pieces(cutter: &mut Cutter, text: &mut Text, octets: &[u8], most: usize) {
-    let mut fault = None;
-    let mut others = octets;
-    for _ in 0..octets.len() {
-        if others.is_empty() || fault.is_some() {
-            break;
-        }
-        let count = most.min(others.len());
-        fault = feed(cutter, text, &others[..count]);
-        others = &others[count..];
-    }
-    add_end(cutter, text, fault);
-}
-
 // What a stream comes to, cut in two at a place.
 fn in_two(alloc: Global, stream: Stream<'_>, at: usize) -> Text {
     let mut text = Text::new(alloc);
     let mut cutter = Cutter::new(alloc, stream.limit, stream.client);
-    feed_two(&mut cutter, &mut text, stream.octets, at);
+    let at = at.min(stream.octets.len());
+    let mut fault = feed(&mut cutter, &mut text, &stream.octets[..at]);
+    if fault.is_none() {
+        fault = feed(&mut cutter, &mut text, &stream.octets[at..]);
+    }
+    add_end(&mut cutter, &mut text, fault);
     text
 }
 
@@ -120,13 +100,18 @@ fn in_two(alloc: Global, stream: Stream<'_>, at: usize) -> Text {
 fn in_pieces(alloc: Global, stream: Stream<'_>, most: usize) -> Text {
     let mut text = Text::new(alloc);
     let mut cutter = Cutter::new(alloc, stream.limit, stream.client);
-    feed_pieces(&mut cutter, &mut text, stream.octets, most);
+    let mut fault = None;
+    let mut others = stream.octets;
+    for _ in 0..stream.octets.len() {
+        if others.is_empty() || fault.is_some() {
+            break;
+        }
+        let count = most.min(others.len());
+        fault = feed(&mut cutter, &mut text, &others[..count]);
+        others = &others[count..];
+    }
+    add_end(&mut cutter, &mut text, fault);
     text
-}
-
-// Whether a stream comes to the same in pieces of so many octets.
-fn is_same_in_pieces(alloc: Global, stream: Stream<'_>, most: usize, whole: &str) -> bool {
-    in_pieces(alloc, stream, most).as_str() == whole
 }
 
 // Whether it comes to the same, cut in two at a place.
@@ -143,7 +128,7 @@ fn is_cut_at(at: usize, len: usize) -> bool {
 fn add_differences(alloc: Global, text: &mut Text, stream: Stream<'_>, whole: &str) {
     let len = stream.octets.len();
     let most = if len <= LONG { 1 } else { 1_000 };
-    if !is_same_in_pieces(alloc, stream, most, whole) {
+    if in_pieces(alloc, stream, most).as_str() != whole {
         write!(text, "another answer to pieces of {most}\n");
     }
     for at in 0..=len {
