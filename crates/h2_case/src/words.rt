@@ -4,7 +4,7 @@ use crate::case::CaseError;
 use std::str::FromStr;
 
 /// What is left of a command's words, which one space divides. That a word could not be read is
-/// noted: the reader goes on with a value that stands for none, and the command has no answer.
+/// noted: the reader goes on with another value in its place, and the command has no answer.
 #[derive(Clone, Copy)]
 pub struct Words<'a> {
     left: &'a str,
