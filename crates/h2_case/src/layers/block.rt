@@ -9,198 +9,198 @@
 //!   of the block's octets its payload is. That what was written before stays as it is, and that
 //!   the frames are gathered to the block again, is seen to.
 
-use crate::case::{Case, CaseError, Step, add_line};
-use crate::layers::frames::{add_frame, add_last, cut_frame, read_frame};
-use crate::octets::{add_hex, add_octets, read_octets};
+use crate::case::{Case, CaseError};
+use crate::driver::{Answer, Driver, answers};
+use crate::layers::frames::{add_frame, cut_frame, read_frame};
+use crate::octets::{
+    add_hex, add_last, add_octets, marked, read_octets, split_frame, written_after,
+};
+use crate::text::Text;
 use crate::words::Words;
 use h2_block::{Gather, Gathered, spread};
 use h2_frame::{FrameRef, write};
-use std::alloc::{AllocError, Global};
+use std::alloc::Global;
 
-// Adds a block.
-fn add_block(line: &mut String, stream: u32, end: bool, octets: &[u8]) -> Result<(), AllocError> {
-    write!(line, "block {stream}")?;
-    if end {
-        line.push_str(" end")?;
-    }
-    add_last(line, octets)
+// What answers the commands.
+#[derive(Drop)]
+struct Blocks {
+    alloc: Global,
+    gather: Gather,
 }
 
-// What a frame comes to.
-fn take_line(alloc: Global, gather: &mut Gather, frame: FrameRef<'_>) -> Result<String, CaseError> {
-    let mut line = String::new(alloc);
+// A block.
+#[derive(Clone, Copy)]
+struct Block<'a> {
+    stream: u32,
+    end: bool,
+    octets: &'a [u8],
+}
+
+// Adds a block.
+fn add_block(text: &mut Text, stream: u32, end: bool, octets: &[u8]) {
+    text.push_labeled("block ", stream);
+    if end {
+        text.push_str(" end");
+    }
+    add_last(text, octets);
+}
+
+// Adds what a frame comes to.
+fn add_taken(gather: &mut Gather, text: &mut Text, frame: FrameRef<'_>) {
     match gather.take(frame) {
         Ok(Gathered::Pass(frame)) => {
-            line.push_str("pass ")?;
-            add_frame(&mut line, frame)?;
+            text.push_str("pass ");
+            add_frame(text, frame);
         }
-        Ok(Gathered::More) => line.push_str("more")?,
+        Ok(Gathered::More) => text.push_str("more"),
         Ok(
             Gathered::Block {
                 stream,
                 end,
                 octets,
             },
-        ) => {
-            add_block(&mut line, stream, end, &octets)?;
+        ) => add_block(text, stream, end, &octets),
+        Err(fault) => {
+            text.push_value(fault);
+            text.push_labeled(", ", fault.code());
         }
-        Err(fault) => write!(line, "{fault}, {}", fault.code())?,
     }
-    Ok(line)
+}
+
+// Adds the answer to the last of so many frames, and how many octets the gatherer holds then.
+fn add_last_taken(gather: &mut Gather, text: &mut Text, count: u32, frame: FrameRef<'_>) {
+    for _ in 1..count {
+        let _ = gather.take(frame);
+    }
+    if count > 0 {
+        add_taken(gather, text, frame);
+    }
+    text.push_str("\n");
+    if gather.is_inside() {
+        text.push_labeled("inside a block, ", gather.held());
+        text.push_str(" octets");
+    } else if gather.held() > 0 {
+        text.push_line("it holds octets outside a block");
+    }
+}
+
+// The octets of a frame.
+fn encoded(alloc: Global, words: &mut Words<'_>) -> Vec<u8> {
+    let mut octets = Vec::new(alloc);
+    if write(&read_frame(alloc, words), &mut octets).is_err() {
+        words.unread();
+    }
+    octets
 }
 
 // Takes a frame, so many times.
-fn take_lines(
-    alloc: Global,
-    gather: &mut Gather,
-    count: u32,
-    text: &str,
-) -> Result<String, CaseError> {
-    let mut octets = Vec::new(alloc);
-    if write(&read_frame(alloc, text)?, &mut octets).is_err() {
-        return Err(CaseError::Unread);
-    }
-    let Some((frame, _)) = cut_frame(&octets) else {
-        return Err(CaseError::Unread);
-    };
-    let mut lines = String::new(alloc);
-    for _ in 0..count {
-        lines = take_line(alloc, gather, frame)?;
-    }
-    lines.push('\n')?;
-    if gather.is_inside() {
-        write!(lines, "inside a block, {} octets", gather.held())?;
-    } else if gather.held() > 0 {
-        add_line(&mut lines, "it holds octets outside a block")?;
-    }
-    Ok(lines)
-}
-
-// Takes a frame as a command says it.
-fn take(alloc: Global, gather: &mut Gather, text: &str) -> Result<String, CaseError> {
-    match text.split_once(" times ") {
-        Some((count, frame)) => match count.parse() {
-            Ok(count) => take_lines(alloc, gather, count, frame),
-            Err(_) => Err(CaseError::Unread),
-        },
-        None => take_lines(alloc, gather, 1, text),
+fn take(blocks: &mut Blocks, words: &mut Words<'_>, text: &mut Text) {
+    let count = words.times();
+    let octets = encoded(blocks.alloc, words);
+    match cut_frame(&octets) {
+        Some((frame, _)) => add_last_taken(&mut blocks.gather, text, count, frame),
+        None => words.unread(),
     }
 }
 
 // Adds a frame's head, and which of the block's octets its payload is; else the payload itself.
-fn add_part(
-    lines: &mut String,
-    head: &[u8; 9],
-    payload: &[u8],
-    block: &[u8],
-    start: usize,
-) -> Result<(), CaseError> {
+fn add_part(text: &mut Text, head: &[u8; 9], payload: &[u8], block: &[u8], start: usize) {
     let end = start.saturating_add(payload.len());
-    add_hex(lines, head)?;
+    add_hex(text, head);
     if block.get(start..end) == Some(payload) {
-        write!(lines, " octets {start} to {end}\n")?;
+        text.push_labeled(" octets ", start);
+        text.push_labeled(" to ", end);
+        text.push_str("\n");
     } else {
-        lines.push(' ')?;
-        add_octets(lines, payload)?;
-        add_line(lines, ", which are none of the block's")?;
+        text.push_str(" ");
+        add_octets(text, payload);
+        text.push_line(", which are none of the block's");
     }
-    Ok(())
 }
 
 // Adds a line for each frame of octets.
-fn add_parts(lines: &mut String, octets: &[u8], block: &[u8]) -> Result<(), CaseError> {
+fn add_parts(text: &mut Text, octets: &[u8], block: &[u8]) {
     let mut others = octets;
     let mut start = 0usize;
     for _ in 0..16 {
-        let Some((head, following)) = others.split_first_chunk::<9>() else {
+        let Some((head, payload, following)) = split_frame(others) else {
             break;
         };
-        let len = (head[0] as usize) * 65_536 + (head[1] as usize) * 256 + head[2] as usize;
-        let (Some(payload), Some(next)) = (following.get(..len), following.get(len..)) else {
-            break;
-        };
-        add_part(lines, head, payload, block, start)?;
-        start = start.saturating_add(len);
-        others = next;
+        add_part(text, head, payload, block, start);
+        start = start.saturating_add(payload.len());
+        others = following;
     }
     if !others.is_empty() {
-        add_line(lines, "octets that are no frame follow")?;
+        text.push_line("octets that are no frame follow");
     }
-    Ok(())
 }
 
-// The last answer to the frames of octets, by a new gatherer.
-fn gathered_line(alloc: Global, octets: &[u8]) -> Result<String, CaseError> {
-    let mut gather = Gather::new(alloc);
+// Whether the last of the frames of octets comes to this block, by a gatherer.
+fn is_gathered(gather: &mut Gather, octets: &[u8], block: Block<'_>) -> bool {
     let mut others = octets;
-    let mut last = String::new(alloc);
+    let mut is_last = false;
     for _ in 0..16 {
-        let Some((frame, next)) = cut_frame(others) else {
+        let Some((frame, following)) = cut_frame(others) else {
             break;
         };
-        last = take_line(alloc, &mut gather, frame)?;
-        others = next;
+        is_last = match gather.take(frame) {
+            Ok(
+                Gathered::Block {
+                    stream,
+                    end,
+                    octets,
+                },
+            ) => stream == block.stream && end == block.end && octets.as_slice() == block.octets,
+            _ => false,
+        };
+        others = following;
     }
-    Ok(last)
+    is_last
 }
 
-// The answer to the last frame of a block.
-fn block_line(alloc: Global, stream: u32, end: bool, block: &[u8]) -> Result<String, CaseError> {
-    let mut line = String::new(alloc);
-    add_block(&mut line, stream, end, block)?;
-    Ok(line)
+// Writes the frames over which a block is spread.
+fn write_spread(words: &mut Words<'_>, block: Block<'_>, out: &mut Vec<u8>) {
+    let (stream, octets) = (block.stream, block.octets);
+    if stream < 1 || stream >= 1 << 31 || octets.len() > 65_552 {
+        words.unread();
+    } else if spread(stream, block.end, octets, out).is_err() {
+        words.fail(CaseError::Memory);
+    }
 }
 
-// Spreads a block.
-fn spread_lines(alloc: Global, stream: u32, end: bool, block: &[u8]) -> Result<String, CaseError> {
-    if stream < 1 || stream >= 1 << 31 || block.len() > 65_552 {
-        return Err(CaseError::Unread);
-    }
-    let mut out = Vec::from_slice(alloc, b"\x07")?;
-    if spread(stream, end, block, &mut out).is_err() {
-        return Err(CaseError::Memory);
-    }
-    let mut lines = String::new(alloc);
-    let Some(octets) = out.strip_prefix(b"\x07".as_slice()) else {
-        add_line(&mut lines, "what was written before has changed")?;
-        return Ok(lines);
+// Adds the frames over which a block is spread, and whether they are gathered to it again.
+fn add_spread(alloc: Global, words: &mut Words<'_>, text: &mut Text) {
+    let stream = words.number();
+    let end = words.has("end");
+    let octets = read_octets(alloc, words);
+    let block = Block {
+        stream,
+        end,
+        octets: &octets,
     };
-    add_parts(&mut lines, octets, block)?;
-    if gathered_line(alloc, octets)? != block_line(alloc, stream, end, block)? {
-        add_line(&mut lines, "it is gathered otherwise")?;
+    let mut out = marked(alloc, text);
+    write_spread(words, block, &mut out);
+    let written = written_after(text, &out);
+    add_parts(text, written, block.octets);
+    let mut gather = Gather::new(alloc);
+    if !is_gathered(&mut gather, written, block) {
+        text.push_line("it is gathered otherwise");
     }
-    Ok(lines)
 }
 
-// The answer to a command.
-fn answer(alloc: Global, gather: &mut Gather, step: &Step) -> Result<String, CaseError> {
-    let mut words = Words::of(&step.command);
-    match words.word()? {
-        "take" => take(alloc, gather, words.rest()),
-        "new" if words.end().is_ok() => {
-            *gather = Gather::new(alloc);
-            Ok(String::new(alloc))
+impl Driver for Blocks {
+    fn answer(&mut self, name: &str, words: &mut Words<'_>, text: &mut Text) {
+        match name {
+            "take" => take(self, words, text),
+            "new" => self.gather = Gather::new(self.alloc),
+            "spread" => add_spread(self.alloc, words, text),
+            _ => words.unread(),
         }
-        "spread" => {
-            let stream = words.number()?;
-            let end = words.has("end");
-            let block = read_octets(alloc, words.rest())?;
-            spread_lines(alloc, stream, end, &block)
-        }
-        _ => Err(CaseError::Unread),
     }
 }
 
 /// The answers to a case's commands, up to the first that has none.
-pub fn run_case(alloc: Global, case: &Case) -> Vec<Result<String, CaseError>> {
-    let mut answers = Vec::new(alloc);
-    let mut gather = Gather::new(alloc);
-    for step in &case.steps {
-        let found = answer(alloc, &mut gather, step);
-        let fails = found.is_err();
-        if answers.push(found).is_err() || fails {
-            break;
-        }
-    }
-    answers
+pub fn run_case(alloc: Global, case: &Case) -> Vec<Answer> {
+    let gather = Gather::new(alloc);
+    answers(alloc, case, &mut Blocks { alloc, gather })
 }

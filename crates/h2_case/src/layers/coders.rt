@@ -1,9 +1,11 @@
 //! An encoder of field blocks, and two decoders: one makes a list of each block, the other fills a
 //! list that is kept.
 
-use crate::case::{CaseError, add_line};
-use crate::fields::{add_field, add_fields};
-use crate::layers::tables::{are_same_tables, table_lines};
+use crate::case::CaseError;
+use crate::fields::{add_field, add_fields, lent};
+use crate::layers::tables::{add_table, are_same_tables};
+use crate::text::Text;
+use crate::words::Words;
 use hpack::{Decoded, Decoder, Encoder, Fault, Field, FieldList, FieldRef, List, list_size};
 use std::alloc::Global;
 
@@ -12,7 +14,7 @@ pub(crate) const NO_LIMIT: u32 = u32::MAX;
 
 /// An encoder and two decoders.
 pub(crate) struct Coders {
-    alloc: Global,
+    pub(crate) alloc: Global,
     encoder: Encoder,
     maker: Decoder,
     keeper: Decoder,
@@ -45,16 +47,6 @@ fn let_go(_decoder: Decoder) {}
 // Lets go of a list.
 fn let_go_of_list(_list: FieldList) {}
 
-// A new decoder.
-fn new_decoder(alloc: Global, maximum: u32) -> Result<Decoder, CaseError> {
-    Decoder::new(alloc, maximum).map_err(|_| CaseError::Memory)
-}
-
-// A new encoder.
-fn new_encoder(alloc: Global, maximum: u32) -> Result<Encoder, CaseError> {
-    Encoder::new(alloc, maximum).map_err(|_| CaseError::Memory)
-}
-
 // Decodes a block.
 fn decode(decoder: &mut Decoder, octets: &[u8], limit: u32) -> Result<List, Fault> {
     decoder.decode(octets, limit)
@@ -71,61 +63,57 @@ fn decode_into(
 }
 
 // Encodes a list, which isn't too large for that.
-fn encode(encoder: &mut Encoder, fields: &[Field], out: &mut Vec<u8>) -> Result<(), CaseError> {
+fn encode(encoder: &mut Encoder, words: &mut Words<'_>, fields: &[Field], out: &mut Vec<u8>) {
     if list_size(fields) >= 1 << 35 {
-        return Err(CaseError::Unread);
+        words.unread();
+    } else if encoder.encode(fields, out).is_err() {
+        words.fail(CaseError::Memory);
     }
-    encoder.encode(fields, out).map_err(|_| CaseError::Memory)
 }
 
-// What a block was decoded to: the lines of its fields.
-fn list_lines(alloc: Global, found: &Result<List, Fault>) -> Result<String, CaseError> {
-    let mut lines = String::new(alloc);
+// Adds the line of a fault.
+fn add_fault(text: &mut Text, fault: Fault) {
+    text.push_value(fault);
+    text.push_str("\n");
+}
+
+// Adds what a block was decoded to: the lines of its fields.
+fn add_list(alloc: Global, text: &mut Text, found: &Result<List, Fault>) {
     match found {
-        Ok(List::Whole(fields)) => add_fields(alloc, &mut lines, fields)?,
-        Ok(List::TooLarge) => add_line(&mut lines, "too large")?,
-        Err(fault) => write!(lines, "{fault}\n")?,
+        Ok(List::Whole(fields)) => add_fields(alloc, text, fields),
+        Ok(List::TooLarge) => text.push_line("too large"),
+        Err(fault) => add_fault(text, *fault),
     }
-    Ok(lines)
 }
 
 // Adds the lines of a list that is kept.
-fn add_kept(alloc: Global, lines: &mut String, list: &FieldList) -> Result<(), CaseError> {
+fn add_kept(alloc: Global, text: &mut Text, list: &FieldList) {
     for place in 0..list.len() {
         match list.get(place) {
-            Some(field) => add_field(alloc, lines, field)?,
-            None => add_line(lines, "a place without a field")?,
+            Some(field) => add_field(alloc, text, field),
+            None => text.push_line("a place without a field"),
         }
     }
     if list.is_empty() != (list.len() == 0) || list.get(list.len()).is_some() {
-        add_line(lines, "another number of fields")?;
+        text.push_line("another number of fields");
     }
-    Ok(())
 }
 
-// What a block was decoded to, into a list that is kept.
-fn kept_lines(
+// Decodes a block into a list that is kept, and adds the lines of the list.
+fn add_decoded_into(
     alloc: Global,
-    found: Result<Decoded, Fault>,
-    list: &FieldList,
-) -> Result<String, CaseError> {
-    let mut lines = String::new(alloc);
-    match found {
+    text: &mut Text,
+    decoder: &mut Decoder,
+    octets: &[u8],
+    limit: u32,
+    list: &mut FieldList,
+) {
+    match decode_into(decoder, octets, limit, list) {
         Ok(Decoded::Whole) => {}
-        Ok(Decoded::TooLarge) => add_line(&mut lines, "too large")?,
-        Err(fault) => write!(lines, "{fault}\n")?,
+        Ok(Decoded::TooLarge) => text.push_line("too large"),
+        Err(fault) => add_fault(text, fault),
     }
-    add_kept(alloc, &mut lines, list)?;
-    Ok(lines)
-}
-
-// A field, lent.
-fn lent(field: &Field) -> FieldRef<'_> {
-    FieldRef {
-        name: field.name.as_slice(),
-        value: field.value.as_slice(),
-        sensitive: field.sensitive,
-    }
+    add_kept(alloc, text, list);
 }
 
 // Whether two fields are the same.
@@ -159,15 +147,15 @@ fn are_kept(list: &FieldList, fields: &[Field]) -> bool {
 }
 
 impl Coders {
-    /// New ones, with this maximum.
-    pub(crate) fn new(alloc: Global, maximum: u32) -> Result<Coders, CaseError> {
-        let encoder = new_encoder(alloc, maximum)?;
-        let maker = new_decoder(alloc, maximum)?;
-        Ok(Coders {
+    /// New ones, with this maximum; none where memory was refused.
+    pub(crate) fn new(alloc: Global, maximum: u32) -> Option<Coders> {
+        let encoder = Encoder::new(alloc, maximum).ok()?;
+        let maker = Decoder::new(alloc, maximum).ok()?;
+        Some(Coders {
             alloc,
             encoder,
             maker,
-            keeper: new_decoder(alloc, maximum)?,
+            keeper: Decoder::new(alloc, maximum).ok()?,
             kept: FieldList::new(alloc),
         })
     }
@@ -179,27 +167,32 @@ impl Coders {
         self.keeper.set_limit(limit);
     }
 
-    /// The block of a list, which is written after an octet that stays as it is.
-    pub(crate) fn encode(&mut self, fields: &[Field]) -> Result<Vec<u8>, CaseError> {
-        let mut out = Vec::from_slice(self.alloc, b"\xaa")?;
-        encode(&mut self.encoder, fields, &mut out)?;
-        match out.as_slice() {
-            [0xaa, block @ ..] => Ok(Vec::from_slice(self.alloc, block)?),
-            _ => Err(CaseError::Unread),
-        }
+    /// Writes the block of a list after what is there.
+    pub(crate) fn encode(&mut self, words: &mut Words<'_>, fields: &[Field], out: &mut Vec<u8>) {
+        encode(&mut self.encoder, words, fields, out);
     }
 
-    /// The lines of what a block is decoded to, by both decoders.
-    pub(crate) fn decode(&mut self, octets: &[u8], limit: u32) -> Result<String, CaseError> {
-        let found = decode(&mut self.maker, octets, limit);
-        let mut lines = list_lines(self.alloc, &found)?;
-        let found = decode_into(&mut self.keeper, octets, limit, &mut self.kept);
-        let kept = kept_lines(self.alloc, found, &self.kept)?;
-        if kept != lines {
-            add_line(&mut lines, "and into a list that is kept:")?;
-            lines.push_str(&kept)?;
+    /// Adds the lines of what a block is decoded to, by both decoders.
+    pub(crate) fn add_decoded(&mut self, text: &mut Text, octets: &[u8], limit: u32) {
+        let (mut made, mut kept) = (Text::new(self.alloc), Text::new(self.alloc));
+        add_list(
+            self.alloc,
+            &mut made,
+            &decode(&mut self.maker, octets, limit),
+        );
+        add_decoded_into(
+            self.alloc,
+            &mut kept,
+            &mut self.keeper,
+            octets,
+            limit,
+            &mut self.kept,
+        );
+        text.push_text(&made);
+        if kept.as_str() != made.as_str() {
+            text.push_line("and into a list that is kept:");
+            text.push_text(&kept);
         }
-        Ok(lines)
     }
 
     /// Whether a block is decoded to these fields, by both decoders.
@@ -220,28 +213,35 @@ impl Coders {
         self.encoder.table().len()
     }
 
-    /// The lines of the decoders' table.
-    pub(crate) fn table(&self) -> Result<String, CaseError> {
-        let mut lines = table_lines(self.alloc, self.maker.table())?;
+    /// Adds the lines of the decoders' table.
+    pub(crate) fn add_table(&self, text: &mut Text) {
+        add_table(self.alloc, text, self.maker.table());
         if !are_same_tables(self.maker.table(), self.keeper.table()) {
-            add_line(&mut lines, "another table where a list is kept")?;
+            text.push_line("another table where a list is kept");
         }
-        Ok(lines)
     }
 
-    /// Another decoder puts a field into the list that is kept; the lines of the list.
-    pub(crate) fn fill(&mut self) -> Result<String, CaseError> {
-        let mut decoder = new_decoder(self.alloc, 0)?;
-        let found = decode_into(&mut decoder, b"\x82", NO_LIMIT, &mut self.kept);
-        let_go(decoder);
-        kept_lines(self.alloc, found, &self.kept)
+    /// Another decoder puts a field into the list that is kept; adds the lines of the list.
+    pub(crate) fn add_filled(&mut self, text: &mut Text) {
+        match Decoder::new(self.alloc, 0) {
+            Ok(mut decoder) => {
+                add_decoded_into(
+                    self.alloc,
+                    text,
+                    &mut decoder,
+                    b"\x82",
+                    NO_LIMIT,
+                    &mut self.kept,
+                );
+                let_go(decoder);
+            }
+            Err(_) => text.refuse(),
+        }
     }
 
-    /// Clears the list that is kept; the lines of the list.
-    pub(crate) fn clear(&mut self) -> Result<String, CaseError> {
+    /// Clears the list that is kept; adds the lines of the list.
+    pub(crate) fn add_cleared(&mut self, text: &mut Text) {
         self.kept.clear();
-        let mut lines = String::new(self.alloc);
-        add_kept(self.alloc, &mut lines, &self.kept)?;
-        Ok(lines)
+        add_kept(self.alloc, text, &self.kept);
     }
 }

@@ -13,224 +13,203 @@
 //! - `config`: the values of a new end.
 //! - `config TABLE WINDOW STREAMS`: these values, or the first that is refused.
 
-use crate::case::{Case, CaseError, Step};
+use crate::case::Case;
+use crate::driver::{Answer, Driver, answers};
+use crate::text::Text;
 use crate::words::Words;
-use h2_config::{BadConfig, Config};
+use h2_config::Config;
 use h2_flow::{Closed, Settings, StreamState, Window};
 use h2_log::Role;
-use std::alloc::{AllocError, Global};
+use std::alloc::Global;
 use std::fmt::Display;
 
+// What answers the commands.
+#[derive(Drop)]
+struct Flow {
+    alloc: Global,
+    state: StreamState,
+}
+
 // Adds a limit, or `none`.
-fn add_limit(line: &mut String, limit: Option<u32>) -> Result<(), AllocError> {
+fn add_limit(text: &mut Text, limit: Option<u32>) {
     match limit {
-        Some(limit) => write!(line, "{limit}"),
-        None => line.push_str("none"),
+        Some(limit) => text.push_value(limit),
+        None => text.push_str("none"),
     }
 }
 
 // Adds the line of settings.
-fn add_settings(line: &mut String, settings: &Settings) -> Result<(), AllocError> {
-    let (table, push) = (settings.header_table_size, settings.enable_push);
-    let (window, frame) = (settings.initial_window_size, settings.max_frame_size);
-    write!(line, "table {table}, push {push}, streams ")?;
-    add_limit(line, settings.max_concurrent_streams)?;
-    write!(line, ", window {window}, frame {frame}, list ")?;
-    add_limit(line, settings.max_header_list_size)
+fn add_settings(text: &mut Text, settings: &Settings) {
+    text.push_labeled("table ", settings.header_table_size);
+    text.push_labeled(", push ", settings.enable_push);
+    text.push_str(", streams ");
+    add_limit(text, settings.max_concurrent_streams);
+    text.push_labeled(", window ", settings.initial_window_size);
+    text.push_labeled(", frame ", settings.max_frame_size);
+    text.push_str(", list ");
+    add_limit(text, settings.max_header_list_size);
 }
 
-// Applies the next value, if there is one; whether there is.
-fn apply(
-    lines: &mut String,
-    settings: &mut Settings,
-    from: Role,
-    words: &mut Words<'_>,
-) -> Result<bool, CaseError> {
-    let mut others = *words;
-    if others.next_or_empty().is_empty() {
-        return Ok(false);
-    }
-    let id = words.number()?;
-    let value = words.number()?;
+// Applies the next value.
+fn apply(text: &mut Text, settings: &mut Settings, from: Role, words: &mut Words<'_>) {
+    let id = words.number();
+    let value = words.number();
     if let Err(bad) = settings.apply(from, id, value) {
-        write!(lines, "{bad}, {}\n", bad.0)?;
+        text.push_value(bad);
+        text.push_labeled(", ", bad.0);
+        text.push_str("\n");
     }
-    Ok(true)
 }
 
-// The refusals, and the settings, where an end of this role has sent the values.
-fn settings_lines(alloc: Global, from: Role, words: Words<'_>) -> Result<String, CaseError> {
-    let mut words = words;
+// Adds the refusals, and the settings, where an end of this role has sent the values.
+fn add_settings_from(words: &mut Words<'_>, text: &mut Text, from: Role) {
     let mut settings = Settings::first();
-    let mut lines = String::new(alloc);
     for _ in 0..100 {
-        if !apply(&mut lines, &mut settings, from, &mut words)? {
+        if words.is_empty() {
             break;
         }
+        apply(text, &mut settings, from, words);
     }
-    words.end()?;
-    add_settings(&mut lines, &settings)?;
-    Ok(lines)
+    add_settings(text, &settings);
 }
 
-// The same for either role.
-fn settings_of_both(alloc: Global, words: Words<'_>) -> Result<String, CaseError> {
-    let client = settings_lines(alloc, Role::Client, words)?;
-    let server = settings_lines(alloc, Role::Server, words)?;
-    if client == server {
-        return Ok(client);
+// Adds the same for either role.
+fn add_settings_from_both(alloc: Global, words: &mut Words<'_>, text: &mut Text) {
+    let (mut client, mut server) = (Text::new(alloc), Text::new(alloc));
+    let mut again = *words;
+    add_settings_from(words, &mut client, Role::Client);
+    add_settings_from(&mut again, &mut server, Role::Server);
+    if client.as_str() == server.as_str() {
+        text.push_text(&client);
+    } else {
+        text.push_line("from a client:");
+        text.push_text(&client);
+        text.push_str("\nfrom a server:\n");
+        text.push_text(&server);
     }
-    Ok(format!(in alloc; "from a client:\n{client}\nfrom a server:\n{server}")?)
 }
 
 // A window of a value.
-fn window_of(value: i64) -> Result<Window, CaseError> {
+fn read_window(words: &mut Words<'_>) -> Window {
     let mut window = Window::new(0);
-    match window.shift(value) {
-        Ok(()) => Ok(window),
-        Err(_) => Err(CaseError::Unread),
+    if window.shift(words.number()).is_err() {
+        words.unread();
     }
+    window
 }
 
-// The value of a window, after a refusal.
-fn window_lines<E: Display + Drop>(
-    alloc: Global,
-    window: Window,
-    answer: Result<(), E>,
-) -> Result<String, CaseError> {
-    let value = window.value();
-    match answer {
-        Ok(()) => Ok(format!(in alloc; "{value}")?),
-        Err(refusal) => Ok(format!(in alloc; "{refusal}\n{value}")?),
+// Adds the value of a window, after a refusal.
+fn add_window<E: Display + Drop>(text: &mut Text, window: Window, answer: Result<(), E>) {
+    if let Err(refusal) = answer {
+        text.push_value(refusal);
+        text.push_str("\n");
     }
+    text.push_value(window.value());
 }
 
 // Octets are taken of a window.
-fn take(alloc: Global, words: Words<'_>) -> Result<String, CaseError> {
-    let mut words = words;
-    let octets = words.number()?;
-    if !words.has("of") {
-        return Err(CaseError::Unread);
-    }
-    let mut window = window_of(words.number()?)?;
-    words.end()?;
+fn take(words: &mut Words<'_>, text: &mut Text) {
+    let octets = words.number();
+    words.expect("of");
+    let mut window = read_window(words);
     let answer = window.take(octets);
-    window_lines(alloc, window, answer)
+    add_window(text, window, answer);
 }
 
 // Octets are given to a window.
-fn give(alloc: Global, words: Words<'_>) -> Result<String, CaseError> {
-    let mut words = words;
-    let octets = words.number()?;
-    if !words.has("to") {
-        return Err(CaseError::Unread);
-    }
-    let mut window = window_of(words.number()?)?;
-    words.end()?;
+fn give(words: &mut Words<'_>, text: &mut Text) {
+    let octets = words.number();
+    words.expect("to");
+    let mut window = read_window(words);
     let answer = window.give(octets);
-    window_lines(alloc, window, answer)
+    add_window(text, window, answer);
 }
 
 // A window is shifted.
-fn shift(alloc: Global, words: Words<'_>) -> Result<String, CaseError> {
-    let mut words = words;
-    let mut window = window_of(words.number()?)?;
-    if !words.has("by") {
-        return Err(CaseError::Unread);
-    }
-    let difference = words.number()?;
-    words.end()?;
-    let answer = window.shift(difference);
-    window_lines(alloc, window, answer)
+fn shift(words: &mut Words<'_>, text: &mut Text) {
+    let mut window = read_window(words);
+    words.expect("by");
+    let answer = window.shift(words.number());
+    add_window(text, window, answer);
 }
 
-// The value of a new window.
-fn new_window(alloc: Global, words: Words<'_>) -> Result<String, CaseError> {
-    let mut words = words;
-    let octets = words.number()?;
-    words.end()?;
+// Adds the value of a new window.
+fn add_new_window(words: &mut Words<'_>, text: &mut Text) {
+    let octets: u32 = words.number();
     if octets > 0x7fff_ffff {
-        return Err(CaseError::Unread);
+        words.unread();
+    } else {
+        text.push_value(Window::new(octets).value());
     }
-    window_lines::<Closed>(alloc, Window::new(octets), Ok(()))
 }
 
-// Which sides of a stream have ended, after a refusal.
-fn side_lines(
-    alloc: Global,
-    state: &StreamState,
-    answer: Result<(), Closed>,
-) -> Result<String, CaseError> {
-    let mut lines = String::new(alloc);
+// Adds which sides of a stream have ended, after a refusal.
+fn add_sides(text: &mut Text, state: &StreamState, answer: Result<(), Closed>) {
     if let Err(refusal) = answer {
-        write!(lines, "{refusal}\n")?;
+        text.push_value(refusal);
+        text.push_str("\n");
     }
-    let (ended_in, ended_out, closed) = (state.ended_in, state.ended_out, state.closed());
-    write!(lines, "in {ended_in}, out {ended_out}, closed {closed}")?;
-    Ok(lines)
+    text.push_labeled("in ", state.ended_in);
+    text.push_labeled(", out ", state.ended_out);
+    text.push_labeled(", closed ", state.closed());
 }
 
-// The values of an end, or the first that is refused.
-fn config_line(alloc: Global, config: Result<Config, BadConfig>) -> Result<String, CaseError> {
+// A stream is open.
+fn open(text: &mut Text, state: &mut StreamState) {
+    *state = StreamState::open();
+    add_sides(text, state, Ok(()));
+}
+
+// What comes in ends.
+fn end_in(text: &mut Text, state: &mut StreamState) {
+    let answer = state.end_in();
+    add_sides(text, state, answer);
+}
+
+// What goes out ends.
+fn end_out(text: &mut Text, state: &mut StreamState) {
+    let answer = state.end_out();
+    add_sides(text, state, answer);
+}
+
+// Adds the values of an end that a command gives, or the first that is refused; those of a new one
+// where it gives none.
+fn add_config(words: &mut Words<'_>, text: &mut Text) {
+    let config = if words.is_empty() {
+        Ok(Config::default())
+    } else {
+        let (table, window, streams) = (words.number(), words.number(), words.number());
+        Config::new(table, window, streams)
+    };
     match config {
         Ok(config) => {
-            let (table, window) = (config.table_limit(), config.initial_window());
-            let streams = config.max_streams();
-            Ok(format!(in alloc; "table {table}, window {window}, streams {streams}")?)
+            text.push_labeled("table ", config.table_limit());
+            text.push_labeled(", window ", config.initial_window());
+            text.push_labeled(", streams ", config.max_streams());
         }
-        Err(bad) => Ok(format!(in alloc; "{bad}")?),
+        Err(bad) => text.push_value(bad),
     }
 }
 
-// The values of an end that a command gives, or those of a new one.
-fn config(alloc: Global, words: Words<'_>) -> Result<String, CaseError> {
-    let mut words = words;
-    if words.end().is_ok() {
-        return config_line(alloc, Ok(Config::default()));
-    }
-    let table = words.number()?;
-    let window = words.number()?;
-    let streams = words.number()?;
-    words.end()?;
-    config_line(alloc, Config::new(table, window, streams))
-}
-
-// The answer to a command.
-fn answer(alloc: Global, state: &mut StreamState, step: &Step) -> Result<String, CaseError> {
-    let mut words = Words::of(&step.command);
-    match words.word()? {
-        "settings" => settings_of_both(alloc, words),
-        "window" => new_window(alloc, words),
-        "take" => take(alloc, words),
-        "give" => give(alloc, words),
-        "shift" => shift(alloc, words),
-        "config" => config(alloc, words),
-        "open" if words.end().is_ok() => {
-            *state = StreamState::open();
-            side_lines(alloc, state, Ok(()))
+impl Driver for Flow {
+    fn answer(&mut self, name: &str, words: &mut Words<'_>, text: &mut Text) {
+        match name {
+            "settings" => add_settings_from_both(self.alloc, words, text),
+            "window" => add_new_window(words, text),
+            "take" => take(words, text),
+            "give" => give(words, text),
+            "shift" => shift(words, text),
+            "config" => add_config(words, text),
+            "open" => open(text, &mut self.state),
+            "end_in" => end_in(text, &mut self.state),
+            "end_out" => end_out(text, &mut self.state),
+            _ => words.unread(),
         }
-        "end_in" if words.end().is_ok() => {
-            let answer = state.end_in();
-            side_lines(alloc, state, answer)
-        }
-        "end_out" if words.end().is_ok() => {
-            let answer = state.end_out();
-            side_lines(alloc, state, answer)
-        }
-        _ => Err(CaseError::Unread),
     }
 }
 
 /// The answers to a case's commands, up to the first that has none.
-pub fn run_case(alloc: Global, case: &Case) -> Vec<Result<String, CaseError>> {
-    let mut answers = Vec::new(alloc);
-    let mut state = StreamState::open();
-    for step in &case.steps {
-        let found = answer(alloc, &mut state, step);
-        let fails = found.is_err();
-        if answers.push(found).is_err() || fails {
-            break;
-        }
-    }
-    answers
+pub fn run_case(alloc: Global, case: &Case) -> Vec<Answer> {
+    let state = StreamState::open();
+    answers(alloc, case, &mut Flow { alloc, state })
 }

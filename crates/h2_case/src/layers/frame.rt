@@ -11,97 +11,99 @@
 //!   what was written before stays as it is, that the encoding is read as the frame again, and that
 //!   the frame as it was read, whose payload is lent, has the same encoding, is seen to.
 
-use crate::case::{Case, CaseError, Step, add_line};
+use crate::case::Case;
+use crate::driver::{Answer, Driver, answers};
 use crate::layers::frames::{add_frame, cut_frame, read_frame};
-use crate::octets::{add_frames, read_octets};
+use crate::octets::{add_frames, marked, read_octets, written_after};
+use crate::text::Text;
 use crate::words::Words;
 use h2_frame::{
-    Code, FrameRef, Head, Kind, head, head_fault, payload_fault, payload_frame, read_payload,
-    write, write_ref,
+    Code, FrameRef, Head, Kind, Unwritable, head, head_fault, payload_fault, payload_frame,
+    read_payload, write, write_ref,
 };
-use std::alloc::{AllocError, Global};
+use std::alloc::Global;
 
 /// The most octets of a payload that is read.
 const LIMIT: u32 = 16_384;
 
-// What nine octets say.
-fn head_line(alloc: Global, octets: &[u8]) -> Result<String, CaseError> {
-    let Some(nine) = octets.first_chunk::<9>() else {
-        return Err(CaseError::Unread);
-    };
-    let read = head(nine);
-    let (kind, flags, stream, length) = (read.kind, read.flags, read.stream, read.length);
-    Ok(format!(in alloc; "{kind:?} flags {flags} stream {stream} length {length}")?)
+// What answers the commands.
+#[derive(Drop)]
+struct Frames {
+    alloc: Global,
 }
 
-// The fault of a head.
-fn head_fault_line(alloc: Global, mut words: Words<'_>) -> Result<String, CaseError> {
-    let kind = Kind::from_number(words.number()?);
-    let flags = words.number()?;
-    let stream = words.number()?;
-    let length = words.number()?;
-    words.end()?;
+// Adds what nine octets say.
+fn add_head(alloc: Global, words: &mut Words<'_>, text: &mut Text) {
+    let octets = read_octets(alloc, words);
+    match octets.first_chunk::<9>() {
+        Some(nine) => {
+            let read = head(nine);
+            write!(text, "{:?}", read.kind);
+            text.push_labeled(" flags ", read.flags);
+            text.push_labeled(" stream ", read.stream);
+            text.push_labeled(" length ", read.length);
+        }
+        None => words.unread(),
+    }
+}
+
+// Adds the code of a head's fault.
+fn add_head_fault(words: &mut Words<'_>, text: &mut Text) {
+    let kind = Kind::from_number(words.number());
+    let flags = words.number();
+    let stream = words.number();
+    let length = words.number();
     let read = Head {
         length,
         kind,
         flags,
         stream,
     };
-    Ok(code_line(alloc, head_fault(&read, LIMIT))?)
+    add_code(text, head_fault(&read, LIMIT));
 }
 
-// The name of a code.
-fn code_line(alloc: Global, code: Option<Code>) -> Result<String, AllocError> {
+// Adds the name of a code.
+fn add_code(text: &mut Text, code: Option<Code>) {
     match code {
-        Some(code) => format!(in alloc; "{code}"),
-        None => String::from_str(alloc, "none"),
+        Some(code) => text.push_value(code),
+        None => text.push_str("none"),
     }
 }
 
-// A line for each number of a kind.
-fn kind_lines(alloc: Global, mut words: Words<'_>) -> Result<String, CaseError> {
-    let mut lines = String::new(alloc);
+// Adds a line for each number of a kind.
+fn add_kinds(words: &mut Words<'_>, text: &mut Text) {
     for _ in 0..256 {
-        let word = words.next_or_empty();
-        if word.is_empty() {
+        if words.is_empty() {
             break;
         }
-        let Ok(number) = word.parse::<u8>() else {
-            return Err(CaseError::Unread);
-        };
-        let kind = Kind::from_number(number);
-        write!(lines, "{kind:?} {}\n", kind.number())?;
+        let kind = Kind::from_number(words.number());
+        write!(text, "{kind:?} {}\n", kind.number());
     }
-    Ok(lines)
 }
 
 // Adds the line of the number of a code.
-fn add_code(alloc: Global, lines: &mut String, number: u32) -> Result<(), AllocError> {
+fn add_code_line(alloc: Global, text: &mut Text, number: u32) {
     let code = Code::from_number(number);
-    let line = code_line(alloc, code)?;
-    add_line(lines, &line)?;
+    let mut line = Text::new(alloc);
+    add_code(&mut line, code);
+    text.push_text(&line);
+    text.push_str("\n");
     match code {
         Some(code) if code.number() != number || code.name() != line.as_str() => {
-            add_line(lines, "another number or name")
+            text.push_line("another number or name");
         }
-        _ => Ok(()),
+        _ => {}
     }
 }
 
-// A line for each number of a code.
-fn code_lines(alloc: Global, mut words: Words<'_>) -> Result<String, CaseError> {
-    let mut lines = String::new(alloc);
+// Adds a line for each number of a code.
+fn add_codes(alloc: Global, words: &mut Words<'_>, text: &mut Text) {
     for _ in 0..256 {
-        let word = words.next_or_empty();
-        if word.is_empty() {
+        if words.is_empty() {
             break;
         }
-        match word.parse() {
-            Ok(number) => add_code(alloc, &mut lines, number)?,
-            Err(_) => return Err(CaseError::Unread),
-        }
+        add_code_line(alloc, text, words.number());
     }
-    Ok(lines)
 }
 
 // Whether a frame has the kind, the stream and the length of its head.
@@ -123,102 +125,97 @@ fn is_read_alike(read: &Head, payload: &[u8], frame: Option<FrameRef<'_>>) -> bo
     }
 }
 
-// What the octets of a frame are read as.
-fn read_lines(alloc: Global, octets: &[u8]) -> Result<String, CaseError> {
-    let Some((nine, payload)) = octets.split_first_chunk::<9>() else {
-        return Err(CaseError::Unread);
-    };
-    let read = head(nine);
-    let mut lines = String::new(alloc);
-    if let Some(code) = head_fault(&read, LIMIT) {
-        write!(lines, "fault of a head: {code}")?;
-        return Ok(lines);
+// Adds a frame that was read.
+fn add_read_frame(text: &mut Text, read: &Head, frame: FrameRef<'_>) {
+    add_frame(text, frame);
+    if !is_as_its_head(frame, read) {
+        text.push_str("\nanother kind, stream or length than its head's");
+    }
+}
+
+// Adds the frame of a payload, or its fault.
+fn add_payload(text: &mut Text, words: &mut Words<'_>, read: &Head, payload: &[u8]) {
+    if let Some(code) = head_fault(read, LIMIT) {
+        text.push_labeled("fault of a head: ", code);
+        return;
     }
     if payload.len() != read.length as usize {
-        return Err(CaseError::Unread);
+        words.unread();
+        return;
     }
-    let frame = match read_payload(&read, payload) {
-        Ok(frame) => {
-            add_frame(&mut lines, frame)?;
-            if !is_as_its_head(frame, &read) {
-                lines.push_str("\nanother kind, stream or length than its head's")?;
-            }
-            Some(frame)
-        }
-        Err(error) => {
-            write!(lines, "{error}")?;
-            None
-        }
-    };
-    if !is_read_alike(&read, payload, frame) {
-        lines.push_str("\nanother fault or frame where both are asked for")?;
+    let found = read_payload(read, payload);
+    match found {
+        Ok(frame) => add_read_frame(text, read, frame),
+        Err(error) => text.push_value(error),
     }
-    Ok(lines)
+    if !is_read_alike(read, payload, found.ok()) {
+        text.push_str("\nanother fault or frame where both are asked for");
+    }
+}
+
+// Adds what the octets of a frame are read as.
+fn add_read(alloc: Global, words: &mut Words<'_>, text: &mut Text) {
+    let octets = read_octets(alloc, words);
+    match octets.split_first_chunk::<9>() {
+        Some((nine, payload)) => add_payload(text, words, &head(nine), payload),
+        None => words.unread(),
+    }
 }
 
 // Whether octets are read as the frame of a line, and it is written as them again.
-fn is_read_again(alloc: Global, octets: &[u8], text: &str) -> Result<bool, CaseError> {
-    let Some((frame, others)) = cut_frame(octets) else {
-        return Ok(false);
-    };
-    let mut line = String::new(alloc);
-    add_frame(&mut line, frame)?;
-    let mut out = Vec::new(alloc);
-    let is_written = write_ref(frame, &mut out).is_ok();
-    Ok(others.is_empty() && line.as_str() == text && is_written && out.as_slice() == octets)
+fn is_read_again(alloc: Global, octets: &[u8], line: &str) -> bool {
+    let (mut text, mut out) = (Text::new(alloc), Vec::new(alloc));
+    match cut_frame(octets) {
+        Some((frame, [])) => {
+            add_frame(&mut text, frame);
+            let is_written = write_ref(frame, &mut out).is_ok();
+            is_written && out.as_slice() == octets && text.as_str() == line
+        }
+        _ => false,
+    }
 }
 
-// Adds what was written.
+// Adds what the frame of a line was written as, after an octet.
 fn add_written(
     alloc: Global,
-    lines: &mut String,
-    octets: &[u8],
-    text: &str,
-) -> Result<(), CaseError> {
-    add_frames(alloc, lines, octets)?;
-    if !is_read_again(alloc, octets, text)? {
-        add_line(lines, "it is read or written again otherwise")?;
+    text: &mut Text,
+    line: &str,
+    written: Result<(), Unwritable>,
+    out: &[u8],
+) {
+    let octets = written_after(text, out);
+    add_frames(alloc, text, octets);
+    match written {
+        Ok(()) if is_read_again(alloc, octets, line) => {}
+        Ok(()) => text.push_line("it is read or written again otherwise"),
+        Err(error) => text.push_value(error),
     }
-    Ok(())
 }
 
-// What the frame of a line is written as.
-fn written_lines(alloc: Global, text: &str) -> Result<String, CaseError> {
-    let frame = read_frame(alloc, text)?;
-    let mut out = Vec::from_slice(alloc, b"\x07")?;
-    let mut lines = String::new(alloc);
+// Writes a frame.
+fn write_frame(alloc: Global, words: &mut Words<'_>, text: &mut Text) {
+    let mut others = *words;
+    let frame = read_frame(alloc, words);
+    let mut out = marked(alloc, text);
     let written = write(&frame, &mut out);
-    match (written, out.as_slice()) {
-        (Ok(()), [7, octets @ ..]) => add_written(alloc, &mut lines, octets, text)?,
-        (Err(error), [7]) => write!(lines, "{error}")?,
-        _ => add_line(&mut lines, "what was written before has changed")?,
-    }
-    Ok(lines)
+    add_written(alloc, text, others.rest(), written, &out);
 }
 
-// The answer to a command.
-fn answer(alloc: Global, step: &Step) -> Result<String, CaseError> {
-    let mut words = Words::of(&step.command);
-    match words.word()? {
-        "head" => head_line(alloc, &read_octets(alloc, words.rest())?),
-        "head_fault" => head_fault_line(alloc, words),
-        "kinds" => kind_lines(alloc, words),
-        "codes" => code_lines(alloc, words),
-        "read" => read_lines(alloc, &read_octets(alloc, words.rest())?),
-        "write" => written_lines(alloc, words.rest()),
-        _ => Err(CaseError::Unread),
+impl Driver for Frames {
+    fn answer(&mut self, name: &str, words: &mut Words<'_>, text: &mut Text) {
+        match name {
+            "head" => add_head(self.alloc, words, text),
+            "head_fault" => add_head_fault(words, text),
+            "kinds" => add_kinds(words, text),
+            "codes" => add_codes(self.alloc, words, text),
+            "read" => add_read(self.alloc, words, text),
+            "write" => write_frame(self.alloc, words, text),
+            _ => words.unread(),
+        }
     }
 }
 
 /// The answers to a case's commands, up to the first that has none.
-pub fn run_case(alloc: Global, case: &Case) -> Vec<Result<String, CaseError>> {
-    let mut answers = Vec::new(alloc);
-    for step in &case.steps {
-        let found = answer(alloc, step);
-        let fails = found.is_err();
-        if answers.push(found).is_err() || fails {
-            break;
-        }
-    }
-    answers
+pub fn run_case(alloc: Global, case: &Case) -> Vec<Answer> {
+    answers(alloc, case, &mut Frames { alloc })
 }

@@ -15,216 +15,166 @@
 //! [`read_octets`] reads them, or left out where there are none.
 
 use crate::case::CaseError;
-use crate::octets::{add_hex, add_octets, read_octets};
+use crate::octets::{add_hex, add_last, append_octets, read_octets, split_frame};
+use crate::text::Text;
 use crate::words::Words;
 use h2_frame::{Frame, FrameRef, head, head_fault, read_payload};
-use std::alloc::{AllocError, Global};
+use std::alloc::Global;
 
-/// The frame of a line.
-pub(crate) fn read_frame(alloc: Global, text: &str) -> Result<Frame, CaseError> {
-    let mut words = Words::of(text);
-    match words.word()? {
-        "DATA" => read_data(alloc, words),
-        "HEADERS" => read_headers(alloc, words),
-        "SETTINGS" => read_settings(alloc, words),
-        "PING" => read_ping(alloc, words),
-        "GOAWAY" => read_goaway(alloc, words),
-        "CONTINUATION" => read_continuation(alloc, words),
-        "UNKNOWN" => read_unknown(alloc, words),
-        "PRIORITY" => Ok(Frame::Priority {
-            stream: words.number()?,
-            octets: read_five(alloc, words.rest())?,
-        }),
-        "RST_STREAM" => Ok(Frame::Reset {
-            stream: words.number()?,
-            code: words.number()?,
-        }),
-        "WINDOW_UPDATE" => Ok(Frame::WindowUpdate {
-            stream: words.number()?,
-            increment: words.number()?,
-        }),
-        _ => Err(CaseError::Unread),
+/// The frame of the words that are left.
+pub(crate) fn read_frame(alloc: Global, words: &mut Words<'_>) -> Frame {
+    match words.word() {
+        "DATA" => Frame::Data {
+            stream: words.number(),
+            end: words.has("end"),
+            pad: read_pad(words),
+            octets: read_octets(alloc, words),
+        },
+        "HEADERS" => Frame::Headers {
+            stream: words.number(),
+            end: words.has("end"),
+            whole: words.has("whole"),
+            pad: read_pad(words),
+            priority: read_priority(alloc, words),
+            fragment: read_octets(alloc, words),
+        },
+        "CONTINUATION" => Frame::Continuation {
+            stream: words.number(),
+            whole: words.has("whole"),
+            fragment: read_octets(alloc, words),
+        },
+        "SETTINGS" => Frame::Settings {
+            ack: words.has("ack"),
+            pairs: read_pairs(alloc, words),
+        },
+        kind => read_other(alloc, words, kind),
+    }
+}
+
+// The frame of this kind and of the words that are left.
+fn read_other(alloc: Global, words: &mut Words<'_>, kind: &str) -> Frame {
+    match kind {
+        "PRIORITY" => Frame::Priority {
+            stream: words.number(),
+            octets: read_exactly(alloc, words),
+        },
+        "PING" => Frame::Ping {
+            ack: words.has("ack"),
+            octets: read_exactly(alloc, words),
+        },
+        "GOAWAY" => Frame::GoAway {
+            last: words.number(),
+            code: words.number(),
+            debug: read_octets(alloc, words),
+        },
+        "WINDOW_UPDATE" => Frame::WindowUpdate {
+            stream: words.number(),
+            increment: words.number(),
+        },
+        "UNKNOWN" => Frame::Unknown {
+            kind: words.number(),
+            flags: words.number(),
+            stream: words.number(),
+            payload: read_octets(alloc, words),
+        },
+        "RST_STREAM" => Frame::Reset {
+            stream: words.number(),
+            code: words.number(),
+        },
+        _ => {
+            words.unread();
+            Frame::Reset { stream: 0, code: 0 }
+        }
     }
 }
 
 // The end of the next word, where it begins so; the word is used then.
 fn read_tagged<'a>(words: &mut Words<'a>, tag: &str) -> Option<&'a str> {
     let mut others = *words;
-    let found = others.next_or_empty().strip_prefix(tag)?;
-    *words = others;
-    Some(found)
+    let found = others.next_or_empty().strip_prefix(tag);
+    if found.is_some() {
+        *words = others;
+    }
+    found
 }
 
 // How much padding there is, where that is the next word.
-fn read_pad(words: &mut Words<'_>) -> Result<Option<u8>, CaseError> {
+fn read_pad(words: &mut Words<'_>) -> Option<u8> {
     match read_tagged(words, "pad:") {
-        None => Ok(None),
-        Some(pad) => match pad.parse() {
-            Ok(pad) => Ok(Some(pad)),
-            Err(_) => Err(CaseError::Unread),
-        },
-    }
-}
-
-// Five octets.
-fn read_five(alloc: Global, text: &str) -> Result<[u8; 5], CaseError> {
-    match read_octets(alloc, text)?.as_slice() {
-        [first, second, third, fourth, fifth] => Ok([*first, *second, *third, *fourth, *fifth]),
-        _ => Err(CaseError::Unread),
+        Some(pad) => Some(words.parse(pad)),
+        None => None,
     }
 }
 
 // The five octets of a priority, where that is the next word.
-fn read_priority(alloc: Global, words: &mut Words<'_>) -> Result<Option<[u8; 5]>, CaseError> {
+fn read_priority(alloc: Global, words: &mut Words<'_>) -> Option<[u8; 5]> {
     match read_tagged(words, "priority:") {
-        None => Ok(None),
-        Some(octets) => Ok(Some(read_five(alloc, octets)?)),
+        Some(text) => {
+            let mut octets = Vec::new(alloc);
+            append_octets(alloc, &mut octets, words, text);
+            Some(array_of(words, &octets))
+        }
+        None => None,
     }
 }
 
-fn read_data(alloc: Global, words: Words<'_>) -> Result<Frame, CaseError> {
-    let mut words = words;
-    let stream = words.number()?;
-    let end = words.has("end");
-    let pad = read_pad(&mut words)?;
-    let octets = read_octets(alloc, words.rest())?;
-    Ok(Frame::Data {
-        stream,
-        end,
-        octets,
-        pad,
-    })
+// All octets that are left, which have to be so many.
+fn read_exactly<const N: usize>(alloc: Global, words: &mut Words<'_>) -> [u8; N] {
+    let octets = read_octets(alloc, words);
+    array_of(words, &octets)
 }
 
-fn read_headers(alloc: Global, words: Words<'_>) -> Result<Frame, CaseError> {
-    let mut words = words;
-    let stream = words.number()?;
-    let end = words.has("end");
-    let whole = words.has("whole");
-    let pad = read_pad(&mut words)?;
-    let priority = read_priority(alloc, &mut words)?;
-    let fragment = read_octets(alloc, words.rest())?;
-    Ok(Frame::Headers {
-        stream,
-        end,
-        whole,
-        fragment,
-        pad,
-        priority,
-    })
-}
-
-// The pair of a word.
-fn read_pair(word: &str) -> Result<(u16, u32), CaseError> {
-    let Some((id, value)) = word.split_once('=') else {
-        return Err(CaseError::Unread);
-    };
-    match (id.parse(), value.parse()) {
-        (Ok(id), Ok(value)) => Ok((id, value)),
-        _ => Err(CaseError::Unread),
-    }
-}
-
-fn read_settings(alloc: Global, words: Words<'_>) -> Result<Frame, CaseError> {
-    let mut words = words;
-    let ack = words.has("ack");
-    let mut pairs = Vec::new(alloc);
-    for _ in 0..100 {
-        match words.next_or_empty() {
-            "" => break,
-            word => pairs.push(read_pair(word)?)?,
+// Octets as an array of their number.
+fn array_of<const N: usize>(words: &mut Words<'_>, octets: &[u8]) -> [u8; N] {
+    match octets.first_chunk::<N>() {
+        Some(array) if octets.len() == N => *array,
+        _ => {
+            words.unread();
+            [0; N]
         }
     }
-    words.end()?;
-    Ok(Frame::Settings { ack, pairs })
 }
 
-fn read_ping(alloc: Global, words: Words<'_>) -> Result<Frame, CaseError> {
-    let mut words = words;
-    let ack = words.has("ack");
-    let octets = read_octets(alloc, words.rest())?;
-    match octets.first_chunk::<8>() {
-        Some(eight) if octets.len() == 8 => Ok(Frame::Ping {
-            ack,
-            octets: *eight,
-        }),
-        _ => Err(CaseError::Unread),
+// The pairs `ID=VALUE` that are left.
+fn read_pairs(alloc: Global, words: &mut Words<'_>) -> Vec<(u16, u32)> {
+    let mut pairs = Vec::new(alloc);
+    for _ in 0..100 {
+        if words.is_empty() {
+            break;
+        }
+        let (id, value) = words.word().split_once('=').unwrap_or(("", ""));
+        let pair = (words.parse(id), words.parse(value));
+        if pairs.push(pair).is_err() {
+            words.fail(CaseError::Memory);
+        }
     }
-}
-
-fn read_goaway(alloc: Global, words: Words<'_>) -> Result<Frame, CaseError> {
-    let mut words = words;
-    let last = words.number()?;
-    let code = words.number()?;
-    let debug = read_octets(alloc, words.rest())?;
-    Ok(Frame::GoAway { last, code, debug })
-}
-
-fn read_continuation(alloc: Global, words: Words<'_>) -> Result<Frame, CaseError> {
-    let mut words = words;
-    let stream = words.number()?;
-    let whole = words.has("whole");
-    let fragment = read_octets(alloc, words.rest())?;
-    Ok(Frame::Continuation {
-        stream,
-        whole,
-        fragment,
-    })
-}
-
-fn read_unknown(alloc: Global, words: Words<'_>) -> Result<Frame, CaseError> {
-    let mut words = words;
-    let kind = words.number()?;
-    let flags = words.number()?;
-    let stream = words.number()?;
-    let payload = read_octets(alloc, words.rest())?;
-    Ok(Frame::Unknown {
-        kind,
-        flags,
-        stream,
-        payload,
-    })
+    pairs
 }
 
 // Adds a word where it is said.
-fn add_word(line: &mut String, is_said: bool, word: &str) -> Result<(), AllocError> {
+fn add_word(text: &mut Text, is_said: bool, word: &str) {
     if is_said {
-        line.push(' ')?;
-        line.push_str(word)?;
+        text.push_str(word);
     }
-    Ok(())
 }
 
 // Adds how much padding there is.
-fn add_pad(line: &mut String, pad: Option<u8>) -> Result<(), AllocError> {
-    match pad {
-        Some(pad) => write!(line, " pad:{pad}"),
-        None => Ok(()),
+fn add_pad(text: &mut Text, pad: Option<u8>) {
+    if let Some(pad) = pad {
+        text.push_labeled(" pad:", pad);
     }
 }
 
 // Adds the octets of a priority.
-fn add_priority(line: &mut String, priority: Option<[u8; 5]>) -> Result<(), AllocError> {
-    match priority {
-        Some(octets) => {
-            line.push_str(" priority:")?;
-            add_hex(line, &octets)
-        }
-        None => Ok(()),
+fn add_priority(text: &mut Text, priority: Option<[u8; 5]>) {
+    if let Some(octets) = priority {
+        text.push_str(" priority:");
+        add_hex(text, &octets);
     }
-}
-
-/// Adds the octets with which a line ends, where there are some.
-pub(crate) fn add_last(line: &mut String, octets: &[u8]) -> Result<(), AllocError> {
-    if octets.is_empty() {
-        return Ok(());
-    }
-    line.push(' ')?;
-    add_octets(line, octets)
 }
 
 /// Adds a frame, as [`read_frame`] reads it; the line isn't ended.
-pub(crate) fn add_frame(line: &mut String, frame: FrameRef<'_>) -> Result<(), AllocError> {
+pub(crate) fn add_frame(text: &mut Text, frame: FrameRef<'_>) {
     match frame {
         FrameRef::Data {
             stream,
@@ -232,10 +182,10 @@ pub(crate) fn add_frame(line: &mut String, frame: FrameRef<'_>) -> Result<(), Al
             octets,
             pad,
         } => {
-            write!(line, "DATA {stream}")?;
-            add_word(line, end, "end")?;
-            add_pad(line, pad)?;
-            add_last(line, octets)
+            text.push_labeled("DATA ", stream);
+            add_word(text, end, " end");
+            add_pad(text, pad);
+            add_last(text, octets);
         }
         FrameRef::Headers {
             stream,
@@ -245,36 +195,36 @@ pub(crate) fn add_frame(line: &mut String, frame: FrameRef<'_>) -> Result<(), Al
             pad,
             priority,
         } => {
-            write!(line, "HEADERS {stream}")?;
-            add_word(line, end, "end")?;
-            add_word(line, whole, "whole")?;
-            add_pad(line, pad)?;
-            add_priority(line, priority)?;
-            add_last(line, fragment)
+            text.push_labeled("HEADERS ", stream);
+            add_word(text, end, " end");
+            add_word(text, whole, " whole");
+            add_pad(text, pad);
+            add_priority(text, priority);
+            add_last(text, fragment);
         }
-        _ => add_other(line, frame),
+        _ => add_other(text, frame),
     }
 }
 
 // Adds a frame that is neither DATA nor HEADERS.
-fn add_other(line: &mut String, frame: FrameRef<'_>) -> Result<(), AllocError> {
+fn add_other(text: &mut Text, frame: FrameRef<'_>) {
     match frame {
         FrameRef::Continuation {
             stream,
             whole,
             fragment,
         } => {
-            write!(line, "CONTINUATION {stream}")?;
-            add_word(line, whole, "whole")?;
-            add_last(line, fragment)
+            text.push_labeled("CONTINUATION ", stream);
+            add_word(text, whole, " whole");
+            add_last(text, fragment);
         }
         FrameRef::Settings { ack, pairs } => {
-            line.push_str("SETTINGS")?;
-            add_word(line, ack, "ack")?;
+            text.push_str("SETTINGS");
+            add_word(text, ack, " ack");
             for (id, value) in pairs.iter() {
-                write!(line, " {id}={value}")?;
+                text.push_labeled(" ", id);
+                text.push_labeled("=", value);
             }
-            Ok(())
         }
         FrameRef::Unknown {
             kind,
@@ -282,45 +232,51 @@ fn add_other(line: &mut String, frame: FrameRef<'_>) -> Result<(), AllocError> {
             stream,
             payload,
         } => {
-            write!(line, "UNKNOWN {kind} {flags} {stream}")?;
-            add_last(line, payload)
+            text.push_labeled("UNKNOWN ", kind);
+            text.push_labeled(" ", flags);
+            text.push_labeled(" ", stream);
+            add_last(text, payload);
         }
-        _ => add_small(line, frame),
+        _ => add_small(text, frame),
     }
 }
 
 // Adds a frame whose payload has a length of its own, or GOAWAY.
-fn add_small(line: &mut String, frame: FrameRef<'_>) -> Result<(), AllocError> {
+fn add_small(text: &mut Text, frame: FrameRef<'_>) {
     match frame {
         FrameRef::Ping { ack, octets } => {
-            line.push_str("PING")?;
-            add_word(line, ack, "ack")?;
-            add_last(line, &octets)
+            text.push_str("PING");
+            add_word(text, ack, " ack");
+            add_last(text, &octets);
         }
         FrameRef::GoAway { last, code, debug } => {
-            write!(line, "GOAWAY {last} {code}")?;
-            add_last(line, debug)
+            text.push_labeled("GOAWAY ", last);
+            text.push_labeled(" ", code);
+            add_last(text, debug);
         }
         FrameRef::Priority { stream, octets } => {
-            write!(line, "PRIORITY {stream}")?;
-            add_last(line, &octets)
+            text.push_labeled("PRIORITY ", stream);
+            add_last(text, &octets);
         }
-        FrameRef::Reset { stream, code } => write!(line, "RST_STREAM {stream} {code}"),
+        FrameRef::Reset { stream, code } => {
+            text.push_labeled("RST_STREAM ", stream);
+            text.push_labeled(" ", code);
+        }
         FrameRef::WindowUpdate { stream, increment } => {
-            write!(line, "WINDOW_UPDATE {stream} {increment}")
+            text.push_labeled("WINDOW_UPDATE ", stream);
+            text.push_labeled(" ", increment);
         }
-        _ => Ok(()),
+        _ => {}
     }
 }
 
 /// The frame with which octets begin, and what follows it; none where they begin with none.
 pub(crate) fn cut_frame(octets: &[u8]) -> Option<(FrameRef<'_>, &[u8])> {
-    let (nine, following) = octets.split_first_chunk::<9>()?;
+    let (nine, payload, following) = split_frame(octets)?;
     let read = head(nine);
-    let length = read.length as usize;
-    if head_fault(&read, 0xff_ffff).is_some() || following.len() < length {
+    if head_fault(&read, 0xff_ffff).is_some() || payload.len() != read.length as usize {
         return None;
     }
-    let frame = read_payload(&read, &following[..length]).ok()?;
-    Some((frame, &following[length..]))
+    let frame = read_payload(&read, payload).ok()?;
+    Some((frame, following))
 }

@@ -15,137 +15,137 @@
 //! - `fill`: another decoder puts a field into the list that is kept, whose lines are the answer.
 //! - `clear`: the list that is kept is cleared.
 
-use crate::case::{Case, CaseError, Step, add_line};
+use crate::case::{Case, CaseError};
+use crate::driver::{Answer, Driver, answers};
 use crate::fields::read_fields;
 use crate::layers::coders::{Coders, NO_LIMIT};
-use crate::octets::{add_octets, read_octets};
+use crate::octets::{add_octets, marked, read_octets, written_after};
+use crate::text::Text;
 use crate::words::Words;
 use hpack::Field;
-use std::alloc::{AllocError, Global};
+use std::alloc::Global;
 
-// Sets the limits of a command's words.
-fn set_limits(coders: &mut Coders, words: Words<'_>) -> Result<(), CaseError> {
-    let mut words = words;
+// The limit of all is set to each number of a text, one after another.
+fn set_limits(coders: &mut Coders, words: &mut Words<'_>, text: &str) {
+    let mut limits = Words::of(text);
     for _ in 0..100 {
-        if words.end().is_ok() {
-            return Ok(());
-        }
-        coders.set_limit(words.number()?);
-    }
-    Err(CaseError::Unread)
-}
-
-// Sets limits, so many times.
-fn set_all_limits(coders: &mut Coders, words: Words<'_>) -> Result<(), CaseError> {
-    let mut others = words;
-    let first: u32 = others.number()?;
-    if !others.has("times") {
-        return set_limits(coders, words);
-    }
-    for _ in 0..first {
-        set_limits(coders, others)?;
-    }
-    Ok(())
-}
-
-// Decodes a block.
-fn decode(alloc: Global, coders: &mut Coders, words: Words<'_>) -> Result<String, CaseError> {
-    let mut words = words;
-    let limit = if words.has("within") {
-        words.number()?
-    } else {
-        NO_LIMIT
-    };
-    coders.decode(&read_octets(alloc, words.rest())?, limit)
-}
-
-// The block of a list, which is decoded again; whether it was decoded to the list.
-fn pass(coders: &mut Coders, fields: &[Field]) -> Result<(Vec<u8>, bool), CaseError> {
-    let block = coders.encode(fields)?;
-    let is_decoded = coders.is_decoded(&block, fields);
-    Ok((block, is_decoded && coders.are_in_step()))
-}
-
-// Encodes a list.
-fn encode(alloc: Global, coders: &mut Coders, text: &str) -> Result<String, CaseError> {
-    let (block, is_passed) = pass(coders, &read_fields(alloc, text)?)?;
-    let mut line = String::new(alloc);
-    add_octets(&mut line, &block)?;
-    if !is_passed {
-        line.push_str("\nit is decoded otherwise, or the tables differ")?;
-    }
-    Ok(line)
-}
-
-// So many fields, each with a name and a value of its own.
-fn numbered_fields(alloc: Global, count: u16) -> Result<Vec<Field>, AllocError> {
-    let mut fields = Vec::new(alloc);
-    for number in 0..count {
-        let octets = number.to_be_bytes();
-        fields.push(Field::copy_of(alloc, &octets, &octets, false)?)?;
-    }
-    Ok(fields)
-}
-
-// Encodes so many fields.
-fn encode_numbered(alloc: Global, coders: &mut Coders, count: u16) -> Result<String, CaseError> {
-    let (block, is_passed) = pass(coders, &numbered_fields(alloc, count)?)?;
-    let (octets, entries) = (block.len(), coders.entries());
-    let mut lines = format!(in alloc; "{octets} octets, entries {entries}\n")?;
-    if !is_passed {
-        add_line(&mut lines, "it is decoded otherwise, or the tables differ")?;
-    }
-    Ok(lines)
-}
-
-// The answer to a command.
-fn answer(alloc: Global, coders: &mut Coders, step: &Step) -> Result<String, CaseError> {
-    let mut words = Words::of(&step.command);
-    match words.word()? {
-        "new" => {
-            let maximum = words.number()?;
-            words.end()?;
-            *coders = Coders::new(alloc, maximum)?;
-            Ok(String::new(alloc))
-        }
-        "limits" => {
-            set_all_limits(coders, words)?;
-            Ok(String::new(alloc))
-        }
-        "decode" => decode(alloc, coders, words),
-        "encode" => encode(alloc, coders, words.rest()),
-        "numbered" => {
-            let count = words.number()?;
-            words.end()?;
-            encode_numbered(alloc, coders, count)
-        }
-        "table" if words.end().is_ok() => coders.table(),
-        "fill" if words.end().is_ok() => coders.fill(),
-        "clear" if words.end().is_ok() => coders.clear(),
-        _ => Err(CaseError::Unread),
-    }
-}
-
-// The answers of new coders, up to the first that has none.
-fn answers_of(
-    alloc: Global,
-    case: &Case,
-    answers: &mut Vec<Result<String, CaseError>>,
-) -> Result<(), CaseError> {
-    let mut coders = Coders::new(alloc, 4_096)?;
-    for step in &case.steps {
-        let found = answer(alloc, &mut coders, step);
-        let fails = found.is_err();
-        if answers.push(found).is_err() || fails {
+        coders.set_limit(limits.number());
+        if limits.is_empty() {
             break;
         }
     }
-    Ok(())
+    if let Some(fault) = limits.fault() {
+        words.fail(fault);
+    }
+}
+
+// The limits of all are set, as many times as the words say.
+fn set_all_limits(coders: &mut Coders, words: &mut Words<'_>) {
+    let times = words.times();
+    let limits = words.rest();
+    for _ in 0..times {
+        set_limits(coders, words, limits);
+    }
+}
+
+// Decodes a block.
+fn decode(coders: &mut Coders, words: &mut Words<'_>, text: &mut Text) {
+    let limit = if words.has("within") {
+        words.number()
+    } else {
+        NO_LIMIT
+    };
+    let octets = read_octets(coders.alloc, words);
+    coders.add_decoded(text, &octets, limit);
+}
+
+// Whether a block is decoded to its list, and all have the same table then.
+fn is_passed(coders: &mut Coders, block: &[u8], fields: &[Field]) -> bool {
+    coders.is_decoded(block, fields) && coders.are_in_step()
+}
+
+// Adds the octets of a list's block.
+fn add_block(coders: &mut Coders, text: &mut Text, block: &[u8], fields: &[Field]) {
+    add_octets(text, block);
+    if !is_passed(coders, block, fields) {
+        text.push_str("\nit is decoded otherwise, or the tables differ");
+    }
+}
+
+// Encodes a list.
+fn encode(coders: &mut Coders, words: &mut Words<'_>, text: &mut Text) {
+    let fields = read_fields(coders.alloc, words);
+    let mut out = marked(coders.alloc, text);
+    coders.encode(words, &fields, &mut out);
+    let block = written_after(text, &out);
+    add_block(coders, text, block, &fields);
+}
+
+// So many fields, each with a name and a value of its own.
+fn numbered_fields(alloc: Global, words: &mut Words<'_>, count: u16) -> Vec<Field> {
+    let mut fields = Vec::new(alloc);
+    for number in 0..count {
+        let octets = number.to_be_bytes();
+        let is_pushed = match Field::copy_of(alloc, &octets, &octets, false) {
+            Ok(field) => fields.push(field).is_ok(),
+            Err(_) => false,
+        };
+        if !is_pushed {
+            words.fail(CaseError::Memory);
+        }
+    }
+    fields
+}
+
+// Adds how many octets a list's block has, and how many entries the table.
+fn add_counts(coders: &mut Coders, text: &mut Text, block: &[u8], fields: &[Field]) {
+    let is_passed = is_passed(coders, block, fields);
+    text.push_value(block.len());
+    text.push_labeled(" octets, entries ", coders.entries());
+    text.push_str("\n");
+    if !is_passed {
+        text.push_line("it is decoded otherwise, or the tables differ");
+    }
+}
+
+// Encodes so many fields.
+fn encode_numbered(coders: &mut Coders, words: &mut Words<'_>, text: &mut Text) {
+    let count = words.number();
+    let fields = numbered_fields(coders.alloc, words, count);
+    let mut out = marked(coders.alloc, text);
+    coders.encode(words, &fields, &mut out);
+    let block = written_after(text, &out);
+    add_counts(coders, text, block, &fields);
+}
+
+// They are new ones.
+fn renew(coders: &mut Coders, words: &mut Words<'_>) {
+    match Coders::new(coders.alloc, words.number()) {
+        Some(others) => *coders = others,
+        None => words.fail(CaseError::Memory),
+    }
+}
+
+impl Driver for Coders {
+    fn answer(&mut self, name: &str, words: &mut Words<'_>, text: &mut Text) {
+        match name {
+            "new" => renew(self, words),
+            "limits" => set_all_limits(self, words),
+            "decode" => decode(self, words, text),
+            "encode" => encode(self, words, text),
+            "numbered" => encode_numbered(self, words, text),
+            "table" => self.add_table(text),
+            "fill" => self.add_filled(text),
+            "clear" => self.add_cleared(text),
+            _ => words.unread(),
+        }
+    }
 }
 
 /// The answers to a case's commands, up to the first that has none.
-pub fn run_case(alloc: Global, case: &Case) -> Vec<Result<String, CaseError>> {
-    let mut answers = Vec::new(alloc);
-    let _ = answers_of(alloc, case, &mut answers);
-    answers
+pub fn run_case(alloc: Global, case: &Case) -> Vec<Answer> {
+    match Coders::new(alloc, 4_096) {
+        Some(mut coders) => answers(alloc, case, &mut coders),
+        None => Vec::new(alloc),
+    }
 }

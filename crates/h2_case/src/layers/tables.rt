@@ -1,7 +1,7 @@
 //! Dynamic tables: their lines, and whether two are the same.
 
-use crate::case::{CaseError, add_line};
 use crate::fields::add_field;
+use crate::text::Text;
 use hpack::{FieldRef, Table};
 use std::alloc::Global;
 
@@ -10,19 +10,12 @@ fn is_same(one: (&[u8], &[u8]), other: (&[u8], &[u8])) -> bool {
     one.0 == other.0 && one.1 == other.1
 }
 
-// Whether two tables have the same entry at a place.
-fn have_same_entry(table: &Table, other: &Table, place: usize) -> bool {
-    match (table.get(place), other.get(place)) {
-        (Some(one), Some(other)) => is_same(one, other),
-        _ => false,
-    }
-}
-
 /// Whether two tables are the same.
 pub(crate) fn are_same_tables(table: &Table, other: &Table) -> bool {
-    for place in 0..table.len() {
-        if !have_same_entry(table, other, place.saturating_add(1)) {
-            return false;
+    for place in 1..=table.len() {
+        match (table.get(place), other.get(place)) {
+            (Some(one), Some(other)) if is_same(one, other) => {}
+            _ => return false,
         }
     }
     table.len() == other.len() && table.size() == other.size() && table.maximum() == other.maximum()
@@ -55,36 +48,30 @@ fn has_its_ends(table: &Table) -> bool {
 }
 
 // Adds the line of an entry.
-fn add_entry(
-    alloc: Global,
-    lines: &mut String,
-    table: &Table,
-    place: usize,
-) -> Result<(), CaseError> {
-    match table.get(place) {
-        Some((name, value)) => add_field(
-            alloc,
-            lines,
-            FieldRef {
-                name,
-                value,
-                sensitive: false,
-            },
-        ),
-        None => Ok(add_line(lines, "a place without an entry")?),
-    }
+fn add_entry(alloc: Global, text: &mut Text, table: &Table, place: usize) {
+    let Some((name, value)) = table.get(place) else {
+        text.push_line("a place without an entry");
+        return;
+    };
+    let field = FieldRef {
+        name,
+        value,
+        sensitive: false,
+    };
+    add_field(alloc, text, field);
 }
 
-/// How many entries a table has, their size and its maximum; and the line of each entry, the newest
-/// first.
-pub(crate) fn table_lines(alloc: Global, table: &Table) -> Result<String, CaseError> {
-    let (len, size, maximum) = (table.len(), table.size(), table.maximum());
-    let mut lines = format!(in alloc; "entries {len}, size {size} of {maximum}\n")?;
-    for place in 0..len {
-        add_entry(alloc, &mut lines, table, place.saturating_add(1))?;
+/// Adds how many entries a table has, their size and its maximum; and the line of each entry, the
+/// newest first.
+pub(crate) fn add_table(alloc: Global, text: &mut Text, table: &Table) {
+    text.push_labeled("entries ", table.len());
+    text.push_labeled(", size ", table.size());
+    text.push_labeled(" of ", table.maximum());
+    text.push_str("\n");
+    for place in 0..table.len() {
+        add_entry(alloc, text, table, place.saturating_add(1));
     }
     if !has_its_length(table) || !has_its_ends(table) {
-        add_line(&mut lines, "another length or other ends of the ring")?;
+        text.push_line("another length or other ends of the ring");
     }
-    Ok(lines)
 }

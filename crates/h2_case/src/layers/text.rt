@@ -18,246 +18,212 @@
 //! - `each octet`: each octet for which `text` sees a difference, alone or among others.
 //! - `each length OCTET`: each length up to 300 for which it does, of this octet alone.
 
-use crate::case::{Case, CaseError, Step, add_line};
+use crate::case::{Case, CaseError};
+use crate::driver::{Answer, Driver, answers};
 use crate::fields::read_text;
-use crate::layers::frames::add_last;
 use crate::layers::text_again::{
     add_wrong_lengths, add_wrong_octets, huffman_of, is_again, string_of, walk_halves,
 };
-use crate::octets::{add_octets, read_octets};
+use crate::octets::{add_last, add_octets, marked, read_octets, written_after};
+use crate::text::Text;
 use crate::words::Words;
 use hpack_text::{
     TextFault, huff_read, huff_write, read_int, read_string, read_string_into, write_int,
     write_string,
 };
-use std::alloc::{AllocError, Global};
+use std::alloc::Global;
 
-// The octets of an integer.
-fn integer(alloc: Global, prefix: u8, value: u64) -> Result<Vec<u8>, CaseError> {
+// What answers the commands.
+#[derive(Drop)]
+struct Texts {
+    alloc: Global,
+}
+
+// Notes that memory was refused, where an encoding isn't written.
+fn note(words: &mut Words<'_>, written: Result<(), TextFault>) {
+    if written.is_err() {
+        words.fail(CaseError::Memory);
+    }
+}
+
+// Adds the octets of an integer, and whether it is read again, whatever follows.
+fn add_integer(alloc: Global, words: &mut Words<'_>, text: &mut Text, prefix: u8) {
+    let value = words.number();
     if prefix < 1 || prefix > 8 || value >= 1 << 35 {
-        return Err(CaseError::Unread);
+        words.unread();
+        return;
     }
     let mut out = Vec::new(alloc);
-    match write_int(prefix, 0, value, &mut out) {
-        Ok(()) => Ok(out),
-        Err(_) => Err(CaseError::Memory),
-    }
-}
-
-// Whether octets are read as an integer, of so many of them.
-fn is_read(prefix: u8, octets: &[u8], value: u64, count: usize) -> bool {
-    1 <= prefix && prefix <= 8 && read_int(prefix, octets) == Ok((value, count))
-}
-
-// Adds the octets of an integer.
-fn add_integer(alloc: Global, lines: &mut String, prefix: u8, value: u64) -> Result<(), CaseError> {
-    let mut out = integer(alloc, prefix, value)?;
-    add_octets(lines, &out)?;
-    lines.push('\n')?;
+    note(words, write_int(prefix, 0, value, &mut out));
+    add_octets(text, &out);
+    text.push_str("\n");
     let count = out.len();
-    out.push(0xff)?;
-    if !is_read(prefix, &out, value, count) {
-        add_line(lines, "it is read otherwise")?;
+    if out.push(0xff).is_err() {
+        text.refuse();
     }
-    Ok(())
+    if read_int(prefix, &out) != Ok((value, count)) {
+        text.push_line("it is read otherwise");
+    }
 }
 
-// A line for each integer.
-fn integer_lines(alloc: Global, words: Words<'_>) -> Result<String, CaseError> {
-    let mut words = words;
-    let prefix = words.number()?;
-    let mut lines = String::new(alloc);
+// Adds a line for each integer.
+fn add_integers(alloc: Global, words: &mut Words<'_>, text: &mut Text) {
+    let prefix = words.number();
     for _ in 0..100 {
-        if words.end().is_ok() {
+        if words.is_empty() {
             break;
         }
-        add_integer(alloc, &mut lines, prefix, words.number()?)?;
+        add_integer(alloc, words, text, prefix);
     }
-    words.end()?;
-    Ok(lines)
 }
 
 // Appends an integer below first bits.
-fn append_below(out: &mut Vec<u8>, prefix: u8, first: u8, value: u64) -> Result<(), CaseError> {
-    if value >= 1 << 35 {
-        return Err(CaseError::Unread);
+fn append_below(out: &mut Vec<u8>, words: &mut Words<'_>) {
+    let (prefix, first, value): (u8, u8, u64) = (words.number(), words.number(), words.number());
+    let is_small = value < 1 << 35;
+    match prefix {
+        4 if is_small && first % 16 == 0 => note(words, write_int(4, first, value, out)),
+        7 if is_small && first % 128 == 0 => note(words, write_int(7, first, value, out)),
+        _ => words.unread(),
     }
-    let written = match prefix {
-        4 if first % 16 == 0 => write_int(4, first, value, out),
-        7 if first % 128 == 0 => write_int(7, first, value, out),
-        _ => return Err(CaseError::Unread),
-    };
-    written.map_err(|_| CaseError::Memory)
 }
 
-// The octets of integers below first bits.
-fn below_line(alloc: Global, words: Words<'_>) -> Result<String, CaseError> {
-    let mut words = words;
+// Adds the octets of integers below first bits.
+fn add_below(alloc: Global, words: &mut Words<'_>, text: &mut Text) {
     let mut out = Vec::new(alloc);
     for _ in 0..100 {
-        if words.end().is_ok() {
+        if words.is_empty() {
             break;
         }
-        let prefix = words.number()?;
-        let first = words.number()?;
-        append_below(&mut out, prefix, first, words.number()?)?;
+        append_below(&mut out, words);
     }
-    octets_line(alloc, &out)
+    add_octets(text, &out);
 }
 
-// A line of octets.
-fn octets_line(alloc: Global, octets: &[u8]) -> Result<String, CaseError> {
-    let mut line = String::new(alloc);
-    add_octets(&mut line, octets)?;
-    Ok(line)
-}
-
-// The integer with which octets begin.
-fn read_line(alloc: Global, words: Words<'_>) -> Result<String, CaseError> {
-    let mut words = words;
-    let prefix: u8 = words.number()?;
-    let octets = read_octets(alloc, words.rest())?;
+// Adds the integer with which octets begin.
+fn add_read(alloc: Global, words: &mut Words<'_>, text: &mut Text) {
+    let prefix: u8 = words.number();
+    let octets = read_octets(alloc, words);
     if prefix < 1 || prefix > 8 {
-        return Err(CaseError::Unread);
-    }
-    match read_int(prefix, &octets) {
-        Ok((value, count)) => Ok(format!(in alloc; "{value} of {count}")?),
-        Err(fault) => Ok(format!(in alloc; "{fault}")?),
-    }
-}
-
-// A text in the code and as a string.
-fn text_lines(alloc: Global, text: &[u8]) -> Result<String, CaseError> {
-    let (Some(huffman), Some(string)) = (huffman_of(alloc, text), string_of(alloc, text)) else {
-        return Err(CaseError::Memory);
-    };
-    let mut lines = String::from_str(alloc, "code")?;
-    add_last(&mut lines, &huffman)?;
-    lines.push_str("\nstring")?;
-    add_last(&mut lines, &string)?;
-    if !is_again(alloc, text) {
-        lines.push_str("\nit is read otherwise")?;
-    }
-    Ok(lines)
-}
-
-// The text that octets encode.
-fn huffman_line(alloc: Global, octets: &[u8]) -> Result<String, CaseError> {
-    match huff_read(alloc, octets) {
-        Ok(text) => octets_line(alloc, &text),
-        Err(fault) => Ok(format!(in alloc; "{fault}")?),
+        words.unread();
+    } else {
+        match read_int(prefix, &octets) {
+            Ok((value, count)) => {
+                text.push_value(value);
+                text.push_labeled(" of ", count);
+            }
+            Err(fault) => text.push_value(fault),
+        }
     }
 }
 
-// The text of a string, and of how many octets it is.
-fn found_line(
+// Adds the octets of an encoding; there is none where memory was refused.
+fn add_encoding(text: &mut Text, encoding: Option<Vec<u8>>) {
+    match encoding {
+        Some(octets) => add_last(text, &octets),
+        None => text.refuse(),
+    }
+}
+
+// Adds a text in the code and as a string.
+fn add_text(alloc: Global, words: &mut Words<'_>, text: &mut Text) {
+    let octets = read_text(alloc, words);
+    text.push_str("code");
+    add_encoding(text, huffman_of(alloc, &octets));
+    text.push_str("\nstring");
+    add_encoding(text, string_of(alloc, &octets));
+    if !is_again(alloc, &octets) {
+        text.push_str("\nit is read otherwise");
+    }
+}
+
+// Adds the text that octets encode.
+fn add_huffman(alloc: Global, words: &mut Words<'_>, text: &mut Text) {
+    let octets = read_octets(alloc, words);
+    match huff_read(alloc, &octets) {
+        Ok(read) => add_octets(text, &read),
+        Err(fault) => text.push_value(fault),
+    }
+}
+
+// Adds of how many octets a string is, and its text; or the fault. It is read again after an octet,
+// which stays as it is.
+fn add_found(
     alloc: Global,
+    text: &mut Text,
+    octets: &[u8],
     found: Result<usize, TextFault>,
-    text: &[u8],
-) -> Result<String, AllocError> {
-    let mut line = String::new(alloc);
+    read: &[u8],
+) {
     match found {
         Ok(count) => {
-            write!(line, "used {count}")?;
-            add_last(&mut line, text)?;
+            text.push_labeled("used ", count);
+            add_last(text, read);
         }
-        Err(fault) => write!(line, "{fault}")?,
+        Err(fault) => text.push_value(fault),
     }
-    Ok(line)
-}
-
-// The text of the string with which octets begin, read after an octet.
-fn string_after(alloc: Global, octets: &[u8]) -> Result<String, CaseError> {
-    let mut out = Vec::from_slice(alloc, b"\x07")?;
-    let found = read_string_into(octets, &mut out);
-    match out.as_slice() {
-        [7, text @ ..] if found.is_ok() || text.is_empty() => Ok(found_line(alloc, found, text)?),
-        _ => Ok(String::from_str(alloc, "what was there has changed")?),
+    let mut out = marked(alloc, text);
+    let again = read_string_into(octets, &mut out);
+    if written_after(text, &out) != read || again != found {
+        text.push_str("\nit is read otherwise after an octet");
     }
 }
 
-// The text of the string with which octets begin.
-fn string_line(alloc: Global, octets: &[u8]) -> Result<String, CaseError> {
-    let mut line = match read_string(alloc, octets) {
-        Ok((text, count)) => found_line(alloc, Ok(count), &text)?,
-        Err(fault) => found_line(alloc, Err(fault), &[])?,
-    };
-    if string_after(alloc, octets)? != line {
-        line.push_str("\nit is read otherwise after an octet")?;
+// Adds the text of the string with which octets begin.
+fn add_string(alloc: Global, words: &mut Words<'_>, text: &mut Text) {
+    let octets = read_octets(alloc, words);
+    match read_string(alloc, &octets) {
+        Ok((read, count)) => add_found(alloc, text, &octets, Ok(count), &read),
+        Err(fault) => add_found(alloc, text, &octets, Err(fault), &[]),
     }
-    Ok(line)
 }
 
-// What the writers put after octets.
-fn append_line(alloc: Global, mut octets: Vec<u8>) -> Result<String, CaseError> {
-    if write_string(b"302", &mut octets).is_err() || huff_write(b"a", &mut octets).is_err() {
-        return Err(CaseError::Memory);
-    }
-    octets_line(alloc, &octets)
+// Adds what the writers put after octets.
+fn add_appended(alloc: Global, words: &mut Words<'_>, text: &mut Text) {
+    let mut octets = read_octets(alloc, words);
+    note(words, write_string(b"302", &mut octets));
+    note(words, huff_write(b"a", &mut octets));
+    add_octets(text, &octets);
 }
 
-// Whether a text has hexadecimal digits alone, letters in lower case.
-fn is_hexadecimal(text: &str) -> bool {
-    text.chars()
-        .all(|digit| matches!(digit, '0'..='9' | 'a'..='f'))
+// Adds where half octets lead.
+fn add_steps(alloc: Global, words: &mut Words<'_>, text: &mut Text) {
+    let mut symbols = Vec::new(alloc);
+    match walk_halves(words, &mut symbols) {
+        Some(state) if state < 8 => text.push_labeled("state ", state),
+        Some(_) => text.push_str("state above 7"),
+        None => text.push_str("end"),
+    }
+    add_last(text, &symbols);
 }
 
-// Where half octets lead.
-fn steps_line(alloc: Global, digits: &str) -> Result<String, CaseError> {
-    if !is_hexadecimal(digits) {
-        return Err(CaseError::Unread);
+// Adds what isn't written and read again.
+fn add_each(alloc: Global, words: &mut Words<'_>, text: &mut Text) {
+    match words.word() {
+        "octet" => add_wrong_octets(alloc, text),
+        "length" => add_wrong_lengths(alloc, text, words.number()),
+        _ => words.unread(),
     }
-    let mut text = Vec::new(alloc);
-    let state = walk_halves(digits, &mut text);
-    let mut line = String::new(alloc);
-    match state {
-        Some(state) if state < 8 => write!(line, "state {state}")?,
-        Some(_) => line.push_str("state above 7")?,
-        None => line.push_str("end")?,
-    }
-    add_last(&mut line, &text)?;
-    Ok(line)
 }
 
-// What isn't written and read again.
-fn each_lines(alloc: Global, words: Words<'_>) -> Result<String, CaseError> {
-    let mut words = words;
-    let mut lines = String::new(alloc);
-    match words.word()? {
-        "octet" => add_wrong_octets(alloc, &mut lines)?,
-        "length" => add_wrong_lengths(alloc, &mut lines, words.number()?)?,
-        _ => return Err(CaseError::Unread),
-    }
-    words.end()?;
-    Ok(lines)
-}
-
-// The answer to a command.
-fn answer(alloc: Global, step: &Step) -> Result<String, CaseError> {
-    let mut words = Words::of(&step.command);
-    match words.word()? {
-        "integers" => integer_lines(alloc, words),
-        "below" => below_line(alloc, words),
-        "read" => read_line(alloc, words),
-        "text" => text_lines(alloc, &read_text(alloc, words.rest())?),
-        "huffman" => huffman_line(alloc, &read_octets(alloc, words.rest())?),
-        "string" => string_line(alloc, &read_octets(alloc, words.rest())?),
-        "append" => append_line(alloc, read_octets(alloc, words.rest())?),
-        "steps" => steps_line(alloc, words.rest()),
-        "each" => each_lines(alloc, words),
-        _ => Err(CaseError::Unread),
+impl Driver for Texts {
+    fn answer(&mut self, name: &str, words: &mut Words<'_>, text: &mut Text) {
+        match name {
+            "integers" => add_integers(self.alloc, words, text),
+            "below" => add_below(self.alloc, words, text),
+            "read" => add_read(self.alloc, words, text),
+            "text" => add_text(self.alloc, words, text),
+            "huffman" => add_huffman(self.alloc, words, text),
+            "string" => add_string(self.alloc, words, text),
+            "append" => add_appended(self.alloc, words, text),
+            "steps" => add_steps(self.alloc, words, text),
+            "each" => add_each(self.alloc, words, text),
+            _ => words.unread(),
+        }
     }
 }
 
 /// The answers to a case's commands, up to the first that has none.
-pub fn run_case(alloc: Global, case: &Case) -> Vec<Result<String, CaseError>> {
-    let mut answers = Vec::new(alloc);
-    for step in &case.steps {
-        let found = answer(alloc, step);
-        let fails = found.is_err();
-        if answers.push(found).is_err() || fails {
-            break;
-        }
-    }
-    answers
+pub fn run_case(alloc: Global, case: &Case) -> Vec<Answer> {
+    answers(alloc, case, &mut Texts { alloc })
 }

@@ -2,10 +2,12 @@
 
 ghost use Rattle.std.specs.Prelude.{◌<◌};
 
+use crate::text::Text;
+use crate::words::Words;
 use hpack_text::{
     huff_len, huff_read, huff_step, huff_write, read_string, read_string_into, write_string,
 };
-use std::alloc::{AllocError, Global};
+use std::alloc::Global;
 
 /// A text in the code, of the length that is measured; none of a text that is too long, and where
 /// memory was refused.
@@ -54,19 +56,26 @@ fn walk(octets: &[u8], text: &mut Vec<u8>) -> Option<u8> {
     Some(state)
 }
 
-/// The state after the half octets of digits, whose symbols are put after the text; none at the end
-/// symbol, at another character than a digit, and where memory was refused.
-pub(crate) fn walk_halves(digits: &str, text: &mut Vec<u8>) -> Option<u8> {
-    let mut state = 0;
-    for digit in digits.chars() {
+/// The state after half octets, whose symbols are put after the text; none at the end symbol, and
+/// where memory was refused. The half octets are digits, without a space between them: letters are
+/// in lower case.
+pub(crate) fn walk_halves(words: &mut Words<'_>, text: &mut Vec<u8>) -> Option<u8> {
+    let mut state = Some(0);
+    for digit in words.rest().chars() {
         let half = match digit {
             '0'..='9' => (digit as u32).wrapping_sub('0' as u32),
             'a'..='f' => (digit as u32).wrapping_sub('a' as u32).wrapping_add(10),
-            _ => return None,
+            _ => {
+                words.unread();
+                0
+            }
         };
-        state = walk_half(state, (half % 16) as u8, text)?;
+        state = match state {
+            Some(state) => walk_half(state, (half % 16) as u8, text),
+            None => None,
+        };
     }
-    Some(state)
+    state
 }
 
 // Whether a code's half octets lead to its text, and to padding, a state of ones alone.
@@ -97,28 +106,24 @@ fn reads(alloc: Global, string: &[u8], text: &[u8], count: usize) -> bool {
     }
 }
 
-// Whether it is read so after what is there, which is expected.
-fn reads_after(
-    string: &[u8],
-    text: &[u8],
-    count: usize,
-    out: &mut Vec<u8>,
-    expected: &mut Vec<u8>,
-) -> bool {
-    expected.extend_from_slice(text).is_ok()
-        && read_string_into(string, out) == Ok(count)
-        && out.as_slice() == expected.as_slice()
+// Whether octets are an octet, and then a text twice.
+fn is_twice(octets: &[u8], text: &[u8]) -> bool {
+    match octets {
+        [b'>', texts @ ..] => match texts.split_at_checked(text.len()) {
+            Some((first, second)) => first == text && second == text,
+            None => false,
+        },
+        _ => false,
+    }
 }
 
 // Whether it is read so after an octet that is there, and once more after its own text.
 fn reads_into(alloc: Global, string: &[u8], text: &[u8], count: usize) -> bool {
-    match (Vec::from_slice(alloc, b">"), Vec::from_slice(alloc, b">")) {
-        (Ok(mut out), Ok(mut expected)) => {
-            reads_after(string, text, count, &mut out, &mut expected)
-                && reads_after(string, text, count, &mut out, &mut expected)
-        }
-        _ => false,
-    }
+    let mut out = Vec::new(alloc);
+    out.push(b'>').is_ok()
+        && read_string_into(string, &mut out) == Ok(count)
+        && read_string_into(string, &mut out) == Ok(count)
+        && is_twice(&out, text)
 }
 
 // Whether a text is written as a string, and read again with an octet after it.
@@ -138,28 +143,23 @@ pub(crate) fn is_again(alloc: Global, text: &[u8]) -> bool {
 }
 
 /// Adds the line of each octet of which a text isn't written and read again, alone or among others.
-pub(crate) fn add_wrong_octets(alloc: Global, lines: &mut String) -> Result<(), AllocError> {
+pub(crate) fn add_wrong_octets(alloc: Global, text: &mut Text) {
     for octet in 0..=255u8 {
         if !is_again(alloc, &[octet]) || !is_again(alloc, &[b'a', octet, octet, b'/', octet]) {
-            write!(lines, "octet {octet}\n")?;
+            text.push_labeled("octet ", octet);
+            text.push_str("\n");
         }
     }
-    Ok(())
 }
 
 /// Adds the line of each length up to 300 of which a text of this octet isn't written and read
 /// again.
-pub(crate) fn add_wrong_lengths(
-    alloc: Global,
-    lines: &mut String,
-    octet: u8,
-) -> Result<(), AllocError> {
-    let text = [octet; 300];
+pub(crate) fn add_wrong_lengths(alloc: Global, text: &mut Text, octet: u8) {
+    let octets = [octet; 300];
     for length in 0..=300usize {
-        match text.get(..length) {
+        match octets.get(..length) {
             Some(begin) if is_again(alloc, begin) => {}
-            _ => write!(lines, "length {length}\n")?,
+            _ => write!(text, "length {length}\n"),
         }
     }
-    Ok(())
 }

@@ -7,9 +7,11 @@
 //!   long one 1,000 octets a piece, and in two at the first and the last 12 places. Where the
 //!   answers differ, and where a fault isn't answered again, that is said.
 
-use crate::case::{Case, CaseError, Step, add_line};
+use crate::case::Case;
+use crate::driver::{Answer, Driver, answers};
 use crate::layers::frames::add_frame;
 use crate::octets::read_octets;
+use crate::text::Text;
 use crate::words::Words;
 use h2_wire::{Cutter, WireFault};
 use std::alloc::Global;
@@ -20,22 +22,24 @@ const LONG: usize = 512;
 /// At how many places from its ends a long one is cut in two.
 const ENDS: usize = 12;
 
-/// A stream.
+// What answers the commands.
 #[derive(Drop)]
-struct Stream {
-    octets: Vec<u8>,
+struct Streams {
+    alloc: Global,
+}
+
+/// A stream.
+#[derive(Clone, Copy)]
+struct Stream<'a> {
+    octets: &'a [u8],
     limit: u32,
     client: bool,
 }
 
 // Cuts a piece, and adds the lines of its frames; the fault, where there is one.
-fn feed(
-    cutter: &mut Cutter,
-    lines: &mut String,
-    piece: &[u8],
-) -> Result<Option<WireFault>, CaseError> {
+fn feed(cutter: &mut Cutter, text: &mut Text, piece: &[u8]) -> Option<WireFault> {
     let mut done = 0usize;
-    for _ in 0..=piece.len() {
+    for _ in 0..piece.len() {
         if done >= piece.len() {
             break;
         }
@@ -43,73 +47,76 @@ fn feed(
             Ok(cut) => {
                 done = done.saturating_add(cut.used);
                 if let Some(frame) = cut.frame {
-                    add_frame(lines, frame)?;
-                    lines.push('\n')?;
+                    add_frame(text, frame);
+                    text.push_str("\n");
                 }
             }
-            Err(fault) => return Ok(Some(fault)),
+            Err(fault) => return Some(fault),
         }
     }
-    Ok(None)
+    None
+}
+
+// Whether a fault is answered again, whatever follows, and the place stays.
+fn is_again(cutter: &mut Cutter, fault: WireFault) -> bool {
+    let place = cutter.place();
+    cutter.cut(b"\x00").err() == Some(fault)
+        && cutter.cut(b"").err() == Some(fault)
+        && cutter.place() == place
 }
 
 // Adds what there is at the end of the pieces.
-fn add_end(
-    cutter: &mut Cutter,
-    lines: &mut String,
-    fault: Option<WireFault>,
-) -> Result<(), CaseError> {
+fn add_end(cutter: &mut Cutter, text: &mut Text, fault: Option<WireFault>) {
     if !cutter.is_past_preface() {
-        add_line(lines, "in the preface")?;
+        text.push_line("in the preface");
     }
-    write!(
-        lines,
-        "{} unparsed, place {}\n",
-        cutter.held(),
-        cutter.place()
-    )?;
-    let Some(fault) = fault else {
-        return Ok(());
-    };
-    write!(lines, "{fault}, {}\n", fault.code())?;
-    let place = cutter.place();
-    let next = cutter.cut(b"\x00").err();
-    if next != Some(fault) || cutter.cut(b"").err() != next || cutter.place() != place {
-        add_line(lines, "another answer after the fault")?;
+    text.push_value(cutter.held());
+    text.push_labeled(" unparsed, place ", cutter.place());
+    text.push_str("\n");
+    if let Some(fault) = fault {
+        text.push_value(fault);
+        text.push_labeled(", ", fault.code());
+        text.push_str("\n");
+        if !is_again(cutter, fault) {
+            text.push_line("another answer after the fault");
+        }
     }
-    Ok(())
 }
 
 // What a stream comes to, cut in two at a place.
-fn in_two(alloc: Global, stream: &Stream, at: usize) -> Result<String, CaseError> {
+fn in_two(alloc: Global, stream: Stream<'_>, at: usize) -> Text {
+    let mut text = Text::new(alloc);
     let mut cutter = Cutter::new(alloc, stream.limit, stream.client);
-    let mut lines = String::new(alloc);
-    let octets = stream.octets.as_slice();
-    let at = at.min(octets.len());
-    let mut fault = feed(&mut cutter, &mut lines, &octets[..at])?;
+    let at = at.min(stream.octets.len());
+    let mut fault = feed(&mut cutter, &mut text, &stream.octets[..at]);
     if fault.is_none() {
-        fault = feed(&mut cutter, &mut lines, &octets[at..])?;
+        fault = feed(&mut cutter, &mut text, &stream.octets[at..]);
     }
-    add_end(&mut cutter, &mut lines, fault)?;
-    Ok(lines)
+    add_end(&mut cutter, &mut text, fault);
+    text
 }
 
 // What it comes to, in pieces of so many octets.
-fn in_pieces(alloc: Global, stream: &Stream, most: usize) -> Result<String, CaseError> {
+fn in_pieces(alloc: Global, stream: Stream<'_>, most: usize) -> Text {
+    let mut text = Text::new(alloc);
     let mut cutter = Cutter::new(alloc, stream.limit, stream.client);
-    let mut lines = String::new(alloc);
     let mut fault = None;
-    let mut others = stream.octets.as_slice();
+    let mut others = stream.octets;
     for _ in 0..stream.octets.len() {
         if others.is_empty() || fault.is_some() {
             break;
         }
         let count = most.min(others.len());
-        fault = feed(&mut cutter, &mut lines, &others[..count])?;
+        fault = feed(&mut cutter, &mut text, &others[..count]);
         others = &others[count..];
     }
-    add_end(&mut cutter, &mut lines, fault)?;
-    Ok(lines)
+    add_end(&mut cutter, &mut text, fault);
+    text
+}
+
+// Whether it comes to the same, cut in two at a place.
+fn is_same_in_two(alloc: Global, stream: Stream<'_>, at: usize, whole: &str) -> bool {
+    in_two(alloc, stream, at).as_str() == whole
 }
 
 // Whether a stream is cut in two at a place.
@@ -117,52 +124,48 @@ fn is_cut_at(at: usize, len: usize) -> bool {
     len <= LONG || at < ENDS || len.saturating_sub(at) < ENDS
 }
 
-// What a stream comes to, and where it comes to something else in pieces.
-fn cut_lines(alloc: Global, stream: &Stream) -> Result<String, CaseError> {
+// Adds where a stream comes to something else in pieces.
+fn add_differences(alloc: Global, text: &mut Text, stream: Stream<'_>, whole: &str) {
     let len = stream.octets.len();
-    let whole = in_two(alloc, stream, 0)?;
-    let mut lines = String::from_str(alloc, &whole)?;
     let most = if len <= LONG { 1 } else { 1_000 };
-    if in_pieces(alloc, stream, most)? != whole {
-        write!(lines, "another answer to pieces of {most}\n")?;
+    if in_pieces(alloc, stream, most).as_str() != whole {
+        write!(text, "another answer to pieces of {most}\n");
     }
     for at in 0..=len {
-        if is_cut_at(at, len) && in_two(alloc, stream, at)? != whole {
-            write!(lines, "another answer in two at {at}\n")?;
+        if is_cut_at(at, len) && !is_same_in_two(alloc, stream, at, whole) {
+            write!(text, "another answer in two at {at}\n");
         }
     }
-    Ok(lines)
 }
 
-// The answer to a command.
-fn answer(alloc: Global, step: &Step) -> Result<String, CaseError> {
-    let mut words = Words::of(&step.command);
-    if !words.has("cut") {
-        return Err(CaseError::Unread);
-    }
+// Adds what a stream comes to, and where it comes to something else in pieces.
+fn add_cut(alloc: Global, words: &mut Words<'_>, text: &mut Text) {
     let client = words.has("client");
-    if !client && !words.has("server") {
-        return Err(CaseError::Unread);
+    if !client {
+        words.expect("server");
     }
-    let limit = words.number()?;
-    let octets = read_octets(alloc, words.rest())?;
+    let limit = words.number();
+    let octets = read_octets(alloc, words);
     let stream = Stream {
-        octets,
+        octets: &octets,
         limit,
         client,
     };
-    cut_lines(alloc, &stream)
+    let whole = in_two(alloc, stream, 0);
+    text.push_text(&whole);
+    add_differences(alloc, text, stream, whole.as_str());
+}
+
+impl Driver for Streams {
+    fn answer(&mut self, name: &str, words: &mut Words<'_>, text: &mut Text) {
+        match name {
+            "cut" => add_cut(self.alloc, words, text),
+            _ => words.unread(),
+        }
+    }
 }
 
 /// The answers to a case's commands, up to the first that has none.
-pub fn run_case(alloc: Global, case: &Case) -> Vec<Result<String, CaseError>> {
-    let mut answers = Vec::new(alloc);
-    for step in &case.steps {
-        let found = answer(alloc, step);
-        let fails = found.is_err();
-        if answers.push(found).is_err() || fails {
-            break;
-        }
-    }
-    answers
+pub fn run_case(alloc: Global, case: &Case) -> Vec<Answer> {
+    answers(alloc, case, &mut Streams { alloc })
 }
