@@ -37,12 +37,6 @@ pub struct Case {
     pub steps: Vec<Step>,
 }
 
-/// Adds a line to a text.
-pub fn add_line(text: &mut String, line: &str) -> Result<(), AllocError> {
-    text.push_str(line)?;
-    text.push_str("\n")
-}
-
 // The text without its empty last lines.
 fn trimmed(text: &str) -> &str {
     text.trim_end_matches('\n')
@@ -53,32 +47,52 @@ pub fn is_same(answer: &str, wanted: &str) -> bool {
     trimmed(answer) == trimmed(wanted)
 }
 
-// Begins a step with this command, in the last case.
-fn begin_step(alloc: Global, cases: &mut Vec<Case>, command: &str) -> Result<(), CaseError> {
-    let command = String::from_str(alloc, command)?;
-    match cases.last_mut() {
-        Some(case) => case.steps.push(Step {
-            command,
-            wanted: String::new(alloc),
-        })?,
-        None => return Err(CaseError::Unread),
-    }
-    Ok(())
+// Begins a case of this name.
+fn begin_case(alloc: Global, cases: &mut Vec<Case>, name: &str) -> Result<(), CaseError> {
+    let name = String::from_str(alloc, name)?;
+    let steps = Vec::new(alloc);
+    Ok(cases.push(Case { name, steps })?)
 }
 
-// Adds a line to what is wanted of the last step.
-fn add_wanted(cases: &mut Vec<Case>, line: &str) -> Result<(), CaseError> {
+// Begins a step with this command, in the last case.
+fn begin_step(alloc: Global, cases: &mut Vec<Case>, command: &str) -> Result<(), CaseError> {
     let Some(case) = cases.last_mut() else {
-        return if line.is_empty() {
-            Ok(())
-        } else {
-            Err(CaseError::Unread)
-        };
+        return Err(CaseError::Unread);
     };
-    match case.steps.last_mut() {
-        Some(step) => Ok(add_line(&mut step.wanted, line)?),
+    let command = String::from_str(alloc, command)?;
+    let wanted = String::new(alloc);
+    Ok(case.steps.push(Step { command, wanted })?)
+}
+
+// What is wanted of the last step.
+fn last_wanted(cases: &mut Vec<Case>) -> Option<&mut String> {
+    Some(&mut cases.last_mut()?.steps.last_mut()?.wanted)
+}
+
+// Adds a line to what is wanted of the last step; before the first step there are empty lines
+// alone.
+fn add_wanted(cases: &mut Vec<Case>, line: &str) -> Result<(), CaseError> {
+    match last_wanted(cases) {
+        Some(wanted) => {
+            wanted.push_str(line)?;
+            Ok(wanted.push_str("\n")?)
+        }
         None if line.is_empty() => Ok(()),
         None => Err(CaseError::Unread),
+    }
+}
+
+// Reads a line of a file.
+fn read_line(alloc: Global, cases: &mut Vec<Case>, line: &str) -> Result<(), CaseError> {
+    if line == "#" || line.starts_with("# ") {
+        return Ok(());
+    }
+    if let Some(name) = line.strip_prefix("case ") {
+        return begin_case(alloc, cases, name);
+    }
+    match line.strip_prefix("> ") {
+        Some(command) => begin_step(alloc, cases, command),
+        None => add_wanted(cases, line),
     }
 }
 
@@ -88,19 +102,7 @@ fn add_wanted(cases: &mut Vec<Case>, line: &str) -> Result<(), CaseError> {
 pub fn read_cases(alloc: Global, text: &str) -> Result<Vec<Case>, CaseError> {
     let mut cases = Vec::new(alloc);
     for line in text.lines() {
-        if line == "#" || line.starts_with("# ") {
-            continue;
-        }
-        if let Some(name) = line.strip_prefix("case ") {
-            cases.push(Case {
-                name: String::from_str(alloc, name)?,
-                steps: Vec::new(alloc),
-            })?;
-        } else if let Some(command) = line.strip_prefix("> ") {
-            begin_step(alloc, &mut cases, command)?;
-        } else {
-            add_wanted(&mut cases, line)?;
-        }
+        read_line(alloc, &mut cases, line)?;
     }
     Ok(cases)
 }

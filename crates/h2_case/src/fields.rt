@@ -1,110 +1,173 @@
 //! Fields in commands and in answers.
 
 use crate::case::CaseError;
-use crate::octets::read_octets;
-use hpack::{Field, FieldRef};
+use crate::octets::append_octets;
+use crate::text::Text;
+use crate::words::Words;
+use hpack::{Field, FieldRef, Octets};
 use std::alloc::Global;
-use std::io::Write;
 
-/// The octets of a text in which `\xNN` is an octet in hexadecimal, and `\{WORD}` the octets that
-/// [`read_octets`] reads.
-pub fn read_text(alloc: Global, text: &str) -> Result<Vec<u8>, CaseError> {
+/// The octets of the text that is left, in which `\xNN` is an octet in hexadecimal, and `\{WORDS}`
+/// the octets that [`read_octets`](crate::octets::read_octets) reads.
+pub fn read_text(alloc: Global, words: &mut Words<'_>) -> Vec<u8> {
+    let text = words.rest();
+    octets_of_text(alloc, words, text)
+}
+
+// The octets of a text.
+fn octets_of_text(alloc: Global, words: &mut Words<'_>, text: &str) -> Vec<u8> {
     let mut octets = Vec::new(alloc);
+    append_text(alloc, &mut octets, words, text);
+    octets
+}
+
+// Appends the octets of a text.
+fn append_text(alloc: Global, octets: &mut Vec<u8>, words: &mut Words<'_>, text: &str) {
     let mut others = text;
-    for _ in 0..=text.len() {
+    for _ in 0..text.len() {
         let Some((plain, escape)) = others.split_once('\\') else {
             break;
         };
-        octets.extend_from_slice(plain.as_bytes())?;
-        others = add_escape(alloc, &mut octets, escape)?;
+        append_plain(octets, words, plain);
+        others = append_escape(alloc, octets, words, escape);
     }
-    octets.extend_from_slice(others.as_bytes())?;
-    Ok(octets)
+    append_plain(octets, words, others);
 }
 
-// Adds the octets of what follows a backslash, and answers what follows that.
-fn add_escape<'a>(
+// Appends a text's own octets.
+fn append_plain(octets: &mut Vec<u8>, words: &mut Words<'_>, plain: &str) {
+    if octets.extend_from_slice(plain.as_bytes()).is_err() {
+        words.fail(CaseError::Memory);
+    }
+}
+
+// Appends the octets of what follows a backslash; what follows that.
+fn append_escape<'a>(
     alloc: Global,
     octets: &mut Vec<u8>,
+    words: &mut Words<'_>,
     escape: &'a str,
-) -> Result<&'a str, CaseError> {
-    if let Some(word) = escape.strip_prefix("{") {
-        let Some((word, others)) = word.split_once('}') else {
-            return Err(CaseError::Unread);
-        };
-        octets.extend_from_slice(&read_octets(alloc, word)?)?;
-        return Ok(others);
+) -> &'a str {
+    match split_escape(escape) {
+        Some((escaped, others)) => {
+            append_octets(alloc, octets, words, escaped);
+            others
+        }
+        None => {
+            words.unread();
+            ""
+        }
     }
-    let (Some(hex), Some(others)) = (escape.get(1..3), escape.get(3..)) else {
-        return Err(CaseError::Unread);
-    };
-    if !escape.starts_with('x') {
-        return Err(CaseError::Unread);
-    }
-    octets.extend_from_slice(&read_octets(alloc, hex)?)?;
-    Ok(others)
 }
 
-/// A field: `NAME: VALUE`, with `!` before it where it is sensitive. The name ends at the first
-/// `: ` behind its first octet, or at a colon that ends the text.
-pub fn read_field(alloc: Global, text: &str) -> Result<Field, CaseError> {
-    let (sensitive, text) = match text.strip_prefix("!") {
+// The octets that follow a backslash, in hexadecimal, and what follows them.
+fn split_escape(escape: &str) -> Option<(&str, &str)> {
+    if let Some(braced) = escape.strip_prefix('{') {
+        return braced.split_once('}');
+    }
+    let digits = escape.strip_prefix('x')?;
+    Some((digits.get(..2)?, digits.get(2..)?))
+}
+
+// A field: `NAME: VALUE`, with `!` before it where it is sensitive. The name ends at the first
+// `: `, or at a colon that ends the text.
+fn read_field(alloc: Global, words: &mut Words<'_>, text: &str) -> Field {
+    let (sensitive, text) = match text.strip_prefix('!') {
         Some(text) => (true, text),
         None => (false, text),
     };
-    let (name, value) = match text.split_once(": ") {
-        Some((name, value)) => (name, value),
-        None => match text.strip_suffix(":") {
-            Some(name) => (name, ""),
-            None => return Err(CaseError::Unread),
-        },
-    };
-    let (name, value) = (read_text(alloc, name)?, read_text(alloc, value)?);
-    Ok(Field::copy_of(alloc, &name, &value, sensitive)?)
+    let (name, value) = split_field(words, text);
+    Field {
+        name: Octets::new(octets_of_text(alloc, words, name)),
+        value: Octets::new(octets_of_text(alloc, words, value)),
+        sensitive,
+    }
 }
 
-/// The fields of a text, which ` | ` divides; none where it is empty.
-pub fn read_fields(alloc: Global, text: &str) -> Result<Vec<Field>, CaseError> {
-    let mut fields = Vec::new(alloc);
-    let mut others = text.trim_matches(' ');
-    if others.is_empty() {
-        return Ok(fields);
+// The name and the value of a field.
+fn split_field<'a>(words: &mut Words<'_>, text: &'a str) -> (&'a str, &'a str) {
+    match (text.split_once(": "), text.strip_suffix(':')) {
+        (Some(parts), _) => parts,
+        (None, Some(name)) => (name, ""),
+        (None, None) => {
+            words.unread();
+            ("", "")
+        }
     }
-    for _ in 0..=text.len() {
-        let Some((field, next)) = others.split_once(" | ") else {
+}
+
+/// The fields of the text that is left, which ` | ` divides; none where nothing is left.
+pub fn read_fields(alloc: Global, words: &mut Words<'_>) -> Vec<Field> {
+    let text = words.rest();
+    fields_of(alloc, words, text)
+}
+
+/// The fields of a text, as [`read_fields`] reads them. A fault is noted in the words.
+pub(crate) fn fields_of(alloc: Global, words: &mut Words<'_>, text: &str) -> Vec<Field> {
+    let mut fields = Vec::new(alloc);
+    append_fields(alloc, &mut fields, words, text.trim_matches(' '));
+    fields
+}
+
+// Appends the fields of a text.
+fn append_fields(alloc: Global, fields: &mut Vec<Field>, words: &mut Words<'_>, text: &str) {
+    let mut others = text;
+    for _ in 0..text.len() {
+        let Some((field, following)) = others.split_once(" | ") else {
+            append_field(alloc, fields, words, others);
             break;
         };
-        fields.push(read_field(alloc, field)?)?;
-        others = next;
+        append_field(alloc, fields, words, field);
+        others = following;
     }
-    fields.push(read_field(alloc, others)?)?;
-    Ok(fields)
+}
+
+// Appends the field of a text.
+fn append_field(alloc: Global, fields: &mut Vec<Field>, words: &mut Words<'_>, text: &str) {
+    if fields.push(read_field(alloc, words, text)).is_err() {
+        words.fail(CaseError::Memory);
+    }
+}
+
+/// A field, lent.
+pub fn lent(field: &Field) -> FieldRef<'_> {
+    FieldRef {
+        name: field.name.as_slice(),
+        value: field.value.as_slice(),
+        sensitive: field.sensitive,
+    }
 }
 
 /// Adds the line of each field, as `h2 show` prints it.
-pub fn add_fields(alloc: Global, lines: &mut String, fields: &[Field]) -> Result<(), CaseError> {
+pub fn add_fields(alloc: Global, text: &mut Text, fields: &[Field]) {
     for field in fields {
-        add_field(
-            alloc,
-            lines,
-            FieldRef {
-                name: field.name.as_slice(),
-                value: field.value.as_slice(),
-                sensitive: field.sensitive,
-            },
-        )?;
+        add_field(alloc, text, lent(field));
     }
-    Ok(())
 }
 
 /// Adds the line of a field, as `h2 show` prints it.
-pub fn add_field(alloc: Global, lines: &mut String, field: FieldRef<'_>) -> Result<(), CaseError> {
+pub fn add_field(alloc: Global, text: &mut Text, field: FieldRef<'_>) {
+    let line = line_of(alloc, text, field);
+    text.push_str(str_of(&line));
+}
+
+/// Adds a field as `h2 show` prints it, without the indentation and the end of the line.
+pub(crate) fn add_field_alone(alloc: Global, text: &mut Text, field: FieldRef<'_>) {
+    let line = line_of(alloc, text, field);
+    let line = str_of(&line).trim_end_matches('\n');
+    text.push_str(line.strip_prefix("  ").unwrap_or(line));
+}
+
+// The line of a field. That memory was refused is noted in the text.
+fn line_of(alloc: Global, text: &mut Text, field: FieldRef<'_>) -> Vec<u8> {
     let mut line = Vec::new(alloc);
-    if h2_show::write_field(field, &mut line).is_err() || line.flush().is_err() {
-        return Err(CaseError::Memory);
+    if h2_show::write_field(field, &mut line).is_err() {
+        text.refuse();
     }
-    match std::str::from_utf8(&line) {
-        Ok(line) => Ok(lines.push_str(line)?),
-        Err(_) => Err(CaseError::Unread),
-    }
+    line
+}
+
+// The line of a field as text: it has printable ASCII alone.
+fn str_of(line: &[u8]) -> &str {
+    std::str::from_utf8(line).unwrap_or("not text")
 }

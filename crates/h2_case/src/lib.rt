@@ -4,9 +4,10 @@
 #![tactic(auto)]
 
 pub mod case;
+pub mod driver;
 pub mod fields;
-pub mod layers;
 pub mod messages;
 pub mod octets;
 pub mod report;
+pub mod text;
 pub mod words;

@@ -3,65 +3,68 @@
 //! A message is `FIELDS ; body OCTETS ; trailers FIELDS`, with the notations of fields and octets.
 //! Its body is left out where it is empty, and its trailers where it has none.
 
-use crate::case::CaseError;
-use crate::fields::{add_fields, read_fields};
-use crate::octets::{add_octets, read_octets};
+use crate::fields::{add_field_alone, fields_of, lent};
+use crate::octets::{add_octets, append_octets};
+use crate::text::Text;
+use crate::words::Words;
 use h2_message::Message;
 use hpack::Field;
 use std::alloc::Global;
 
-/// What precedes a word, and what follows it, where the word is there.
-fn split<'a>(text: &'a str, word: &str) -> (&'a str, Option<&'a str>) {
-    match text.split_once(word) {
+// What precedes the part of a message that begins so, and what follows these words, where the part
+// is there.
+fn split_part<'a>(text: &'a str, start: &str, within: &str) -> (&'a str, Option<&'a str>) {
+    if let Some(after) = text.strip_prefix(start) {
+        return ("", Some(after));
+    }
+    match text.split_once(within) {
         Some((before, after)) => (before, Some(after)),
         None => (text, None),
     }
 }
 
-/// The message of a text that begins with a space.
-fn read_parts(alloc: Global, text: &str) -> Result<Message, CaseError> {
-    let (others, trailers) = split(text, " ; trailers");
-    let (head, body) = split(others, " ; body ");
-    let trailers = match trailers {
-        Some(list) => Some(read_fields(alloc, list)?),
-        None => None,
-    };
-    Ok(Message {
-        head: read_fields(alloc, head)?,
-        body: read_octets(alloc, body.unwrap_or(""))?,
+/// The message of the text that is left.
+pub fn read_message(alloc: Global, words: &mut Words<'_>) -> Message {
+    let (others, trailers) = split_part(words.rest(), "; trailers", " ; trailers");
+    let (head, body) = split_part(others, "; body ", " ; body ");
+    let head = fields_of(alloc, words, head);
+    let trailers = read_trailers(alloc, words, trailers);
+    let mut message = Message {
+        head,
+        body: Vec::new(alloc),
         trailers,
-    })
+    };
+    append_octets(alloc, &mut message.body, words, body.unwrap_or(""));
+    message
 }
 
-/// A message.
-pub fn read_message(alloc: Global, text: &str) -> Result<Message, CaseError> {
-    let text = format!(in alloc; " {text}")?;
-    read_parts(alloc, &text)
+// The trailers of a message.
+fn read_trailers(alloc: Global, words: &mut Words<'_>, list: Option<&str>) -> Option<Vec<Field>> {
+    match list {
+        Some(list) => Some(fields_of(alloc, words, list)),
+        None => None,
+    }
 }
 
 /// Adds fields to a line, which ` | ` divides.
-pub fn add_list(alloc: Global, line: &mut String, fields: &[Field]) -> Result<(), CaseError> {
-    let mut lines = String::new(alloc);
-    add_fields(alloc, &mut lines, fields)?;
-    for (place, field) in lines.lines().enumerate() {
+pub fn add_list(alloc: Global, text: &mut Text, fields: &[Field]) {
+    for (place, field) in fields.iter().enumerate() {
         if place > 0 {
-            line.push_str(" | ")?;
+            text.push_str(" | ");
         }
-        line.push_str(field.strip_prefix("  ").unwrap_or(field))?;
+        add_field_alone(alloc, text, lent(field));
     }
-    Ok(())
 }
 
 /// Adds a message to a line.
-pub fn add_message(alloc: Global, line: &mut String, message: &Message) -> Result<(), CaseError> {
-    add_list(alloc, line, &message.head)?;
+pub fn add_message(alloc: Global, text: &mut Text, message: &Message) {
+    add_list(alloc, text, &message.head);
     if !message.body.is_empty() {
-        line.push_str(" ; body ")?;
-        add_octets(line, &message.body)?;
+        text.push_str(" ; body ");
+        add_octets(text, &message.body);
     }
     if let Some(trailers) = &message.trailers {
-        line.push_str(" ; trailers ")?;
-        add_list(alloc, line, trailers)?;
+        text.push_str(" ; trailers ");
+        add_list(alloc, text, trailers);
     }
-    Ok(())
 }

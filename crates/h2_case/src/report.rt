@@ -1,6 +1,7 @@
 //! What is printed of cases.
 
-use crate::case::{Case, CaseError, is_same};
+use crate::case::{Case, CaseError, Step, is_same};
+use crate::driver::Answer;
 use std::fmt;
 use std::io::{self, Write};
 
@@ -56,32 +57,45 @@ pub fn report_file<W: Write>(file: &str, out: &mut W) -> io::Result<Counts> {
 pub fn report_case<W: Write>(
     file: &str,
     case: &Case,
-    answers: &[Result<String, CaseError>],
+    answers: &[Answer],
     out: &mut W,
 ) -> io::Result<Counts> {
+    if case.steps.is_empty() {
+        return report_file(file, out);
+    }
     for (place, step) in case.steps.iter().enumerate() {
         match answers.get(place) {
             Some(Ok(answer)) if is_same(answer, &step.wanted) => {}
-            found => {
-                writeln!(out, "{file}: case {}", case.name)?;
-                writeln!(out, "> {}", step.command)?;
-                writeln!(out, "wanted:")?;
-                write!(out, "{}", step.wanted)?;
-                writeln!(out, "came:")?;
-                match found {
-                    Some(Ok(answer)) => write!(out, "{answer}")?,
-                    Some(Err(CaseError::Unread)) => writeln!(out, "the command can't be read")?,
-                    _ => writeln!(out, "memory was refused")?,
-                }
-                return Ok(ONE_DIFFERS);
-            }
+            found => return report_step(file, &case.name, step, found, out),
         }
-    }
-    if case.steps.is_empty() {
-        return report_file(file, out);
     }
     Ok(Counts {
         cases: 1,
         differ: 0,
     })
+}
+
+// Prints that a command of a case was answered otherwise than is wanted.
+fn report_step<W: Write>(
+    file: &str,
+    case: &str,
+    step: &Step,
+    found: Option<&Answer>,
+    out: &mut W,
+) -> io::Result<Counts> {
+    let (command, wanted, came) = (&step.command, &step.wanted, text_of(found));
+    write!(
+        out,
+        "{file}: case {case}\n> {command}\nwanted:\n{wanted}came:\n{came}"
+    )?;
+    Ok(ONE_DIFFERS)
+}
+
+// What came as the answer to a command.
+fn text_of(found: Option<&Answer>) -> &str {
+    match found {
+        Some(Ok(answer)) => answer,
+        Some(Err(CaseError::Unread)) => "the command can't be read\n",
+        _ => "memory was refused\n",
+    }
 }

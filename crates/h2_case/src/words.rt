@@ -3,74 +3,121 @@
 use crate::case::CaseError;
 use std::str::FromStr;
 
-/// What is left of a command's words, which one space divides.
+/// What is left of a command's words, which one space divides. That a word could not be read is
+/// noted: the reader goes on with a value that stands for none, and the command has no answer.
 #[derive(Clone, Copy)]
-pub struct Words<'a>(&'a str);
+pub struct Words<'a> {
+    left: &'a str,
+    fault: Option<CaseError>,
+}
 
 impl<'a> Words<'a> {
     /// The words of a text.
     pub fn of(text: &'a str) -> Words<'a> {
-        Words(text.trim_start_matches(' '))
+        Words {
+            left: text.trim_start_matches(' '),
+            fault: None,
+        }
+    }
+
+    /// Notes why the command has no answer.
+    pub fn fail(&mut self, fault: CaseError) {
+        self.fault = Some(fault);
+    }
+
+    /// Notes that the command can't be read.
+    pub fn unread(&mut self) {
+        self.fault = Some(CaseError::Unread);
+    }
+
+    /// Why the command has no answer, if it has none: what was noted, or that words are left.
+    pub fn fault(&self) -> Option<CaseError> {
+        match self.fault {
+            None if !self.left.is_empty() => Some(CaseError::Unread),
+            fault => fault,
+        }
+    }
+
+    /// Whether none is left.
+    pub fn is_empty(&self) -> bool {
+        self.left.is_empty()
     }
 
     /// The next word; empty where none is left.
     pub fn next_or_empty(&mut self) -> &'a str {
-        match self.0.split_once(' ') {
+        match self.left.split_once(' ') {
             Some((word, others)) => {
-                self.0 = others.trim_start_matches(' ');
+                self.left = others.trim_start_matches(' ');
                 word
             }
-            None => {
-                let word = self.0;
-                self.0 = "";
-                word
-            }
+            None => self.rest(),
         }
     }
 
-    /// The next word.
-    pub fn word(&mut self) -> Result<&'a str, CaseError> {
-        match self.next_or_empty() {
-            "" => Err(CaseError::Unread),
-            word => Ok(word),
+    /// The next word, which has to be there.
+    pub fn word(&mut self) -> &'a str {
+        let word = self.next_or_empty();
+        if word.is_empty() {
+            self.unread();
         }
+        word
     }
 
     /// The next word as a number.
-    pub fn number<N: FromStr>(&mut self) -> Result<N, CaseError>
+    pub fn number<N: FromStr + Default>(&mut self) -> N
     where
         N::Err: Drop,
     {
-        let word = self.word()?;
+        let word = self.word();
+        self.parse(word)
+    }
+
+    /// A word as a number.
+    pub fn parse<N: FromStr + Default>(&mut self, word: &str) -> N
+    where
+        N::Err: Drop,
+    {
         match word.parse() {
-            Ok(number) => Ok(number),
-            Err(_) => Err(CaseError::Unread),
+            Ok(number) => number,
+            Err(_) => {
+                self.unread();
+                N::default()
+            }
         }
+    }
+
+    /// How many times a command is done: `N times`, if these are the next words, and else once.
+    pub fn times(&mut self) -> u32 {
+        let mut others = *self;
+        let count = others.number();
+        if others.has("times") {
+            *self = others;
+            return count;
+        }
+        1
     }
 
     /// Whether the next word is this one, which is then used.
     pub fn has(&mut self, word: &str) -> bool {
         let mut others = *self;
-        let found = others.next_or_empty() == word;
-        if found {
+        let is_next = others.next_or_empty() == word;
+        if is_next {
             *self = others;
         }
-        found
+        is_next
     }
 
-    /// All that is left.
-    pub fn rest(&mut self) -> &'a str {
-        let rest = self.0;
-        self.0 = "";
-        rest
-    }
-
-    /// Nothing is left: a command has no further words.
-    pub fn end(&self) -> Result<(), CaseError> {
-        if self.0.is_empty() {
-            Ok(())
-        } else {
-            Err(CaseError::Unread)
+    /// The next word is this one.
+    pub fn expect(&mut self, word: &str) {
+        if !self.has(word) {
+            self.unread();
         }
+    }
+
+    /// All that is left, which is then used.
+    pub fn rest(&mut self) -> &'a str {
+        let rest = self.left;
+        self.left = "";
+        rest
     }
 }
