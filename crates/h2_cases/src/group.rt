@@ -1,7 +1,8 @@
 //! The groups of cases: what answers the commands of each.
 
 use crate::{location, program};
-use h2_case::case::{Case, CaseError};
+use h2_case::case::Case;
+use h2_case::driver::Answer;
 use h2_case::layers::{block, flow, frame, hpack_blocks, text, wire};
 use h2_conn_cases::{conn, message};
 use h2_end_cases::{end, engine, pair};
@@ -95,7 +96,7 @@ pub(crate) fn run_case<R: Net>(
     alloc: Global,
     group: Group,
     case: &Case,
-) -> Vec<Result<String, CaseError>> {
+) -> Vec<Answer> {
     match group {
         Group::Text => text::run_case(alloc, case),
         Group::Hpack => hpack_blocks::run_case(alloc, case),

@@ -185,5 +185,9 @@ fn add_octets_act(text: &mut Text, name: &str, octets: &[u8]) {
 // Adds the line of new settings.
 fn add_change(text: &mut Text, config: Config) {
     let (table_limit, initial_window) = (config.table_limit(), config.initial_window());
-    write!(text, "change {table_limit} {initial_window} {}\n", config.max_streams());
+    write!(
+        text,
+        "change {table_limit} {initial_window} {}\n",
+        config.max_streams()
+    );
 }

@@ -2,7 +2,7 @@
 
 use h2_case::case::CaseError;
 use h2_case::fields::add_field;
-use h2_case::octets::add_octets;
+use h2_case::octets::{add_last, add_octets};
 use h2_case::text::Text;
 use h2_case::words::Words;
 use hpack::{FieldList, FieldRef};
@@ -62,14 +62,6 @@ pub(crate) fn add_rule<E: Display + Drop>(alloc: Global, text: &mut Text, rule: 
     }
 }
 
-/// Adds another text.
-pub fn add_text(text: &mut Text, other: Text) {
-    match other.finish() {
-        Ok(lines) => text.push_str(&lines),
-        Err(_) => text.refuse(),
-    }
-}
-
 /// The lines of a text; none where memory was refused, which is noted.
 pub fn lines_of(alloc: Global, text: Text, words: &mut Words<'_>) -> String {
     match text.finish() {
@@ -123,10 +115,7 @@ fn add_long_field(alloc: Global, text: &mut Text, field: FieldRef<'_>) {
         sensitive: field.sensitive,
     };
     add_field(alloc, &mut line, without);
-    match line.finish() {
-        Ok(line) => text.push_str(line.trim_end_matches('\n')),
-        Err(_) => text.refuse(),
-    }
+    text.push_str(line.as_str().trim_end_matches('\n'));
     text.push_str("\\{");
     add_octets(text, field.value);
     text.push_line("}");
@@ -144,9 +133,6 @@ pub(crate) fn whose(ours: bool) -> &'static str {
 
 /// Ends a line with a space and octets, if there are any.
 pub fn end_with_octets(text: &mut Text, octets: &[u8]) {
-    if !octets.is_empty() {
-        text.push_str(" ");
-        add_octets(text, octets);
-    }
+    add_last(text, octets);
     text.push_str("\n");
 }

@@ -3,7 +3,7 @@
 use crate::answers::extend;
 use h2_case::case::{Case, CaseError};
 use h2_case::driver::{Answer, Driver, answers};
-use h2_case::octets::read_octets;
+use h2_case::octets::{read_octets, split_frame};
 use h2_case::words::Words;
 use std::alloc::Global;
 
@@ -178,18 +178,15 @@ fn repeated(alloc: Global, frames: &[u8], times: u32, words: &mut Words<'_>) -> 
 fn add_frames_above(octets: &mut Vec<u8>, frames: &[u8], more: u32, words: &mut Words<'_>) {
     let mut others = frames;
     for _ in 0..frames.len() {
-        let [a, b, c, kind, flags, d, e, f, g, following @ ..] = others else {
+        let Some((head, payload, following)) = split_frame(others) else {
             break;
         };
-        let length = u32::from_be_bytes([0, *a, *b, *c]) as usize;
-        let Some((payload, next)) = following.split_at_checked(length) else {
-            break;
-        };
-        let id = u32::from_be_bytes([*d, *e, *f, *g]).wrapping_add(more);
+        let [a, b, c, kind, flags, d, e, f, g] = *head;
+        let id = u32::from_be_bytes([d, e, f, g]).wrapping_add(more);
         let [d, e, f, g] = id.to_be_bytes();
-        extend(octets, &[*a, *b, *c, *kind, *flags, d, e, f, g], words);
+        extend(octets, &[a, b, c, kind, flags, d, e, f, g], words);
         extend(octets, payload, words);
-        others = next;
+        others = following;
     }
     if !others.is_empty() {
         words.unread();

@@ -1,6 +1,5 @@
 //! Each octet at each place of a name or a value.
 
-use crate::answers::add_text;
 use h2_case::text::Text;
 use h2_message::{Malformed, Message, check_request};
 use hpack::Field;
@@ -98,8 +97,9 @@ impl Tried {
             };
             if next.as_str() != ranges.as_str() {
                 write!(text, "{first}-{}:", place.saturating_sub(1));
-                add_text(text, std::mem::replace(&mut ranges, next));
+                text.push_text(&ranges);
                 text.push_str("\n");
+                ranges = next;
                 first = place;
             }
         }

@@ -71,7 +71,13 @@ fn read_reads(words: &mut Words<'_>) -> Reads {
 }
 
 // Writes a block of fields, and reads it; whether both were done.
-fn copy_block(encoder: &mut Encoder, fields: &[Field], decoder: &mut Decoder, block: &mut Vec<u8>, list: &mut FieldList) -> bool {
+fn copy_block(
+    encoder: &mut Encoder,
+    fields: &[Field],
+    decoder: &mut Decoder,
+    block: &mut Vec<u8>,
+    list: &mut FieldList,
+) -> bool {
     list_size(fields) < 1 << 35
         && encoder.encode(fields, block).is_ok()
         && decoder.decode_into(block, 65_536, list).is_ok()

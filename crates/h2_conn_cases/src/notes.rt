@@ -1,6 +1,5 @@
 //! What comes out as octets are handed over.
 
-use crate::answers::add_text;
 use crate::cuts::Cut;
 use h2_case::text::Text;
 use std::alloc::Global;
@@ -51,18 +50,12 @@ impl Notes {
     }
 
     /// Adds what came out to an answer.
-    pub fn add_to(self, text: &mut Text) {
-        let Notes {
-            lines,
-            counts,
-            is_refused,
-            ..
-        } = self;
-        if is_refused {
+    pub fn add_to(&self, text: &mut Text) {
+        if self.is_refused {
             text.refuse();
         }
-        add_counts(&counts, text);
-        add_text(text, lines);
+        add_counts(&self.counts, text);
+        text.push_text(&self.lines);
     }
 }
 

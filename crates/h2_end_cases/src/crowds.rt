@@ -29,33 +29,22 @@ fn give_out(alloc: Global, side: &mut Side) {
 }
 
 // Takes a frame; whether these lines are what is handed out.
-fn hands_out(alloc: Global, side: &mut Side, frame: &[u8], wanted: Text, text: &mut Text) -> bool {
+fn hands_out(alloc: Global, side: &mut Side, frame: &[u8], wanted: &Text) -> bool {
     let mut notes = Notes::new(alloc, false);
     take_all(side, WHOLE, frame, &mut notes);
-    let mut handed = Text::new(alloc);
-    notes.add_to(&mut handed);
-    match (handed.finish(), wanted.finish()) {
-        (Ok(handed), Ok(wanted)) => handed == wanted,
-        _ => {
-            text.refuse();
-            false
-        }
-    }
+    notes.lines.as_str() == wanted.as_str()
 }
 
 // A server takes a whole request, hands out its head alone, and is given this answer.
-fn is_served(
-    alloc: Global,
-    side: &mut Side,
-    id: u32,
-    given: Words<'_>,
-    text: &mut Text,
-) -> bool {
+fn is_served(alloc: Global, side: &mut Side, id: u32, given: Words<'_>, text: &mut Text) -> bool {
     let [a, b, c, d] = id.to_be_bytes();
     let frame = [0, 0, 3, 1, 5, a, b, c, d, 0x82, 0x86, 0x84];
     let mut head = Text::new(alloc);
-    write!(head, "head {id} end\n  :method: GET\n  :scheme: http\n  :path: /\n");
-    let is_heard = hands_out(alloc, side, &frame, head, text);
+    write!(
+        head,
+        "head {id} end\n  :method: GET\n  :scheme: http\n  :path: /\n"
+    );
+    let is_heard = hands_out(alloc, side, &frame, &head);
     let is_answered = side.respond(id, read_again(alloc, given, text)).is_ok();
     give_out(alloc, side);
     is_heard && is_answered
@@ -75,31 +64,19 @@ fn is_asked(alloc: Global, side: &mut Side, id: u32, given: Words<'_>, text: &mu
 
 // A client is given this request, takes a whole answer, hands out its head alone, and then no
 // stream is active.
-fn is_answered(
-    alloc: Global,
-    side: &mut Side,
-    id: u32,
-    given: Words<'_>,
-    text: &mut Text,
-) -> bool {
+fn is_answered(alloc: Global, side: &mut Side, id: u32, given: Words<'_>, text: &mut Text) -> bool {
     let is_asked = is_asked(alloc, side, id, given, text);
     let [a, b, c, d] = id.to_be_bytes();
     let frame = [0, 0, 1, 1, 5, a, b, c, d, 0x88];
     let mut head = Text::new(alloc);
     write!(head, "head {id} end\n  :status: 200\n");
-    let is_heard = hands_out(alloc, side, &frame, head, text);
+    let is_heard = hands_out(alloc, side, &frame, &head);
     give_out(alloc, side);
     is_asked && is_heard && side.conn().next_live(0).is_none()
 }
 
 // So many of these messages: how many went as they are to, up to the first that did not.
-fn count_of(
-    alloc: Global,
-    side: &mut Side,
-    count: u32,
-    given: Words<'_>,
-    text: &mut Text,
-) -> u32 {
+fn count_of(alloc: Global, side: &mut Side, count: u32, given: Words<'_>, text: &mut Text) -> u32 {
     for place in 0..count {
         let id = place.wrapping_mul(2).wrapping_add(1);
         let went = if side.is_server() {

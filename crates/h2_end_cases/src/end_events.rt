@@ -5,8 +5,9 @@
 use crate::side::Side;
 use h2_case::text::Text;
 use h2_conn_cases::answers::{add_list, end_with_octets, end_word};
-use h2_conn_cases::conn_events::{add_acked, add_goaway, add_pong, add_reset, add_unprocessed};
-use h2_conn_cases::conn_events::note_fault;
+use h2_conn_cases::conn_events::{
+    add_acked, add_goaway, add_pong, add_reset, add_unprocessed, note_fault,
+};
 use h2_conn_cases::notes::{Notes, Taker, Used};
 use h2_ends::EndEvent;
 use hpack::FieldList;

@@ -3,7 +3,6 @@
 use crate::end_events::{add_body, add_handed};
 use crate::side::Side;
 use h2_case::text::Text;
-use h2_conn_cases::answers::add_text;
 use h2_conn_cases::cuts::WHOLE;
 use h2_conn_cases::notes::{Taker, Used, take_part};
 use h2_ends::EndEvent;
@@ -80,13 +79,13 @@ impl Heard {
     }
 
     // Adds what was kept after the name of the end.
-    fn add_to(mut self, name: &str, text: &mut Text) {
+    fn add_to(&mut self, name: &str, text: &mut Text) {
         self.end_body();
         write!(text, "{name}:\n");
         for _ in 0..self.acked {
             text.push_line("acked");
         }
-        add_text(text, self.lines);
+        text.push_text(&self.lines);
     }
 }
 
