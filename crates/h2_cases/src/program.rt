@@ -17,11 +17,12 @@
 
 use crate::input::{Input, Pieces, Unreadable};
 use h2_case::case::{Case, CaseError};
-use h2_case::driver::{Answer, Driver, answers};
+use h2_case::driver::{Answer, Driver};
 use h2_case::fields::add_fields;
 use h2_case::octets::{add_hex, add_octets};
 use h2_case::text::Text;
 use h2_case::words::Words;
+use h2_conn_cases::cuts::answers_of;
 use h2_sockets::exchange;
 use std::alloc::Global;
 use std::io::Read;
@@ -304,11 +305,11 @@ impl<N: Net> Driver for Session<'_, N> {
 
 /// The answers to a case's commands, up to the first that has none.
 pub(crate) fn run_case<N: Net>(net: &N, alloc: Global, case: &Case) -> Vec<Answer> {
-    let mut session = Session {
+    let session = Session {
         net,
         alloc,
         input: None,
         answer: String::new(alloc),
     };
-    answers(alloc, case, &mut session)
+    answers_of(alloc, case, session)
 }

@@ -1,6 +1,6 @@
 //! The calls of one end of a connection as commands: see [`crate::conn`].
 
-use crate::answers::{add_answer, add_done, add_name, end_with_octets, end_word};
+use crate::answers::{add_answer, add_done, add_name, add_numbers, begin_line, end_with_octets};
 use crate::cuts::read_frames;
 use h2_case::fields::{add_fields, read_fields};
 use h2_case::octets::{add_frames, read_octets};
@@ -147,28 +147,29 @@ fn put_out(alloc: Global, conn: &mut Conn, count: usize, text: &mut Text) {
 pub(crate) fn add_act(alloc: Global, text: &mut Text, act: &Act) {
     match act {
         Act::Open { fields, end } => {
-            write!(text, "open{}\n", end_word(*end));
+            text.push_line(if *end { "open end" } else { "open" });
             add_fields(alloc, text, fields);
         }
         Act::Fields { id, fields, end } => {
-            write!(text, "fields {id}{}\n", end_word(*end));
+            begin_line(text, "fields", *id, *end);
+            text.push_str("\n");
             add_fields(alloc, text, fields);
         }
-        _ => add_other_act(text, act),
+        Act::Take(octets) => add_octets_act(text, "take", octets),
+        Act::Data { id, octets, end } => {
+            begin_line(text, "data", *id, *end);
+            end_with_octets(text, octets);
+        }
+        _ => add_small_act(text, act),
     }
 }
 
-// Adds a call without fields as it is written in a command.
-fn add_other_act(text: &mut Text, act: &Act) {
+// Adds a call without fields or a body as it is written in a command.
+fn add_small_act(text: &mut Text, act: &Act) {
     match act {
-        Act::Take(octets) => add_octets_act(text, "take", octets),
-        Act::Data { id, octets, end } => {
-            write!(text, "data {id}{}", end_word(*end));
-            end_with_octets(text, octets);
-        }
-        Act::Release { id, count } => write!(text, "release {id} {count}\n"),
-        Act::Reset { id, code } => write!(text, "reset {id} {code}\n"),
-        Act::Refuse { id, code } => write!(text, "refuse {id} {code}\n"),
+        Act::Release { id, count } => add_numbers(text, "release", *id, *count),
+        Act::Reset { id, code } => add_numbers(text, "reset", *id, *code),
+        Act::Refuse { id, code } => add_numbers(text, "refuse", *id, *code),
         Act::Ping(octets) => add_octets_act(text, "ping", octets),
         Act::PutOut(count) => write!(text, "out {count}\n"),
         Act::ChangeSettings(config) => add_change(text, *config),
@@ -184,10 +185,6 @@ fn add_octets_act(text: &mut Text, name: &str, octets: &[u8]) {
 
 // Adds the line of new settings.
 fn add_change(text: &mut Text, config: Config) {
-    let (table_limit, initial_window) = (config.table_limit(), config.initial_window());
-    write!(
-        text,
-        "change {table_limit} {initial_window} {}\n",
-        config.max_streams()
-    );
+    write!(text, "change {}", config.table_limit());
+    add_numbers(text, "", config.initial_window(), config.max_streams());
 }

@@ -17,7 +17,7 @@ pub fn add_answer<T: Display + Drop, E: Display + Drop>(
     answer: Result<T, E>,
 ) {
     match answer {
-        Ok(value) => write!(text, "{value}\n"),
+        Ok(value) => add_value(text, value),
         Err(refusal) => add_name(alloc, text, &refusal),
     }
 }
@@ -49,7 +49,7 @@ pub fn add_name<E: Display>(alloc: Global, text: &mut Text, rule: &E) {
 /// Adds the line of a value, or `none`.
 pub fn add_option<T: Display + Drop>(text: &mut Text, value: Option<T>) {
     match value {
-        Some(value) => write!(text, "{value}\n"),
+        Some(value) => add_value(text, value),
         None => text.push_line("none"),
     }
 }
@@ -121,14 +121,24 @@ fn add_long_field(alloc: Global, text: &mut Text, field: FieldRef<'_>) {
     text.push_line("}");
 }
 
-/// A space and the word for END_STREAM, where it is set.
-pub fn end_word(end: bool) -> &'static str {
+/// Adds the line of a value.
+pub fn add_value<T: Display + Drop>(text: &mut Text, value: T) {
+    write!(text, "{value}\n");
+}
+
+// A space and the word for END_STREAM, where it is set.
+fn end_word(end: bool) -> &'static str {
     if end { " end" } else { "" }
 }
 
-/// Which end has reset a stream.
-pub(crate) fn whose(ours: bool) -> &'static str {
-    if ours { "ours" } else { "theirs" }
+/// Begins a line: what it is about, a stream, and whether that ends.
+pub fn begin_line(text: &mut Text, name: &str, id: u32, end: bool) {
+    write!(text, "{name} {id}{}", end_word(end));
+}
+
+/// Adds the line of a name and two numbers.
+pub(crate) fn add_numbers(text: &mut Text, name: &str, first: u32, second: u32) {
+    write!(text, "{name} {first} {second}\n");
 }
 
 /// Ends a line with a space and octets, if there are any.

@@ -22,10 +22,10 @@
 //! or one is `take anywhere OCTETS`, in two at each place. An answer that differs then is said.
 
 use crate::acts::{make_call, read_act, read_values};
-use crate::answers::{add_name, add_option, add_rule, copy_of, extend};
+use crate::answers::{add_name, add_option, add_rule, add_value, copy_of, extend};
 use crate::conn_events::{note_event, note_fault};
 use crate::cuts::{Cut, Cutting, answers_in_cuts, read_frames};
-use crate::notes::{Notes, Taker, Used, take_all};
+use crate::notes::{Notes, Taker, Used, add_taken};
 use crate::replayed::add_replay;
 use h2_case::case::Case;
 use h2_case::driver::{Answer, Driver};
@@ -101,17 +101,6 @@ fn output(alloc: Global, conn: &mut Conn) -> Vec<u8> {
     out
 }
 
-// Takes so many octets of output away.
-fn part_of_output(alloc: Global, conn: &mut Conn, words: &mut Words<'_>) -> Vec<u8> {
-    let count = words.number();
-    let mut out = Vec::new(alloc);
-    match conn.put_out(count, &mut out) {
-        Ok(given) if given == count && given == out.len() => {}
-        _ => words.unread(),
-    }
-    out
-}
-
 // Adds the frames of the output that waits.
 fn add_lent(alloc: Global, conn: &Conn, words: &mut Words<'_>, text: &mut Text) {
     let (first, last) = conn.waiting_octets();
@@ -144,10 +133,10 @@ pub fn drop_out(out: &[u8], text: &mut Text) {
 // Adds what a reader of this name answers; whether there is one.
 fn read(alloc: Global, conn: &Conn, name: &str, words: &mut Words<'_>, text: &mut Text) -> bool {
     match name {
-        "waiting" => write!(text, "{}\n", conn.waiting()),
-        "held" => write!(text, "{}\n", conn.held()),
-        "place" => write!(text, "{}\n", conn.place()),
-        "due" => write!(text, "{}\n", conn.due()),
+        "waiting" => add_value(text, conn.waiting()),
+        "held" => add_value(text, conn.held()),
+        "place" => add_value(text, conn.place()),
+        "due" => add_value(text, conn.due()),
         "next_number" => add_option(text, conn.next_number()),
         "failed" => add_failed(conn, text),
         "lent" => add_lent(alloc, conn, words, text),
@@ -161,9 +150,9 @@ fn read(alloc: Global, conn: &Conn, name: &str, words: &mut Words<'_>, text: &mu
 fn read_stream(conn: &Conn, name: &str, words: &mut Words<'_>, text: &mut Text) -> bool {
     match name {
         "room" => add_option(text, conn.room(words.number())),
-        "owed" => write!(text, "{}\n", conn.owed(words.number())),
+        "owed" => add_value(text, conn.owed(words.number())),
         "next_live" => add_option(text, conn.next_live(words.number())),
-        "is_active" => write!(text, "{}\n", conn.is_active(words.number())),
+        "is_active" => add_value(text, conn.is_active(words.number())),
         _ => return false,
     }
     true
@@ -192,13 +181,12 @@ impl State {
 
     // Takes octets.
     fn take(&mut self, words: &mut Words<'_>, text: &mut Text) {
-        let mut notes = Notes::new(self.alloc, words.has("quietly"));
+        let is_quiet = words.has("quietly");
         let _ = words.has("anywhere");
         let octets = read_frames(self.alloc, words);
         if let Some(conn) = &mut self.conn {
-            take_all(conn, self.cut, &octets, &mut notes);
+            add_taken(conn, self.cut, &octets, Notes::new(self.alloc, is_quiet), text);
         }
-        notes.add_to(text);
         keep(&mut self.acts, Act::Take(octets), text);
     }
 
@@ -211,6 +199,20 @@ impl State {
         }
     }
 
+    // Takes so many octets of output away.
+    fn part_of_output(&mut self, words: &mut Words<'_>) -> Vec<u8> {
+        let count = words.number();
+        let mut out = Vec::new(self.alloc);
+        let is_given = match &mut self.conn {
+            Some(conn) => matches!(conn.put_out(count, &mut out), Ok(given) if given == count),
+            None => false,
+        };
+        if !is_given || out.len() != count {
+            words.unread();
+        }
+        out
+    }
+
     // Takes all output away, and adds its frames.
     fn add_output(&mut self, text: &mut Text) {
         let out = self.output(text);
@@ -220,9 +222,10 @@ impl State {
     // Takes output away.
     fn drop_output(&mut self, words: &mut Words<'_>, text: &mut Text) {
         words.expect("out");
-        let out = match &mut self.conn {
-            Some(conn) if !words.is_empty() => part_of_output(self.alloc, conn, words),
-            _ => self.output(text),
+        let out = if words.is_empty() {
+            self.output(text)
+        } else {
+            self.part_of_output(words)
         };
         drop_out(&out, text);
     }

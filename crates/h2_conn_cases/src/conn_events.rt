@@ -5,7 +5,7 @@
 //! - `reset ID code=N ours` or `theirs`, `goaway last=N code=N`, `unprocessed ID`, `acked`, and
 //!   `pong OCTETS`.
 
-use crate::answers::{add_list, end_with_octets, end_word, whose};
+use crate::answers::{add_list, begin_line, end_with_octets};
 use crate::notes::Notes;
 use h2_case::fields::add_fields;
 use h2_case::text::Text;
@@ -48,7 +48,8 @@ pub fn note_fault(notes: &mut Notes, fault: ConnFault) {
 fn add_event(alloc: Global, text: &mut Text, event: Event<'_>) {
     match event {
         Event::Fields { id, list, end } => {
-            write!(text, "fields {id}{}\n", end_word(end));
+            begin_line(text, "fields", id, end);
+            text.push_str("\n");
             add_list(alloc, text, list);
         }
         Event::Data {
@@ -69,7 +70,8 @@ fn add_event(alloc: Global, text: &mut Text, event: Event<'_>) {
 pub(crate) fn add_kept(alloc: Global, text: &mut Text, event: &ReplayEvent) {
     match event {
         ReplayEvent::Fields { id, list, end } => {
-            write!(text, "fields {id}{}\n", end_word(*end));
+            begin_line(text, "fields", *id, *end);
+            text.push_str("\n");
             add_fields(alloc, text, list);
         }
         ReplayEvent::Data {
@@ -89,13 +91,15 @@ pub(crate) fn add_kept(alloc: Global, text: &mut Text, event: &ReplayEvent) {
 // Adds the line of octets of a body: what they took of the windows, and whether the stream ends.
 fn add_data(text: &mut Text, id: u32, octets: &[u8], of_frame: (u32, bool)) {
     let (flow, end) = of_frame;
-    write!(text, "data {id} flow={flow}{}", end_word(end));
+    write!(text, "data {id} flow={flow}");
+    text.push_str(if end { " end" } else { "" });
     end_with_octets(text, octets);
 }
 
 /// Adds the line of a stream that was reset.
 pub fn add_reset(text: &mut Text, id: u32, code: u32, ours: bool) {
-    write!(text, "reset {id} code={code} {}\n", whose(ours));
+    write!(text, "reset {id} code={code}");
+    text.push_line(if ours { " ours" } else { " theirs" });
 }
 
 /// Adds the line of GOAWAY.

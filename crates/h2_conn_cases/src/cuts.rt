@@ -63,10 +63,14 @@ pub trait Cutting: Driver {
     fn new(alloc: Global, cut: Cut) -> Self;
 }
 
+/// The answers of a new driver to a case's commands, up to the first that has none.
+pub fn answers_of<D: Driver + Drop>(alloc: Global, case: &Case, mut driver: D) -> Vec<Answer> {
+    answers(alloc, case, &mut driver)
+}
+
 // The answers to a case's commands with a cut, up to the first that has none.
 fn answers_with<D: Cutting + Drop>(alloc: Global, case: &Case, cut: Cut) -> Vec<Answer> {
-    let mut driver = D::new(alloc, cut);
-    answers(alloc, case, &mut driver)
+    answers_of(alloc, case, D::new(alloc, cut))
 }
 
 /// The answers to a case's commands, however the octets are cut.
@@ -181,14 +185,19 @@ fn add_frames_above(octets: &mut Vec<u8>, frames: &[u8], more: u32, words: &mut 
         let Some((head, payload, following)) = split_frame(others) else {
             break;
         };
-        let [a, b, c, kind, flags, d, e, f, g] = *head;
-        let id = u32::from_be_bytes([d, e, f, g]).wrapping_add(more);
-        let [d, e, f, g] = id.to_be_bytes();
-        extend(octets, &[a, b, c, kind, flags, d, e, f, g], words);
+        extend(octets, &head_above(head, more), words);
         extend(octets, payload, words);
         others = following;
     }
     if !others.is_empty() {
         words.unread();
     }
+}
+
+// The head of a frame with a number of a stream that is so much higher.
+fn head_above(head: &[u8; 9], more: u32) -> [u8; 9] {
+    let [a, b, c, kind, flags, d, e, f, g] = *head;
+    let id = u32::from_be_bytes([d, e, f, g]).wrapping_add(more);
+    let [d, e, f, g] = id.to_be_bytes();
+    [a, b, c, kind, flags, d, e, f, g]
 }

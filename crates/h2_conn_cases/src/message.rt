@@ -10,10 +10,11 @@
 //!   answer the part that the field block is, `taken` for so many octets of DATA, or `refused`; and
 //!   `is_over` and `asks_head` what they say.
 
-use crate::answers::add_name;
+use crate::answers::{add_name, add_value};
+use crate::cuts::answers_of;
 use crate::each_octet::add_bad_octets;
 use h2_case::case::{Case, CaseError};
-use h2_case::driver::{Answer, Driver, answers};
+use h2_case::driver::{Answer, Driver};
 use h2_case::fields::read_fields;
 use h2_case::messages::read_message;
 use h2_case::text::Text;
@@ -53,7 +54,7 @@ fn add_response(alloc: Global, words: &mut Words<'_>, text: &mut Text) {
 // Adds whether the head of a request asks with HEAD.
 fn add_asks_head(alloc: Global, words: &mut Words<'_>, text: &mut Text) {
     let head = read_fields(alloc, words);
-    write!(text, "{}\n", asks_head(&head));
+    add_value(text, asks_head(&head));
 }
 
 // Which messages are read.
@@ -145,8 +146,8 @@ impl Driver for State {
             "read" => self.reading = Reading::new(read_reads(words)),
             "fields" => add_part(alloc, &mut self.reading, words, text),
             "data" => add_data(&mut self.reading, words, text),
-            "is_over" => write!(text, "{}\n", self.reading.is_over()),
-            "asks_head" => write!(text, "{}\n", self.reading.asks_head()),
+            "is_over" => add_value(text, self.reading.is_over()),
+            "asks_head" => add_value(text, self.reading.asks_head()),
             _ => words.unread(),
         }
     }
@@ -154,9 +155,9 @@ impl Driver for State {
 
 /// The answers to a case's commands, up to the first that has none.
 pub fn run_case(alloc: Global, case: &Case) -> Vec<Answer> {
-    let mut state = State {
+    let state = State {
         alloc,
         reading: Reading::new(Reads::Requests),
     };
-    answers(alloc, case, &mut state)
+    answers_of(alloc, case, state)
 }

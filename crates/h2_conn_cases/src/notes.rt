@@ -92,6 +92,18 @@ pub fn take_all<N, T: Taker<N>>(taker: &mut T, cut: Cut, octets: &[u8], notes: &
     }
 }
 
+/// Hands octets over, and adds what comes out.
+pub fn add_taken<T: Taker<Notes>>(
+    taker: &mut T,
+    cut: Cut,
+    octets: &[u8],
+    mut notes: Notes,
+    text: &mut Text,
+) {
+    take_all(taker, cut, octets, &mut notes);
+    notes.add_to(text);
+}
+
 /// Hands octets over, up to a fault or until they are used and nothing more comes out; whether the
 /// connection has not failed.
 pub fn take_part<N, T: Taker<N>>(taker: &mut T, cut: Cut, octets: &[u8], notes: &mut N) -> bool {

@@ -5,6 +5,7 @@ use crate::side::Side;
 use h2_case::messages::read_message;
 use h2_case::text::Text;
 use h2_case::words::Words;
+use h2_conn_cases::answers::add_value;
 use h2_conn_cases::cuts::WHOLE;
 use h2_conn_cases::notes::{Notes, take_all};
 use h2_ends::Message;
@@ -98,5 +99,5 @@ pub(crate) fn add_crowd(alloc: Global, side: &mut Side, words: &mut Words<'_>, t
     let given = *words;
     let _ = read_message(alloc, words);
     let went = count_of(alloc, side, count, given, text);
-    write!(text, "{went}\n");
+    add_value(text, went);
 }

@@ -29,10 +29,10 @@ use h2_case::octets::add_frames;
 use h2_case::text::Text;
 use h2_case::words::Words;
 use h2_conn_cases::acts::{read_config, read_ping};
-use h2_conn_cases::answers::{add_answer, add_done, add_name, add_option};
+use h2_conn_cases::answers::{add_answer, add_done, add_name, add_option, add_value};
 use h2_conn_cases::conn::{drop_out, read_role};
 use h2_conn_cases::cuts::{Cut, Cutting, answers_in_cuts, read_frames};
-use h2_conn_cases::notes::{Notes, take_all};
+use h2_conn_cases::notes::{Notes, add_taken};
 use h2_ends::{EndRefusal, Message};
 use std::alloc::Global;
 
@@ -99,7 +99,7 @@ fn add_refused(alloc: Global, text: &mut Text, given: Words<'_>, refused: (Messa
 fn request(alloc: Global, side: &mut Side, words: &mut Words<'_>, text: &mut Text) {
     let given = *words;
     match side.request(read_message(alloc, words)) {
-        Ok(id) => write!(text, "{id}\n"),
+        Ok(id) => add_value(text, id),
         Err(refused) => add_refused(alloc, text, given, refused),
     }
 }
@@ -141,12 +141,6 @@ const TO_CLIENT: &[u8] = b"\0\0\0\x04\0\0\0\0\0";
 /// What a server gets first: the preface, and SETTINGS without values.
 const TO_SERVER: &[u8] = b"PRI * HTTP/2.0\r\n\r\nSM\r\n\r\n\0\0\0\x04\0\0\0\0\0";
 
-// Takes octets, and adds what is handed out.
-fn add_taken(side: &mut Side, cut: Cut, octets: &[u8], mut notes: Notes, text: &mut Text) {
-    take_all(side, cut, octets, &mut notes);
-    notes.add_to(text);
-}
-
 // The peer's opening comes, and all output is taken away.
 fn start(alloc: Global, cut: Cut, side: &mut Side, text: &mut Text) {
     let octets = if side.is_server() {
@@ -185,7 +179,7 @@ fn drop_output(alloc: Global, side: &mut Side, words: &mut Words<'_>, text: &mut
 fn add_count(alloc: Global, side: &mut Side, words: &mut Words<'_>, text: &mut Text) {
     match words.word() {
         "active" => add_active(side, true, text),
-        "out" => write!(text, "{}\n", output(alloc, side).len()),
+        "out" => add_value(text, output(alloc, side).len()),
         _ => words.unread(),
     }
 }
@@ -244,11 +238,11 @@ fn answer_call(alloc: Global, side: &mut Side, name: &str, words: &mut Words<'_>
 // Adds what a reader answers.
 fn read(side: &Side, name: &str, words: &mut Words<'_>, text: &mut Text) {
     match name {
-        "waiting" => write!(text, "{}\n", side.conn().waiting()),
-        "is_quiet" => write!(text, "{}\n", side.is_quiet()),
+        "waiting" => add_value(text, side.conn().waiting()),
+        "is_quiet" => add_value(text, side.is_quiet()),
         "active" => add_active(side, false, text),
         "room" => add_option(text, side.conn().room(words.number())),
-        "owed" => write!(text, "{}\n", side.conn().owed(words.number())),
+        "owed" => add_value(text, side.conn().owed(words.number())),
         "next_live" => add_option(text, side.conn().next_live(words.number())),
         _ => words.unread(),
     }

@@ -4,7 +4,7 @@
 
 use crate::side::Side;
 use h2_case::text::Text;
-use h2_conn_cases::answers::{add_list, end_with_octets, end_word};
+use h2_conn_cases::answers::{add_list, begin_line, end_with_octets};
 use h2_conn_cases::conn_events::{
     add_acked, add_goaway, add_pong, add_reset, add_unprocessed, note_fault,
 };
@@ -46,13 +46,14 @@ pub(crate) fn add_handed(alloc: Global, text: &mut Text, event: EndEvent<'_>) {
 // Adds the lines of a field block.
 fn add_part(alloc: Global, text: &mut Text, kind: &str, stream: (u32, bool), list: &FieldList) {
     let (id, end) = stream;
-    write!(text, "{kind} {id}{}\n", end_word(end));
+    begin_line(text, kind, id, end);
+    text.push_str("\n");
     add_list(alloc, text, list);
 }
 
 /// Adds the line of octets of a body.
 pub(crate) fn add_body(text: &mut Text, id: u32, octets: &[u8], end: bool) {
-    write!(text, "body {id}{}", end_word(end));
+    begin_line(text, "body", id, end);
     end_with_octets(text, octets);
 }
 

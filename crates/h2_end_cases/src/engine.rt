@@ -38,10 +38,11 @@ mod turns;
 
 use crate::pair::{read_config, read_count};
 use h2_case::case::{Case, CaseError};
-use h2_case::driver::{Answer, Driver, answers};
+use h2_case::driver::{Answer, Driver};
 use h2_case::text::Text;
 use h2_case::words::Words;
 use h2_conn_cases::answers::copy_of;
+use h2_conn_cases::cuts::answers_of;
 use runs::{Calls, Engine, NEVER, Setup};
 use std::alloc::Global;
 
@@ -119,6 +120,5 @@ impl Driver for Setup {
 
 /// The answers to a case's commands, up to the first that has none.
 pub fn run_case(alloc: Global, case: &Case) -> Vec<Answer> {
-    let mut setup = Setup::new(alloc);
-    answers(alloc, case, &mut setup)
+    answers_of(alloc, case, Setup::new(alloc))
 }

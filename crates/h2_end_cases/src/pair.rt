@@ -32,9 +32,10 @@ mod heard;
 pub(crate) use acts::{read_config, read_count};
 use ends::Pair;
 use h2_case::case::{Case, CaseError};
-use h2_case::driver::{Answer, Driver, answers};
+use h2_case::driver::{Answer, Driver};
 use h2_case::text::Text;
 use h2_case::words::Words;
+use h2_conn_cases::cuts::answers_of;
 use std::alloc::Global;
 
 /// The ends of a case, whose octets go whole or in pieces.
@@ -57,12 +58,12 @@ impl Driver for State {
 
 // The answers to a case's commands, up to the first that has none.
 fn run_in(alloc: Global, case: &Case, is_in_pieces: bool) -> Vec<Answer> {
-    let mut state = State {
+    let state = State {
         alloc,
         is_in_pieces,
         pair: None,
     };
-    answers(alloc, case, &mut state)
+    answers_of(alloc, case, state)
 }
 
 // Adds what an answer is in pieces, if it is another one; whether memory was not refused.

@@ -14,17 +14,11 @@ impl Drop for Side {
     /// Lets go of it by a call: where one is let go of, nothing of that is proved again.
     fn drop(self) {
         match self {
-            Side::Client(client) => let_client_go(client),
-            Side::Server(server) => let_server_go(server),
+            Side::Client(client) => drop(client),
+            Side::Server(server) => drop(server),
         }
     }
 }
-
-// Lets go of a client.
-fn let_client_go(_client: Client) {}
-
-// Lets go of a server.
-fn let_server_go(_server: Server) {}
 
 // A new client.
 fn new_client(alloc: Global, config: Config) -> Option<Side> {

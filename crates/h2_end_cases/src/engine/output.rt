@@ -3,7 +3,7 @@
 use h2_case::octets::{add_frames, add_hex, add_octets, split_frame};
 use h2_case::text::Text;
 use h2_case::words::Words;
-use h2_conn_cases::answers::extend;
+use h2_conn_cases::answers::{add_value, extend};
 use std::alloc::Global;
 
 /// DATA (RFC 9113, section 6.1).
@@ -94,7 +94,7 @@ fn add_count(alloc: Global, output: &[u8], words: &mut Words<'_>, text: &mut Tex
     let kind = words.number();
     let mut frames = Vec::new(alloc);
     let count = add_frames_of(&mut frames, frames_of(output), kind, words);
-    write!(text, "{count}\n");
+    add_value(text, count);
 }
 
 /// Does a command about an output.
@@ -107,7 +107,7 @@ pub(crate) fn show(
 ) {
     match name {
         "output" => add_frames(alloc, text, output),
-        "written" => write!(text, "{}\n", output.len()),
+        "written" => add_value(text, output.len()),
         "body" => add_body_of(alloc, output, words, text),
         "frames" => add_type(alloc, output, words, text),
         "count" => add_count(alloc, output, words, text),

@@ -5,7 +5,7 @@ use h2_case::messages::read_message;
 use h2_case::octets::add_octets;
 use h2_case::text::Text;
 use h2_case::words::Words;
-use h2_conn_cases::answers::{copy_of, lines_of};
+use h2_conn_cases::answers::{add_value, copy_of, lines_of};
 use h2_engines::{Config, Fetched, Field, Link, MemoryLink, Message, fetch_link, serve_link};
 use std::alloc::Global;
 
@@ -101,7 +101,7 @@ fn serve(alloc: Global, config: Config, link: &mut MemoryLink, text: &mut Text) 
     }
     match serve_link(alloc, link, config) {
         Ok(count) => write!(text, "answered {count}\n"),
-        Err(error) => write!(text, "{error}\n"),
+        Err(error) => add_value(text, error),
     }
 }
 
@@ -112,7 +112,7 @@ fn fetch(alloc: Global, config: Config, message: Message, link: &mut MemoryLink,
     }
     match fetch_link(alloc, link, config, message) {
         Ok(fetched) => add_response(alloc, text, &fetched),
-        Err(error) => write!(text, "{error}\n"),
+        Err(error) => add_value(text, error),
     }
 }
 

@@ -3,6 +3,7 @@
 use super::runs::{Engine, Setup, add_response};
 use h2_case::text::Text;
 use h2_case::words::Words;
+use h2_conn_cases::answers::add_value;
 use h2_engines::{Fetched, Fetcher, LinkError, Responder};
 
 /// An engine that takes octets, and puts octets out.
@@ -75,33 +76,37 @@ fn run<T: Turning>(
     Ok(false)
 }
 
-// Adds the line of an error.
-fn add_error(text: &mut Text, error: LinkError) {
-    write!(text, "{error}\n");
-}
-
 // Adds a response, if it could be made.
 fn add_fetched(setup: &Setup, fetched: Result<Fetched, LinkError>, text: &mut Text) {
     match fetched {
         Ok(fetched) => add_response(setup.alloc, text, &fetched),
-        Err(error) => add_error(text, error),
+        Err(error) => add_value(text, error),
+    }
+}
+
+// Adds the line of octets that were taken, or of an error.
+fn add_taken(taken: Result<bool, LinkError>, text: &mut Text) {
+    match taken {
+        Ok(_) => text.push_line("taken"),
+        Err(error) => add_value(text, error),
     }
 }
 
 // Adds what a server answers in turns.
 fn respond(setup: &mut Setup, mut responder: Responder, most: usize, text: &mut Text) {
-    match run(&mut responder, &setup.input, most, &mut setup.output) {
-        Ok(_) => text.push_line("taken"),
-        Err(error) => add_error(text, error),
-    }
+    let taken = run(&mut responder, &setup.input, most, &mut setup.output);
+    drop(responder);
+    add_taken(taken, text);
 }
 
 // Adds what a client answers in turns.
 fn fetch(setup: &mut Setup, mut fetcher: Fetcher, most: usize, text: &mut Text) {
-    match run(&mut fetcher, &setup.input, most, &mut setup.output) {
-        Ok(true) => add_fetched(setup, fetcher.into_fetched(), text),
-        Ok(false) => text.push_line("taken"),
-        Err(error) => add_error(text, error),
+    let taken = run(&mut fetcher, &setup.input, most, &mut setup.output);
+    if taken == Ok(true) {
+        add_fetched(setup, fetcher.into_fetched(), text);
+    } else {
+        drop(fetcher);
+        add_taken(taken, text);
     }
 }
 
@@ -109,7 +114,7 @@ fn fetch(setup: &mut Setup, mut fetcher: Fetcher, most: usize, text: &mut Text) 
 fn respond_in_turns(setup: &mut Setup, most: usize, text: &mut Text) {
     match Responder::new(setup.alloc, setup.config) {
         Ok(responder) => respond(setup, responder, most, text),
-        Err(error) => add_error(text, error),
+        Err(error) => add_value(text, error),
     }
 }
 
@@ -117,7 +122,7 @@ fn respond_in_turns(setup: &mut Setup, most: usize, text: &mut Text) {
 fn fetch_in_turns(setup: &mut Setup, most: usize, words: &mut Words<'_>, text: &mut Text) {
     match Fetcher::new(setup.alloc, setup.config, setup.message(words)) {
         Ok(fetcher) => fetch(setup, fetcher, most, text),
-        Err(error) => add_error(text, error),
+        Err(error) => add_value(text, error),
     }
 }
 

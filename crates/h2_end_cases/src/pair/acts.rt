@@ -4,7 +4,7 @@ use h2_case::messages::read_message;
 use h2_case::text::Text;
 use h2_case::words::Words;
 use h2_conn_cases::acts::{config_of, read_ping};
-use h2_conn_cases::answers::add_name;
+use h2_conn_cases::answers::{add_name, add_value};
 use h2_joined::{Acted, Config, JointAct, Side};
 use std::alloc::Global;
 
@@ -80,8 +80,8 @@ fn read_call(alloc: Global, name: &str, words: &mut Words<'_>) -> Option<JointAc
 /// Adds the line of what an act answers: of a refused one the names of the rules.
 pub(crate) fn add_acted(alloc: Global, text: &mut Text, acted: Acted) {
     match acted {
-        Acted::Id(id) => write!(text, "{id}\n"),
-        Acted::Count(count) => write!(text, "{count}\n"),
+        Acted::Id(id) => add_value(text, id),
+        Acted::Count(count) => add_value(text, count),
         Acted::Done => text.push_line("done"),
         Acted::Refused(refusal) => add_name(alloc, text, &refusal),
         Acted::Failed(code) => write!(text, "fault {code:?}\n"),

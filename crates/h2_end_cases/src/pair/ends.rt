@@ -7,7 +7,7 @@ use h2_case::case::CaseError;
 use h2_case::octets::add_frames;
 use h2_case::text::Text;
 use h2_case::words::Words;
-use h2_conn_cases::answers::{add_option, extend};
+use h2_conn_cases::answers::{add_option, add_value, extend};
 use h2_joined::{Acted, Code, Config, Conn, Joined, JointAct, Side};
 use std::alloc::Global;
 
@@ -31,17 +31,11 @@ impl Drop for Pair {
             server,
             most: _most,
         } = self;
-        let_joined_go(joined);
-        let_kept_go(client);
-        let_kept_go(server);
+        drop(joined);
+        drop(client);
+        drop(server);
     }
 }
-
-// Lets go of two joined ends.
-fn let_joined_go(_joined: Joined) {}
-
-// Lets go of what is kept of an end.
-fn let_kept_go(_kept: Kept) {}
 
 /// What is kept of an end.
 #[derive(Drop)]
@@ -119,6 +113,22 @@ fn other(side: Side) -> Side {
     match side {
         Side::Client => Side::Server,
         Side::Server => Side::Client,
+    }
+}
+
+// The act of a step in which an end sends all.
+fn sending_act(step: u32, from: Side) -> JointAct {
+    match step {
+        0 => JointAct::Pump(from),
+        1 => JointAct::ReleaseAll(from),
+        2 => JointAct::Move {
+            from,
+            count: usize::MAX,
+        },
+        _ => JointAct::Deliver {
+            to: other(from),
+            count: usize::MAX,
+        },
     }
 }
 
@@ -239,20 +249,8 @@ impl Pair {
     // An end pumps, releases and moves all, and the other takes all; the first answer that is
     // another one than it is to be.
     fn send_all(&mut self, from: Side, words: &mut Words<'_>) -> Option<Acted> {
-        let acts = [
-            JointAct::Pump(from),
-            JointAct::ReleaseAll(from),
-            JointAct::Move {
-                from,
-                count: usize::MAX,
-            },
-            JointAct::Deliver {
-                to: other(from),
-                count: usize::MAX,
-            },
-        ];
-        for act in &acts {
-            match self.act(act, words) {
+        for step in 0..4 {
+            match self.act(&sending_act(step, from), words) {
                 Acted::Count(_) | Acted::Done => {}
                 answer => return Some(answer),
             }
@@ -346,8 +344,8 @@ impl Pair {
     // Does a command on one end.
     fn show_side(&mut self, name: &str, side: Side, words: &mut Words<'_>, text: &mut Text) {
         match name {
-            "waits" => write!(text, "{}\n", self.conn(side).waiting()),
-            "pipes" => write!(text, "{}\n", self.joined.piped(side)),
+            "waits" => add_value(text, self.conn(side).waiting()),
+            "pipes" => add_value(text, self.joined.piped(side)),
             "piped" => self.add_piped(side, text),
             "accepted" => self.add_accepted(side, text),
             "handed" => self.add_handed(side, text),

@@ -4,7 +4,7 @@ use crate::end_events::add_body;
 use h2_case::fields::add_fields;
 use h2_case::messages::add_message;
 use h2_case::text::Text;
-use h2_conn_cases::answers::end_word;
+use h2_conn_cases::answers::begin_line;
 use h2_conn_cases::conn_events::{add_acked, add_goaway, add_pong, add_reset, add_unprocessed};
 use h2_joined::{Accepted, Field, JointEvent};
 use std::alloc::Global;
@@ -12,7 +12,8 @@ use std::alloc::Global;
 // Adds the lines of a list of fields: what it is, its stream, and the fields.
 fn add_part(alloc: Global, text: &mut Text, kind: &str, stream: (u32, bool), list: &[Field]) {
     let (id, end) = stream;
-    write!(text, "{kind} {id}{}\n", end_word(end));
+    begin_line(text, kind, id, end);
+    text.push_str("\n");
     add_fields(alloc, text, list);
 }
 
