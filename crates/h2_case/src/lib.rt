@@ -6,6 +6,7 @@
 pub mod case;
 pub mod driver;
 pub mod fields;
+pub mod layers;
 pub mod messages;
 pub mod octets;
 pub mod report;

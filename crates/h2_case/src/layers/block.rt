@@ -1,0 +1,218 @@
+//! Field blocks in a stream of frames.
+//!
+//! - `take FRAME`: what a gatherer, new at the beginning of a case, makes of the frame: `pass` and
+//!   the frame; `more`; `block`, its stream, `end` where END_STREAM is set, and its octets; or the
+//!   fault with its code. While it is inside a block, a second line says how many octets it holds.
+//! - `take COUNT times FRAME`: the answer to the last of so many frames.
+//! - `new`: the gatherer is a new one.
+//! - `spread STREAM [end] OCTETS`: the head of each frame over which a block is spread, and which
+//!   of the block's octets its payload is. That what was written before stays as it is, and that
+//!   the frames are gathered to the block again, is seen to.
+
+use crate::case::{Case, CaseError};
+use crate::driver::{Answer, Driver, answers};
+use crate::layers::frames::{add_frame, cut_frame, read_frame};
+use crate::octets::{add_hex, add_last, add_octets, read_octets, split_frame};
+use crate::text::Text;
+use crate::words::Words;
+use h2_block::{BlockFault, Gather, Gathered, spread};
+use h2_frame::{FrameRef, write};
+use std::alloc::Global;
+
+// What answers the commands.
+#[derive(Drop)]
+struct Blocks {
+    alloc: Global,
+    gather: Gather,
+}
+
+// A block.
+#[derive(Clone, Copy)]
+struct Block<'a> {
+    stream: u32,
+    end: bool,
+    octets: &'a [u8],
+}
+
+// Adds a block.
+fn add_block(text: &mut Text, stream: u32, end: bool, octets: &[u8]) {
+    write!(text, "block {stream}");
+    if end {
+        text.push_str(" end");
+    }
+    add_last(text, octets);
+}
+
+// Adds what a frame comes to.
+fn add_taken(gather: &mut Gather, text: &mut Text, frame: FrameRef<'_>) {
+    match gather.take(frame) {
+        Ok(Gathered::Pass(frame)) => {
+            text.push_str("pass ");
+            add_frame(text, frame);
+        }
+        Ok(Gathered::More) => text.push_str("more"),
+        Ok(
+            Gathered::Block {
+                stream,
+                end,
+                octets,
+            },
+        ) => add_block(text, stream, end, &octets),
+        Err(fault) => write!(text, "{fault}, {}", fault.code()),
+    }
+}
+
+// Adds the answer to the last of so many frames, and how many octets the gatherer holds then.
+fn add_last_taken(gather: &mut Gather, text: &mut Text, count: u32, frame: FrameRef<'_>) {
+    for _ in 1..count {
+        let _ = gather.take(frame);
+    }
+    if count > 0 {
+        add_taken(gather, text, frame);
+    }
+    text.push_str("\n");
+    if gather.is_inside() {
+        write!(text, "inside a block, {} octets", gather.held());
+    } else if gather.held() > 0 {
+        text.push_line("it holds octets outside a block");
+    }
+}
+
+// The octets of a frame.
+fn encoded(alloc: Global, words: &mut Words<'_>) -> Vec<u8> {
+    let mut octets = Vec::new(alloc);
+    if write(&read_frame(alloc, words), &mut octets).is_err() {
+        words.unread();
+    }
+    octets
+}
+
+// Takes a frame, so many times.
+fn take(blocks: &mut Blocks, words: &mut Words<'_>, text: &mut Text) {
+    let count = words.times();
+    let octets = encoded(blocks.alloc, words);
+    match cut_frame(&octets) {
+        Some((frame, _)) => add_last_taken(&mut blocks.gather, text, count, frame),
+        None => words.unread(),
+    }
+}
+
+// Adds a frame's head, and which of the block's octets its payload is; else the payload itself.
+fn add_part(text: &mut Text, head: &[u8; 9], payload: &[u8], block: &[u8], start: usize) {
+    let end = start.saturating_add(payload.len());
+    add_hex(text, head);
+    if block.get(start..end) == Some(payload) {
+        write!(text, " octets {start} to {end}\n");
+    } else {
+        text.push_str(" ");
+        add_octets(text, payload);
+        text.push_line(", which are none of the block's");
+    }
+}
+
+// Adds a line for each frame of octets.
+fn add_parts(text: &mut Text, octets: &[u8], block: &[u8]) {
+    let mut others = octets;
+    let mut start = 0usize;
+    for _ in 0..16 {
+        let Some((head, payload, following)) = split_frame(others) else {
+            break;
+        };
+        add_part(text, head, payload, block, start);
+        start = start.saturating_add(payload.len());
+        others = following;
+    }
+    if !others.is_empty() {
+        text.push_line("octets that are no frame follow");
+    }
+}
+
+// Whether what a frame comes to is this block.
+fn is_block(found: &Result<Gathered<'_>, BlockFault>, block: Block<'_>) -> bool {
+    match found {
+        Ok(
+            Gathered::Block {
+                stream,
+                end,
+                octets,
+            },
+        ) => *stream == block.stream && *end == block.end && octets.as_slice() == block.octets,
+        _ => false,
+    }
+}
+
+// Whether the last of the frames of octets comes to this block, by a gatherer.
+fn is_gathered(gather: &mut Gather, octets: &[u8], block: Block<'_>) -> bool {
+    let mut others = octets;
+    let mut is_last = false;
+    for _ in 0..16 {
+        let Some((frame, following)) = cut_frame(others) else {
+            break;
+        };
+        is_last = is_block(&gather.take(frame), block);
+        others = following;
+    }
+    is_last
+}
+
+// Adds the frames over which a block is spread.
+fn add_spread(alloc: Global, text: &mut Text, octets: &[u8], block: Block<'_>) {
+    add_parts(text, octets, block.octets);
+    let mut gather = Gather::new(alloc);
+    if !is_gathered(&mut gather, octets, block) {
+        text.push_line("it is gathered otherwise");
+    }
+}
+
+// Writes the frames over which a block is spread.
+fn write_spread(words: &mut Words<'_>, block: Block<'_>, out: &mut Vec<u8>) {
+    let (stream, octets) = (block.stream, block.octets);
+    if stream < 1 || stream >= 1 << 31 || octets.len() > 65_552 {
+        words.unread();
+    } else if spread(stream, block.end, octets, out).is_err() {
+        words.fail(CaseError::Memory);
+    }
+}
+
+// Spreads a block, after an octet.
+fn spread_block(alloc: Global, words: &mut Words<'_>, text: &mut Text, block: Block<'_>) {
+    let mut out = Vec::new(alloc);
+    if out.push(7).is_err() {
+        text.refuse();
+    }
+    write_spread(words, block, &mut out);
+    match out.as_slice() {
+        [7, octets @ ..] => add_spread(alloc, text, octets, block),
+        _ => text.push_line("what was written before has changed"),
+    }
+}
+
+// Spreads the block of a command.
+fn read_and_spread(alloc: Global, words: &mut Words<'_>, text: &mut Text) {
+    let stream = words.number();
+    let end = words.has("end");
+    let octets = read_octets(alloc, words);
+    let block = Block {
+        stream,
+        end,
+        octets: &octets,
+    };
+    spread_block(alloc, words, text, block);
+}
+
+impl Driver for Blocks {
+    fn answer(&mut self, name: &str, words: &mut Words<'_>, text: &mut Text) {
+        match name {
+            "take" => take(self, words, text),
+            "new" => self.gather = Gather::new(self.alloc),
+            "spread" => read_and_spread(self.alloc, words, text),
+            _ => words.unread(),
+        }
+    }
+}
+
+/// The answers to a case's commands, up to the first that has none.
+pub fn run_case(alloc: Global, case: &Case) -> Vec<Answer> {
+    let gather = Gather::new(alloc);
+    answers(alloc, case, &mut Blocks { alloc, gather })
+}

@@ -1,0 +1,211 @@
+//! Settings, windows, the sides of a stream, and an end's own values.
+//!
+//! - `settings`: the first settings.
+//! - `settings ID VALUE ..`: the first settings with these values that an end has sent, after a
+//!   line for each refusal. Where it makes a difference which end has, it is said for each.
+//! - `window OCTETS`: the value of a new window.
+//! - `take OCTETS of VALUE`, `give OCTETS to VALUE`, `shift VALUE by DIFFERENCE`: the value of a
+//!   window after octets were taken or given, or after it was shifted, preceded by the refusal, if
+//!   there is one.
+//! - `open`: a stream of which neither side has ended, as at the beginning of a case.
+//! - `end_in`, `end_out`: a side of it ends: the refusal, if there is one, and which sides have
+//!   ended.
+//! - `config`: the values of a new end.
+//! - `config TABLE WINDOW STREAMS`: these values, or the first that is refused.
+
+use crate::case::Case;
+use crate::driver::{Answer, Driver, answers};
+use crate::text::Text;
+use crate::words::Words;
+use h2_config::{BadConfig, Config};
+use h2_flow::{Closed, Settings, StreamState, Window};
+use h2_log::Role;
+use std::alloc::Global;
+use std::fmt::Display;
+
+// What answers the commands.
+#[derive(Drop)]
+struct Flow {
+    alloc: Global,
+    state: StreamState,
+}
+
+// Adds a limit, or `none`.
+fn add_limit(text: &mut Text, limit: Option<u32>) {
+    match limit {
+        Some(limit) => write!(text, "{limit}"),
+        None => text.push_str("none"),
+    }
+}
+
+// Adds the line of settings.
+fn add_settings(text: &mut Text, settings: &Settings) {
+    let (table, push) = (settings.header_table_size, settings.enable_push);
+    let (window, frame) = (settings.initial_window_size, settings.max_frame_size);
+    write!(text, "table {table}, push {push}, streams ");
+    add_limit(text, settings.max_concurrent_streams);
+    write!(text, ", window {window}, frame {frame}, list ");
+    add_limit(text, settings.max_header_list_size);
+}
+
+// Applies the next value.
+fn apply(text: &mut Text, settings: &mut Settings, from: Role, words: &mut Words<'_>) {
+    let id = words.number();
+    let value = words.number();
+    if let Err(bad) = settings.apply(from, id, value) {
+        write!(text, "{bad}, {}\n", bad.0);
+    }
+}
+
+// Adds the refusals, and the settings, where an end of this role has sent the values.
+fn add_settings_from(words: &mut Words<'_>, text: &mut Text, from: Role) {
+    let mut settings = Settings::first();
+    for _ in 0..100 {
+        if words.is_empty() {
+            break;
+        }
+        apply(text, &mut settings, from, words);
+    }
+    add_settings(text, &settings);
+}
+
+// Adds the same for either role.
+fn add_settings_from_both(alloc: Global, words: &mut Words<'_>, text: &mut Text) {
+    let (mut client, mut server) = (Text::new(alloc), Text::new(alloc));
+    let mut again = *words;
+    add_settings_from(words, &mut client, Role::Client);
+    add_settings_from(&mut again, &mut server, Role::Server);
+    if client.as_str() == server.as_str() {
+        text.push_text(&client);
+    } else {
+        text.push_line("from a client:");
+        text.push_text(&client);
+        text.push_str("\nfrom a server:\n");
+        text.push_text(&server);
+    }
+}
+
+// A window of a value.
+fn read_window(words: &mut Words<'_>) -> Window {
+    let mut window = Window::new(0);
+    if window.shift(words.number()).is_err() {
+        words.unread();
+    }
+    window
+}
+
+// Adds the value of a window, after a refusal.
+fn add_window<E: Display + Drop>(text: &mut Text, window: Window, answer: Result<(), E>) {
+    if let Err(refusal) = answer {
+        write!(text, "{refusal}\n");
+    }
+    write!(text, "{}", window.value());
+}
+
+// Octets are taken of a window.
+fn take(words: &mut Words<'_>, text: &mut Text) {
+    let octets = words.number();
+    words.expect("of");
+    let mut window = read_window(words);
+    let answer = window.take(octets);
+    add_window(text, window, answer);
+}
+
+// Octets are given to a window.
+fn give(words: &mut Words<'_>, text: &mut Text) {
+    let octets = words.number();
+    words.expect("to");
+    let mut window = read_window(words);
+    let answer = window.give(octets);
+    add_window(text, window, answer);
+}
+
+// A window is shifted.
+fn shift(words: &mut Words<'_>, text: &mut Text) {
+    let mut window = read_window(words);
+    words.expect("by");
+    let answer = window.shift(words.number());
+    add_window(text, window, answer);
+}
+
+// Adds the value of a new window.
+fn add_new_window(words: &mut Words<'_>, text: &mut Text) {
+    let octets: u32 = words.number();
+    if octets > 0x7fff_ffff {
+        words.unread();
+    } else {
+        write!(text, "{}", Window::new(octets).value());
+    }
+}
+
+// Adds which sides of a stream have ended, after a refusal.
+fn add_sides(text: &mut Text, state: &StreamState, answer: Result<(), Closed>) {
+    if let Err(refusal) = answer {
+        write!(text, "{refusal}\n");
+    }
+    let (ended_in, ended_out, closed) = (state.ended_in, state.ended_out, state.closed());
+    write!(text, "in {ended_in}, out {ended_out}, closed {closed}");
+}
+
+// A stream is open.
+fn open(text: &mut Text, state: &mut StreamState) {
+    *state = StreamState::open();
+    add_sides(text, state, Ok(()));
+}
+
+// What comes in ends.
+fn end_in(text: &mut Text, state: &mut StreamState) {
+    let answer = state.end_in();
+    add_sides(text, state, answer);
+}
+
+// What goes out ends.
+fn end_out(text: &mut Text, state: &mut StreamState) {
+    let answer = state.end_out();
+    add_sides(text, state, answer);
+}
+
+// Adds the values of an end, or the first that is refused.
+fn add_config(text: &mut Text, config: Result<Config, BadConfig>) {
+    match config {
+        Ok(config) => {
+            let (table, window) = (config.table_limit(), config.initial_window());
+            let streams = config.max_streams();
+            write!(text, "table {table}, window {window}, streams {streams}");
+        }
+        Err(bad) => write!(text, "{bad}"),
+    }
+}
+
+// The values of an end that a command gives, or those of a new one.
+fn config(words: &mut Words<'_>, text: &mut Text) {
+    if words.is_empty() {
+        add_config(text, Ok(Config::default()));
+    } else {
+        let (table, window, streams) = (words.number(), words.number(), words.number());
+        add_config(text, Config::new(table, window, streams));
+    }
+}
+
+impl Driver for Flow {
+    fn answer(&mut self, name: &str, words: &mut Words<'_>, text: &mut Text) {
+        match name {
+            "settings" => add_settings_from_both(self.alloc, words, text),
+            "window" => add_new_window(words, text),
+            "take" => take(words, text),
+            "give" => give(words, text),
+            "shift" => shift(words, text),
+            "config" => config(words, text),
+            "open" => open(text, &mut self.state),
+            "end_in" => end_in(text, &mut self.state),
+            "end_out" => end_out(text, &mut self.state),
+            _ => words.unread(),
+        }
+    }
+}
+
+/// The answers to a case's commands, up to the first that has none.
+pub fn run_case(alloc: Global, case: &Case) -> Vec<Answer> {
+    let state = StreamState::open();
+    answers(alloc, case, &mut Flow { alloc, state })
+}

@@ -1,0 +1,238 @@
+//! Frames: heads, payloads and writing.
+//!
+//! - `head OCTETS`: the kind, flags, stream and length that nine octets say.
+//! - `head_fault KIND FLAGS STREAM LENGTH`: the code of the fault of such a head, where payloads
+//!   may have 16,384 octets; or `none`.
+//! - `kinds NUMBERS`: a line for each number of a kind: the kind, and the number again.
+//! - `codes NUMBERS`: a line for each number of a code: its name, or `none`.
+//! - `read OCTETS`: the frame that the octets are, whose payload may have 16,384 octets; or its
+//!   fault. That the frame has the kind, the stream and the length of its head is seen to.
+//! - `write FRAME`: the head and the payload of the frame's encoding; or why it is refused. That
+//!   what was written before stays as it is, that the encoding is read as the frame again, and that
+//!   the frame as it was read, whose payload is lent, has the same encoding, is seen to.
+
+use crate::case::Case;
+use crate::driver::{Answer, Driver, answers};
+use crate::layers::frames::{add_frame, cut_frame, read_frame};
+use crate::octets::{add_frames, read_octets};
+use crate::text::Text;
+use crate::words::Words;
+use h2_frame::{
+    Code, FrameRef, Head, Kind, Unwritable, head, head_fault, payload_fault, payload_frame,
+    read_payload, write, write_ref,
+};
+use std::alloc::Global;
+
+/// The most octets of a payload that is read.
+const LIMIT: u32 = 16_384;
+
+// What answers the commands.
+#[derive(Drop)]
+struct Frames {
+    alloc: Global,
+}
+
+// Adds what nine octets say.
+fn add_head(alloc: Global, words: &mut Words<'_>, text: &mut Text) {
+    let octets = read_octets(alloc, words);
+    match octets.first_chunk::<9>() {
+        Some(nine) => add_head_of(text, &head(nine)),
+        None => words.unread(),
+    }
+}
+
+// Adds what a head says.
+fn add_head_of(text: &mut Text, read: &Head) {
+    let (kind, flags, stream, length) = (read.kind, read.flags, read.stream, read.length);
+    write!(
+        text,
+        "{kind:?} flags {flags} stream {stream} length {length}"
+    );
+}
+
+// Adds the code of a head's fault.
+fn add_head_fault(words: &mut Words<'_>, text: &mut Text) {
+    let kind = Kind::from_number(words.number());
+    let flags = words.number();
+    let stream = words.number();
+    let length = words.number();
+    let read = Head {
+        length,
+        kind,
+        flags,
+        stream,
+    };
+    add_code(text, head_fault(&read, LIMIT));
+}
+
+// Adds the name of a code.
+fn add_code(text: &mut Text, code: Option<Code>) {
+    match code {
+        Some(code) => write!(text, "{code}"),
+        None => text.push_str("none"),
+    }
+}
+
+// Adds a line for each number of a kind.
+fn add_kinds(words: &mut Words<'_>, text: &mut Text) {
+    for _ in 0..256 {
+        if words.is_empty() {
+            break;
+        }
+        let kind = Kind::from_number(words.number());
+        write!(text, "{kind:?} {}\n", kind.number());
+    }
+}
+
+// Adds the line of the number of a code.
+fn add_code_line(alloc: Global, text: &mut Text, number: u32) {
+    let code = Code::from_number(number);
+    let mut line = Text::new(alloc);
+    add_code(&mut line, code);
+    text.push_text(&line);
+    text.push_str("\n");
+    match code {
+        Some(code) if code.number() != number || code.name() != line.as_str() => {
+            text.push_line("another number or name");
+        }
+        _ => {}
+    }
+}
+
+// Adds a line for each number of a code.
+fn add_codes(alloc: Global, words: &mut Words<'_>, text: &mut Text) {
+    for _ in 0..256 {
+        if words.is_empty() {
+            break;
+        }
+        add_code_line(alloc, text, words.number());
+    }
+}
+
+// Whether a frame has the kind, the stream and the length of its head.
+fn is_as_its_head(frame: FrameRef<'_>, read: &Head) -> bool {
+    frame.kind() == read.kind
+        && frame.stream() == read.stream
+        && frame.payload_len() == read.length as usize
+}
+
+// Whether the fault of a payload is said by itself, and without one the frame is read.
+fn is_read_alike(read: &Head, payload: &[u8], frame: Option<FrameRef<'_>>) -> bool {
+    if head_fault(read, LIMIT).is_some() || payload.len() != read.length as usize {
+        return false;
+    }
+    match (payload_fault(read, payload), frame) {
+        (Some(_), None) => true,
+        (None, Some(frame)) => payload_frame(read, payload) == frame,
+        _ => false,
+    }
+}
+
+// Adds a frame that was read.
+fn add_read_frame(text: &mut Text, read: &Head, frame: FrameRef<'_>) {
+    add_frame(text, frame);
+    if !is_as_its_head(frame, read) {
+        text.push_str("\nanother kind, stream or length than its head's");
+    }
+}
+
+// Adds the frame of a payload, or its fault.
+fn add_payload(text: &mut Text, words: &mut Words<'_>, read: &Head, payload: &[u8]) {
+    if let Some(code) = head_fault(read, LIMIT) {
+        write!(text, "fault of a head: {code}");
+        return;
+    }
+    if payload.len() != read.length as usize {
+        words.unread();
+        return;
+    }
+    let found = read_payload(read, payload);
+    match found {
+        Ok(frame) => add_read_frame(text, read, frame),
+        Err(error) => write!(text, "{error}"),
+    }
+    if !is_read_alike(read, payload, found.ok()) {
+        text.push_str("\nanother fault or frame where both are asked for");
+    }
+}
+
+// Adds what the octets of a frame are read as.
+fn add_read(alloc: Global, words: &mut Words<'_>, text: &mut Text) {
+    let octets = read_octets(alloc, words);
+    match octets.split_first_chunk::<9>() {
+        Some((nine, payload)) => add_payload(text, words, &head(nine), payload),
+        None => words.unread(),
+    }
+}
+
+// Whether a frame has this line.
+fn has_line(alloc: Global, frame: FrameRef<'_>, line: &str) -> bool {
+    let mut text = Text::new(alloc);
+    add_frame(&mut text, frame);
+    text.as_str() == line
+}
+
+// Whether a frame has this encoding.
+fn has_encoding(alloc: Global, frame: FrameRef<'_>, octets: &[u8]) -> bool {
+    let mut out = Vec::new(alloc);
+    write_ref(frame, &mut out).is_ok() && out.as_slice() == octets
+}
+
+// Whether octets are read as the frame of a line, and it is written as them again.
+fn is_read_again(alloc: Global, octets: &[u8], line: &str) -> bool {
+    match cut_frame(octets) {
+        Some((frame, [])) => has_line(alloc, frame, line) && has_encoding(alloc, frame, octets),
+        _ => false,
+    }
+}
+
+// Adds what the frame of a line was written as, after an octet.
+fn add_written(
+    alloc: Global,
+    text: &mut Text,
+    line: &str,
+    written: Result<(), Unwritable>,
+    out: &[u8],
+) {
+    match (written, out) {
+        (Ok(()), [7, octets @ ..]) => {
+            add_frames(alloc, text, octets);
+            if !is_read_again(alloc, octets, line) {
+                text.push_line("it is read or written again otherwise");
+            }
+        }
+        (Err(error), [7]) => write!(text, "{error}"),
+        _ => text.push_line("what was written before has changed"),
+    }
+}
+
+// Writes a frame.
+fn write_frame(alloc: Global, words: &mut Words<'_>, text: &mut Text) {
+    let mut others = *words;
+    let frame = read_frame(alloc, words);
+    let mut out = Vec::new(alloc);
+    if out.push(7).is_err() {
+        text.refuse();
+    }
+    let written = write(&frame, &mut out);
+    add_written(alloc, text, others.rest(), written, &out);
+}
+
+impl Driver for Frames {
+    fn answer(&mut self, name: &str, words: &mut Words<'_>, text: &mut Text) {
+        match name {
+            "head" => add_head(self.alloc, words, text),
+            "head_fault" => add_head_fault(words, text),
+            "kinds" => add_kinds(words, text),
+            "codes" => add_codes(self.alloc, words, text),
+            "read" => add_read(self.alloc, words, text),
+            "write" => write_frame(self.alloc, words, text),
+            _ => words.unread(),
+        }
+    }
+}
+
+/// The answers to a case's commands, up to the first that has none.
+pub fn run_case(alloc: Global, case: &Case) -> Vec<Answer> {
+    answers(alloc, case, &mut Frames { alloc })
+}
