@@ -91,12 +91,7 @@ impl Group {
 }
 
 /// The answers to a case's commands, up to the first that has none.
-pub(crate) fn run_case<R: Net>(
-    rt: &R,
-    alloc: Global,
-    group: Group,
-    case: &Case,
-) -> Vec<Answer> {
+pub(crate) fn run_case<R: Net>(rt: &R, alloc: Global, group: Group, case: &Case) -> Vec<Answer> {
     match group {
         Group::Text => text::run_case(alloc, case),
         Group::Hpack => hpack_blocks::run_case(alloc, case),

@@ -185,7 +185,13 @@ impl State {
         let _ = words.has("anywhere");
         let octets = read_frames(self.alloc, words);
         if let Some(conn) = &mut self.conn {
-            add_taken(conn, self.cut, &octets, Notes::new(self.alloc, is_quiet), text);
+            add_taken(
+                conn,
+                self.cut,
+                &octets,
+                Notes::new(self.alloc, is_quiet),
+                text,
+            );
         }
         keep(&mut self.acts, Act::Take(octets), text);
     }
