@@ -1,7 +1,8 @@
 //! The groups of cases: what answers the commands of each.
 
 use crate::{location, program};
-use h2_case::case::{Case, CaseError};
+use h2_case::case::Case;
+use h2_case::driver::Answer;
 use h2_case::layers::{block, flow, frame, hpack_blocks, text, wire};
 use h2_conn_cases::{conn, message};
 use h2_end_cases::{end, engine, pair};
@@ -90,12 +91,7 @@ impl Group {
 }
 
 /// The answers to a case's commands, up to the first that has none.
-pub(crate) fn run_case<R: Net>(
-    rt: &R,
-    alloc: Global,
-    group: Group,
-    case: &Case,
-) -> Vec<Result<String, CaseError>> {
+pub(crate) fn run_case<R: Net>(rt: &R, alloc: Global, group: Group, case: &Case) -> Vec<Answer> {
     match group {
         Group::Text => text::run_case(alloc, case),
         Group::Hpack => hpack_blocks::run_case(alloc, case),

@@ -1,9 +1,10 @@
 //! What a command of the program reads.
 
-use h2_case::case::CaseError;
 use h2_case::fields::read_text;
-use h2_case::octets::{add_hex, read_octets};
+use h2_case::octets::read_octets;
+use h2_case::text::Text;
 use h2_case::words::Words;
+use h2_conn_cases::answers::extend;
 use std::alloc::Global;
 use std::io::{self, ErrorKind, Read};
 
@@ -11,55 +12,88 @@ use std::io::{self, ErrorKind, Read};
 #[derive(Drop)]
 pub(crate) struct Input {
     pub(crate) octets: Vec<u8>,
-    is_text: bool,
+    pub(crate) is_text: bool,
 }
 
 impl Input {
     /// The input of these words: `OCTETS`, or `text TEXT`.
-    pub(crate) fn read(alloc: Global, mut words: Words<'_>) -> Result<Input, CaseError> {
+    pub(crate) fn read(alloc: Global, words: &mut Words<'_>) -> Input {
         let is_text = words.has("text");
         let octets = if is_text {
-            read_text(alloc, words.rest())?
+            read_text(alloc, words)
         } else {
-            read_octets(alloc, words.rest())?
+            read_octets(alloc, words)
         };
-        Ok(Input { octets, is_text })
+        Input { octets, is_text }
     }
 
-    /// Adds another input of the same kind.
-    pub(crate) fn add(&mut self, other: &Input) -> Result<(), CaseError> {
+    /// Adds the input of these words, which is of the same kind.
+    pub(crate) fn add(&mut self, alloc: Global, words: &mut Words<'_>) {
+        let other = Input::read(alloc, words);
         if self.is_text != other.is_text {
-            return Err(CaseError::Unread);
+            words.unread();
         }
-        Ok(self.octets.extend_from_slice(&other.octets)?)
+        extend(&mut self.octets, &other.octets, words);
     }
+}
 
-    /// The octets as hexadecimal text; none where the input is text already.
-    pub(crate) fn hexadecimal(&self, alloc: Global) -> Result<Option<String>, CaseError> {
-        if self.is_text {
-            return Ok(None);
-        }
-        let mut text = String::new(alloc);
-        add_hex(&mut text, &self.octets)?;
-        Ok(Some(text))
-    }
+/// How octets are read.
+#[derive(Clone, Copy)]
+enum How {
+    Whole,
+    Single,
+    CutAfter(usize),
+    Digits,
 }
 
 /// A reader of octets in pieces.
 #[derive(Drop)]
 pub(crate) struct Pieces<'a> {
     octets: &'a [u8],
+    /// How many octets the next piece has at most, and each one after it.
     next: usize,
     others: usize,
+    how: How,
 }
 
 impl<'a> Pieces<'a> {
-    /// The first piece has so many octets at most, and each other one so many.
-    pub(crate) fn new(octets: &'a [u8], first: usize, others: usize) -> Pieces<'a> {
+    /// All octets at once.
+    pub(crate) fn whole(octets: &'a [u8]) -> Pieces<'a> {
+        Pieces::new(octets, (usize::MAX, usize::MAX), How::Whole)
+    }
+
+    /// One octet after another.
+    pub(crate) fn single(octets: &'a [u8]) -> Pieces<'a> {
+        Pieces::new(octets, (1, 1), How::Single)
+    }
+
+    /// Two pieces, of which the first has so many octets.
+    pub(crate) fn cut(octets: &'a [u8], place: usize) -> Pieces<'a> {
+        Pieces::new(octets, (place, usize::MAX), How::CutAfter(place))
+    }
+
+    /// Digits of octets, in pieces that cut octets too.
+    pub(crate) fn of_digits(digits: &'a [u8]) -> Pieces<'a> {
+        Pieces::new(digits, (7, 11), How::Digits)
+    }
+
+    fn new(octets: &'a [u8], most: (usize, usize), how: How) -> Pieces<'a> {
+        let (next, others) = most;
         Pieces {
             octets,
-            next: first,
+            next,
             others,
+            how,
+        }
+    }
+
+    /// Adds a line that says how octets are read.
+    pub(crate) fn add_how(&self, text: &mut Text) {
+        match self.how {
+            How::Whole => text.push_line("whole:"),
+            How::Single => text.push_line("in single octets:"),
+            How::CutAfter(place) => write!(text, "cut after {place}:\n"),
+            How::Digits => text.push_line("in hexadecimal:"),
         }
     }
 }

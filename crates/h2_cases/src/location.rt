@@ -3,41 +3,43 @@
 //! - `target URL`: the host, the port, the authority and the path of a URL, in which `\xNN` is an
 //!   octet; or why it can't be fetched.
 
-use h2_case::case::{Case, CaseError, Step};
+use h2_case::case::Case;
+use h2_case::driver::{Answer, Driver, answers};
 use h2_case::fields::read_text;
+use h2_case::text::Text;
 use h2_case::words::Words;
 use h2_location::target;
 use std::alloc::Global;
 
-// The answer to a command.
-fn answer(alloc: Global, step: &Step) -> Result<String, CaseError> {
-    let mut words = Words::of(&step.command);
-    if words.word()? != "target" {
-        return Err(CaseError::Unread);
-    }
-    let url = read_text(alloc, words.rest())?;
-    let mut lines = String::new(alloc);
-    match target(alloc, &url) {
+/// What answers the commands of a case.
+#[derive(Drop)]
+struct Locations {
+    alloc: Global,
+}
+
+// Adds what is fetched of a URL, or why none is.
+fn add_target(alloc: Global, url: &[u8], text: &mut Text) {
+    match target(alloc, url) {
         Ok(found) => {
             let (host, port) = (found.host.as_str(), found.port);
-            write!(lines, "host {host}\nport {port}\n")?;
+            write!(text, "host {host}\nport {port}\n");
             let (authority, path) = (found.authority.as_str(), found.path.as_str());
-            write!(lines, "authority {authority}\npath {path}\n")?;
+            write!(text, "authority {authority}\npath {path}\n");
         }
-        Err(fault) => write!(lines, "{fault:?}: {fault}\n")?,
+        Err(fault) => write!(text, "{fault:?}: {fault}\n"),
     }
-    Ok(lines)
+}
+
+impl Driver for Locations {
+    fn answer(&mut self, name: &str, words: &mut Words<'_>, text: &mut Text) {
+        match name {
+            "target" => add_target(self.alloc, &read_text(self.alloc, words), text),
+            _ => words.unread(),
+        }
+    }
 }
 
 /// The answers to a case's commands, up to the first that has none.
-pub(crate) fn run_case(alloc: Global, case: &Case) -> Vec<Result<String, CaseError>> {
-    let mut answers = Vec::new(alloc);
-    for step in &case.steps {
-        let found = answer(alloc, step);
-        let fails = found.is_err();
-        if answers.push(found).is_err() || fails {
-            break;
-        }
-    }
-    answers
+pub(crate) fn run_case(alloc: Global, case: &Case) -> Vec<Answer> {
+    answers(alloc, case, &mut Locations { alloc })
 }

@@ -16,10 +16,13 @@
 //! to the input read whole, it follows, after a line that says how the input was read.
 
 use crate::input::{Input, Pieces, Unreadable};
-use h2_case::case::{Case, CaseError, Step, add_line};
+use h2_case::case::{Case, CaseError};
+use h2_case::driver::{Answer, Driver};
 use h2_case::fields::add_fields;
 use h2_case::octets::{add_hex, add_octets};
+use h2_case::text::Text;
 use h2_case::words::Words;
+use h2_conn_cases::cuts::answers_of;
 use h2_sockets::exchange;
 use std::alloc::Global;
 use std::io::Read;
@@ -33,269 +36,280 @@ const MOST_EQUAL: usize = 1_000;
 
 /// What a case has given so far.
 #[derive(Drop)]
-struct Session {
+struct Session<'a, N: Net> {
+    net: &'a N,
+    alloc: Global,
     input: Option<Input>,
     answer: String,
 }
 
+// Adds a word of a command line.
+fn add_word(alloc: Global, line: &mut Vec<String>, word: &str, words: &mut Words<'_>) {
+    let is_added = match String::from_str(alloc, word) {
+        Ok(word) => line.push(word).is_ok(),
+        Err(_) => false,
+    };
+    if !is_added {
+        words.fail(CaseError::Memory);
+    }
+}
+
 // The words of a command line.
-fn words_of(alloc: Global, text: &str) -> Result<Vec<String>, CaseError> {
-    let mut words = Vec::new(alloc);
+fn read_line(alloc: Global, words: &mut Words<'_>) -> Vec<String> {
+    let mut line = Vec::new(alloc);
+    let text = words.rest();
     let mut left = Words::of(text);
     for _ in 0..text.len() {
         match left.next_or_empty() {
             "" => break,
-            word => words.push(String::from_str(alloc, word)?)?,
+            word => add_word(alloc, &mut line, word, words),
         }
     }
-    Ok(words)
+    line
 }
 
-// Adds a line.
-fn add_shortened(answer: &mut String, line: &str) -> Result<(), CaseError> {
-    let Some(last) = line.as_bytes().last() else {
-        return Ok(add_line(answer, line)?);
-    };
-    let start = line.trim_end_matches(*last as char);
+// Adds a line. Many equal characters at its end are so many.
+fn add_shortened(text: &mut Text, line: &str) {
+    let last = line.as_bytes().last().copied().unwrap_or(0);
+    let start = line.trim_end_matches(last as char);
     let count = line.len().saturating_sub(start.len());
     if count <= MOST_EQUAL {
-        return Ok(add_line(answer, line)?);
+        text.push_line(line);
+    } else {
+        text.push_str(start);
+        text.push_str("\\{");
+        add_hex(text, &[last]);
+        write!(text, "x{count}}}\n");
     }
-    answer.push_str(start)?;
-    answer.push_str("\\{")?;
-    add_hex(answer, &[*last])?;
-    Ok(write!(answer, "x{count}}}\n")?)
 }
 
 // Adds the lines of standard output.
-fn add_output(answer: &mut String, text: &str) -> Result<(), CaseError> {
-    let mut others = text;
-    for _ in 0..=text.len() {
+fn add_output(text: &mut Text, output: &str) {
+    let mut others = output;
+    for _ in 0..output.len() {
         let Some((line, next)) = others.split_once('\n') else {
             break;
         };
-        add_shortened(answer, line)?;
+        add_shortened(text, line);
         others = next;
     }
-    Ok(answer.push_str(others)?)
+    text.push_str(others);
 }
 
-// Adds the lines of standard error.
-fn add_errors(answer: &mut String, text: &str) -> Result<(), CaseError> {
-    if text.is_empty() {
-        return Ok(());
+// Adds a line of standard error.
+fn add_error(text: &mut Text, line: &str) {
+    text.push_str(if line.is_empty() { "err:" } else { "err: " });
+    text.push_line(line);
+}
+
+// Adds the lines of standard error, if there are any.
+fn add_errors(text: &mut Text, errors: &str) {
+    match errors.strip_suffix("\n") {
+        Some(lines) => {
+            for line in lines.split('\n') {
+                add_error(text, line);
+            }
+        }
+        None if errors.is_empty() => {}
+        None => {
+            text.push_str("err without a line end: ");
+            text.push_line(errors);
+        }
     }
-    let Some(lines) = text.strip_suffix("\n") else {
-        answer.push_str("err without a line end: ")?;
-        return Ok(add_line(answer, text)?);
-    };
-    for line in lines.split('\n') {
-        answer.push_str(if line.is_empty() { "err:" } else { "err: " })?;
-        add_line(answer, line)?;
+}
+
+// Runs the program, and answers its status. What its contract says is not said of this, since no
+// case needs it.
+fn run<N: Net, R: Read>(
+    net: &N,
+    alloc: Global,
+    line: &[String],
+    input: &mut R,
+    out: &mut Vec<u8>,
+    err: &mut Vec<u8>,
+) -> u8 {
+    h2_tool::run(net, alloc, line, input, out, err).code()
+}
+
+// Adds what was printed, and a status.
+fn add_printed(text: &mut Text, out: &[u8], err: &[u8], status: u8) {
+    match (std::str::from_utf8(out), std::str::from_utf8(err)) {
+        (Ok(out), Ok(err)) => {
+            add_output(text, out);
+            add_errors(text, err);
+            write!(text, "status {status}\n");
+        }
+        _ => text.refuse(),
     }
-    Ok(())
 }
 
 // What the program prints with these words of an input, and its status.
-fn answer_of<N: Net, R: Read>(
+fn answer_of<N: Net, R: Read>(net: &N, alloc: Global, line: &[String], input: &mut R) -> Text {
+    let (mut out, mut err) = (Vec::new(alloc), Vec::new(alloc));
+    let mut text = Text::new(alloc);
+    let status = run(net, alloc, line, input, &mut out, &mut err);
+    add_printed(&mut text, &out, &err, status);
+    text
+}
+
+// Adds the answer where no input was given.
+fn add_unread<N: Net>(net: &N, alloc: Global, line: &[String], text: &mut Text) {
+    let mut input = Unreadable { was_read: false };
+    text.push_text(&answer_of(net, alloc, line, &mut input));
+    if input.was_read {
+        text.push_line("the input was read");
+    }
+}
+
+// Adds the answer to an input that is read in pieces, if it is another one than the first.
+fn add_other<N: Net>(
     net: &N,
     alloc: Global,
-    words: &[String],
-    input: &mut R,
-) -> Result<String, CaseError> {
-    let (mut out, mut err) = (Vec::new(alloc), Vec::new(alloc));
-    let status = h2_tool::run(net, alloc, words, input, &mut out, &mut err);
-    let (Ok(out), Ok(err)) = (std::str::from_utf8(&out), std::str::from_utf8(&err)) else {
-        return Err(CaseError::Unread);
-    };
-    let mut answer = String::new(alloc);
-    add_output(&mut answer, out)?;
-    add_errors(&mut answer, err)?;
-    write!(answer, "status {}\n", status.code())?;
-    Ok(answer)
-}
-
-// The answer where no input was given.
-fn unread_answer<N: Net>(net: &N, alloc: Global, words: &[String]) -> Result<String, CaseError> {
-    let mut input = Unreadable { was_read: false };
-    let mut answer = answer_of(net, alloc, words, &mut input)?;
-    if input.was_read {
-        add_line(&mut answer, "the input was read")?;
+    line: &[String],
+    mut pieces: Pieces<'_>,
+    whole: &Text,
+    text: &mut Text,
+) {
+    let other = answer_of(net, alloc, line, &mut pieces);
+    if other.as_str() != whole.as_str() {
+        pieces.add_how(text);
+        text.push_text(&other);
     }
-    Ok(answer)
-}
-
-// Adds an answer that differs from the first one, with how the input was read.
-fn add_other(answers: &mut String, whole: &str, how: &str, other: &str) -> Result<(), CaseError> {
-    if other != whole {
-        add_line(answers, how)?;
-        answers.push_str(other)?;
-    }
-    Ok(())
 }
 
 // Adds the answers that differ where octets are read in two pieces, cut at each place.
 fn add_cut<N: Net>(
     net: &N,
     alloc: Global,
-    words: &[String],
+    line: &[String],
     octets: &[u8],
-    whole: &str,
-    answers: &mut String,
-) -> Result<(), CaseError> {
-    if octets.len() > MOST_CUT {
-        return Ok(());
+    whole: &Text,
+    text: &mut Text,
+) {
+    if octets.len() <= MOST_CUT {
+        for place in 1..octets.len() {
+            add_other(net, alloc, line, Pieces::cut(octets, place), whole, text);
+        }
     }
-    for place in 1..octets.len() {
-        let mut input = Pieces::new(octets, place, usize::MAX);
-        let other = answer_of(net, alloc, words, &mut input)?;
-        let how = format!(in alloc; "cut after {place}:")?;
-        add_other(answers, whole, &how, &other)?;
-    }
-    Ok(())
 }
 
 // Adds the answer that differs where octets are read as hexadecimal text.
 fn add_hexadecimal<N: Net>(
     net: &N,
     alloc: Global,
-    words: &[String],
-    input: &Input,
-    whole: &str,
-    answers: &mut String,
-) -> Result<(), CaseError> {
-    let Some(text) = input.hexadecimal(alloc)? else {
-        return Ok(());
-    };
-    let mut all = Vec::new(alloc);
-    for word in words {
-        all.push(word.clone()?)?;
+    line: &[String],
+    octets: &[u8],
+    whole: &Text,
+    text: &mut Text,
+) {
+    let mut digits = Text::new(alloc);
+    add_hex(&mut digits, octets);
+    match digits.finish() {
+        Ok(digits) => {
+            let pieces = Pieces::of_digits(digits.as_bytes());
+            add_other(net, alloc, line, pieces, whole, text);
+        }
+        Err(_) => text.refuse(),
     }
-    all.push(String::from_str(alloc, "--hex")?)?;
-    let mut pieces = Pieces::new(text.as_bytes(), 7, 11);
-    let other = answer_of(net, alloc, &all, &mut pieces)?;
-    add_other(answers, whole, "in hexadecimal:", &other)
 }
 
-// The answer to words, with those that differ where the input is read otherwise.
-fn answers_of<N: Net>(
+// Adds the answer to words, and those that differ where the input is read otherwise.
+fn add_answers<N: Net>(
     net: &N,
     alloc: Global,
-    words: &[String],
     input: &Input,
-) -> Result<String, CaseError> {
+    words: &mut Words<'_>,
+    text: &mut Text,
+) {
     let octets = input.octets.as_slice();
-    let mut pieces = Pieces::new(octets, usize::MAX, usize::MAX);
-    let whole = answer_of(net, alloc, words, &mut pieces)?;
-    let mut answers = whole.clone()?;
-    add_cut(net, alloc, words, octets, &whole, &mut answers)?;
-    let mut pieces = Pieces::new(octets, 1, 1);
-    let single = answer_of(net, alloc, words, &mut pieces)?;
-    add_other(&mut answers, &whole, "in single octets:", &single)?;
-    add_hexadecimal(net, alloc, words, input, &whole, &mut answers)?;
-    Ok(answers)
+    let mut line = read_line(alloc, words);
+    let whole = answer_of(net, alloc, &line, &mut Pieces::whole(octets));
+    text.push_text(&whole);
+    add_cut(net, alloc, &line, octets, &whole, text);
+    add_other(net, alloc, &line, Pieces::single(octets), &whole, text);
+    if !input.is_text {
+        add_word(alloc, &mut line, "--hex", words);
+        add_hexadecimal(net, alloc, &line, octets, &whole, text);
+    }
 }
 
-// The lines of an answer that have more characters than this.
-fn wide_lines(alloc: Global, answer: &str, most: usize) -> Result<String, CaseError> {
-    let mut lines = String::new(alloc);
+// Adds the lines of an answer that have more characters than this.
+fn add_wide(text: &mut Text, answer: &str, most: usize) {
     for line in answer.split('\n') {
         if line.chars().count() > most {
-            add_line(&mut lines, line)?;
+            text.push_line(line);
         }
     }
-    Ok(lines)
 }
 
-// The response to the POST of so many octets.
-fn exchanged<N: Net>(net: &N, alloc: Global, count: u32) -> Result<String, CaseError> {
-    let mut lines = String::new(alloc);
-    let fetched = match exchange(net, alloc, count) {
-        Ok(fetched) => fetched,
-        Err(error) => {
-            write!(lines, "{error}\n")?;
-            return Ok(lines);
+// Adds a body, in which the line of the request is text.
+fn add_body(text: &mut Text, body: &[u8]) {
+    match body.strip_prefix(b"POST /\n".as_slice()) {
+        Some(others) => {
+            text.push_line("POST /");
+            add_octets(text, others);
         }
-    };
-    if !fetched.interims.is_empty() || fetched.trailers.is_some() {
-        add_line(&mut lines, "interim responses, or trailers")?;
+        None => add_octets(text, body),
     }
-    add_fields(alloc, &mut lines, &fetched.head)?;
-    let mut body = fetched.body.as_slice();
-    if let Some(others) = body.strip_prefix(b"POST /\n".as_slice()) {
-        add_line(&mut lines, "POST /")?;
-        body = others;
-    }
-    add_octets(&mut lines, body)?;
-    lines.push_str("\n")?;
-    Ok(lines)
+    text.push_str("\n");
 }
 
-// Begins an input, or adds to it.
-fn give(
-    alloc: Global,
-    session: &mut Session,
-    is_new: bool,
-    words: Words<'_>,
-) -> Result<String, CaseError> {
-    let input = Input::read(alloc, words)?;
-    match &mut session.input {
-        Some(given) if !is_new => given.add(&input)?,
-        None if !is_new => return Err(CaseError::Unread),
-        _ => session.input = Some(input),
+// Adds the response to the POST of so many octets.
+fn add_exchange<N: Net>(net: &N, alloc: Global, count: u32, text: &mut Text) {
+    match exchange(net, alloc, count) {
+        Ok(fetched) => {
+            if !fetched.interims.is_empty() || fetched.trailers.is_some() {
+                text.push_line("interim responses, or trailers");
+            }
+            add_fields(alloc, text, &fetched.head);
+            add_body(text, &fetched.body);
+        }
+        Err(error) => write!(text, "{error}\n"),
     }
-    Ok(String::new(alloc))
 }
 
-// The answer to a command.
-fn answer<N: Net>(
-    net: &N,
-    alloc: Global,
-    session: &mut Session,
-    step: &Step,
-) -> Result<String, CaseError> {
-    let mut words = Words::of(&step.command);
-    match words.word()? {
-        "input" => give(alloc, session, true, words),
-        "more" => give(alloc, session, false, words),
-        "h2" => {
-            let words = words_of(alloc, words.rest())?;
-            let answers = match &session.input {
-                Some(input) => answers_of(net, alloc, &words, input)?,
-                None => unread_answer(net, alloc, &words)?,
-            };
-            session.answer = answers.clone()?;
-            Ok(answers)
+impl<N: Net> Session<'_, N> {
+    // Adds to the input.
+    fn add_input(&mut self, words: &mut Words<'_>) {
+        match &mut self.input {
+            Some(input) => input.add(self.alloc, words),
+            None => words.unread(),
         }
-        "columns" => {
-            let most = words.number()?;
-            wide_lines(alloc, &session.answer, most)
+    }
+
+    // Adds what the program answers, and keeps it.
+    fn answer_line(&mut self, words: &mut Words<'_>, text: &mut Text) {
+        match &self.input {
+            Some(input) => add_answers(self.net, self.alloc, input, words, text),
+            None => add_unread(self.net, self.alloc, &read_line(self.alloc, words), text),
         }
-        "exchange" => {
-            let count = words.number()?;
-            exchanged(net, alloc, count)
+        match String::from_str(self.alloc, text.as_str()) {
+            Ok(answer) => self.answer = answer,
+            Err(_) => text.refuse(),
         }
-        _ => Err(CaseError::Unread),
+    }
+}
+
+impl<N: Net> Driver for Session<'_, N> {
+    fn answer(&mut self, name: &str, words: &mut Words<'_>, text: &mut Text) {
+        match name {
+            "input" => self.input = Some(Input::read(self.alloc, words)),
+            "more" => self.add_input(words),
+            "h2" => self.answer_line(words, text),
+            "columns" => add_wide(text, &self.answer, words.number()),
+            "exchange" => add_exchange(self.net, self.alloc, words.number(), text),
+            _ => words.unread(),
+        }
     }
 }
 
 /// The answers to a case's commands, up to the first that has none.
-pub(crate) fn run_case<N: Net>(
-    net: &N,
-    alloc: Global,
-    case: &Case,
-) -> Vec<Result<String, CaseError>> {
-    let mut answers = Vec::new(alloc);
-    let mut session = Session {
+pub(crate) fn run_case<N: Net>(net: &N, alloc: Global, case: &Case) -> Vec<Answer> {
+    let session = Session {
+        net,
+        alloc,
         input: None,
         answer: String::new(alloc),
     };
-    for step in &case.steps {
-        let found = answer(net, alloc, &mut session, step);
-        let fails = found.is_err();
-        if answers.push(found).is_err() || fails {
-            break;
-        }
-    }
-    answers
+    answers_of(alloc, case, session)
 }

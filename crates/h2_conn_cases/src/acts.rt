@@ -1,120 +1,127 @@
 //! The calls of one end of a connection as commands: see [`crate::conn`].
 
-use crate::answers::{add_answer, end_with_octets, end_word};
+use crate::answers::{add_answer, add_done, add_name, add_numbers, begin_line, end_with_octets};
 use crate::cuts::read_frames;
-use h2_case::case::CaseError;
 use h2_case::fields::{add_fields, read_fields};
 use h2_case::octets::{add_frames, read_octets};
+use h2_case::text::Text;
 use h2_case::words::Words;
-use h2_conn::{Config, Conn};
+use h2_conn::{Config, Conn, Refusal};
 use h2_replay::Act;
 use std::alloc::Global;
 
-/// Values of an end's own settings: those that are named in their order, and else the default ones.
-pub(crate) fn read_values(words: &mut Words<'_>) -> Result<(u32, u32, u32), CaseError> {
-    let mut values = [4_096, 65_535, 100];
-    for value in values.iter_mut() {
-        let mut others = *words;
-        if others.next_or_empty().is_empty() {
-            break;
-        }
-        *value = words.number()?;
+// The next word as a number; where none is left, this one.
+fn number_or(words: &mut Words<'_>, default: u32) -> u32 {
+    if words.is_empty() {
+        default
+    } else {
+        words.number()
     }
-    words.end()?;
-    let [table_limit, initial_window, max_streams] = values;
-    Ok((table_limit, initial_window, max_streams))
 }
 
-/// The eight octets of a PING.
-pub fn read_ping(alloc: Global, words: &mut Words<'_>) -> Result<[u8; 8], CaseError> {
-    let octets = read_octets(alloc, words.rest())?;
-    match octets.as_slice() {
-        [a, b, c, d, e, f, g, h] => Ok([*a, *b, *c, *d, *e, *f, *g, *h]),
-        _ => Err(CaseError::Unread),
+/// Values of an end's own settings: those that are named in their order, and else the default ones.
+pub(crate) fn read_values(words: &mut Words<'_>) -> (u32, u32, u32) {
+    let table_limit = number_or(words, 4_096);
+    let initial_window = number_or(words, 65_535);
+    let max_streams = number_or(words, 100);
+    (table_limit, initial_window, max_streams)
+}
+
+/// The settings of these values; the default ones where they can't be.
+pub fn config_of(values: (u32, u32, u32), words: &mut Words<'_>) -> Config {
+    let (table_limit, initial_window, max_streams) = values;
+    match Config::new(table_limit, initial_window, max_streams) {
+        Ok(config) => config,
+        Err(_) => {
+            words.unread();
+            Config::default()
+        }
     }
 }
 
 /// The settings that a command names.
-pub fn read_config(words: &mut Words<'_>) -> Result<Config, CaseError> {
-    let (table_limit, initial_window, max_streams) = read_values(words)?;
-    match Config::new(table_limit, initial_window, max_streams) {
-        Ok(config) => Ok(config),
-        Err(_) => Err(CaseError::Unread),
+pub fn read_config(words: &mut Words<'_>) -> Config {
+    let values = read_values(words);
+    config_of(values, words)
+}
+
+/// The eight octets of a PING.
+pub fn read_ping(alloc: Global, words: &mut Words<'_>) -> [u8; 8] {
+    let octets = read_octets(alloc, words);
+    match octets.as_slice() {
+        [a, b, c, d, e, f, g, h] => [*a, *b, *c, *d, *e, *f, *g, *h],
+        _ => {
+            words.unread();
+            [0; 8]
+        }
     }
 }
 
 /// The call of this name, with what is left of a command.
-pub(crate) fn read_act(alloc: Global, name: &str, words: &mut Words<'_>) -> Result<Act, CaseError> {
+pub(crate) fn read_act(alloc: Global, name: &str, words: &mut Words<'_>) -> Act {
     match name {
-        "take" => Ok(Act::Take(read_frames(alloc, words)?)),
-        "open" => {
-            let end = words.has("end");
-            let fields = read_fields(alloc, words.rest())?;
-            Ok(Act::Open { fields, end })
-        }
-        "ping" => Ok(Act::Ping(read_ping(alloc, words)?)),
-        "go_away" => Ok(Act::GoAway),
-        "out" => {
-            let count = words.number()?;
-            Ok(Act::PutOut(count))
-        }
-        "change" => Ok(Act::ChangeSettings(read_config(words)?)),
+        "open" => Act::Open {
+            end: words.has("end"),
+            fields: read_fields(alloc, words),
+        },
+        "ping" => Act::Ping(read_ping(alloc, words)),
+        "go_away" => Act::GoAway,
+        "out" => Act::PutOut(words.number()),
+        "change" => Act::ChangeSettings(read_config(words)),
         _ => {
-            let id = words.number()?;
+            let id = words.number();
             read_act_on(alloc, name, id, words)
         }
     }
 }
 
 // The call of this name on a stream.
-fn read_act_on(
-    alloc: Global,
-    name: &str,
-    id: u32,
-    words: &mut Words<'_>,
-) -> Result<Act, CaseError> {
+fn read_act_on(alloc: Global, name: &str, id: u32, words: &mut Words<'_>) -> Act {
     match name {
-        "fields" => {
-            let end = words.has("end");
-            let fields = read_fields(alloc, words.rest())?;
-            Ok(Act::Fields { id, fields, end })
+        "fields" => Act::Fields {
+            id,
+            end: words.has("end"),
+            fields: read_fields(alloc, words),
+        },
+        "data" => Act::Data {
+            id,
+            end: words.has("end"),
+            octets: read_octets(alloc, words),
+        },
+        "release" => Act::Release {
+            id,
+            count: words.number(),
+        },
+        "reset" => Act::Reset {
+            id,
+            code: words.number(),
+        },
+        "refuse" => Act::Refuse {
+            id,
+            code: words.number(),
+        },
+        _ => {
+            words.unread();
+            Act::GoAway
         }
-        "data" => {
-            let end = words.has("end");
-            let octets = read_octets(alloc, words.rest())?;
-            Ok(Act::Data { id, octets, end })
-        }
-        "release" => {
-            let count = words.number()?;
-            Ok(Act::Release { id, count })
-        }
-        "reset" => {
-            let code = words.number()?;
-            Ok(Act::Reset { id, code })
-        }
-        "refuse" => {
-            let code = words.number()?;
-            Ok(Act::Refuse { id, code })
-        }
-        _ => Err(CaseError::Unread),
     }
 }
 
 /// Makes a call, and adds its answer: a number, `done`, the octets that it gives out, or why it is
-/// refused.
-pub(crate) fn make_call(
-    alloc: Global,
-    conn: &mut Conn,
-    act: &Act,
-    text: &mut String,
-) -> Result<(), CaseError> {
-    let done = match act {
-        Act::Take(_) => return Err(CaseError::Unread),
-        Act::Open { fields, end } => return add_answer(alloc, text, conn.open(fields, *end)),
-        Act::Data { id, octets, end } => {
-            return add_answer(alloc, text, conn.data(*id, octets, *end));
-        }
-        Act::PutOut(count) => return put_out(alloc, conn, *count, text),
+/// refused. Octets are not taken by it.
+pub(crate) fn make_call(alloc: Global, conn: &mut Conn, act: &Act, text: &mut Text) {
+    match act {
+        Act::Take(_) => {}
+        Act::Open { fields, end } => add_answer(alloc, text, conn.open(fields, *end)),
+        Act::Data { id, octets, end } => add_answer(alloc, text, conn.data(*id, octets, *end)),
+        Act::PutOut(count) => put_out(alloc, conn, *count, text),
+        _ => add_done(alloc, text, make_other(conn, act)),
+    }
+}
+
+// Makes a call that answers nothing.
+fn make_other(conn: &mut Conn, act: &Act) -> Result<(), Refusal> {
+    match act {
         Act::Fields { id, fields, end } => conn.fields(*id, fields, *end),
         Act::Release { id, count } => conn.release(*id, *count),
         Act::Reset { id, code } => conn.reset(*id, *code),
@@ -122,60 +129,62 @@ pub(crate) fn make_call(
         Act::Ping(octets) => conn.ping(*octets),
         Act::GoAway => conn.go_away(),
         Act::ChangeSettings(config) => conn.change_settings(*config),
-    };
-    add_answer(alloc, text, done.map(|()| "done"))
+        _ => Ok(()),
+    }
 }
 
 // Gives so many octets out.
-fn put_out(
-    alloc: Global,
-    conn: &mut Conn,
-    count: usize,
-    text: &mut String,
-) -> Result<(), CaseError> {
+fn put_out(alloc: Global, conn: &mut Conn, count: usize, text: &mut Text) {
     let mut out = Vec::new(alloc);
     match conn.put_out(count, &mut out) {
-        Ok(given) if given == out.len() => Ok(add_frames(alloc, text, &out)?),
-        Ok(given) => Ok(write!(text, "{given} octets are said to be these:\n")?),
-        Err(refusal) => add_answer(alloc, text, Err::<usize, _>(refusal)),
+        Ok(given) if given == out.len() => add_frames(alloc, text, &out),
+        Ok(given) => write!(text, "{given} octets are said to be these:\n"),
+        Err(refusal) => add_name(alloc, text, &refusal),
     }
 }
 
 /// Adds a call as it is written in a command, its fields each on a line of their own.
-pub(crate) fn add_act(alloc: Global, text: &mut String, act: &Act) -> Result<(), CaseError> {
+pub(crate) fn add_act(alloc: Global, text: &mut Text, act: &Act) {
     match act {
-        Act::Take(octets) => {
-            text.push_str("take")?;
-            return Ok(end_with_octets(text, octets)?);
-        }
         Act::Open { fields, end } => {
-            write!(text, "open{}\n", end_word(*end))?;
-            return add_fields(alloc, text, fields);
+            text.push_line(if *end { "open end" } else { "open" });
+            add_fields(alloc, text, fields);
         }
         Act::Fields { id, fields, end } => {
-            write!(text, "fields {id}{}\n", end_word(*end))?;
-            return add_fields(alloc, text, fields);
+            begin_line(text, "fields", *id, *end);
+            text.push_str("\n");
+            add_fields(alloc, text, fields);
         }
+        Act::Take(octets) => add_octets_act(text, "take", octets),
         Act::Data { id, octets, end } => {
-            write!(text, "data {id}{}", end_word(*end))?;
-            return Ok(end_with_octets(text, octets)?);
+            begin_line(text, "data", *id, *end);
+            end_with_octets(text, octets);
         }
-        Act::Release { id, count } => write!(text, "release {id} {count}")?,
-        Act::Reset { id, code } => write!(text, "reset {id} {code}")?,
-        Act::Refuse { id, code } => write!(text, "refuse {id} {code}")?,
-        Act::Ping(octets) => {
-            text.push_str("ping")?;
-            return Ok(end_with_octets(text, octets)?);
-        }
-        Act::GoAway => text.push_str("go_away")?,
-        Act::PutOut(count) => write!(text, "out {count}")?,
-        Act::ChangeSettings(config) => write!(
-            text,
-            "change {} {} {}",
-            config.table_limit(),
-            config.initial_window(),
-            config.max_streams()
-        )?,
+        _ => add_small_act(text, act),
     }
-    Ok(text.push_str("\n")?)
+}
+
+// Adds a call without fields or a body as it is written in a command.
+fn add_small_act(text: &mut Text, act: &Act) {
+    match act {
+        Act::Release { id, count } => add_numbers(text, "release", *id, *count),
+        Act::Reset { id, code } => add_numbers(text, "reset", *id, *code),
+        Act::Refuse { id, code } => add_numbers(text, "refuse", *id, *code),
+        Act::Ping(octets) => add_octets_act(text, "ping", octets),
+        Act::PutOut(count) => write!(text, "out {count}\n"),
+        Act::ChangeSettings(config) => add_change(text, *config),
+        _ => text.push_line("go_away"),
+    }
+}
+
+// Adds the line of a name and octets.
+fn add_octets_act(text: &mut Text, name: &str, octets: &[u8]) {
+    text.push_str(name);
+    end_with_octets(text, octets);
+}
+
+// Adds the line of new settings.
+fn add_change(text: &mut Text, config: Config) {
+    write!(text, "change {}", config.table_limit());
+    add_numbers(text, "", config.initial_window(), config.max_streams());
 }

@@ -1,142 +1,148 @@
 //! The texts of answers.
 
-use h2_case::case::{CaseError, add_line};
+use h2_case::case::CaseError;
 use h2_case::fields::add_field;
-use h2_case::octets::add_octets;
+use h2_case::octets::{add_last, add_octets};
+use h2_case::text::Text;
+use h2_case::words::Words;
 use hpack::{FieldList, FieldRef};
-use std::alloc::{AllocError, Global};
+use std::alloc::Global;
 use std::fmt::Display;
 
 /// Adds the line of a value, or of the name of the rule by which a call is refused: the text of the
 /// refusal before its last colon.
 pub fn add_answer<T: Display + Drop, E: Display + Drop>(
     alloc: Global,
-    text: &mut String,
+    text: &mut Text,
     answer: Result<T, E>,
-) -> Result<(), CaseError> {
+) {
     match answer {
-        Ok(value) => Ok(write!(text, "{value}\n")?),
+        Ok(value) => add_value(text, value),
         Err(refusal) => add_name(alloc, text, &refusal),
     }
 }
 
+/// Adds the line `done`, or of the name of the rule by which a call is refused.
+pub fn add_done<E: Display + Drop>(alloc: Global, text: &mut Text, done: Result<(), E>) {
+    match done {
+        Ok(()) => text.push_line("done"),
+        Err(refusal) => add_name(alloc, text, &refusal),
+    }
+}
+
+// A text before its last colon.
+fn name_of(rule: &str) -> &str {
+    match rule.rsplit_once(": ") {
+        Some((name, _)) => name,
+        None => rule,
+    }
+}
+
 /// Adds the line of the name of a rule.
-pub(crate) fn add_name<E: Display>(
-    alloc: Global,
-    text: &mut String,
-    rule: &E,
-) -> Result<(), CaseError> {
-    let whole = format!(in alloc; "{rule}")?;
-    match whole.rsplit_once(": ") {
-        Some((name, _)) => Ok(add_line(text, name)?),
-        None => Ok(add_line(text, &whole)?),
+pub fn add_name<E: Display>(alloc: Global, text: &mut Text, rule: &E) {
+    match format!(in alloc; "{rule}") {
+        Ok(whole) => text.push_line(name_of(&whole)),
+        Err(_) => text.refuse(),
     }
 }
 
 /// Adds the line of a value, or `none`.
-pub fn add_option<T: Display + Drop>(text: &mut String, value: Option<T>) -> Result<(), CaseError> {
+pub fn add_option<T: Display + Drop>(text: &mut Text, value: Option<T>) {
     match value {
-        Some(value) => Ok(write!(text, "{value}\n")?),
-        None => Ok(add_line(text, "none")?),
+        Some(value) => add_value(text, value),
+        None => text.push_line("none"),
+    }
+}
+
+/// Adds the line of the name of a rule, or `none`.
+pub(crate) fn add_rule<E: Display + Drop>(alloc: Global, text: &mut Text, rule: Option<E>) {
+    match rule {
+        Some(rule) => add_name(alloc, text, &rule),
+        None => text.push_line("none"),
+    }
+}
+
+/// The lines of a text; none where memory was refused, which is noted.
+pub fn lines_of(alloc: Global, text: Text, words: &mut Words<'_>) -> String {
+    match text.finish() {
+        Ok(lines) => lines,
+        Err(fault) => {
+            words.fail(fault);
+            String::new(alloc)
+        }
+    }
+}
+
+/// A copy of octets; nothing where memory was refused, which is noted.
+pub fn copy_of(alloc: Global, octets: &[u8], words: &mut Words<'_>) -> Vec<u8> {
+    let mut copy = Vec::new(alloc);
+    extend(&mut copy, octets, words);
+    copy
+}
+
+/// Adds octets to others; that memory was refused is noted.
+pub fn extend(octets: &mut Vec<u8>, others: &[u8], words: &mut Words<'_>) {
+    if octets.extend_from_slice(others).is_err() {
+        words.fail(CaseError::Memory);
     }
 }
 
 /// Adds the line of each field of a list; a value of more than 64 octets is written in braces, as
 /// [`h2_case::octets`] writes octets.
-pub fn add_list(alloc: Global, text: &mut String, list: &FieldList) -> Result<(), CaseError> {
+pub fn add_list(alloc: Global, text: &mut Text, list: &FieldList) {
     for place in 0..list.len() {
-        match list.get(place) {
-            Some(field) if field.value.len() > 64 => add_long_field(alloc, text, field)?,
-            Some(field) => add_field(alloc, text, field)?,
-            None => {}
+        if let Some(field) = list.get(place) {
+            add_listed(alloc, text, field);
         }
     }
-    Ok(())
+}
+
+// Adds the line of a field.
+fn add_listed(alloc: Global, text: &mut Text, field: FieldRef<'_>) {
+    if field.value.len() > 64 {
+        add_long_field(alloc, text, field);
+    } else {
+        add_field(alloc, text, field);
+    }
 }
 
 // Adds the line of a field with a long value.
-fn add_long_field(alloc: Global, text: &mut String, field: FieldRef<'_>) -> Result<(), CaseError> {
-    let mut line = String::new(alloc);
+fn add_long_field(alloc: Global, text: &mut Text, field: FieldRef<'_>) {
+    let mut line = Text::new(alloc);
     let without = FieldRef {
         name: field.name,
         value: &[],
         sensitive: field.sensitive,
     };
-    add_field(alloc, &mut line, without)?;
-    text.push_str(line.trim_end_matches('\n'))?;
-    text.push_str("\\{")?;
-    add_octets(text, field.value)?;
-    Ok(text.push_str("}\n")?)
+    add_field(alloc, &mut line, without);
+    text.push_str(line.as_str().trim_end_matches('\n'));
+    text.push_str("\\{");
+    add_octets(text, field.value);
+    text.push_line("}");
 }
 
-/// A space and the word for END_STREAM, where it is set.
-pub fn end_word(end: bool) -> &'static str {
+/// Adds the line of a value.
+pub fn add_value<T: Display + Drop>(text: &mut Text, value: T) {
+    write!(text, "{value}\n");
+}
+
+// A space and the word for END_STREAM, where it is set.
+fn end_word(end: bool) -> &'static str {
     if end { " end" } else { "" }
 }
 
-/// Which end has reset a stream.
-pub(crate) fn whose(ours: bool) -> &'static str {
-    if ours { "ours" } else { "theirs" }
+/// Begins a line: what it is about, a stream, and whether that ends.
+pub fn begin_line(text: &mut Text, name: &str, id: u32, end: bool) {
+    write!(text, "{name} {id}{}", end_word(end));
+}
+
+/// Adds the line of a name and two numbers.
+pub(crate) fn add_numbers(text: &mut Text, name: &str, first: u32, second: u32) {
+    write!(text, "{name} {first} {second}\n");
 }
 
 /// Ends a line with a space and octets, if there are any.
-pub(crate) fn end_with_octets(text: &mut String, octets: &[u8]) -> Result<(), AllocError> {
-    if !octets.is_empty() {
-        text.push(' ')?;
-        add_octets(text, octets)?;
-    }
-    text.push('\n')
-}
-
-/// What came out, in order: all of it, or how many of each kind, and the last one.
-#[derive(Drop)]
-pub struct Notes {
-    pub lines: String,
-    quiet: bool,
-    counts: Vec<(&'static str, u64)>,
-}
-
-impl Notes {
-    /// Nothing has come out; where it is quiet, no more than the last will be kept.
-    pub fn new(alloc: Global, quiet: bool) -> Notes {
-        Notes {
-            lines: String::new(alloc),
-            quiet,
-            counts: Vec::new(alloc),
-        }
-    }
-
-    /// Something of this kind comes out, whose lines follow.
-    pub fn begin(&mut self, kind: &'static str) -> Result<(), CaseError> {
-        if !self.quiet {
-            return Ok(());
-        }
-        self.lines.clear();
-        for count in self.counts.iter_mut() {
-            if count.0 == kind {
-                count.1 = count.1.saturating_add(1);
-                return Ok(());
-            }
-        }
-        Ok(self.counts.push((kind, 1))?)
-    }
-
-    /// Ends a line with octets.
-    pub fn add_octets(&mut self, octets: &[u8]) -> Result<(), CaseError> {
-        Ok(end_with_octets(&mut self.lines, octets)?)
-    }
-
-    /// Adds what came out to an answer.
-    pub fn add_to(&self, text: &mut String) -> Result<(), CaseError> {
-        if !self.quiet {
-            return Ok(text.push_str(&self.lines)?);
-        }
-        for (kind, count) in &self.counts {
-            write!(text, "{kind}: {count}\n")?;
-        }
-        if !self.counts.is_empty() {
-            text.push_str("last: ")?;
-        }
-        Ok(text.push_str(&self.lines)?)
-    }
+pub fn end_with_octets(text: &mut Text, octets: &[u8]) {
+    add_last(text, octets);
+    text.push_str("\n");
 }

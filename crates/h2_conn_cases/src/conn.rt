@@ -22,13 +22,16 @@
 //! or one is `take anywhere OCTETS`, in two at each place. An answer that differs then is said.
 
 use crate::acts::{make_call, read_act, read_values};
-use crate::answers::{Notes, add_name, add_option};
-use crate::conn_events::add_event;
-use crate::cuts::{Cut, WHOLE, add_difference, count_of_cuts};
+use crate::answers::{add_name, add_option, add_rule, add_value, copy_of, extend};
+use crate::conn_events::{note_event, note_fault};
+use crate::cuts::{Cut, Cutting, answers_in_cuts, read_frames};
+use crate::notes::{Notes, Taker, Used, add_taken};
 use crate::replayed::add_replay;
-use h2_case::case::{Case, CaseError, Step};
+use h2_case::case::Case;
+use h2_case::driver::{Answer, Driver};
 use h2_case::fields::read_fields;
 use h2_case::octets::add_frames;
+use h2_case::text::Text;
 use h2_case::words::Words;
 use h2_conn::{Config, Conn, Refusal, Role};
 use h2_replay::Act;
@@ -54,250 +57,235 @@ fn new_conn(alloc: Global, role: Role, config: Config) -> Result<Conn, Refusal> 
 }
 
 /// Which end a command names.
-pub fn read_role(words: &mut Words<'_>) -> Result<Role, CaseError> {
-    match words.word()? {
-        "client" => Ok(Role::Client),
-        "server" => Ok(Role::Server),
-        _ => Err(CaseError::Unread),
+pub fn read_role(words: &mut Words<'_>) -> Role {
+    match words.word() {
+        "client" => Role::Client,
+        "server" => Role::Server,
+        _ => {
+            words.unread();
+            Role::Client
+        }
     }
 }
 
-// Hands a piece over, up to a fault or until it is used and nothing more is reported; whether the
-// connection has not failed.
-fn take_part(
-    alloc: Global,
-    conn: &mut Conn,
-    cut: Cut,
-    octets: &[u8],
-    notes: &mut Notes,
-) -> Result<bool, CaseError> {
-    let mut left = octets;
-    for _ in 0..u64::MAX {
-        match conn.take(cut.piece(left)) {
-            Ok(taken) => {
-                left = left.get(taken.used..).unwrap_or(&[]);
-                match taken.event {
-                    Some(event) => add_event(alloc, notes, event)?,
-                    None if left.is_empty() => break,
-                    None => {}
-                }
-            }
+impl Taker<Notes> for Conn {
+    fn take_piece(&mut self, piece: &[u8], notes: &mut Notes) -> Option<Used> {
+        match self.take(piece) {
+            Ok(taken) => Some(Used {
+                count: taken.used,
+                comes_out: note_event(notes, taken.event),
+            }),
             Err(fault) => {
-                notes.begin("fault")?;
-                write!(notes.lines, "fault {:?}\n", fault.code)?;
-                return Ok(false);
+                note_fault(notes, fault);
+                None
             }
         }
     }
-    Ok(true)
+}
+
+// Keeps what was done.
+fn keep(acts: &mut Vec<Act>, act: Act, text: &mut Text) {
+    if acts.push(act).is_err() {
+        text.refuse();
+    }
+}
+
+// Takes all output away.
+fn output(alloc: Global, conn: &mut Conn) -> Vec<u8> {
+    let mut out = Vec::new(alloc);
+    for _ in 0..u64::MAX {
+        if matches!(conn.put_out(usize::MAX, &mut out), Ok(0) | Err(_)) {
+            break;
+        }
+    }
+    out
+}
+
+// Adds the frames of the output that waits.
+fn add_lent(alloc: Global, conn: &Conn, words: &mut Words<'_>, text: &mut Text) {
+    let (first, last) = conn.waiting_octets();
+    let mut lent = copy_of(alloc, first, words);
+    extend(&mut lent, last, words);
+    add_frames(alloc, text, &lent);
+}
+
+// Adds why fields can't open a stream.
+fn add_refusal(alloc: Global, conn: &Conn, words: &mut Words<'_>, text: &mut Text) {
+    let fields = read_fields(alloc, words);
+    add_rule(alloc, text, conn.refusal_to_open(&fields));
+}
+
+// Adds the code with which the connection has failed.
+fn add_failed(conn: &Conn, text: &mut Text) {
+    match conn.failed() {
+        Some(code) => write!(text, "{code:?}\n"),
+        None => text.push_line("none"),
+    }
+}
+
+/// Says where there is no output.
+pub fn drop_out(out: &[u8], text: &mut Text) {
+    if out.is_empty() {
+        text.push_line("nothing waits");
+    }
+}
+
+// Adds what a reader of this name answers; whether there is one.
+fn read(alloc: Global, conn: &Conn, name: &str, words: &mut Words<'_>, text: &mut Text) -> bool {
+    match name {
+        "waiting" => add_value(text, conn.waiting()),
+        "held" => add_value(text, conn.held()),
+        "place" => add_value(text, conn.place()),
+        "due" => add_value(text, conn.due()),
+        "next_number" => add_option(text, conn.next_number()),
+        "failed" => add_failed(conn, text),
+        "lent" => add_lent(alloc, conn, words, text),
+        "refusal_to_open" => add_refusal(alloc, conn, words, text),
+        _ => return read_stream(conn, name, words, text),
+    }
+    true
+}
+
+// Adds what a reader of this name answers of a stream; whether there is one.
+fn read_stream(conn: &Conn, name: &str, words: &mut Words<'_>, text: &mut Text) -> bool {
+    match name {
+        "room" => add_option(text, conn.room(words.number())),
+        "owed" => add_value(text, conn.owed(words.number())),
+        "next_live" => add_option(text, conn.next_live(words.number())),
+        "is_active" => add_value(text, conn.is_active(words.number())),
+        _ => return false,
+    }
+    true
 }
 
 impl State {
     // Begins with a new end.
-    fn begin(&mut self, words: &mut Words<'_>, text: &mut String) -> Result<(), CaseError> {
-        self.role = read_role(words)?;
-        let (table_limit, initial_window, max_streams) = read_values(words)?;
+    fn begin(&mut self, words: &mut Words<'_>, text: &mut Text) {
+        self.role = read_role(words);
+        let (table_limit, initial_window, max_streams) = read_values(words);
         match Config::new(table_limit, initial_window, max_streams) {
-            Ok(config) => self.config = config,
-            Err(bad) => return add_name(self.alloc, text, &bad),
+            Ok(config) => self.open(config, text),
+            Err(bad) => add_name(self.alloc, text, &bad),
         }
-        match new_conn(self.alloc, self.role, self.config) {
+    }
+
+    // Begins with a new end of these settings.
+    fn open(&mut self, config: Config, text: &mut Text) {
+        self.config = config;
+        self.acts.clear();
+        match new_conn(self.alloc, self.role, config) {
             Ok(conn) => self.conn = Some(conn),
-            Err(_) => return Err(CaseError::Memory),
+            Err(_) => text.refuse(),
         }
-        Ok(self.acts.clear())
     }
 
     // Takes octets.
-    fn take(&mut self, words: &mut Words<'_>, text: &mut String) -> Result<(), CaseError> {
-        let mut notes = Notes::new(self.alloc, words.has("quietly"));
+    fn take(&mut self, words: &mut Words<'_>, text: &mut Text) {
+        let is_quiet = words.has("quietly");
         let _ = words.has("anywhere");
-        let act = read_act(self.alloc, "take", words)?;
-        if let (Some(conn), Act::Take(octets)) = (&mut self.conn, &act) {
-            let (before, from) = self.cut.split(octets);
-            if before.is_empty() || take_part(self.alloc, conn, self.cut, before, &mut notes)? {
-                take_part(self.alloc, conn, self.cut, from, &mut notes)?;
-            }
+        let octets = read_frames(self.alloc, words);
+        if let Some(conn) = &mut self.conn {
+            add_taken(
+                conn,
+                self.cut,
+                &octets,
+                Notes::new(self.alloc, is_quiet),
+                text,
+            );
         }
-        self.acts.push(act)?;
-        notes.add_to(text)
+        keep(&mut self.acts, Act::Take(octets), text);
     }
 
-    // Takes all output away.
-    fn output(&mut self) -> Result<Vec<u8>, CaseError> {
-        let mut out = Vec::new(self.alloc);
-        if let Some(conn) = &mut self.conn {
-            for _ in 0..u64::MAX {
-                if matches!(conn.put_out(usize::MAX, &mut out), Ok(0) | Err(_)) {
-                    break;
-                }
-            }
+    // Takes all output away, which is an act.
+    fn output(&mut self, text: &mut Text) -> Vec<u8> {
+        keep(&mut self.acts, Act::PutOut(usize::MAX), text);
+        match &mut self.conn {
+            Some(conn) => output(self.alloc, conn),
+            None => Vec::new(self.alloc),
         }
-        self.acts.push(Act::PutOut(usize::MAX))?;
-        Ok(out)
     }
 
     // Takes so many octets of output away.
-    fn part_of_output(&mut self, count: &str) -> Result<Vec<u8>, CaseError> {
+    fn part_of_output(&mut self, words: &mut Words<'_>) -> Vec<u8> {
+        let count = words.number();
         let mut out = Vec::new(self.alloc);
-        let (Ok(count), Some(conn)) = (count.parse::<usize>(), &mut self.conn) else {
-            return Err(CaseError::Unread);
+        let is_given = match &mut self.conn {
+            Some(conn) => matches!(conn.put_out(count, &mut out), Ok(given) if given == count),
+            None => false,
         };
-        match conn.put_out(count, &mut out) {
-            Ok(given) if given == count && given == out.len() => Ok(out),
-            _ => Err(CaseError::Unread),
+        if !is_given || out.len() != count {
+            words.unread();
         }
+        out
     }
 
-    // Makes a call.
-    fn call(
-        &mut self,
-        name: &str,
-        words: &mut Words<'_>,
-        text: &mut String,
-    ) -> Result<(), CaseError> {
-        let act = read_act(self.alloc, name, words)?;
-        words.end()?;
-        if let Some(conn) = &mut self.conn {
-            make_call(self.alloc, conn, &act, text)?;
-        }
-        Ok(self.acts.push(act)?)
+    // Takes all output away, and adds its frames.
+    fn add_output(&mut self, text: &mut Text) {
+        let out = self.output(text);
+        add_frames(self.alloc, text, &out);
     }
 
-    // The answer to a command.
-    fn answer(&mut self, step: &Step) -> Result<String, CaseError> {
-        let mut text = String::new(self.alloc);
-        let mut words = Words::of(&step.command);
-        let name = words.word()?;
+    // Takes output away.
+    fn drop_output(&mut self, words: &mut Words<'_>, text: &mut Text) {
+        words.expect("out");
+        let out = if words.is_empty() {
+            self.output(text)
+        } else {
+            self.part_of_output(words)
+        };
+        drop_out(&out, text);
+    }
+
+    // Replays what was done.
+    fn replay(&mut self, text: &mut Text) {
+        let acts = std::mem::replace(&mut self.acts, Vec::new(self.alloc));
+        add_replay(self.alloc, self.role, self.config, acts, text);
+    }
+
+    // Makes a call, or reads.
+    fn call(&mut self, name: &str, words: &mut Words<'_>, text: &mut Text) {
+        match &mut self.conn {
+            Some(conn) if !read(self.alloc, conn, name, words, text) => {
+                let act = read_act(self.alloc, name, words);
+                make_call(self.alloc, conn, &act, text);
+                keep(&mut self.acts, act, text);
+            }
+            Some(_) => {}
+            None => words.unread(),
+        }
+    }
+}
+
+impl Driver for State {
+    fn answer(&mut self, name: &str, words: &mut Words<'_>, text: &mut Text) {
         if self.conn.is_none() && name != "new" {
-            return Err(CaseError::Unread);
+            words.unread();
         }
         match name {
-            "new" => self.begin(&mut words, &mut text)?,
-            "take" => self.take(&mut words, &mut text)?,
-            "out" if words.end().is_ok() => {
-                add_frames(self.alloc, &mut text, &self.output()?)?;
-            }
-            "drop" if words.has("out") => {
-                let out = match words.rest() {
-                    "" => self.output()?,
-                    count => self.part_of_output(count)?,
-                };
-                drop_out(&out, &mut text)?;
-            }
-            "replay" => {
-                let acts = std::mem::replace(&mut self.acts, Vec::new(self.alloc));
-                add_replay(self.alloc, self.role, self.config, acts, &mut text)?;
-            }
-            _ => {
-                if !self.read(name, &mut words, &mut text)? {
-                    self.call(name, &mut words, &mut text)?;
-                }
-            }
-        }
-        words.end()?;
-        Ok(text)
-    }
-
-    // Adds what a reader of this name answers; whether there is one.
-    fn read(
-        &self,
-        name: &str,
-        words: &mut Words<'_>,
-        text: &mut String,
-    ) -> Result<bool, CaseError> {
-        let Some(conn) = &self.conn else {
-            return Err(CaseError::Unread);
-        };
-        match name {
-            "waiting" => write!(text, "{}\n", conn.waiting())?,
-            "held" => write!(text, "{}\n", conn.held())?,
-            "place" => write!(text, "{}\n", conn.place())?,
-            "due" => write!(text, "{}\n", conn.due())?,
-            "next_number" => add_option(text, conn.next_number())?,
-            "failed" => match conn.failed() {
-                Some(code) => write!(text, "{code:?}\n")?,
-                None => text.push_str("none\n")?,
-            },
-            "lent" => add_lent(self.alloc, conn, text)?,
-            "refusal_to_open" => {
-                let fields = read_fields(self.alloc, words.rest())?;
-                match conn.refusal_to_open(&fields) {
-                    Some(refusal) => add_name(self.alloc, text, &refusal)?,
-                    None => text.push_str("none\n")?,
-                }
-            }
-            _ => return read_stream(conn, name, words, text),
-        }
-        Ok(true)
-    }
-}
-
-// Adds the frames of the output that waits.
-fn add_lent(alloc: Global, conn: &Conn, text: &mut String) -> Result<(), CaseError> {
-    let (first, last) = conn.waiting_octets();
-    let mut lent = Vec::from_slice(alloc, first)?;
-    lent.extend_from_slice(last)?;
-    Ok(add_frames(alloc, text, &lent)?)
-}
-
-/// Says where there is no output.
-pub fn drop_out(out: &[u8], text: &mut String) -> Result<(), CaseError> {
-    if out.is_empty() {
-        text.push_str("nothing waits\n")?;
-    }
-    Ok(())
-}
-
-// Adds what a reader of this name answers of a stream; whether there is one.
-fn read_stream(
-    conn: &Conn,
-    name: &str,
-    words: &mut Words<'_>,
-    text: &mut String,
-) -> Result<bool, CaseError> {
-    if !matches!(name, "room" | "owed" | "next_live" | "is_active") {
-        return Ok(false);
-    }
-    let id = words.number()?;
-    match name {
-        "room" => add_option(text, conn.room(id))?,
-        "owed" => write!(text, "{}\n", conn.owed(id))?,
-        "next_live" => add_option(text, conn.next_live(id))?,
-        _ => write!(text, "{}\n", conn.is_active(id))?,
-    }
-    Ok(true)
-}
-
-// The answers to a case's commands with a cut, up to the first that has none.
-fn run_with(alloc: Global, case: &Case, cut: Cut) -> Vec<Result<String, CaseError>> {
-    let mut answers = Vec::new(alloc);
-    let mut state = State {
-        alloc,
-        cut,
-        role: Role::Client,
-        config: Config::default(),
-        conn: None,
-        acts: Vec::new(alloc),
-    };
-    for step in &case.steps {
-        let found = state.answer(step);
-        let fails = found.is_err();
-        if answers.push(found).is_err() || fails {
-            break;
+            "new" => self.begin(words, text),
+            "take" => self.take(words, text),
+            "out" if words.is_empty() => self.add_output(text),
+            "drop" => self.drop_output(words, text),
+            "replay" => self.replay(text),
+            _ => self.call(name, words, text),
         }
     }
-    answers
+}
+
+impl Cutting for State {
+    fn new(alloc: Global, cut: Cut) -> State {
+        State {
+            alloc,
+            cut,
+            role: Role::Client,
+            config: Config::default(),
+            conn: None,
+            acts: Vec::new(alloc),
+        }
+    }
 }
 
 /// The answers to a case's commands, however the octets are cut.
-pub fn run_case(alloc: Global, case: &Case) -> Vec<Result<String, CaseError>> {
-    let mut answers = run_with(alloc, case, WHOLE);
-    for number in 0..count_of_cuts(case) {
-        let others = run_with(alloc, case, Cut::of(number));
-        if add_difference(&mut answers, &others, number) {
-            break;
-        }
-    }
-    answers
+pub fn run_case(alloc: Global, case: &Case) -> Vec<Answer> {
+    answers_in_cuts::<State>(alloc, case)
 }

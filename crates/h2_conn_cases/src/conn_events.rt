@@ -5,98 +5,120 @@
 //! - `reset ID code=N ours` or `theirs`, `goaway last=N code=N`, `unprocessed ID`, `acked`, and
 //!   `pong OCTETS`.
 
-use crate::answers::{Notes, add_list, end_word, whose};
-use h2_case::case::CaseError;
+use crate::answers::{add_list, begin_line, end_with_octets};
+use crate::notes::Notes;
 use h2_case::fields::add_fields;
-use h2_conn::Event;
+use h2_case::text::Text;
+use h2_conn::{ConnFault, Event};
 use h2_replay::ReplayEvent;
 use std::alloc::Global;
 
-/// Adds the lines of what is reported.
-pub(crate) fn add_event(
-    alloc: Global,
-    notes: &mut Notes,
-    event: Event<'_>,
-) -> Result<(), CaseError> {
+// The kind of what is reported.
+fn kind_of(event: &Event<'_>) -> &'static str {
+    match event {
+        Event::Fields { .. } => "fields",
+        Event::Data { .. } => "data",
+        Event::Reset { .. } => "reset",
+        Event::GoAway { .. } => "goaway",
+        Event::Unprocessed { .. } => "unprocessed",
+        Event::Acked => "acked",
+        Event::Pong { .. } => "pong",
+    }
+}
+
+/// Notes what is reported, if something is; whether it is.
+pub(crate) fn note_event(notes: &mut Notes, reported: Option<Event<'_>>) -> bool {
+    match reported {
+        Some(event) => {
+            notes.begin(kind_of(&event));
+            add_event(notes.alloc, &mut notes.lines, event);
+            true
+        }
+        None => false,
+    }
+}
+
+/// Notes a fault of the connection.
+pub fn note_fault(notes: &mut Notes, fault: ConnFault) {
+    notes.begin("fault");
+    write!(notes.lines, "fault {:?}\n", fault.code);
+}
+
+// Adds the lines of what is reported.
+fn add_event(alloc: Global, text: &mut Text, event: Event<'_>) {
     match event {
         Event::Fields { id, list, end } => {
-            notes.begin("fields")?;
-            write!(notes.lines, "fields {id}{}\n", end_word(end))?;
-            add_list(alloc, &mut notes.lines, list)
+            begin_line(text, "fields", id, end);
+            text.push_str("\n");
+            add_list(alloc, text, list);
         }
         Event::Data {
             id,
             bytes,
             flow,
             end,
-        } => {
-            notes.begin("data")?;
-            write!(notes.lines, "data {id} flow={flow}{}", end_word(end))?;
-            notes.add_octets(bytes)
-        }
-        Event::Reset { id, code, ours } => add_reset(notes, id, code, ours),
-        Event::GoAway { last, code } => add_goaway(notes, last, code),
-        Event::Unprocessed { id } => add_unprocessed(notes, id),
-        Event::Acked => add_acked(notes),
-        Event::Pong { octets } => add_pong(notes, octets),
+        } => add_data(text, id, bytes, (flow, end)),
+        Event::Reset { id, code, ours } => add_reset(text, id, code, ours),
+        Event::GoAway { last, code } => add_goaway(text, last, code),
+        Event::Unprocessed { id } => add_unprocessed(text, id),
+        Event::Acked => add_acked(text),
+        Event::Pong { octets } => add_pong(text, &octets),
     }
 }
 
-/// Adds the lines of what a replay has kept of this.
-pub(crate) fn add_kept(
-    alloc: Global,
-    notes: &mut Notes,
-    event: &ReplayEvent,
-) -> Result<(), CaseError> {
+/// Adds the lines of what a replay has kept.
+pub(crate) fn add_kept(alloc: Global, text: &mut Text, event: &ReplayEvent) {
     match event {
         ReplayEvent::Fields { id, list, end } => {
-            write!(notes.lines, "fields {id}{}\n", end_word(*end))?;
-            add_fields(alloc, &mut notes.lines, list)
+            begin_line(text, "fields", *id, *end);
+            text.push_str("\n");
+            add_fields(alloc, text, list);
         }
         ReplayEvent::Data {
             id,
             octets,
             flow,
             end,
-        } => {
-            write!(notes.lines, "data {id} flow={flow}{}", end_word(*end))?;
-            notes.add_octets(octets)
-        }
-        ReplayEvent::Reset { id, code, ours } => add_reset(notes, *id, *code, *ours),
-        ReplayEvent::GoAway { last, code } => add_goaway(notes, *last, *code),
-        ReplayEvent::Unprocessed { id } => add_unprocessed(notes, *id),
-        ReplayEvent::Acked => add_acked(notes),
-        ReplayEvent::Pong { octets } => add_pong(notes, *octets),
+        } => add_data(text, *id, octets, (*flow, *end)),
+        ReplayEvent::Reset { id, code, ours } => add_reset(text, *id, *code, *ours),
+        ReplayEvent::GoAway { last, code } => add_goaway(text, *last, *code),
+        ReplayEvent::Unprocessed { id } => add_unprocessed(text, *id),
+        ReplayEvent::Acked => add_acked(text),
+        ReplayEvent::Pong { octets } => add_pong(text, octets),
     }
 }
 
+// Adds the line of octets of a body: what they took of the windows, and whether the stream ends.
+fn add_data(text: &mut Text, id: u32, octets: &[u8], of_frame: (u32, bool)) {
+    let (flow, end) = of_frame;
+    write!(text, "data {id} flow={flow}");
+    text.push_str(if end { " end" } else { "" });
+    end_with_octets(text, octets);
+}
+
 /// Adds the line of a stream that was reset.
-pub fn add_reset(notes: &mut Notes, id: u32, code: u32, ours: bool) -> Result<(), CaseError> {
-    notes.begin("reset")?;
-    Ok(write!(notes.lines, "reset {id} code={code} {}\n", whose(ours))?)
+pub fn add_reset(text: &mut Text, id: u32, code: u32, ours: bool) {
+    write!(text, "reset {id} code={code}");
+    text.push_line(if ours { " ours" } else { " theirs" });
 }
 
 /// Adds the line of GOAWAY.
-pub fn add_goaway(notes: &mut Notes, last: u32, code: u32) -> Result<(), CaseError> {
-    notes.begin("goaway")?;
-    Ok(write!(notes.lines, "goaway last={last} code={code}\n")?)
+pub fn add_goaway(text: &mut Text, last: u32, code: u32) {
+    write!(text, "goaway last={last} code={code}\n");
 }
 
 /// Adds the line of a stream that the peer has not processed.
-pub fn add_unprocessed(notes: &mut Notes, id: u32) -> Result<(), CaseError> {
-    notes.begin("unprocessed")?;
-    Ok(write!(notes.lines, "unprocessed {id}\n")?)
+pub fn add_unprocessed(text: &mut Text, id: u32) {
+    write!(text, "unprocessed {id}\n");
 }
 
 /// Adds the line of SETTINGS that were acknowledged.
-pub fn add_acked(notes: &mut Notes) -> Result<(), CaseError> {
-    notes.begin("acked")?;
-    Ok(notes.lines.push_str("acked\n")?)
+pub fn add_acked(text: &mut Text) {
+    text.push_line("acked");
 }
 
 /// Adds the line of a PING that was answered.
-pub fn add_pong(notes: &mut Notes, octets: [u8; 8]) -> Result<(), CaseError> {
-    notes.begin("pong")?;
-    notes.lines.push_str("pong")?;
-    notes.add_octets(&octets)
+pub fn add_pong(text: &mut Text, octets: &[u8; 8]) {
+    text.push_str("pong");
+    end_with_octets(text, octets);
 }

@@ -1,9 +1,11 @@
 //! How the octets of a command are handed over: whole, one a piece, or in two at each place.
 
+use crate::answers::extend;
 use h2_case::case::{Case, CaseError};
-use h2_case::octets::read_octets;
+use h2_case::driver::{Answer, Driver, answers};
+use h2_case::octets::{read_octets, split_frame};
 use h2_case::words::Words;
-use std::alloc::{AllocError, Global};
+use std::alloc::Global;
 
 /// How the octets of each `take` are handed over.
 #[derive(Clone, Copy)]
@@ -29,7 +31,7 @@ const MANY: usize = 20_000;
 impl Cut {
     /// Cut 0 is pieces of one octet, and any other is two pieces, of which the first has so many
     /// octets.
-    pub fn of(number: u32) -> Cut {
+    fn of(number: u32) -> Cut {
         match number {
             0 => Cut { place: 0, most: 1 },
             _ => Cut {
@@ -40,15 +42,12 @@ impl Cut {
     }
 
     /// The octets before the place, which come first, and those from it on.
-    pub fn split(self, octets: &[u8]) -> (&[u8], &[u8]) {
-        match (octets.get(..self.place), octets.get(self.place..)) {
-            (Some(before), Some(from)) => (before, from),
-            _ => (octets, &[]),
-        }
+    pub(crate) fn split(self, octets: &[u8]) -> (&[u8], &[u8]) {
+        octets.split_at_checked(self.place).unwrap_or((octets, &[]))
     }
 
     /// The next piece of these octets; of many it has seven octets in place of one.
-    pub fn piece(self, octets: &[u8]) -> &[u8] {
+    pub(crate) fn piece(self, octets: &[u8]) -> &[u8] {
         let most = if self.most == 1 && octets.len() > MANY {
             7
         } else {
@@ -56,6 +55,34 @@ impl Cut {
         };
         octets.get(..most).unwrap_or(octets)
     }
+}
+
+/// A driver whose octets are cut.
+pub trait Cutting: Driver {
+    /// A new one, with a cut.
+    fn new(alloc: Global, cut: Cut) -> Self;
+}
+
+/// The answers of a new driver to a case's commands, up to the first that has none.
+pub fn answers_of<D: Driver + Drop>(alloc: Global, case: &Case, mut driver: D) -> Vec<Answer> {
+    answers(alloc, case, &mut driver)
+}
+
+// The answers to a case's commands with a cut, up to the first that has none.
+fn answers_with<D: Cutting + Drop>(alloc: Global, case: &Case, cut: Cut) -> Vec<Answer> {
+    answers_of(alloc, case, D::new(alloc, cut))
+}
+
+/// The answers to a case's commands, however the octets are cut.
+pub fn answers_in_cuts<D: Cutting + Drop>(alloc: Global, case: &Case) -> Vec<Answer> {
+    let mut answers = answers_with::<D>(alloc, case, WHOLE);
+    for number in 0..count_of_cuts(case) {
+        let others = answers_with::<D>(alloc, case, Cut::of(number));
+        if add_difference(&mut answers, &others, number) {
+            break;
+        }
+    }
+    answers
 }
 
 // Whether a command has many octets, or is done many times: a word with a count of more than 99.
@@ -68,10 +95,10 @@ fn is_long(command: &str) -> bool {
         ))
 }
 
-/// With how many cuts a case is done besides that of whole octets: none where it has no `take`, or
-/// a crowd of messages; and no places where a command is long, unless a `take` is to be cut
-/// anywhere.
-pub fn count_of_cuts(case: &Case) -> u32 {
+// With how many cuts a case is done besides that of whole octets: none where it has no `take`, or
+// a crowd of messages; and no places where a command is long, unless a `take` is to be cut
+// anywhere.
+fn count_of_cuts(case: &Case) -> u32 {
     let (mut longest, mut long, mut anywhere) = (0, false, false);
     for step in &case.steps {
         if let Some(octets) = step.command.strip_prefix("take ") {
@@ -92,20 +119,20 @@ pub fn count_of_cuts(case: &Case) -> u32 {
     u32::try_from(longest).unwrap_or(1)
 }
 
-/// Adds to the first answer that differs with a cut what it is then; whether one does.
-pub fn add_difference(
-    answers: &mut [Result<String, CaseError>],
-    others: &[Result<String, CaseError>],
-    cut: u32,
-) -> bool {
+// Whether two answers are the same.
+fn are_same(answer: &Answer, other: &Answer) -> bool {
+    match (answer, other) {
+        (Ok(answer), Ok(other)) => answer == other,
+        (Err(_), Err(_)) => true,
+        _ => false,
+    }
+}
+
+// Adds to the first answer that differs with a cut what it is then; whether one does.
+fn add_difference(answers: &mut [Answer], others: &[Answer], cut: u32) -> bool {
     for (answer, other) in answers.iter_mut().zip(others) {
-        let same = match (&*answer, other) {
-            (Ok(answer), Ok(other)) => answer == other,
-            (Err(_), Err(_)) => true,
-            _ => false,
-        };
-        if !same {
-            let _ = add_other(answer, other, cut);
+        if !are_same(answer, other) {
+            add_other(answer, other, cut);
             return true;
         }
     }
@@ -113,57 +140,64 @@ pub fn add_difference(
 }
 
 // Adds what an answer is with a cut.
-fn add_other(
-    answer: &mut Result<String, CaseError>,
-    other: &Result<String, CaseError>,
-    cut: u32,
-) -> Result<(), AllocError> {
-    let Ok(answer) = answer else {
-        return Ok(());
+fn add_other(answer: &mut Answer, other: &Answer, cut: u32) {
+    let other = match other {
+        Ok(other) => other.as_str(),
+        Err(_) => "no answer\n",
     };
-    write!(answer, "with cut {cut} this came:\n")?;
-    match other {
-        Ok(other) => answer.push_str(other),
-        Err(_) => answer.push_str("no answer\n"),
+    let is_refused = match answer {
+        Ok(lines) => write!(lines, "with cut {cut} this came:\n{other}").is_err(),
+        Err(_) => false,
+    };
+    if is_refused {
+        *answer = Err(CaseError::Memory);
     }
 }
 
 /// The octets of what is left of a command: `each N FRAMES` is the frames N times, with numbers of
 /// streams that are 2 higher each time; all else is as [`read_octets`] says.
-pub fn read_frames(alloc: Global, words: &mut Words<'_>) -> Result<Vec<u8>, CaseError> {
-    if !words.has("each") {
-        return read_octets(alloc, words.rest());
+pub fn read_frames(alloc: Global, words: &mut Words<'_>) -> Vec<u8> {
+    if words.has("each") {
+        let times = words.number();
+        let frames = read_octets(alloc, words);
+        repeated(alloc, &frames, times, words)
+    } else {
+        read_octets(alloc, words)
     }
-    let times: u32 = words.number()?;
-    let frames = read_octets(alloc, words.rest())?;
+}
+
+// Frames so many times, with numbers of streams that are 2 higher each time.
+fn repeated(alloc: Global, frames: &[u8], times: u32, words: &mut Words<'_>) -> Vec<u8> {
     let mut octets = Vec::new(alloc);
     for time in 0..times {
-        add_frames_above(&mut octets, &frames, time.wrapping_mul(2))?;
+        add_frames_above(&mut octets, frames, time.wrapping_mul(2), words);
+        if words.fault().is_some() {
+            break;
+        }
     }
-    Ok(octets)
+    octets
 }
 
 // Adds frames with numbers of streams that are so much higher.
-fn add_frames_above(octets: &mut Vec<u8>, frames: &[u8], more: u32) -> Result<(), CaseError> {
+fn add_frames_above(octets: &mut Vec<u8>, frames: &[u8], more: u32, words: &mut Words<'_>) {
     let mut others = frames;
     for _ in 0..frames.len() {
-        let Some((head, payload)) = others.split_first_chunk::<9>() else {
+        let Some((head, payload, following)) = split_frame(others) else {
             break;
         };
-        let [a, b, c, kind, flags, d, e, f, g] = *head;
-        let id = u32::from_be_bytes([d, e, f, g]).wrapping_add(more);
-        let len = (a as usize) * 65_536 + (b as usize) * 256 + c as usize;
-        let (Some(payload), Some(next)) = (payload.get(..len), payload.get(len..)) else {
-            break;
-        };
-        octets.extend_from_slice(&[a, b, c, kind, flags])?;
-        octets.extend_from_slice(&id.to_be_bytes())?;
-        octets.extend_from_slice(payload)?;
-        others = next;
+        extend(octets, &head_above(head, more), words);
+        extend(octets, payload, words);
+        others = following;
     }
-    if others.is_empty() {
-        Ok(())
-    } else {
-        Err(CaseError::Unread)
+    if !others.is_empty() {
+        words.unread();
     }
+}
+
+// The head of a frame with a number of a stream that is so much higher.
+fn head_above(head: &[u8; 9], more: u32) -> [u8; 9] {
+    let [a, b, c, kind, flags, d, e, f, g] = *head;
+    let id = u32::from_be_bytes([d, e, f, g]).wrapping_add(more);
+    let [d, e, f, g] = id.to_be_bytes();
+    [a, b, c, kind, flags, d, e, f, g]
 }

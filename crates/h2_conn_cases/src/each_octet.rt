@@ -1,92 +1,121 @@
 //! Each octet at each place of a name or a value.
 
-use h2_case::case::{CaseError, add_line};
+use h2_case::text::Text;
 use h2_message::{Malformed, Message, check_request};
 use hpack::Field;
 use std::alloc::Global;
 
-/// A request with one field, which is tried. What else a request lacks has a higher number.
+// Whether a request with this field alone breaks this rule. What else it lacks has a higher number.
+fn breaks(alloc: Global, field: Field, rule: Malformed, text: &mut Text) -> bool {
+    let mut head = Vec::new(alloc);
+    if head.push(field).is_err() {
+        text.refuse();
+    }
+    let message = Message {
+        head,
+        body: Vec::new(alloc),
+        trailers: None,
+    };
+    check_request(&message) == Err(rule)
+}
+
+/// What is tried.
 #[derive(Drop)]
 struct Tried {
     alloc: Global,
-    message: Message,
-    /// Whether its name is tried, and else its value.
+    octets: Vec<u8>,
+    /// Whether a name is tried, and else a value.
     is_name: bool,
 }
 
 impl Tried {
-    fn new(alloc: Global, is_name: bool) -> Tried {
-        Tried {
-            alloc,
-            message: Message {
-                head: Vec::new(alloc),
-                body: Vec::new(alloc),
-                trailers: None,
-            },
-            is_name,
-        }
-    }
-
-    // Whether the rule of a name, or of a value, is broken by these octets.
-    fn is_bad(&mut self, octets: &[u8]) -> Result<bool, CaseError> {
+    // Whether the rule of a name, or of a value, is broken.
+    fn is_bad(&self, text: &mut Text) -> bool {
+        let octets = self.octets.as_slice();
         let (name, value, rule) = if self.is_name {
             (octets, b"a".as_slice(), Malformed::BadName)
         } else {
             (b"a".as_slice(), octets, Malformed::BadValue)
         };
-        self.message.head.clear();
-        self.message
-            .head
-            .push(Field::copy_of(self.alloc, name, value, false)?)?;
-        Ok(check_request(&self.message) == Err(rule))
+        match Field::copy_of(self.alloc, name, value, false) {
+            Ok(field) => breaks(self.alloc, field, rule, text),
+            Err(_) => {
+                text.refuse();
+                false
+            }
+        }
+    }
+
+    // Sets the octet at a place, if there is one.
+    fn set(&mut self, place: usize, octet: u8) {
+        if let Some(part) = self.octets.get_mut(place) {
+            *part = octet;
+        }
+    }
+
+    // Whether it is broken once this octet is at a place; by 256, which is none, it isn't.
+    fn is_bad_with(&mut self, place: usize, octet: u32, text: &mut Text) -> bool {
+        match u8::try_from(octet) {
+            Ok(octet) => {
+                self.set(place, octet);
+                self.is_bad(text)
+            }
+            Err(_) => false,
+        }
     }
 
     // The octets that break it at a place among so many of `a`, as ranges in hexadecimal.
-    fn bad_octets(&mut self, count: usize, place: usize) -> Result<String, CaseError> {
-        let mut octets = vec![in self.alloc; b'a'; count]?;
-        let mut ranges = String::new(self.alloc);
+    fn bad_octets(&mut self, place: usize, text: &mut Text) -> Text {
+        let mut ranges = Text::new(self.alloc);
         let mut first = None;
         for octet in 0..=256u32 {
-            if let (Some(part), Ok(octet)) = (octets.get_mut(place), u8::try_from(octet)) {
-                *part = octet;
-            }
-            let bad = octet < 256 && self.is_bad(&octets)?;
+            let is_bad = self.is_bad_with(place, octet, text);
             match first {
-                None if bad => first = Some(octet),
-                Some(from) if !bad => {
-                    write!(ranges, " {from:02x}-{:02x}", octet.saturating_sub(1))?;
+                None if is_bad => first = Some(octet),
+                Some(from) if !is_bad => {
+                    write!(ranges, " {from:02x}-{:02x}", octet.saturating_sub(1));
                     first = None;
                 }
                 _ => {}
             }
         }
-        Ok(ranges)
+        self.set(place, b'a');
+        ranges
+    }
+
+    // Adds a line for each place; of places one after another that are alike, the first and the
+    // last.
+    fn add_places(&mut self, text: &mut Text) {
+        let count = self.octets.len();
+        let mut ranges = self.bad_octets(0, text);
+        let mut first = 0;
+        for place in 1..=count {
+            let next = if place < count {
+                self.bad_octets(place, text)
+            } else {
+                Text::new(self.alloc)
+            };
+            if next.as_str() != ranges.as_str() {
+                write!(text, "{first}-{}:", place.saturating_sub(1));
+                text.push_text(&ranges);
+                text.push_str("\n");
+                ranges = next;
+                first = place;
+            }
+        }
     }
 }
 
 /// Adds a line for each place of so many octets, at which the octets are that may not be there; of
 /// places one after another that are alike, the first and the last.
-pub(crate) fn add_bad_octets(
-    alloc: Global,
-    text: &mut String,
-    is_name: bool,
-    count: usize,
-) -> Result<(), CaseError> {
-    let mut tried = Tried::new(alloc, is_name);
-    let mut ranges = tried.bad_octets(count, 0)?;
-    let mut first = 0;
-    for place in 1..=count {
-        let next = if place < count {
-            tried.bad_octets(count, place)?
-        } else {
-            String::new(alloc)
-        };
-        if next != ranges {
-            write!(text, "{first}-{}:", place.saturating_sub(1))?;
-            add_line(text, &ranges)?;
-            ranges = next;
-            first = place;
+pub(crate) fn add_bad_octets(alloc: Global, text: &mut Text, is_name: bool, count: usize) {
+    match vec![in alloc; b'a'; count] {
+        Ok(octets) => Tried {
+            alloc,
+            octets,
+            is_name,
         }
+        .add_places(text),
+        Err(_) => text.refuse(),
     }
-    Ok(())
 }

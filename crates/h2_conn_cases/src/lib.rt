@@ -9,4 +9,5 @@ pub mod conn_events;
 pub mod cuts;
 mod each_octet;
 pub mod message;
+pub mod notes;
 mod replayed;

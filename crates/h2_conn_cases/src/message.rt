@@ -10,56 +10,93 @@
 //!   answer the part that the field block is, `taken` for so many octets of DATA, or `refused`; and
 //!   `is_over` and `asks_head` what they say.
 
-use crate::answers::add_name;
+use crate::answers::{add_name, add_value};
+use crate::cuts::answers_of;
 use crate::each_octet::add_bad_octets;
-use h2_case::case::{Case, CaseError, Step};
+use h2_case::case::{Case, CaseError};
+use h2_case::driver::{Answer, Driver};
 use h2_case::fields::read_fields;
 use h2_case::messages::read_message;
+use h2_case::text::Text;
 use h2_case::words::Words;
 use h2_message::{Malformed, Place, Reading, Reads, asks_head, check_request, check_response};
-use hpack::{Decoder, Encoder, FieldList, list_size};
+use hpack::{Decoder, Encoder, Field, FieldList, list_size};
 use std::alloc::Global;
 
-// The line of a check.
-fn checked(alloc: Global, checked: Result<(), Malformed>) -> Result<String, CaseError> {
-    let mut text = String::new(alloc);
+/// The message that is read.
+#[derive(Drop)]
+struct State {
+    alloc: Global,
+    reading: Reading,
+}
+
+// Adds the line of a check.
+fn add_checked(alloc: Global, text: &mut Text, checked: Result<(), Malformed>) {
     match checked {
-        Ok(()) => text.push_str("good\n")?,
-        Err(rule) => add_name(alloc, &mut text, &rule)?,
+        Ok(()) => text.push_line("good"),
+        Err(rule) => add_name(alloc, text, &rule),
     }
-    Ok(text)
+}
+
+// Checks a request.
+fn add_request(alloc: Global, words: &mut Words<'_>, text: &mut Text) {
+    let message = read_message(alloc, words);
+    add_checked(alloc, text, check_request(&message));
+}
+
+// Checks a response.
+fn add_response(alloc: Global, words: &mut Words<'_>, text: &mut Text) {
+    let to_head = words.has("to_head");
+    let message = read_message(alloc, words);
+    add_checked(alloc, text, check_response(&message, to_head));
+}
+
+// Adds whether the head of a request asks with HEAD.
+fn add_asks_head(alloc: Global, words: &mut Words<'_>, text: &mut Text) {
+    let head = read_fields(alloc, words);
+    add_value(text, asks_head(&head));
 }
 
 // Which messages are read.
-fn read_reads(words: &mut Words<'_>) -> Result<Reads, CaseError> {
-    let reads = match words.word()? {
+fn read_reads(words: &mut Words<'_>) -> Reads {
+    match words.word() {
         "requests" => Reads::Requests,
         "responses" => Reads::Responses {
             to_head: words.has("to_head"),
         },
-        _ => return Err(CaseError::Unread),
-    };
-    words.end()?;
-    Ok(reads)
+        _ => {
+            words.unread();
+            Reads::Requests
+        }
+    }
+}
+
+// Writes a block of fields, and reads it; whether both were done.
+fn copy_block(
+    encoder: &mut Encoder,
+    fields: &[Field],
+    decoder: &mut Decoder,
+    block: &mut Vec<u8>,
+    list: &mut FieldList,
+) -> bool {
+    list_size(fields) < 1 << 35
+        && encoder.encode(fields, block).is_ok()
+        && decoder.decode_into(block, 65_536, list).is_ok()
 }
 
 // The list of a block of these fields.
-fn read_list(alloc: Global, text: &str) -> Result<FieldList, CaseError> {
-    let fields = read_fields(alloc, text)?;
-    let (Ok(mut encoder), Ok(mut decoder)) = (Encoder::new(alloc, 0), Decoder::new(alloc, 0)) else {
-        return Err(CaseError::Memory);
-    };
+fn list_of(alloc: Global, fields: &[Field], words: &mut Words<'_>) -> FieldList {
     let mut block = Vec::new(alloc);
     let mut list = FieldList::new(alloc);
-    if list_size(&fields) >= 1 << 35 {
-        return Err(CaseError::Unread);
+    match (Encoder::new(alloc, 0), Decoder::new(alloc, 0)) {
+        (Ok(mut encoder), Ok(mut decoder)) => {
+            if !copy_block(&mut encoder, fields, &mut decoder, &mut block, &mut list) {
+                words.unread();
+            }
+        }
+        _ => words.fail(CaseError::Memory),
     }
-    if encoder.encode(&fields, &mut block).is_err()
-        || decoder.decode_into(&block, 65_536, &mut list).is_err()
-    {
-        return Err(CaseError::Unread);
-    }
-    Ok(list)
+    list
 }
 
 // The word for a part of a message.
@@ -72,78 +109,55 @@ fn part_word(place: Option<Place>) -> &'static str {
     }
 }
 
-// What a reading answers to a command.
-fn answer_of_reading(
-    alloc: Global,
-    reading: &mut Reading,
-    name: &str,
-    words: &mut Words<'_>,
-) -> Result<String, CaseError> {
-    let mut text = String::new(alloc);
-    match name {
-        "fields" => {
-            let end = words.has("end");
-            let list = read_list(alloc, words.rest())?;
-            write!(text, "{}\n", part_word(reading.fields(&list, end)))?;
-        }
-        "data" => {
-            let end = words.has("end");
-            let taken = reading.data(words.number()?, end);
-            text.push_str(if taken { "taken\n" } else { "refused\n" })?;
-        }
-        "is_over" => write!(text, "{}\n", reading.is_over())?,
-        "asks_head" => write!(text, "{}\n", reading.asks_head())?,
-        _ => return Err(CaseError::Unread),
+// Adds what a message is that these fields belong to.
+fn add_part(alloc: Global, reading: &mut Reading, words: &mut Words<'_>, text: &mut Text) {
+    let end = words.has("end");
+    let fields = read_fields(alloc, words);
+    let list = list_of(alloc, &fields, words);
+    text.push_line(part_word(reading.fields(&list, end)));
+}
+
+// Adds whether octets of a body belong to the message.
+fn add_data(reading: &mut Reading, words: &mut Words<'_>, text: &mut Text) {
+    let end = words.has("end");
+    let is_taken = reading.data(words.number(), end);
+    text.push_line(if is_taken { "taken" } else { "refused" });
+}
+
+// Adds the octets that names or values may not have.
+fn add_each_octet(alloc: Global, words: &mut Words<'_>, text: &mut Text) {
+    words.expect("octet");
+    words.expect("of");
+    let is_name = words.has("names");
+    if !is_name {
+        words.expect("values");
     }
-    words.end()?;
-    Ok(text)
+    add_bad_octets(alloc, text, is_name, words.number());
 }
 
-// The octets that names or values may not have.
-fn each_octet(alloc: Global, words: &mut Words<'_>) -> Result<String, CaseError> {
-    let is_name = match (words.word()?, words.word()?, words.word()?) {
-        ("octet", "of", "names") => true,
-        ("octet", "of", "values") => false,
-        _ => return Err(CaseError::Unread),
-    };
-    let mut text = String::new(alloc);
-    add_bad_octets(alloc, &mut text, is_name, words.number()?)?;
-    Ok(text)
-}
-
-// The answer to a command.
-fn answer(alloc: Global, reading: &mut Reading, step: &Step) -> Result<String, CaseError> {
-    let mut words = Words::of(&step.command);
-    match words.word()? {
-        "request" => checked(alloc, check_request(&read_message(alloc, words.rest())?)),
-        "response" => {
-            let to_head = words.has("to_head");
-            let message = read_message(alloc, words.rest())?;
-            checked(alloc, check_response(&message, to_head))
+impl Driver for State {
+    fn answer(&mut self, name: &str, words: &mut Words<'_>, text: &mut Text) {
+        let alloc = self.alloc;
+        match name {
+            "request" => add_request(alloc, words, text),
+            "response" => add_response(alloc, words, text),
+            "asks" => add_asks_head(alloc, words, text),
+            "each" => add_each_octet(alloc, words, text),
+            "read" => self.reading = Reading::new(read_reads(words)),
+            "fields" => add_part(alloc, &mut self.reading, words, text),
+            "data" => add_data(&mut self.reading, words, text),
+            "is_over" => add_value(text, self.reading.is_over()),
+            "asks_head" => add_value(text, self.reading.asks_head()),
+            _ => words.unread(),
         }
-        "asks" => {
-            let head = read_fields(alloc, words.rest())?;
-            Ok(format!(in alloc; "{}\n", asks_head(&head))?)
-        }
-        "each" => each_octet(alloc, &mut words),
-        "read" => {
-            *reading = Reading::new(read_reads(&mut words)?);
-            Ok(String::new(alloc))
-        }
-        name => answer_of_reading(alloc, reading, name, &mut words),
     }
 }
 
 /// The answers to a case's commands, up to the first that has none.
-pub fn run_case(alloc: Global, case: &Case) -> Vec<Result<String, CaseError>> {
-    let mut answers = Vec::new(alloc);
-    let mut reading = Reading::new(Reads::Requests);
-    for step in &case.steps {
-        let found = answer(alloc, &mut reading, step);
-        let fails = found.is_err();
-        if answers.push(found).is_err() || fails {
-            break;
-        }
-    }
-    answers
+pub fn run_case(alloc: Global, case: &Case) -> Vec<Answer> {
+    let state = State {
+        alloc,
+        reading: Reading::new(Reads::Requests),
+    };
+    answers_of(alloc, case, state)
 }

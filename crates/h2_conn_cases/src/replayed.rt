@@ -3,10 +3,10 @@
 //! call is refused, or `fault CODE`.
 
 use crate::acts::add_act;
-use crate::answers::{Notes, add_name, end_with_octets};
+use crate::answers::{add_name, add_value, end_with_octets};
 use crate::conn_events::add_kept;
-use h2_case::case::CaseError;
 use h2_case::octets::add_frames;
+use h2_case::text::Text;
 use h2_conn::{Config, Role};
 use h2_replay::{Act, Answer, Turn, replay};
 use std::alloc::Global;
@@ -17,50 +17,54 @@ pub(crate) fn add_replay(
     role: Role,
     config: Config,
     acts: Vec<Act>,
-    text: &mut String,
-) -> Result<(), CaseError> {
-    let log = replay(alloc, role, config, acts)?;
-    for turn in &log.turns {
-        add_turn(alloc, text, turn)?;
+    text: &mut Text,
+) {
+    match replay(alloc, role, config, acts) {
+        Ok(log) => add_turns(alloc, text, &log.turns),
+        Err(_) => text.refuse(),
     }
-    Ok(())
+}
+
+// Adds the lines of turns.
+fn add_turns(alloc: Global, text: &mut Text, turns: &[Turn]) {
+    for turn in turns {
+        add_turn(alloc, text, turn);
+    }
 }
 
 // Adds the lines of a turn.
-fn add_turn(alloc: Global, text: &mut String, turn: &Turn) -> Result<(), CaseError> {
+fn add_turn(alloc: Global, text: &mut Text, turn: &Turn) {
     match turn {
         Turn::In(octets) => {
-            text.push_str("in")?;
-            Ok(end_with_octets(text, octets)?)
+            text.push_str("in");
+            end_with_octets(text, octets);
         }
         Turn::Out(octets) => {
-            text.push_str("out\n")?;
-            Ok(add_frames(alloc, text, octets)?)
+            text.push_str("out\n");
+            add_frames(alloc, text, octets);
         }
         Turn::Call(act) => {
-            text.push_str("call ")?;
-            add_act(alloc, text, act)
+            text.push_str("call ");
+            add_act(alloc, text, act);
         }
         Turn::Event(event) => {
-            let mut notes = Notes::new(alloc, false);
-            add_kept(alloc, &mut notes, event)?;
-            text.push_str("event ")?;
-            notes.add_to(text)
+            text.push_str("event ");
+            add_kept(alloc, text, event);
         }
         Turn::Answer(answer) => {
-            text.push_str("answer ")?;
-            add_act_answer(alloc, text, *answer)
+            text.push_str("answer ");
+            add_act_answer(alloc, text, *answer);
         }
     }
 }
 
 // Adds what an act answered.
-fn add_act_answer(alloc: Global, text: &mut String, answer: Answer) -> Result<(), CaseError> {
+fn add_act_answer(alloc: Global, text: &mut Text, answer: Answer) {
     match answer {
-        Answer::Id(id) => Ok(write!(text, "id {id}\n")?),
-        Answer::Count(count) => Ok(write!(text, "{count}\n")?),
-        Answer::Done => Ok(text.push_str("done\n")?),
+        Answer::Id(id) => write!(text, "id {id}\n"),
+        Answer::Count(count) => add_value(text, count),
+        Answer::Done => text.push_line("done"),
         Answer::Refused(refusal) => add_name(alloc, text, &refusal),
-        Answer::Fault(code) => Ok(write!(text, "fault {code:?}\n")?),
+        Answer::Fault(code) => write!(text, "fault {code:?}\n"),
     }
 }

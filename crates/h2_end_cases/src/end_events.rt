@@ -3,100 +3,83 @@
 //! the others as `h2_conn_cases::conn_events` says.
 
 use crate::side::Side;
-use h2_case::case::CaseError;
-use h2_conn_cases::answers::{Notes, add_list, end_word};
-use h2_conn_cases::conn_events::{add_acked, add_goaway, add_pong, add_reset, add_unprocessed};
-use h2_conn_cases::cuts::Cut;
+use h2_case::text::Text;
+use h2_conn_cases::answers::{add_list, begin_line, end_with_octets};
+use h2_conn_cases::conn_events::{
+    add_acked, add_goaway, add_pong, add_reset, add_unprocessed, note_fault,
+};
+use h2_conn_cases::notes::{Notes, Taker, Used};
 use h2_ends::EndEvent;
 use hpack::FieldList;
 use std::alloc::Global;
 
-/// Adds the lines of what is handed out.
-pub(crate) fn add_handed(
-    alloc: Global,
-    notes: &mut Notes,
-    event: EndEvent<'_>,
-) -> Result<(), CaseError> {
+// The kind of what is handed out.
+fn kind_of(event: &EndEvent<'_>) -> &'static str {
     match event {
-        EndEvent::Interim { id, list } => add_part(alloc, notes, "interim", (id, false), list),
-        EndEvent::Head { id, list, end } => add_part(alloc, notes, "head", (id, end), list),
-        EndEvent::Trailers { id, list } => add_part(alloc, notes, "trailers", (id, true), list),
-        EndEvent::Body { id, bytes, end } => add_body(notes, id, bytes, end),
-        EndEvent::Reset { id, code, ours } => add_reset(notes, id, code, ours),
-        EndEvent::GoAway { last, code } => add_goaway(notes, last, code),
-        EndEvent::Unprocessed { id } => add_unprocessed(notes, id),
-        EndEvent::Acked => add_acked(notes),
-        EndEvent::Pong { octets } => add_pong(notes, octets),
+        EndEvent::Interim { .. } => "interim",
+        EndEvent::Head { .. } => "head",
+        EndEvent::Trailers { .. } => "trailers",
+        EndEvent::Body { .. } => "body",
+        EndEvent::Reset { .. } => "reset",
+        EndEvent::GoAway { .. } => "goaway",
+        EndEvent::Unprocessed { .. } => "unprocessed",
+        EndEvent::Acked => "acked",
+        EndEvent::Pong { .. } => "pong",
+    }
+}
+
+/// Adds the lines of what is handed out.
+pub(crate) fn add_handed(alloc: Global, text: &mut Text, event: EndEvent<'_>) {
+    match event {
+        EndEvent::Interim { id, list } => add_part(alloc, text, "interim", (id, false), list),
+        EndEvent::Head { id, list, end } => add_part(alloc, text, "head", (id, end), list),
+        EndEvent::Trailers { id, list } => add_part(alloc, text, "trailers", (id, true), list),
+        EndEvent::Body { id, bytes, end } => add_body(text, id, bytes, end),
+        EndEvent::Reset { id, code, ours } => add_reset(text, id, code, ours),
+        EndEvent::GoAway { last, code } => add_goaway(text, last, code),
+        EndEvent::Unprocessed { id } => add_unprocessed(text, id),
+        EndEvent::Acked => add_acked(text),
+        EndEvent::Pong { octets } => add_pong(text, &octets),
     }
 }
 
 // Adds the lines of a field block.
-fn add_part(
-    alloc: Global,
-    notes: &mut Notes,
-    kind: &'static str,
-    stream: (u32, bool),
-    list: &FieldList,
-) -> Result<(), CaseError> {
-    notes.begin(kind)?;
+fn add_part(alloc: Global, text: &mut Text, kind: &str, stream: (u32, bool), list: &FieldList) {
     let (id, end) = stream;
-    write!(notes.lines, "{kind} {id}{}\n", end_word(end))?;
-    add_list(alloc, &mut notes.lines, list)
+    begin_line(text, kind, id, end);
+    text.push_str("\n");
+    add_list(alloc, text, list);
 }
 
 /// Adds the line of octets of a body.
-pub(crate) fn add_body(
-    notes: &mut Notes,
-    id: u32,
-    octets: &[u8],
-    end: bool,
-) -> Result<(), CaseError> {
-    notes.begin("body")?;
-    write!(notes.lines, "body {id}{}", end_word(end))?;
-    notes.add_octets(octets)
+pub(crate) fn add_body(text: &mut Text, id: u32, octets: &[u8], end: bool) {
+    begin_line(text, "body", id, end);
+    end_with_octets(text, octets);
 }
 
-/// Hands octets over, and adds what is handed out; after a fault no more than its line.
-pub(crate) fn take_all(
-    alloc: Global,
-    side: &mut Side,
-    cut: Cut,
-    octets: &[u8],
-    notes: &mut Notes,
-) -> Result<(), CaseError> {
-    let (before, from) = cut.split(octets);
-    if before.is_empty() || take_part(alloc, side, cut, before, notes)? {
-        take_part(alloc, side, cut, from, notes)?;
+// Notes what is handed out, if something is; whether it is.
+fn note_handed(notes: &mut Notes, handed: Option<EndEvent<'_>>) -> bool {
+    match handed {
+        Some(event) => {
+            notes.begin(kind_of(&event));
+            add_handed(notes.alloc, &mut notes.lines, event);
+            true
+        }
+        None => false,
     }
-    Ok(())
 }
 
-// Hands a piece over, up to a fault or until it is used and nothing more is handed out; whether
-// the connection has not failed.
-fn take_part(
-    alloc: Global,
-    side: &mut Side,
-    cut: Cut,
-    octets: &[u8],
-    notes: &mut Notes,
-) -> Result<bool, CaseError> {
-    let mut left = octets;
-    for _ in 0..u64::MAX {
-        match side.take(cut.piece(left)) {
-            Ok(taken) => {
-                left = left.get(taken.used..).unwrap_or(&[]);
-                match taken.event {
-                    Some(event) => add_handed(alloc, notes, event)?,
-                    None if left.is_empty() => break,
-                    None => {}
-                }
-            }
+impl Taker<Notes> for Side {
+    fn take_piece(&mut self, piece: &[u8], notes: &mut Notes) -> Option<Used> {
+        match self.take(piece) {
+            Ok(taken) => Some(Used {
+                count: taken.used,
+                comes_out: note_handed(notes, taken.event),
+            }),
             Err(fault) => {
-                notes.begin("fault")?;
-                write!(notes.lines, "fault {:?}\n", fault.code)?;
-                return Ok(false);
+                note_fault(notes, fault);
+                None
             }
         }
     }
-    Ok(true)
 }

@@ -37,114 +37,88 @@ mod trials;
 mod turns;
 
 use crate::pair::{read_config, read_count};
-use h2_case::case::{Case, CaseError, Step};
-use h2_case::octets::read_octets;
+use h2_case::case::{Case, CaseError};
+use h2_case::driver::{Answer, Driver};
+use h2_case::text::Text;
 use h2_case::words::Words;
-use h2_engines::Config;
-use runs::{Calls, Engine, Setup};
+use h2_conn_cases::answers::copy_of;
+use h2_conn_cases::cuts::answers_of;
+use runs::{Calls, Engine, NEVER, Setup};
 use std::alloc::Global;
 
 // The next words, as how a link reads and writes.
-fn read_calls(words: &mut Words<'_>) -> Result<Calls, CaseError> {
-    let (read, written) = (read_count(words)?, read_count(words)?);
-    let fails_after = if words.has("fails") {
-        Some(words.number()?)
+fn read_calls(words: &mut Words<'_>) -> Calls {
+    Calls {
+        read: read_count(words),
+        written: read_count(words),
+        fails_after: if words.has("fails") {
+            words.number()
+        } else {
+            NEVER
+        },
+    }
+}
+
+// Does `serve` or `fetch`.
+fn run(setup: &mut Setup, engine: Engine, words: &mut Words<'_>, text: &mut Text) {
+    if words.is_empty() {
+        trials::add_alike(setup, engine, words, text);
+    } else if words.has("prefixes") {
+        trials::add_prefixes(setup, engine, words, text);
+    } else if words.has("failing") {
+        let calls = read_calls(words);
+        trials::add_failing(setup, engine, calls, words, text);
+    } else if words.has("turns") {
+        turns::add_turns(setup, engine, words, text);
     } else {
-        None
-    };
-    words.end()?;
-    Ok(Calls {
-        read,
-        written,
-        fails_after,
-    })
+        let calls = read_calls(words);
+        trials::add_run(setup, engine, calls, words, text);
+    }
 }
 
-// The answer to `serve` or `fetch`.
-fn run(setup: &mut Setup, engine: Engine, words: &mut Words<'_>) -> Result<String, CaseError> {
-    if words.has("prefixes") {
-        return trials::prefixes(setup, engine);
+// Keeps the message that the client asks.
+fn keep_request(setup: &mut Setup, words: &mut Words<'_>) {
+    match String::from_str(setup.alloc, words.rest()) {
+        Ok(request) => setup.request = request,
+        Err(_) => words.fail(CaseError::Memory),
     }
-    if words.has("failing") {
-        return trials::failing(setup, engine, read_calls(words)?);
-    }
-    if words.has("turns") {
-        return turns::turns(setup, engine, words.number()?);
-    }
-    if words.end().is_ok() {
-        return trials::alike(setup, engine);
-    }
-    let run = setup.run(engine, read_calls(words)?)?;
-    setup.output = run.output;
-    Ok(run.answer)
 }
 
-// Sets or adds to what a case has; nothing where the command is none of these.
-fn set_up(setup: &mut Setup, word: &str, words: &mut Words<'_>) -> Result<bool, CaseError> {
-    let alloc = setup.alloc;
-    match word {
-        "config" => setup.config = read_config(words)?,
-        "request" => setup.request = String::from_str(alloc, words.rest())?,
-        "input" => setup.input = read_octets(alloc, words.rest())?,
-        "from_client" => {
-            setup.input = read_octets(alloc, input::CLIENT)?;
-            setup
-                .input
-                .extend_from_slice(&read_octets(alloc, words.rest())?)?;
+// Begins the input with these octets, and those of a command.
+fn begin_input(setup: &mut Setup, opening: &[u8], words: &mut Words<'_>) {
+    setup.input = copy_of(setup.alloc, opening, words);
+    input::add_rest(setup.alloc, &mut setup.input, words);
+}
+
+// Does a command about the input, or another one.
+fn answer_input(setup: &mut Setup, name: &str, words: &mut Words<'_>, text: &mut Text) {
+    match name {
+        "input" => begin_input(setup, &[], words),
+        "from_client" => begin_input(setup, input::CLIENT, words),
+        "from_server" => begin_input(setup, input::SETTINGS, words),
+        "add" => input::add_rest(setup.alloc, &mut setup.input, words),
+        "data" => input::add_data(setup.alloc, &mut setup.input, false, words),
+        "last_data" => input::add_data(setup.alloc, &mut setup.input, true, words),
+        "malformed" => input::add_malformed(&mut setup.input, words),
+        _ => output::show(setup.alloc, &setup.output, name, words, text),
+    }
+}
+
+impl Driver for Setup {
+    fn answer(&mut self, name: &str, words: &mut Words<'_>, text: &mut Text) {
+        match name {
+            "config" => self.config = read_config(words),
+            "request" => keep_request(self, words),
+            "serve" => run(self, Engine::Server, words, text),
+            "fetch" => run(self, Engine::Client, words, text),
+            "exchange" => trials::add_exchange(self, words, text),
+            "many" => many::add_many(self.alloc, words, text),
+            _ => answer_input(self, name, words, text),
         }
-        "from_server" => {
-            setup.input = read_octets(alloc, input::SETTINGS)?;
-            setup
-                .input
-                .extend_from_slice(&read_octets(alloc, words.rest())?)?;
-        }
-        "add" => setup
-            .input
-            .extend_from_slice(&read_octets(alloc, words.rest())?)?,
-        "data" => input::add_data(alloc, &mut setup.input, words, false)?,
-        "last_data" => input::add_data(alloc, &mut setup.input, words, true)?,
-        "malformed" => input::add_malformed(&mut setup.input, words.number()?)?,
-        _ => return Ok(false),
     }
-    words.end()?;
-    Ok(true)
-}
-
-// The answer to a command.
-fn answer(setup: &mut Setup, step: &Step) -> Result<String, CaseError> {
-    let alloc = setup.alloc;
-    let mut words = Words::of(&step.command);
-    let word = words.word()?;
-    if set_up(setup, word, &mut words)? {
-        return Ok(String::new(alloc));
-    }
-    let lines = match word {
-        "serve" => run(setup, Engine::Server, &mut words)?,
-        "fetch" => run(setup, Engine::Client, &mut words)?,
-        "exchange" => trials::exchange(setup)?,
-        "many" => many::many(alloc, words.number()?)?,
-        _ => output::show(alloc, &setup.output, word, &mut words)?,
-    };
-    words.end()?;
-    Ok(lines)
 }
 
 /// The answers to a case's commands, up to the first that has none.
-pub fn run_case(alloc: Global, case: &Case) -> Vec<Result<String, CaseError>> {
-    let mut answers = Vec::new(alloc);
-    let mut setup = Setup {
-        alloc,
-        config: Config::default(),
-        request: String::new(alloc),
-        input: Vec::new(alloc),
-        output: Vec::new(alloc),
-    };
-    for step in &case.steps {
-        let found = answer(&mut setup, step);
-        let fails = found.is_err();
-        if answers.push(found).is_err() || fails {
-            break;
-        }
-    }
-    answers
+pub fn run_case(alloc: Global, case: &Case) -> Vec<Answer> {
+    answers_of(alloc, case, Setup::new(alloc))
 }

@@ -2,8 +2,9 @@
 
 use crate::end_events::{add_body, add_handed};
 use crate::side::Side;
-use h2_case::case::CaseError;
-use h2_conn_cases::answers::Notes;
+use h2_case::text::Text;
+use h2_conn_cases::cuts::WHOLE;
+use h2_conn_cases::notes::{Taker, Used, take_part};
 use h2_ends::EndEvent;
 use std::alloc::Global;
 
@@ -12,7 +13,7 @@ use std::alloc::Global;
 #[derive(Drop)]
 struct Heard {
     alloc: Global,
-    notes: Notes,
+    lines: Text,
     /// The stream of the body that was handed out last.
     id: Option<u32>,
     octets: Vec<u8>,
@@ -25,7 +26,7 @@ impl Heard {
     fn new(alloc: Global) -> Heard {
         Heard {
             alloc,
-            notes: Notes::new(alloc, false),
+            lines: Text::new(alloc),
             id: None,
             octets: Vec::new(alloc),
             end: false,
@@ -34,59 +35,70 @@ impl Heard {
     }
 
     // Adds the line of the body that was handed out last.
-    fn end_body(&mut self) -> Result<(), CaseError> {
-        if let Some(id) = self.id.take() {
-            add_body(&mut self.notes, id, &self.octets, self.end)?;
+    fn end_body(&mut self) {
+        if let Some(id) = self.id {
+            add_body(&mut self.lines, id, &self.octets, self.end);
             self.octets.clear();
+            self.id = None;
         }
-        Ok(())
+    }
+
+    // Keeps octets of a body.
+    fn keep_body(&mut self, id: u32, octets: &[u8], end: bool) {
+        if self.id != Some(id) {
+            self.end_body();
+        }
+        self.id = Some(id);
+        self.end = end;
+        if self.octets.extend_from_slice(octets).is_err() {
+            self.lines.refuse();
+        }
     }
 
     // Keeps what is handed out.
-    fn keep(&mut self, event: EndEvent<'_>) -> Result<(), CaseError> {
-        if let EndEvent::Body { id, bytes, end } = event {
-            if self.id != Some(id) {
-                self.end_body()?;
+    fn keep(&mut self, event: EndEvent<'_>) {
+        match event {
+            EndEvent::Body { id, bytes, end } => self.keep_body(id, bytes, end),
+            EndEvent::Acked => self.acked = self.acked.saturating_add(1),
+            _ => {
+                self.end_body();
+                add_handed(self.alloc, &mut self.lines, event);
             }
-            self.id = Some(id);
-            self.end = end;
-            self.octets.extend_from_slice(bytes)?;
-            return Ok(());
         }
-        if let EndEvent::Acked = event {
-            self.acked = self.acked.saturating_add(1);
-            return Ok(());
+    }
+
+    // Keeps what is handed out, if something is; whether it is.
+    fn note(&mut self, handed: Option<EndEvent<'_>>) -> bool {
+        match handed {
+            Some(event) => {
+                self.keep(event);
+                true
+            }
+            None => false,
         }
-        self.end_body()?;
-        add_handed(self.alloc, &mut self.notes, event)
     }
 
     // Adds what was kept after the name of the end.
-    fn add_to(&mut self, name: &str, text: &mut String) -> Result<(), CaseError> {
-        self.end_body()?;
-        write!(text, "{name}:\n")?;
+    fn add_to(&mut self, name: &str, text: &mut Text) {
+        self.end_body();
+        write!(text, "{name}:\n");
         for _ in 0..self.acked {
-            text.push_str("acked\n")?;
+            text.push_line("acked");
         }
-        self.notes.add_to(text)
+        text.push_text(&self.lines);
     }
 }
 
-// Takes octets, and gives back what is owed; whether neither failed.
-fn take(side: &mut Side, octets: &[u8], heard: &mut Heard) -> Result<bool, CaseError> {
-    let mut left = octets;
-    for _ in 0..u64::MAX {
-        let Ok(taken) = side.take(left) else {
-            return Ok(false);
-        };
-        left = left.get(taken.used..).unwrap_or(&[]);
-        match taken.event {
-            Some(event) => heard.keep(event)?,
-            None if left.is_empty() => break,
-            None => {}
+impl Taker<Heard> for Side {
+    fn take_piece(&mut self, piece: &[u8], heard: &mut Heard) -> Option<Used> {
+        match self.take(piece) {
+            Ok(taken) => Some(Used {
+                count: taken.used,
+                comes_out: heard.note(taken.event),
+            }),
+            Err(_) => None,
         }
     }
-    Ok(side.release_all().is_ok())
 }
 
 // Moves at most so many octets from one end to the other; how many, and none where a call is
@@ -97,14 +109,14 @@ fn move_octets(
     to: &mut Side,
     most: usize,
     heard: &mut Heard,
-) -> Result<Option<usize>, CaseError> {
-    let mut out = Vec::new(alloc);
+) -> Option<usize> {
     if from.pump().is_err() {
-        return Ok(None);
+        return None;
     }
+    let mut out = Vec::new(alloc);
     match from.put_out(most, &mut out) {
-        Ok(count) if take(to, &out, heard)? => Ok(Some(count)),
-        _ => Ok(None),
+        Ok(count) if take_part(to, WHOLE, &out, heard) && to.release_all().is_ok() => Some(count),
+        _ => None,
     }
 }
 
@@ -115,21 +127,21 @@ pub(crate) fn exchange(
     near: &mut Side,
     far: &mut Side,
     most: usize,
-    text: &mut String,
-) -> Result<(), CaseError> {
+    text: &mut Text,
+) {
     let (mut by_near, mut by_far) = (Heard::new(alloc), Heard::new(alloc));
     for _ in 0..u64::MAX {
-        let there = move_octets(alloc, near, far, most, &mut by_far)?;
-        let back = move_octets(alloc, far, near, most, &mut by_near)?;
+        let there = move_octets(alloc, near, far, most, &mut by_far);
+        let back = move_octets(alloc, far, near, most, &mut by_near);
         match (there, back) {
             (Some(0), Some(0)) => break,
             (Some(_), Some(_)) => {}
             _ => {
-                text.push_str("a call is refused\n")?;
+                text.push_line("a call is refused");
                 break;
             }
         }
     }
-    by_near.add_to("this end", text)?;
-    by_far.add_to("the other end", text)
+    by_near.add_to("this end", text);
+    by_far.add_to("the other end", text);
 }

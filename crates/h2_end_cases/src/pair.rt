@@ -31,74 +31,67 @@ mod heard;
 
 pub(crate) use acts::{read_config, read_count};
 use ends::Pair;
-use h2_case::case::{Case, CaseError, Step, add_line};
+use h2_case::case::{Case, CaseError};
+use h2_case::driver::{Answer, Driver};
+use h2_case::text::Text;
 use h2_case::words::Words;
+use h2_conn_cases::cuts::answers_of;
 use std::alloc::Global;
 
-// The answer to a command, where octets go whole or in pieces.
-fn answer(
+/// The ends of a case, whose octets go whole or in pieces.
+#[derive(Drop)]
+struct State {
     alloc: Global,
-    pair: &mut Option<Pair>,
-    step: &Step,
-    in_pieces: bool,
-) -> Result<String, CaseError> {
-    let mut words = Words::of(&step.command);
-    let word = words.word()?;
-    if word == "new" {
-        *pair = Some(ends::read_pair(alloc, &mut words, in_pieces)?);
-        return Ok(String::new(alloc));
+    is_in_pieces: bool,
+    pair: Option<Pair>,
+}
+
+impl Driver for State {
+    fn answer(&mut self, name: &str, words: &mut Words<'_>, text: &mut Text) {
+        match &mut self.pair {
+            pair if name == "new" => *pair = ends::read_pair(self.alloc, words, self.is_in_pieces),
+            Some(pair) => pair.answer(name, words, text),
+            None => words.unread(),
+        }
     }
-    let Some(pair) = pair.as_mut() else {
-        return Err(CaseError::Unread);
-    };
-    if let Some(act) = acts::read_act(alloc, word, &mut words)? {
-        return pair.make(&act);
-    }
-    let answer = pair.show(word, &mut words)?;
-    words.end()?;
-    Ok(answer)
 }
 
 // The answers to a case's commands, up to the first that has none.
-fn run_in(alloc: Global, case: &Case, in_pieces: bool) -> Vec<Result<String, CaseError>> {
-    let mut answers = Vec::new(alloc);
-    let mut pair = None;
-    for step in &case.steps {
-        let found = answer(alloc, &mut pair, step, in_pieces);
-        let fails = found.is_err();
-        if answers.push(found).is_err() || fails {
-            break;
-        }
-    }
-    answers
+fn run_in(alloc: Global, case: &Case, is_in_pieces: bool) -> Vec<Answer> {
+    let state = State {
+        alloc,
+        is_in_pieces,
+        pair: None,
+    };
+    answers_of(alloc, case, state)
 }
 
-// Adds a line where an answer in pieces is another one.
-fn compare(
-    answer: &mut Result<String, CaseError>,
-    other: Option<&Result<String, CaseError>>,
-) -> Result<(), CaseError> {
-    if let Ok(answer) = answer {
-        match other {
-            Some(Ok(other)) if other == answer => {}
-            Some(Ok(other)) => {
-                add_line(answer, "in pieces:")?;
-                answer.push_str(other)?;
-            }
-            _ => add_line(answer, "in pieces: none")?,
-        }
+// Adds what an answer is in pieces, if it is another one; whether memory was not refused.
+fn add_other(lines: &mut String, other: Option<&Answer>) -> bool {
+    match other {
+        Some(Ok(other)) if other == lines => true,
+        Some(Ok(other)) => write!(lines, "in pieces:\n{other}").is_ok(),
+        _ => lines.push_str("in pieces: none\n").is_ok(),
     }
-    Ok(())
+}
+
+// Adds what an answer is in pieces, if it is another one.
+fn compare(answer: &mut Answer, other: Option<&Answer>) {
+    let is_added = match answer {
+        Ok(lines) => add_other(lines, other),
+        Err(_) => true,
+    };
+    if !is_added {
+        *answer = Err(CaseError::Memory);
+    }
 }
 
 /// The answers to a case's commands, up to the first that has none.
-pub fn run_case(alloc: Global, case: &Case) -> Vec<Result<String, CaseError>> {
+pub fn run_case(alloc: Global, case: &Case) -> Vec<Answer> {
     let mut answers = run_in(alloc, case, false);
     let others = run_in(alloc, case, true);
     for (place, answer) in answers.iter_mut().enumerate() {
-        if let Err(error) = compare(answer, others.get(place)) {
-            *answer = Err(error);
-        }
+        compare(answer, others.get(place));
     }
     answers
 }

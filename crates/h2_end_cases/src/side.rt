@@ -14,27 +14,37 @@ impl Drop for Side {
     /// Lets go of it by a call: where one is let go of, nothing of that is proved again.
     fn drop(self) {
         match self {
-            Side::Client(client) => let_client_go(client),
-            Side::Server(server) => let_server_go(server),
+            Side::Client(client) => drop(client),
+            Side::Server(server) => drop(server),
         }
     }
 }
 
-// Lets go of a client.
-fn let_client_go(_client: Client) {}
+// A new client.
+fn new_client(alloc: Global, config: Config) -> Option<Side> {
+    match Client::new(alloc, config) {
+        Ok(client) => Some(Side::Client(client)),
+        Err(_) => None,
+    }
+}
 
-// Lets go of a server.
-fn let_server_go(_server: Server) {}
+// A new server.
+fn new_server(alloc: Global, config: Config) -> Option<Side> {
+    match Server::new(alloc, config) {
+        Ok(server) => Some(Side::Server(server)),
+        Err(_) => None,
+    }
+}
 
 /// What a message is answered with.
 type Given<T> = Result<T, (Message, EndRefusal)>;
 
 impl Side {
-    /// A client or a server.
-    pub(crate) fn new(alloc: Global, role: Role, config: Config) -> Result<Side, EndRefusal> {
+    /// A client or a server; nothing where memory was refused.
+    pub(crate) fn new(alloc: Global, role: Role, config: Config) -> Option<Side> {
         match role {
-            Role::Client => Ok(Side::Client(Client::new(alloc, config)?)),
-            Role::Server => Ok(Side::Server(Server::new(alloc, config)?)),
+            Role::Client => new_client(alloc, config),
+            Role::Server => new_server(alloc, config),
         }
     }
 

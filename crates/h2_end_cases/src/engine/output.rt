@@ -1,129 +1,116 @@
 //! What an engine has written.
 
-use h2_case::case::CaseError;
-use h2_case::octets::{add_frames, add_hex, add_octets};
+use h2_case::octets::{add_frames, add_hex, add_octets, split_frame};
+use h2_case::text::Text;
 use h2_case::words::Words;
+use h2_conn_cases::answers::{add_value, extend};
 use std::alloc::Global;
 
 /// DATA (RFC 9113, section 6.1).
 const DATA: u8 = 0;
 
-/// A frame.
-#[derive(Clone, Copy)]
-struct Frame<'a> {
-    kind: u8,
-    id: u32,
-    payload: &'a [u8],
-    /// All its octets.
-    whole: &'a [u8],
+/// The preface of a client (section 3.4).
+const PREFACE: &[u8] = b"PRI * HTTP/2.0\r\n\r\nSM\r\n\r\n";
+
+// The frames of an output, which has the preface first if a client has written it.
+fn frames_of(output: &[u8]) -> &[u8] {
+    output.strip_prefix(PREFACE).unwrap_or(output)
 }
 
-/// The first frame of some octets, and the octets after it; nothing where it isn't complete.
-fn first_frame(octets: &[u8]) -> Option<(Frame<'_>, &[u8])> {
-    let [a, b, c, kind, _, e, f, g, h, following @ ..] = octets else {
-        return None;
-    };
-    let length = u32::from_be_bytes([0, *a, *b, *c]) as usize;
-    let (payload, others) = following.split_at_checked(length)?;
-    let frame = Frame {
-        kind: *kind,
-        id: u32::from_be_bytes([*e, *f, *g, *h]),
-        payload,
-        whole: octets.get(..length.saturating_add(9))?,
-    };
-    Some((frame, others))
+// The stream of a frame with this head.
+fn stream_of(head: &[u8; 9]) -> u32 {
+    let [_, _, _, _, _, a, b, c, d] = *head;
+    u32::from_be_bytes([a, b, c, d])
 }
 
-/// Adds the octets of the frames of a type in an output, which is complete frames, after the
-/// preface if it has that; answers how many frames there are.
-fn add_frames_of(found: &mut Vec<u8>, output: &[u8], kind: u8) -> Result<u64, CaseError> {
+// Adds the octets of the frames of a type; how many there are.
+fn add_frames_of(found: &mut Vec<u8>, frames: &[u8], kind: u8, words: &mut Words<'_>) -> u64 {
     let mut count = 0u64;
-    let mut unread = output
-        .strip_prefix(b"PRI * HTTP/2.0\r\n\r\nSM\r\n\r\n".as_slice())
-        .unwrap_or(output);
-    for _ in 0..output.len() {
-        if unread.is_empty() {
+    let mut unread = frames;
+    for _ in 0..frames.len() {
+        let Some((head, payload, others)) = split_frame(unread) else {
             break;
-        }
-        let Some((frame, others)) = first_frame(unread) else {
-            return Err(CaseError::Unread);
         };
-        if frame.kind == kind {
-            found.extend_from_slice(frame.whole)?;
+        if head[3] == kind {
+            extend(found, head, words);
+            extend(found, payload, words);
             count = count.wrapping_add(1);
         }
         unread = others;
     }
-    Ok(count)
-}
-
-/// The line of a body: what precedes its first zero, and then the others, which may count on.
-fn body_line(alloc: Global, body: &[u8]) -> Result<String, CaseError> {
-    let mut line = String::new(alloc);
-    let place = body.iter().position(|octet| *octet == 0).unwrap_or(0);
-    let (text, others) = body.split_at(place.min(body.len()));
-    if !text.is_empty() {
-        add_hex(&mut line, text)?;
-        line.push(' ')?;
+    if !unread.is_empty() {
+        words.unread();
     }
-    add_octets(&mut line, others)?;
-    line.push('\n')?;
-    Ok(line)
+    count
 }
 
-/// Adds the payloads of frames on a stream.
-fn add_payloads(body: &mut Vec<u8>, frames: &[u8], id: u32) -> Result<(), CaseError> {
+// Adds the payloads of the DATA on a stream.
+fn add_payloads(body: &mut Vec<u8>, frames: &[u8], id: u32, words: &mut Words<'_>) {
     let mut unread = frames;
     for _ in 0..frames.len() {
-        let Some((frame, others)) = first_frame(unread) else {
+        let Some((head, payload, others)) = split_frame(unread) else {
             break;
         };
-        if frame.id == id {
-            body.extend_from_slice(frame.payload)?;
+        if head[3] == DATA && stream_of(head) == id {
+            extend(body, payload, words);
         }
         unread = others;
     }
-    Ok(())
+    if !unread.is_empty() {
+        words.unread();
+    }
 }
 
-/// The line of the body in the DATA of a stream.
-fn body_of(alloc: Global, output: &[u8], id: u32) -> Result<String, CaseError> {
-    let (mut frames, mut body) = (Vec::new(alloc), Vec::new(alloc));
-    let _count = add_frames_of(&mut frames, output, DATA)?;
-    add_payloads(&mut body, &frames, id)?;
-    body_line(alloc, &body)
+// Adds the line of a body: what precedes its first zero, and then the others, which may count on.
+fn add_body(text: &mut Text, body: &[u8]) {
+    let place = body.iter().position(|octet| *octet == 0).unwrap_or(0);
+    let (first, others) = body.split_at(place.min(body.len()));
+    if !first.is_empty() {
+        add_hex(text, first);
+        text.push_str(" ");
+    }
+    add_octets(text, others);
+    text.push_str("\n");
 }
 
-/// The lines of the frames of a type.
-fn frame_lines(alloc: Global, output: &[u8], kind: u8) -> Result<String, CaseError> {
+// Adds the line of the body in the DATA of a stream.
+fn add_body_of(alloc: Global, output: &[u8], words: &mut Words<'_>, text: &mut Text) {
+    let id = words.number();
+    let mut body = Vec::new(alloc);
+    add_payloads(&mut body, frames_of(output), id, words);
+    add_body(text, &body);
+}
+
+// Adds the lines of the frames of a type.
+fn add_type(alloc: Global, output: &[u8], words: &mut Words<'_>, text: &mut Text) {
+    let kind = words.number();
     let mut frames = Vec::new(alloc);
-    let _count = add_frames_of(&mut frames, output, kind)?;
-    let mut lines = String::new(alloc);
-    add_frames(alloc, &mut lines, &frames)?;
-    Ok(lines)
+    let _ = add_frames_of(&mut frames, frames_of(output), kind, words);
+    add_frames(alloc, text, &frames);
 }
 
-/// The answer to a command about an output.
+// Adds how many frames of a type there are.
+fn add_count(alloc: Global, output: &[u8], words: &mut Words<'_>, text: &mut Text) {
+    let kind = words.number();
+    let mut frames = Vec::new(alloc);
+    let count = add_frames_of(&mut frames, frames_of(output), kind, words);
+    add_value(text, count);
+}
+
+/// Does a command about an output.
 pub(crate) fn show(
     alloc: Global,
     output: &[u8],
-    word: &str,
+    name: &str,
     words: &mut Words<'_>,
-) -> Result<String, CaseError> {
-    match word {
-        "output" => {
-            let mut lines = String::new(alloc);
-            add_frames(alloc, &mut lines, output)?;
-            Ok(lines)
-        }
-        "written" => Ok(format!(in alloc; "{}\n", output.len())?),
-        "body" => body_of(alloc, output, words.number()?),
-        "frames" => frame_lines(alloc, output, words.number()?),
-        "count" => {
-            let mut frames = Vec::new(alloc);
-            let count = add_frames_of(&mut frames, output, words.number()?)?;
-            Ok(format!(in alloc; "{count}\n")?)
-        }
-        _ => Err(CaseError::Unread),
+    text: &mut Text,
+) {
+    match name {
+        "output" => add_frames(alloc, text, output),
+        "written" => add_value(text, output.len()),
+        "body" => add_body_of(alloc, output, words, text),
+        "frames" => add_type(alloc, output, words, text),
+        "count" => add_count(alloc, output, words, text),
+        _ => words.unread(),
     }
 }

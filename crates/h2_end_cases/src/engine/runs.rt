@@ -1,10 +1,12 @@
 //! Engines over links in memory.
 
-use h2_case::case::{CaseError, add_line};
 use h2_case::fields::add_fields;
 use h2_case::messages::read_message;
 use h2_case::octets::add_octets;
-use h2_engines::{Config, Fetched, Link, LinkError, MemoryLink, fetch_link, serve_link};
+use h2_case::text::Text;
+use h2_case::words::Words;
+use h2_conn_cases::answers::{add_value, copy_of, lines_of};
+use h2_engines::{Config, Fetched, Field, Link, MemoryLink, Message, fetch_link, serve_link};
 use std::alloc::Global;
 
 /// One of the engines.
@@ -22,28 +24,31 @@ pub(crate) struct Calls {
     /// So many octets a write at most.
     pub(crate) written: usize,
     /// After so many calls one fails.
-    pub(crate) fails_after: Option<u64>,
+    pub(crate) fails_after: u64,
 }
+
+/// No call fails.
+pub(crate) const NEVER: u64 = u64::MAX;
 
 /// Each call reads and writes all that it can.
 pub(crate) const WHOLE: Calls = Calls {
     read: usize::MAX,
     written: usize::MAX,
-    fails_after: None,
+    fails_after: NEVER,
 };
 
 /// Short calls, of which none is as long as a frame's head.
 pub(crate) const SHORT: Calls = Calls {
     read: 7,
     written: 5,
-    fails_after: None,
+    fails_after: NEVER,
 };
 
 /// Each call reads and writes one octet.
 pub(crate) const SINGLE: Calls = Calls {
     read: 1,
     written: 1,
-    fails_after: None,
+    fails_after: NEVER,
 };
 
 /// What a case has.
@@ -64,73 +69,95 @@ pub(crate) struct Setup {
 pub(crate) struct Run {
     /// What was answered, and how many calls of the link have failed, if any.
     pub(crate) answer: String,
-    /// Whether the work was done.
-    pub(crate) done: bool,
     pub(crate) output: Vec<u8>,
 }
 
-/// The lines of a response: of its interim responses, its head, its body and its trailers.
-pub(crate) fn response_lines(alloc: Global, fetched: &Fetched) -> Result<String, CaseError> {
-    let mut lines = String::new(alloc);
+// Adds the name of a part of a response, and the lines of its fields.
+fn add_named(alloc: Global, text: &mut Text, name: &str, list: &[Field]) {
+    text.push_line(name);
+    add_fields(alloc, text, list);
+}
+
+/// Adds the lines of a response: of its interim responses, its head, its body and its trailers.
+pub(crate) fn add_response(alloc: Global, text: &mut Text, fetched: &Fetched) {
     for list in &fetched.interims {
-        add_line(&mut lines, "interim")?;
-        add_fields(alloc, &mut lines, list)?;
+        add_named(alloc, text, "interim", list);
     }
-    add_line(&mut lines, "head")?;
-    add_fields(alloc, &mut lines, &fetched.head)?;
+    add_named(alloc, text, "head", &fetched.head);
     if !fetched.body.is_empty() {
-        lines.push_str("body ")?;
-        add_octets(&mut lines, &fetched.body)?;
-        lines.push('\n')?;
+        text.push_str("body ");
+        add_octets(text, &fetched.body);
+        text.push_str("\n");
     }
     if let Some(list) = &fetched.trailers {
-        add_line(&mut lines, "trailers")?;
-        add_fields(alloc, &mut lines, list)?;
+        add_named(alloc, text, "trailers", list);
     }
-    Ok(lines)
 }
 
-/// The line of an error.
-pub(crate) fn error_line(alloc: Global, error: LinkError) -> Result<String, CaseError> {
-    Ok(format!(in alloc; "{error}\n")?)
-}
-
-/// What a server answers over a link.
-fn serve(
-    alloc: Global,
-    config: Config,
-    link: &mut MemoryLink,
-) -> Result<(String, bool), CaseError> {
+// Adds what a server answers over a link.
+fn serve(alloc: Global, config: Config, link: &mut MemoryLink, text: &mut Text) {
     if link.failures() > 0 {
-        return Err(CaseError::Unread);
+        return text.refuse();
     }
     match serve_link(alloc, link, config) {
-        Ok(count) => Ok((format!(in alloc; "answered {count}\n")?, true)),
-        Err(error) => Ok((error_line(alloc, error)?, false)),
+        Ok(count) => write!(text, "answered {count}\n"),
+        Err(error) => add_value(text, error),
     }
 }
 
-/// What a client answers over a link.
-fn fetch(
-    alloc: Global,
-    config: Config,
-    request: &str,
-    link: &mut MemoryLink,
-) -> Result<(String, bool), CaseError> {
-    let message = read_message(alloc, request)?;
+// Adds what a client answers over a link.
+fn fetch(alloc: Global, config: Config, message: Message, link: &mut MemoryLink, text: &mut Text) {
     if link.failures() > 0 {
-        return Err(CaseError::Unread);
+        return text.refuse();
     }
     match fetch_link(alloc, link, config, message) {
-        Ok(fetched) => Ok((response_lines(alloc, &fetched)?, true)),
-        Err(error) => Ok((error_line(alloc, error)?, false)),
+        Ok(fetched) => add_response(alloc, text, &fetched),
+        Err(error) => add_value(text, error),
     }
 }
 
 impl Setup {
+    /// A case that has nothing yet.
+    pub(crate) fn new(alloc: Global) -> Setup {
+        Setup {
+            alloc,
+            config: Config::default(),
+            request: String::new(alloc),
+            input: Vec::new(alloc),
+            output: Vec::new(alloc),
+        }
+    }
+
+    /// The message that the client asks.
+    pub(crate) fn message(&self, words: &mut Words<'_>) -> Message {
+        let mut given = Words::of(&self.request);
+        let message = read_message(self.alloc, &mut given);
+        if let Some(fault) = given.fault() {
+            words.fail(fault);
+        }
+        message
+    }
+
+    // Adds what an engine answers over a link.
+    fn add_answer(
+        &self,
+        engine: Engine,
+        link: &mut MemoryLink,
+        words: &mut Words<'_>,
+        text: &mut Text,
+    ) {
+        match engine {
+            Engine::Server => serve(self.alloc, self.config, link, text),
+            Engine::Client => fetch(self.alloc, self.config, self.message(words), link, text),
+        }
+        if link.failures() > 0 {
+            write!(text, "failures {}\n", link.failures());
+        }
+    }
+
     /// Runs an engine over a link.
-    pub(crate) fn run(&self, engine: Engine, calls: Calls) -> Result<Run, CaseError> {
-        self.run_on(engine, &self.input, calls)
+    pub(crate) fn run(&self, engine: Engine, calls: Calls, words: &mut Words<'_>) -> Run {
+        self.run_on(engine, &self.input, calls, words)
     }
 
     /// Runs an engine over a link that gives these octets.
@@ -139,24 +166,17 @@ impl Setup {
         engine: Engine,
         input: &[u8],
         calls: Calls,
-    ) -> Result<Run, CaseError> {
-        let alloc = self.alloc;
-        let input = Vec::from_slice(alloc, input)?;
-        let mut link = MemoryLink::new(alloc, input).with_most(calls.read, calls.written);
-        if let Some(count) = calls.fails_after {
-            link = link.failing_after(count);
+        words: &mut Words<'_>,
+    ) -> Run {
+        let input = copy_of(self.alloc, input, words);
+        let mut link = MemoryLink::new(self.alloc, input)
+            .with_most(calls.read, calls.written)
+            .failing_after(calls.fails_after);
+        let mut text = Text::new(self.alloc);
+        self.add_answer(engine, &mut link, words, &mut text);
+        Run {
+            answer: lines_of(self.alloc, text, words),
+            output: copy_of(self.alloc, link.output(), words),
         }
-        let (mut answer, done) = match engine {
-            Engine::Server => serve(alloc, self.config, &mut link)?,
-            Engine::Client => fetch(alloc, self.config, &self.request, &mut link)?,
-        };
-        if link.failures() > 0 {
-            write!(answer, "failures {}\n", link.failures())?;
-        }
-        Ok(Run {
-            answer,
-            done,
-            output: Vec::from_slice(alloc, link.output())?,
-        })
     }
 }

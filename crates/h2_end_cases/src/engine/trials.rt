@@ -2,63 +2,80 @@
 
 use super::runs::{Calls, Engine, Run, SHORT, SINGLE, Setup, WHOLE};
 use h2_case::case::CaseError;
+use h2_case::text::Text;
+use h2_case::words::Words;
 
 // Adds what the engine answers where calls are of another size, if it is something else.
 fn add_other(
-    lines: &mut String,
+    text: &mut Text,
     answer: &str,
     setup: &Setup,
     engine: Engine,
     calls: Calls,
-) -> Result<(), CaseError> {
-    let other = setup.run(engine, calls)?.answer;
+    words: &mut Words<'_>,
+) {
+    let other = setup.run(engine, calls, words).answer;
     if other.as_str() != answer {
-        write!(lines, "in reads of {}:\n", calls.read)?;
-        lines.push_str(&other)?;
+        write!(text, "in reads of {}:\n{other}", calls.read);
     }
-    Ok(())
 }
 
-/// What the engine answers in whole pieces; where it answers something else in others, that too.
-pub(crate) fn alike(setup: &mut Setup, engine: Engine) -> Result<String, CaseError> {
-    let run = setup.run(engine, WHOLE)?;
-    let mut lines = String::from_str(setup.alloc, &run.answer)?;
-    add_other(&mut lines, &run.answer, setup, engine, SINGLE)?;
-    add_other(&mut lines, &run.answer, setup, engine, SHORT)?;
+/// Adds what the engine answers in whole pieces; where it answers something else in others, that
+/// too.
+pub(crate) fn add_alike(setup: &mut Setup, engine: Engine, words: &mut Words<'_>, text: &mut Text) {
+    let run = setup.run(engine, WHOLE, words);
+    text.push_str(&run.answer);
+    add_other(text, &run.answer, setup, engine, SINGLE, words);
+    add_other(text, &run.answer, setup, engine, SHORT, words);
     setup.output = run.output;
-    Ok(lines)
+}
+
+/// Adds what the engine answers, with links of these calls.
+pub(crate) fn add_run(
+    setup: &mut Setup,
+    engine: Engine,
+    calls: Calls,
+    words: &mut Words<'_>,
+    text: &mut Text,
+) {
+    let run = setup.run(engine, calls, words);
+    text.push_str(&run.answer);
+    setup.output = run.output;
 }
 
 // Adds what was answered to some numbers of first octets.
-fn add_range(lines: &mut String, first: usize, last: usize, answer: &str) -> Result<(), CaseError> {
+fn add_range(text: &mut Text, first: usize, last: usize, answer: &str) {
     if first == last {
-        write!(lines, "{first} octets:\n")?;
+        write!(text, "{first} octets:\n{answer}");
     } else {
-        write!(lines, "{first} to {last} octets:\n")?;
+        write!(text, "{first} to {last} octets:\n{answer}");
     }
-    Ok(lines.push_str(answer)?)
 }
 
-/// What the engine answers to each number of first octets, and how many octets it writes.
-pub(crate) fn prefixes(setup: &Setup, engine: Engine) -> Result<String, CaseError> {
-    let mut lines = String::new(setup.alloc);
-    let mut before = String::new(setup.alloc);
+// What the engine answers to so many first octets, and how many octets it writes.
+fn answer_to(setup: &Setup, engine: Engine, count: usize, words: &mut Words<'_>) -> String {
+    let input = setup.input.get(..count).unwrap_or(&setup.input);
+    let run = setup.run_on(engine, input, WHOLE, words);
+    let mut answer = run.answer;
+    if write!(answer, "written {}\n", run.output.len()).is_err() {
+        words.fail(CaseError::Memory);
+    }
+    answer
+}
+
+/// Adds what the engine answers to each number of first octets, and how many octets it writes.
+pub(crate) fn add_prefixes(setup: &Setup, engine: Engine, words: &mut Words<'_>, text: &mut Text) {
     let mut first = 0usize;
-    for count in 0..=setup.input.len() {
-        let input = setup.input.get(..count).unwrap_or(&setup.input);
-        let run = setup.run_on(engine, input, WHOLE)?;
-        let mut answer = run.answer;
-        write!(answer, "written {}\n", run.output.len())?;
-        if answer != before {
-            if count > 0 {
-                add_range(&mut lines, first, count.saturating_sub(1), &before)?;
-            }
+    let mut answer = answer_to(setup, engine, 0, words);
+    for count in 1..=setup.input.len() {
+        let next = answer_to(setup, engine, count, words);
+        if next != answer {
+            add_range(text, first, count.saturating_sub(1), &answer);
             first = count;
-            before = answer;
+            answer = next;
         }
     }
-    add_range(&mut lines, first, setup.input.len(), &before)?;
-    Ok(lines)
+    add_range(text, first, setup.input.len(), &answer);
 }
 
 // Whether a failure of the link is reported, once, after a prefix of an output.
@@ -66,32 +83,49 @@ fn is_reported(run: &Run, output: &[u8]) -> bool {
     run.answer.as_str() == "N1 Device\nfailures 1\n" && output.starts_with(&run.output)
 }
 
-/// How many calls of the link a run makes, each of which fails in turn.
-pub(crate) fn failing(setup: &Setup, engine: Engine, calls: Calls) -> Result<String, CaseError> {
-    let complete = setup.run(engine, calls)?;
-    for count in 0..1_000 {
-        let failing = Calls {
-            fails_after: Some(count),
-            ..calls
-        };
-        let run = setup.run(engine, failing)?;
-        if run.answer == complete.answer && run.output == complete.output {
-            return Ok(format!(in setup.alloc; "{count} calls\n")?);
-        }
-        if !is_reported(&run, &complete.output) {
-            return Ok(format!(in setup.alloc; "after {count} calls:\n{}", run.answer)?);
-        }
+// Adds what comes of a failure after so many calls, if that ends the trial: how many calls a run
+// makes, since none has failed; or what was answered in place of the failure. Whether it ends.
+fn ends_trial(complete: &Run, run: &Run, count: u64, text: &mut Text) -> bool {
+    if run.answer == complete.answer && run.output == complete.output {
+        write!(text, "{count} calls\n");
+        true
+    } else if is_reported(run, &complete.output) {
+        false
+    } else {
+        write!(text, "after {count} calls:\n{}", run.answer);
+        true
     }
-    Err(CaseError::Unread)
 }
 
-/// What a server answers to a client that is given the input, and what the client fetches of that.
-pub(crate) fn exchange(setup: &mut Setup) -> Result<String, CaseError> {
-    let asked = setup.run(Engine::Client, WHOLE)?.output;
-    let served = setup.run_on(Engine::Server, &asked, SHORT)?;
-    let fetched = setup.run_on(Engine::Client, &served.output, WHOLE)?;
-    let mut answer = served.answer;
-    answer.push_str(&fetched.answer)?;
+/// Adds how many calls of the link a run makes, each of which fails in turn.
+pub(crate) fn add_failing(
+    setup: &Setup,
+    engine: Engine,
+    calls: Calls,
+    words: &mut Words<'_>,
+    text: &mut Text,
+) {
+    let complete = setup.run(engine, calls, words);
+    for count in 0..1_000 {
+        let failing = Calls {
+            fails_after: count,
+            ..calls
+        };
+        let run = setup.run(engine, failing, words);
+        if ends_trial(&complete, &run, count, text) {
+            return;
+        }
+    }
+    words.unread();
+}
+
+/// Adds what a server answers to a client that is given the input, and what the client fetches of
+/// that.
+pub(crate) fn add_exchange(setup: &mut Setup, words: &mut Words<'_>, text: &mut Text) {
+    let asked = setup.run(Engine::Client, WHOLE, words).output;
+    let served = setup.run_on(Engine::Server, &asked, SHORT, words);
+    let fetched = setup.run_on(Engine::Client, &served.output, WHOLE, words);
+    text.push_str(&served.answer);
+    text.push_str(&fetched.answer);
     setup.output = served.output;
-    Ok(answer)
 }

@@ -1,111 +1,90 @@
 //! Acts, as commands have them and as they are answered.
 
-use h2_case::case::CaseError;
 use h2_case::messages::read_message;
+use h2_case::text::Text;
 use h2_case::words::Words;
-use h2_conn_cases::acts::read_ping;
-use h2_joined::{Acted, Config, EndRefusal, JointAct, Side};
+use h2_conn_cases::acts::{config_of, read_ping};
+use h2_conn_cases::answers::{add_name, add_value};
+use h2_joined::{Acted, Config, JointAct, Side};
 use std::alloc::Global;
 
 /// The next word, as an end.
-pub(crate) fn read_side(words: &mut Words<'_>) -> Result<Side, CaseError> {
-    match words.word()? {
-        "client" => Ok(Side::Client),
-        "server" => Ok(Side::Server),
-        _ => Err(CaseError::Unread),
+pub(crate) fn read_side(words: &mut Words<'_>) -> Side {
+    if words.has("server") {
+        return Side::Server;
     }
+    words.expect("client");
+    Side::Client
 }
 
 /// The next word, as a number of octets.
-pub(crate) fn read_count(words: &mut Words<'_>) -> Result<usize, CaseError> {
+pub(crate) fn read_count(words: &mut Words<'_>) -> usize {
     if words.has("all") {
-        return Ok(usize::MAX);
+        usize::MAX
+    } else {
+        words.number()
     }
-    words.number()
 }
 
 /// The next three words, as settings.
-pub(crate) fn read_config(words: &mut Words<'_>) -> Result<Config, CaseError> {
-    let (table, window, streams) = (words.number()?, words.number()?, words.number()?);
-    match Config::new(table, window, streams) {
-        Ok(config) => Ok(config),
-        Err(_) => Err(CaseError::Unread),
-    }
+pub(crate) fn read_config(words: &mut Words<'_>) -> Config {
+    let (table, window, streams) = (words.number(), words.number(), words.number());
+    config_of((table, window, streams), words)
 }
 
 /// The act that a command is, where it is one.
-pub(crate) fn read_act(
-    alloc: Global,
-    word: &str,
-    words: &mut Words<'_>,
-) -> Result<Option<JointAct>, CaseError> {
-    let act = match word {
-        "request" => JointAct::Request(read_message(alloc, words.rest())?),
+pub(crate) fn read_act(alloc: Global, name: &str, words: &mut Words<'_>) -> Option<JointAct> {
+    let act = match name {
+        "request" => JointAct::Request(read_message(alloc, words)),
         "respond" => JointAct::Respond {
-            id: words.number()?,
-            message: read_message(alloc, words.rest())?,
+            id: words.number(),
+            message: read_message(alloc, words),
         },
         "move" => JointAct::Move {
-            from: read_side(words)?,
-            count: read_count(words)?,
+            from: read_side(words),
+            count: read_count(words),
         },
         "deliver" => JointAct::Deliver {
-            to: read_side(words)?,
-            count: read_count(words)?,
+            to: read_side(words),
+            count: read_count(words),
         },
-        _ => match read_call(alloc, word, words)? {
-            Some(act) => act,
-            None => return Ok(None),
-        },
+        _ => return read_call(alloc, name, words),
     };
-    words.end()?;
-    Ok(Some(act))
+    Some(act)
 }
 
-/// The call of an end that a command is, where it is one.
-fn read_call(
-    alloc: Global,
-    word: &str,
-    words: &mut Words<'_>,
-) -> Result<Option<JointAct>, CaseError> {
-    Ok(Some(match word {
-        "pump" => JointAct::Pump(read_side(words)?),
-        "release_all" => JointAct::ReleaseAll(read_side(words)?),
+// The call of an end that a command is, where it is one.
+fn read_call(alloc: Global, name: &str, words: &mut Words<'_>) -> Option<JointAct> {
+    let act = match name {
+        "pump" => JointAct::Pump(read_side(words)),
+        "release_all" => JointAct::ReleaseAll(read_side(words)),
         "reset" => JointAct::Reset {
-            side: read_side(words)?,
-            id: words.number()?,
-            code: words.number()?,
+            side: read_side(words),
+            id: words.number(),
+            code: words.number(),
         },
         "ping" => JointAct::Ping {
-            side: read_side(words)?,
-            octets: read_ping(alloc, words)?,
+            side: read_side(words),
+            octets: read_ping(alloc, words),
         },
-        "go_away" => JointAct::GoAway(read_side(words)?),
+        "go_away" => JointAct::GoAway(read_side(words)),
         "change" => JointAct::ChangeSettings {
-            side: read_side(words)?,
-            config: read_config(words)?,
+            side: read_side(words),
+            config: read_config(words),
         },
-        _ => return Ok(None),
-    }))
+        _ => return None,
+    };
+    Some(act)
 }
 
-/// The line of why a call was refused: the names of the rules.
-fn refusal_line(alloc: Global, refusal: EndRefusal) -> Result<String, CaseError> {
-    let text = refusal.to_string(alloc)?;
-    match text.rsplit_once(": ") {
-        Some((names, _)) => Ok(format!(in alloc; "{names}\n")?),
-        None => Ok(format!(in alloc; "{text}\n")?),
-    }
-}
-
-/// The line of what an act answers.
-pub(crate) fn acted_line(alloc: Global, acted: Acted) -> Result<String, CaseError> {
+/// Adds the line of what an act answers: of a refused one the names of the rules.
+pub(crate) fn add_acted(alloc: Global, text: &mut Text, acted: Acted) {
     match acted {
-        Acted::Id(id) => Ok(format!(in alloc; "{id}\n")?),
-        Acted::Count(count) => Ok(format!(in alloc; "{count}\n")?),
-        Acted::Done => Ok(String::from_str(alloc, "done\n")?),
-        Acted::Refused(refusal) => refusal_line(alloc, refusal),
-        Acted::Failed(code) => Ok(format!(in alloc; "fault {code:?}\n")?),
-        Acted::Memory => Ok(String::from_str(alloc, "memory\n")?),
+        Acted::Id(id) => add_value(text, id),
+        Acted::Count(count) => add_value(text, count),
+        Acted::Done => text.push_line("done"),
+        Acted::Refused(refusal) => add_name(alloc, text, &refusal),
+        Acted::Failed(code) => write!(text, "fault {code:?}\n"),
+        Acted::Memory => text.push_line("memory"),
     }
 }

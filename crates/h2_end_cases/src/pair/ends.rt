@@ -1,16 +1,17 @@
 //! Two joined ends, and what their cases see of them.
 
-use super::acts::{acted_line, read_config, read_side};
+use super::acts::{add_acted, read_act, read_config, read_side};
 use super::events::{add_accepted, add_event};
 use super::heard::is_whole;
-use h2_case::case::{CaseError, add_line};
+use h2_case::case::CaseError;
 use h2_case::octets::add_frames;
+use h2_case::text::Text;
 use h2_case::words::Words;
-use h2_joined::{Acted, Code, Conn, Joined, JointAct, Side};
+use h2_conn_cases::answers::{add_option, add_value, extend};
+use h2_joined::{Acted, Code, Config, Conn, Joined, JointAct, Side};
 use std::alloc::Global;
 
 /// Two joined ends.
-#[derive(Drop)]
 pub(crate) struct Pair {
     alloc: Global,
     joined: Joined,
@@ -18,6 +19,22 @@ pub(crate) struct Pair {
     server: Kept,
     /// The most octets that are moved or delivered at once.
     most: usize,
+}
+
+impl Drop for Pair {
+    /// Lets go of it by calls: where one is let go of, nothing of that is proved again.
+    fn drop(self) {
+        let Pair {
+            alloc: _alloc,
+            joined,
+            client,
+            server,
+            most: _most,
+        } = self;
+        drop(joined);
+        drop(client);
+        drop(server);
+    }
 }
 
 /// What is kept of an end.
@@ -41,7 +58,7 @@ struct Half {
     failed: Option<Code>,
 }
 
-/// What is kept of a new end.
+// What is kept of a new end.
 fn new_kept(alloc: Global) -> Kept {
     Kept {
         moved: Vec::new(alloc),
@@ -50,41 +67,48 @@ fn new_kept(alloc: Global) -> Kept {
     }
 }
 
+// The next words, as the settings of an end.
+fn read_config_of(words: &mut Words<'_>, side: &str) -> Config {
+    words.expect(side);
+    read_config(words)
+}
+
 /// The two ends that a command makes.
-pub(crate) fn read_pair(
-    alloc: Global,
-    words: &mut Words<'_>,
-    in_pieces: bool,
-) -> Result<Pair, CaseError> {
-    if read_side(words)? != Side::Client {
-        return Err(CaseError::Unread);
-    }
-    let client = read_config(words)?;
-    if read_side(words)? != Side::Server {
-        return Err(CaseError::Unread);
-    }
-    let server = read_config(words)?;
-    let most = if words.has("pieces") {
-        words.number()?
+pub(crate) fn read_pair(alloc: Global, words: &mut Words<'_>, is_in_pieces: bool) -> Option<Pair> {
+    let client = read_config_of(words, "client");
+    let server = read_config_of(words, "server");
+    let piece = if words.has("pieces") {
+        words.number()
     } else {
         1
     };
-    words.end()?;
-    Ok(Pair {
-        alloc,
-        joined: Joined::new(alloc, client, server)?,
-        client: new_kept(alloc),
-        server: new_kept(alloc),
-        most: if in_pieces { most } else { usize::MAX },
-    })
+    let most = if is_in_pieces { piece } else { usize::MAX };
+    match Joined::new(alloc, client, server) {
+        Ok(joined) => Some(new_pair(alloc, joined, most)),
+        Err(_) => {
+            words.fail(CaseError::Memory);
+            None
+        }
+    }
 }
 
-/// Makes an act. What its contract says is not said of this, since no case needs it.
+// Two new ends.
+fn new_pair(alloc: Global, joined: Joined, most: usize) -> Pair {
+    Pair {
+        alloc,
+        joined,
+        client: new_kept(alloc),
+        server: new_kept(alloc),
+        most,
+    }
+}
+
+// Makes an act. What its contract says is not said of this, since no case needs it.
 fn make(joined: &mut Joined, act: &JointAct) -> Acted {
     joined.act(act)
 }
 
-/// The other end.
+// The other end.
 fn other(side: Side) -> Side {
     match side {
         Side::Client => Side::Server,
@@ -92,8 +116,24 @@ fn other(side: Side) -> Side {
     }
 }
 
+// The act of a step in which an end sends all.
+fn sending_act(step: u32, from: Side) -> JointAct {
+    match step {
+        0 => JointAct::Pump(from),
+        1 => JointAct::ReleaseAll(from),
+        2 => JointAct::Move {
+            from,
+            count: usize::MAX,
+        },
+        _ => JointAct::Deliver {
+            to: other(from),
+            count: usize::MAX,
+        },
+    }
+}
+
 impl Pair {
-    /// The connection of an end.
+    // The connection of an end.
     fn conn(&self, side: Side) -> &Conn {
         match side {
             Side::Client => self.joined.client().conn(),
@@ -101,7 +141,7 @@ impl Pair {
         }
     }
 
-    /// What is kept of an end.
+    // What is kept of an end.
     fn kept(&mut self, side: Side) -> &mut Kept {
         match side {
             Side::Client => &mut self.client,
@@ -109,7 +149,7 @@ impl Pair {
         }
     }
 
-    /// What is seen of an end.
+    // What is seen of an end.
     fn half(&self, side: Side) -> Half {
         let conn = self.conn(side);
         Half {
@@ -122,28 +162,28 @@ impl Pair {
         }
     }
 
-    /// The first octets of an end's output, so many at most.
-    fn first_waiting(&self, side: Side, count: usize) -> Result<Vec<u8>, CaseError> {
+    // The first octets of an end's output, so many at most.
+    fn first_waiting(&self, side: Side, count: usize, words: &mut Words<'_>) -> Vec<u8> {
         let mut octets = Vec::new(self.alloc);
         let (first, second) = self.conn(side).waiting_octets();
-        for octet in first.iter().chain(second.iter()).take(count) {
-            octets.push(*octet)?;
-        }
-        Ok(octets)
+        extend(&mut octets, first.get(..count).unwrap_or(first), words);
+        let left = count.saturating_sub(octets.len());
+        extend(&mut octets, second.get(..left).unwrap_or(second), words);
+        octets
     }
 
-    /// Moves octets at once.
-    fn move_piece(&mut self, from: Side, count: usize) -> Result<Acted, CaseError> {
-        let octets = self.first_waiting(from, count)?;
+    // Moves octets at once.
+    fn move_piece(&mut self, from: Side, count: usize, words: &mut Words<'_>) -> Acted {
+        let octets = self.first_waiting(from, count, words);
         let acted = make(&mut self.joined, &JointAct::Move { from, count });
         if let Acted::Count(moved) = acted {
             let moved = octets.get(..moved).unwrap_or(&octets);
-            self.kept(from).moved.extend_from_slice(moved)?;
+            extend(&mut self.kept(from).moved, moved, words);
         }
-        Ok(acted)
+        acted
     }
 
-    /// Delivers octets at once.
+    // Delivers octets at once.
     fn deliver_piece(&mut self, to: Side, count: usize) -> Acted {
         let acted = make(&mut self.joined, &JointAct::Deliver { to, count });
         if let Acted::Count(count) = acted {
@@ -153,175 +193,165 @@ impl Pair {
         acted
     }
 
-    /// Moves or delivers at most so many octets at once; another act is made.
-    fn act_once(&mut self, act: &JointAct, done: usize) -> Result<Acted, CaseError> {
+    // Moves or delivers octets where so many are done already, at most so many at once; another act
+    // is made.
+    fn act_once(&mut self, act: &JointAct, done: usize, words: &mut Words<'_>) -> Acted {
         match act {
             JointAct::Move { from, count } => {
                 let piece = self.most.min(count.saturating_sub(done));
-                self.move_piece(*from, piece)
+                self.move_piece(*from, piece, words)
             }
             JointAct::Deliver { to, count } => {
                 let piece = self.most.min(count.saturating_sub(done));
-                Ok(self.deliver_piece(*to, piece))
+                self.deliver_piece(*to, piece)
             }
-            _ => Ok(make(&mut self.joined, act)),
+            _ => make(&mut self.joined, act),
         }
     }
 
-    /// Makes an act, whose octets are moved or delivered in pieces.
-    fn act(&mut self, act: &JointAct) -> Result<Acted, CaseError> {
-        if !matches!(act, JointAct::Move { .. } | JointAct::Deliver { .. }) {
-            return self.act_once(act, 0);
-        }
+    // Moves or delivers octets in pieces.
+    fn act_in_pieces(&mut self, act: &JointAct, words: &mut Words<'_>) -> Acted {
         let mut done = 0usize;
         for _ in 0..1_000_000 {
-            match self.act_once(act, done)? {
-                Acted::Count(0) => return Ok(Acted::Count(done)),
+            match self.act_once(act, done, words) {
+                Acted::Count(0) => return Acted::Count(done),
                 Acted::Count(count) => done = done.saturating_add(count),
-                answer => return Ok(answer),
+                answer => return answer,
             }
         }
-        Err(CaseError::Unread)
+        words.unread();
+        Acted::Memory
     }
 
-    /// Makes an act: what it answers, and whether a refused one has changed what is seen.
-    pub(crate) fn make(&mut self, act: &JointAct) -> Result<String, CaseError> {
-        let before = (self.half(Side::Client), self.half(Side::Server));
-        let acted = self.act(act)?;
-        let mut line = acted_line(self.alloc, acted)?;
-        let after = (self.half(Side::Client), self.half(Side::Server));
-        if matches!(acted, Acted::Refused(_) | Acted::Memory) && before != after {
-            add_line(&mut line, "it has changed the ends")?;
+    // Makes an act, whose octets are moved or delivered in pieces.
+    fn act(&mut self, act: &JointAct, words: &mut Words<'_>) -> Acted {
+        match act {
+            JointAct::Move { .. } | JointAct::Deliver { .. } => self.act_in_pieces(act, words),
+            _ => make(&mut self.joined, act),
         }
-        Ok(line)
     }
 
-    /// An end pumps, releases and moves all, and the other takes all; the first answer that is
-    /// another one than it is to be.
-    fn send_all(&mut self, from: Side) -> Result<Option<Acted>, CaseError> {
-        let acts = [
-            JointAct::Pump(from),
-            JointAct::ReleaseAll(from),
-            JointAct::Move {
-                from,
-                count: usize::MAX,
-            },
-            JointAct::Deliver {
-                to: other(from),
-                count: usize::MAX,
-            },
-        ];
-        for act in &acts {
-            match self.act(act)? {
+    // What is seen of both ends.
+    fn halves(&self) -> (Half, Half) {
+        (self.half(Side::Client), self.half(Side::Server))
+    }
+
+    // Makes an act, and adds what it answers, and whether a refused one has changed what is seen.
+    fn add_act(&mut self, act: &JointAct, words: &mut Words<'_>, text: &mut Text) {
+        let before = self.halves();
+        let acted = self.act(act, words);
+        add_acted(self.alloc, text, acted);
+        if matches!(acted, Acted::Refused(_) | Acted::Memory) && before != self.halves() {
+            text.push_line("it has changed the ends");
+        }
+    }
+
+    // An end pumps, releases and moves all, and the other takes all; the first answer that is
+    // another one than it is to be.
+    fn send_all(&mut self, from: Side, words: &mut Words<'_>) -> Option<Acted> {
+        for step in 0..4 {
+            match self.act(&sending_act(step, from), words) {
                 Acted::Count(_) | Acted::Done => {}
-                answer => return Ok(Some(answer)),
+                answer => return Some(answer),
             }
         }
-        Ok(None)
+        None
     }
 
-    /// Both go on until they are quiet.
-    fn settle(&mut self) -> Result<String, CaseError> {
+    // Both ends send all; the first answer that is another one than it is to be.
+    fn exchange(&mut self, words: &mut Words<'_>) -> Option<Acted> {
+        match self.send_all(Side::Client, words) {
+            None => self.send_all(Side::Server, words),
+            answer => answer,
+        }
+    }
+
+    // Both go on until they are quiet.
+    fn settle(&mut self, words: &mut Words<'_>, text: &mut Text) {
         for _ in 0..1_000 {
             if self.joined.quiet() {
-                return Ok(String::from_str(self.alloc, "quiet\n")?);
+                return text.push_line("quiet");
             }
-            for side in [Side::Client, Side::Server] {
-                if let Some(answer) = self.send_all(side)? {
-                    return acted_line(self.alloc, answer);
-                }
+            if let Some(answer) = self.exchange(words) {
+                return add_acted(self.alloc, text, answer);
             }
         }
-        Ok(String::from_str(self.alloc, "not quiet\n")?)
+        text.push_line("not quiet");
     }
 
-    /// What an end has handed out since the last time.
-    fn handed(&mut self, side: Side) -> Result<String, CaseError> {
-        let mut lines = String::new(self.alloc);
+    // Adds what an end has handed out since the last time.
+    fn add_handed(&mut self, side: Side, text: &mut Text) {
         let read = self.kept(side).read;
         let events = self.joined.handed(side);
         for event in events.iter().skip(read) {
-            add_event(self.alloc, &mut lines, event)?;
+            add_event(self.alloc, text, event);
         }
         let all = events.len();
         self.kept(side).read = all;
-        Ok(lines)
     }
 
-    /// The messages that an end has accepted.
-    fn accepted(&self, side: Side) -> Result<String, CaseError> {
-        let mut lines = String::new(self.alloc);
+    // Adds the messages that an end has accepted.
+    fn add_accepted(&self, side: Side, text: &mut Text) {
         for accepted in self.joined.accepted(side) {
-            add_accepted(self.alloc, &mut lines, accepted)?;
+            add_accepted(self.alloc, text, accepted);
         }
-        Ok(lines)
     }
 
-    /// The octets on an end's pipe.
-    fn piped(&mut self, side: Side) -> Result<String, CaseError> {
+    // Adds the octets on an end's pipe.
+    fn add_piped(&mut self, side: Side, text: &mut Text) {
         let alloc = self.alloc;
-        let mut lines = String::new(alloc);
         let count = self.joined.piped(side);
         let kept = self.kept(side);
         let pipe = kept.moved.get(kept.delivered..).unwrap_or(&[]);
-        if count != pipe.len() {
-            return Ok(format!(in alloc; "another count: {count}\n")?);
+        if count == pipe.len() {
+            add_frames(alloc, text, pipe);
+        } else {
+            write!(text, "another count: {count}\n");
         }
-        add_frames(alloc, &mut lines, pipe)?;
-        Ok(lines)
     }
 
-    /// Whether an end has handed out all that the other has accepted for a stream.
-    fn whole(&self, side: Side, id: u32) -> Result<&'static str, CaseError> {
+    // Adds whether an end has handed out all that the other has accepted for a stream.
+    fn add_whole(&self, side: Side, id: u32, text: &mut Text) {
         let accepted = self.joined.accepted(other(side));
-        Ok(
-            match is_whole(self.alloc, self.joined.handed(side), accepted, id)? {
-                None => "no prefix",
-                Some(true) => "yes",
-                Some(false) => "no",
-            },
-        )
-    }
-
-    /// How many octets may be sent on a stream of an end.
-    fn room(&self, side: Side, id: u32) -> Result<String, CaseError> {
-        match self.conn(side).room(id) {
-            Some(room) => Ok(format!(in self.alloc; "{room}\n")?),
-            None => Ok(String::from_str(self.alloc, "none\n")?),
+        match is_whole(self.joined.handed(side), accepted, id) {
+            None => text.push_line("no prefix"),
+            Some(true) => text.push_line("yes"),
+            Some(false) => text.push_line("no"),
         }
     }
 
-    /// The answer to a command that is no act.
-    pub(crate) fn show(&mut self, word: &str, words: &mut Words<'_>) -> Result<String, CaseError> {
-        match word {
-            "settle" => self.settle(),
-            "quiet" => {
-                let quiet = self.joined.quiet();
-                Ok(format!(in self.alloc; "{}\n", if quiet { "yes" } else { "no" })?)
-            }
+    /// Does a command: an act, or another one.
+    pub(crate) fn answer(&mut self, name: &str, words: &mut Words<'_>, text: &mut Text) {
+        match read_act(self.alloc, name, words) {
+            Some(act) => self.add_act(&act, words, text),
+            None => self.show(name, words, text),
+        }
+    }
+
+    // Does a command that is no act.
+    fn show(&mut self, name: &str, words: &mut Words<'_>, text: &mut Text) {
+        match name {
+            "settle" => self.settle(words, text),
+            "quiet" if self.joined.quiet() => text.push_line("yes"),
+            "quiet" => text.push_line("no"),
             _ => {
-                let side = read_side(words)?;
-                self.show_side(word, side, words)
+                let side = read_side(words);
+                self.show_side(name, side, words, text);
             }
         }
     }
 
-    /// The answer to a command on one end.
-    fn show_side(
-        &mut self,
-        word: &str,
-        side: Side,
-        words: &mut Words<'_>,
-    ) -> Result<String, CaseError> {
-        match word {
-            "waits" => Ok(format!(in self.alloc; "{}\n", self.conn(side).waiting())?),
-            "pipes" => Ok(format!(in self.alloc; "{}\n", self.joined.piped(side))?),
-            "piped" => self.piped(side),
-            "accepted" => self.accepted(side),
-            "handed" => self.handed(side),
-            "room" => self.room(side, words.number()?),
-            "whole" => Ok(format!(in self.alloc; "{}\n", self.whole(side, words.number()?)?)?),
-            _ => Err(CaseError::Unread),
+    // Does a command on one end.
+    fn show_side(&mut self, name: &str, side: Side, words: &mut Words<'_>, text: &mut Text) {
+        match name {
+            "waits" => add_value(text, self.conn(side).waiting()),
+            "pipes" => add_value(text, self.joined.piped(side)),
+            "piped" => self.add_piped(side, text),
+            "accepted" => self.add_accepted(side, text),
+            "handed" => self.add_handed(side, text),
+            "room" => add_option(text, self.conn(side).room(words.number())),
+            "whole" => self.add_whole(side, words.number(), text),
+            _ => words.unread(),
         }
     }
 }

@@ -1,27 +1,40 @@
 //! Whether what an end has handed out on a stream is a prefix of a message, or all of it.
 
-use h2_case::case::CaseError;
-use h2_case::messages::add_list;
 use h2_joined::{Accepted, Field, JointEvent, Message};
-use std::alloc::Global;
 
 /// How much of a message was handed out.
-#[derive(Drop)]
+#[derive(Clone, Copy)]
 struct Heard {
-    head: Option<String>,
-    body: Vec<u8>,
-    trailers: Option<String>,
+    /// Whether its head was.
+    has_head: bool,
+    /// How many octets of its body were.
+    count: usize,
+    /// Whether its trailers were.
+    has_trailers: bool,
     /// Whether its end was.
     ended: bool,
-    /// Whether its parts came in the order of a message.
-    in_order: bool,
+    /// Whether its parts came in the order of a message, and are those of this one.
+    fits: bool,
 }
 
-/// The text of fields.
-fn text_of(alloc: Global, list: &[Field]) -> Result<String, CaseError> {
-    let mut text = String::new(alloc);
-    add_list(alloc, &mut text, list)?;
-    Ok(text)
+// Whether two fields are the same.
+fn is_same(field: &Field, other: &Field) -> bool {
+    field.name.as_slice() == other.name.as_slice()
+        && field.value.as_slice() == other.value.as_slice()
+        && field.sensitive == other.sensitive
+}
+
+// Whether two lists of fields are the same.
+fn are_same(list: &[Field], other: &[Field]) -> bool {
+    if list.len() != other.len() {
+        return false;
+    }
+    for (field, other) in list.iter().zip(other) {
+        if !is_same(field, other) {
+            return false;
+        }
+    }
+    true
 }
 
 /// The stream of whose message an event is a part.
@@ -36,76 +49,98 @@ fn stream_of(event: &JointEvent) -> Option<u32> {
 }
 
 impl Heard {
-    /// Keeps a part that was handed out.
-    fn keep(&mut self, alloc: Global, event: &JointEvent) -> Result<(), CaseError> {
-        let goes_on = self.head.is_some() && !self.ended;
-        let fits = match event {
-            JointEvent::Head { list, end, .. } => {
-                let first = self.head.is_none();
-                self.head = Some(text_of(alloc, list)?);
-                self.ended = *end;
-                first
-            }
-            JointEvent::Body {
-                bytes: octets,
-                end,
-                ..
-            } => {
-                self.body.extend_from_slice(octets)?;
-                self.ended = *end;
-                goes_on && (*end || !octets.is_empty())
-            }
-            JointEvent::Trailers { list, .. } => {
-                self.trailers = Some(text_of(alloc, list)?);
-                self.ended = true;
-                goes_on
-            }
-            _ => false,
-        };
-        self.in_order = self.in_order && fits;
-        Ok(())
+    // Whether more may come.
+    fn goes_on(self) -> bool {
+        self.has_head && !self.ended
     }
 
-    /// Whether this is a prefix of a message.
-    fn begins(&self, alloc: Global, message: &Message) -> Result<bool, CaseError> {
-        let Some(head) = &self.head else {
-            return Ok(self.in_order);
+    // Whether these octets go on with a body.
+    fn is_next(self, body: &[u8], octets: &[u8]) -> bool {
+        match body.get(self.count..) {
+            Some(others) => others.starts_with(octets),
+            None => false,
+        }
+    }
+
+    // With the head of the message.
+    fn with_head(self, message: &Message, list: &[Field], end: bool) -> Heard {
+        Heard {
+            has_head: true,
+            ended: end,
+            fits: self.fits && !self.has_head && are_same(list, &message.head),
+            ..self
+        }
+    }
+
+    // With octets of the body.
+    fn with_body(self, message: &Message, octets: &[u8], end: bool) -> Heard {
+        Heard {
+            count: self.count.saturating_add(octets.len()),
+            ended: end,
+            fits: self.fits
+                && self.goes_on()
+                && (end || !octets.is_empty())
+                && self.is_next(&message.body, octets),
+            ..self
+        }
+    }
+
+    // With the trailers.
+    fn with_trailers(self, message: &Message, list: &[Field]) -> Heard {
+        let is_same = match &message.trailers {
+            Some(trailers) => are_same(list, trailers),
+            None => false,
         };
-        let trailers = match &message.trailers {
-            Some(list) => Some(text_of(alloc, list)?),
-            None => None,
-        };
-        let is_last = self.body.len() == message.body.len() && self.trailers == trailers;
-        let alone = message.body.is_empty() && trailers.is_none();
-        let fits = if self.ended {
-            is_last
+        Heard {
+            has_trailers: true,
+            ended: true,
+            fits: self.fits && self.goes_on() && is_same,
+            ..self
+        }
+    }
+
+    // With a part of this message.
+    fn with(self, message: &Message, event: &JointEvent) -> Heard {
+        match event {
+            JointEvent::Head { list, end, .. } => self.with_head(message, list, *end),
+            JointEvent::Body { bytes, end, .. } => self.with_body(message, bytes, *end),
+            JointEvent::Trailers { list, .. } => self.with_trailers(message, list),
+            _ => Heard {
+                fits: false,
+                ..self
+            },
+        }
+    }
+
+    // Whether this is a prefix of the message.
+    fn begins(self, message: &Message) -> bool {
+        let has_all = self.count == message.body.len()
+            && self.has_trailers == message.trailers.is_some();
+        let is_alone = message.body.is_empty() && message.trailers.is_none();
+        let ends_well = if self.ended {
+            has_all
         } else {
-            !alone && self.trailers.is_none()
+            !is_alone && !self.has_trailers
         };
-        Ok(
-            self.in_order
-                && fits
-                && *head == text_of(alloc, &message.head)?
-                && message.body.starts_with(&self.body),
-        )
+        self.fits && (!self.has_head || ends_well)
     }
 }
 
-/// What was handed out on a stream.
-fn heard_of(alloc: Global, events: &[JointEvent], id: u32) -> Result<Heard, CaseError> {
+// What was handed out of a message.
+fn heard_of(events: &[JointEvent], accepted: &Accepted) -> Heard {
     let mut heard = Heard {
-        head: None,
-        body: Vec::new(alloc),
-        trailers: None,
+        has_head: false,
+        count: 0,
+        has_trailers: false,
         ended: false,
-        in_order: true,
+        fits: true,
     };
     for event in events {
-        if stream_of(event) == Some(id) {
-            heard.keep(alloc, event)?;
+        if stream_of(event) == Some(accepted.id) {
+            heard = heard.with(&accepted.message, event);
         }
     }
-    Ok(heard)
+    heard
 }
 
 /// Whether a message was accepted for a stream.
@@ -126,21 +161,16 @@ fn are_accepted(events: &[JointEvent], accepted: &[Accepted]) -> bool {
 
 /// Whether all of the message that was accepted for a stream was handed out there; nothing where
 /// what was handed out on some stream is no prefix of the message that was accepted for it.
-pub(crate) fn is_whole(
-    alloc: Global,
-    events: &[JointEvent],
-    accepted: &[Accepted],
-    id: u32,
-) -> Result<Option<bool>, CaseError> {
+pub(crate) fn is_whole(events: &[JointEvent], accepted: &[Accepted], id: u32) -> Option<bool> {
     let mut is_whole = false;
     for one in accepted {
-        let heard = heard_of(alloc, events, one.id)?;
-        if !heard.begins(alloc, &one.message)? {
-            return Ok(None);
+        let heard = heard_of(events, one);
+        if !heard.begins(&one.message) {
+            return None;
         }
         if one.id == id {
             is_whole = heard.ended;
         }
     }
-    Ok(are_accepted(events, accepted).then_some(is_whole))
+    are_accepted(events, accepted).then_some(is_whole)
 }

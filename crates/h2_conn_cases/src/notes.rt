@@ -1,0 +1,121 @@
+//! What comes out as octets are handed over.
+
+use crate::cuts::Cut;
+use h2_case::text::Text;
+use std::alloc::Global;
+
+/// What came out, in order: all of it, or how many of each kind, and the last one.
+#[derive(Drop)]
+pub struct Notes {
+    pub alloc: Global,
+    /// The lines of all that came out, or of the last.
+    pub lines: Text,
+    is_quiet: bool,
+    counts: Vec<(&'static str, u64)>,
+    /// Whether memory was refused for a count.
+    is_refused: bool,
+}
+
+impl Notes {
+    /// Nothing has come out; where it is quiet, no more than the last will be kept.
+    pub fn new(alloc: Global, is_quiet: bool) -> Notes {
+        Notes {
+            alloc,
+            lines: Text::new(alloc),
+            is_quiet,
+            counts: Vec::new(alloc),
+            is_refused: false,
+        }
+    }
+
+    /// Something of this kind comes out, whose lines follow.
+    pub fn begin(&mut self, kind: &'static str) {
+        if self.is_quiet {
+            self.lines = Text::new(self.alloc);
+            self.count(kind);
+        }
+    }
+
+    // Counts one of this kind.
+    fn count(&mut self, kind: &'static str) {
+        for count in self.counts.iter_mut() {
+            if count.0 == kind {
+                count.1 = count.1.saturating_add(1);
+                return;
+            }
+        }
+        if self.counts.push((kind, 1)).is_err() {
+            self.is_refused = true;
+        }
+    }
+
+    /// Adds what came out to an answer.
+    pub fn add_to(&self, text: &mut Text) {
+        if self.is_refused {
+            text.refuse();
+        }
+        add_counts(&self.counts, text);
+        text.push_text(&self.lines);
+    }
+}
+
+// Adds how many there are of each kind, and what precedes the last one.
+fn add_counts(counts: &[(&'static str, u64)], text: &mut Text) {
+    for (kind, count) in counts {
+        write!(text, "{kind}: {count}\n");
+    }
+    if !counts.is_empty() {
+        text.push_str("last: ");
+    }
+}
+
+/// What an end has made of a piece.
+#[derive(Clone, Copy)]
+pub struct Used {
+    /// How many octets of it are used.
+    pub count: usize,
+    /// Whether something came out.
+    pub comes_out: bool,
+}
+
+/// An end that takes octets in pieces, and notes what comes out.
+pub trait Taker<N> {
+    /// Takes a piece, and notes what comes out, or a fault; nothing where the connection has failed.
+    fn take_piece(&mut self, piece: &[u8], notes: &mut N) -> Option<Used>;
+}
+
+/// Hands octets over, and notes what comes out; after a fault no more than that.
+pub fn take_all<N, T: Taker<N>>(taker: &mut T, cut: Cut, octets: &[u8], notes: &mut N) {
+    let (before, from) = cut.split(octets);
+    if before.is_empty() || take_part(taker, cut, before, notes) {
+        let _ = take_part(taker, cut, from, notes);
+    }
+}
+
+/// Hands octets over, and adds what comes out.
+pub fn add_taken<T: Taker<Notes>>(
+    taker: &mut T,
+    cut: Cut,
+    octets: &[u8],
+    mut notes: Notes,
+    text: &mut Text,
+) {
+    take_all(taker, cut, octets, &mut notes);
+    notes.add_to(text);
+}
+
+/// Hands octets over, up to a fault or until they are used and nothing more comes out; whether the
+/// connection has not failed.
+pub fn take_part<N, T: Taker<N>>(taker: &mut T, cut: Cut, octets: &[u8], notes: &mut N) -> bool {
+    let mut left = octets;
+    for _ in 0..u64::MAX {
+        let Some(used) = taker.take_piece(cut.piece(left), notes) else {
+            return false;
+        };
+        left = left.get(used.count..).unwrap_or(&[]);
+        if left.is_empty() && !used.comes_out {
+            break;
+        }
+    }
+    true
+}
