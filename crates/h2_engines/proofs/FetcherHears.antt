@@ -3,12 +3,8 @@ use Rattle.std.proofs.Common.{◌≡◌, ◌⊎◌, ℕ, Bool, true, false}
 use Rattle.std.proofs.Common.{if◌then◌else◌, List, [], ◌∷◌, ◌++◌, length, Option, Some, None}
 use Rattle.std.proofs.Common.{option_map, Ok, Err, refl, sym, ap, ◌∙◌, subst, inl, inr}
 use Rattle.hpack.specs.declared.types.field.Field.{Field}
-use Rattle.h2_frame.specs.declared.code.Code.{Code}
 use Rattle.h2_log.specs.declared.role.Role.TheVariants.{Client}
-use Rattle.h2_log.specs.Acts.{Refuse}
 use Rattle.h2_log.specs.Events.{ResetEvent, UnprocessedEvent}
-use Rattle.h2_log.specs.Log.{Log}
-use Rattle.h2_log.specs.LogCalls.{with_call}
 use Rattle.h2_log.specs.Settings.{is_server}
 use Rattle.h2_conn.specs.declared.event.ConnFault.{ConnFault}
 use Rattle.h2_message.specs.declared.reading.Reads.{Reads}
@@ -22,8 +18,7 @@ use Rattle.h2_ends.specs.declared.event.EndEvent.{EndEvent}
 use Rattle.h2_ends.specs.declared.event.EndTaken.{EndTaken}
 use Rattle.h2_ends.specs.Ends.{EndLog, EndAnswer, EndTook, EndFailed, Handed, Passed, asked_head}
 use Rattle.h2_ends.specs.Ends.{handed_as, handed_at, message_for, part_on, parts_on, reads_on}
-use Rattle.h2_ends.specs.EndTakes.{EndMayTake, AnswersRefused, fails, hands_nothing, passes}
-use Rattle.h2_ends.specs.EndTakes.{hands_out, refuses, runs_out_of_memory}
+use Rattle.h2_ends.specs.EndTakes.{EndMayTake}
 use Rattle.h2_ends.specs.Loans.{event_handed}
 use Rattle.h2_ends.specs.Represents.{EndTakes}
 use Rattle.h2_link.specs.declared.error.LinkError.{LinkError}
@@ -38,7 +33,7 @@ use Rattle.h2_engines.specs.PartialMessages.{HasCome}
 use Rattle.h2_engines.specs.ServerSteps.{error_with}
 use Rattle.h2_engines.proofs.FetcherParts.{MayHand, KeepsSoFar, notes_on}
 use Rattle.h2_engines.proofs.FetcherPlaces.{SaysPlace, place_says, octets_say}
-use Rattle.h2_engines.proofs.TakeMessages.{taken_says}
+use Rattle.h2_engines.proofs.TakeMessages.{take_hands, taken_says}
 
 -- A part of the response is handed out as it was read.
 hands_at : (coming : Coming) (id i : ℕ) (list : List Field) (last : Bool) (place : Place)
@@ -78,52 +73,13 @@ hands_as_read coming end id i part to_head reads same come readable =
     (subst (λ (one : Reads). IsReadable one (parts_on i end.handed ++ part ∷ [])) same readable))
 
 -- So it is with what a call of `take` hands out.
-hands_refused : (coming : Coming) (end after : EndLog) (log : Log) (count n id i : ℕ)
-    (handed : Handed) (failed : Option Code)
-    → AnswersRefused end log n i (EndTook count (Some handed)) after failed
-    → MayHand coming id handed
-unfolding AnswersRefused
-hands_refused coming end after log count n id i handed None refused =
-    let said = refused.0 in
-    let is : handed ≡ Passed (ResetEvent i 1 true) = cc in
-    subst (MayHand coming id) (sym is) tt
-hands_refused coming end after log count n id i handed (Some code) refused =
-    let wrong = refused.0 in absurd (cc)
-
-hands_by : (coming : Coming) (end after : EndLog) (id : ℕ) (piece : List ℕ) (count : ℕ)
-    (handed : Handed) (answer : EndAnswer) → end.log.role ≡ Client
-    → HasCome coming (parts_on id end.handed) → EndTook count (Some handed) ≡ answer
-    → EndMayTake end piece answer after → MayHand coming id handed
-hands_by coming end after id piece count handed answer role come named
-    (fails code log takes same now) = absurd (cc)
-hands_by coming end after id piece count handed answer role come named
-    (hands_nothing n log takes same now) = absurd (cc)
-hands_by coming end after id piece count handed answer role come named
-    (passes n event log takes none same now) =
-    let is : handed ≡ Passed event = cc in
-    subst (MayHand coming id) (sym is) tt
-hands_by coming end after id piece count handed answer role come named
-    (hands_out n event log takes i part reported readable same now) =
-    let is : handed ≡ handed_as (reads_on end i) (parts_on i end.handed) i part = cc in
-    subst (MayHand coming id) (sym is)
-    (hands_as_read coming end id i part (asked_head (message_for i end.accepted))
-    (reads_on end i) (reads_responses end i role) come readable)
-hands_by coming end after id piece count handed answer role come named
-    (refuses n event log takes i part reported broken refused may answers) =
-    hands_refused coming end after (with_call log (Refuse i 1) refused) count n id i handed
-    (with_call log (Refuse i 1) refused).failed
-    (subst (λ (one : EndAnswer). AnswersRefused end (with_call log (Refuse i 1) refused) n i
-    one after (with_call log (Refuse i 1) refused).failed) (sym named) answers)
-hands_by coming end after id piece count handed answer role come named
-    (runs_out_of_memory n i list last log takes is_role none readable refused may same now) =
-    absurd (cc)
-
 pub client_hands : (coming : Coming) (end after : EndLog) (id : ℕ) (piece : List ℕ) (count : ℕ)
     (handed : Handed) → end.log.role ≡ Client → HasCome coming (parts_on id end.handed)
     → EndMayTake end piece (EndTook count (Some handed)) after → MayHand coming id handed
 client_hands coming end after id piece count handed role come may =
-    hands_by coming end after id piece count handed (EndTook count (Some handed)) role come refl
-    may
+    take_hands (MayHand coming id) end piece count handed after (λ event. tt)
+    (λ i part readable. hands_as_read coming end id i part (asked_head (message_for i end.accepted))
+    (reads_on end i) (reads_responses end i role) come readable) may
 
 -- What was handed out is on the stream after what was.
 handed_on : (id : ℕ) (handed now : List Handed) (one : Handed) → now ≡ one ∷ handed
@@ -169,7 +125,8 @@ keeps_none end after id coming next same (inr done) come =
 
 pub heard_nothing : (old new : End) (id : ℕ) (coming : Coming) (piece : List ℕ)
     (taken : EndTaken) (next : Next) → taken.event ≡ None
-    → (next ≡ goes.Again) ⊎ (next ≡ goes.Done) → (next ≡ goes.Done → taken.used ≡ length piece) → EndTakes old piece (Ok taken) new
+    → (next ≡ goes.Again) ⊎ (next ≡ goes.Done) → (next ≡ goes.Done → taken.used ≡ length piece)
+    → EndTakes old piece (Ok taken) new
     → ClientHears old new id coming coming piece
     (Ok (record { used = taken.used; next = next }))
 unfolding FetchedSo

@@ -18,30 +18,11 @@ use Rattle.h2_message.specs.Reading.{final_rules, compared_length}
 use Rattle.h2_message.specs.Phases.{phase_in_body, phase_after_final, phase_after_head}
 use Rattle.h2_message.specs.Phases.{phase_after_data, phase_after, phase_after_all}
 use Rattle.h2_message.specs.Phases.{place_at_head, place_in, place_after}
+use Rattle.h2_message.proofs.PhaseSteps.{after_none, after_both}
 use Rattle.h2_message.proofs.PhaseWhole.{after_interim, not_readable}
 use Rattle.h2_engines.specs.declared.fetcher.Coming.{Coming}
 use Rattle.h2_engines.specs.PartialMessages.{HasCome, interims_alone, head_and_body}
 use Rattle.h2_engines.specs.PartialMessages.{interim_parts, data_parts_of}
-
--- After a part that is not taken nothing is.
-after_none : (reads : Reads) (parts : List (Part × Bool))
-    → phase_after_all reads None parts ≡ None
-unfolding phase_after_all
-after_none reads [] = refl
-after_none reads (part ∷ parts) = refl
-
--- The parts that follow are taken from the phase after those before.
-after_both : (reads : Reads) (phase : Option Phase) (parts more : List (Part × Bool))
-    → phase_after_all reads phase (parts ++ more)
-    ≡ phase_after_all reads (phase_after_all reads phase parts) more
-unfolding phase_after_all
-after_both reads None parts more =
-    after_none reads (parts ++ more) ∙ sym (after_none reads more)
-    ∙ ap (λ (phase : Option Phase). phase_after_all reads phase more)
-    (sym (after_none reads parts))
-after_both reads (Some phase) [] more = refl
-after_both reads (Some phase) (part ∷ parts) more =
-    after_both reads (phase_after reads phase part) parts more
 
 -- What is not nothing is something.
 some_not_none : {X : Type 0} (option : Option X) → (option ≡ None → ⊥) → is_some option ≡ true

@@ -97,7 +97,7 @@ AnswersKeep P =
     (before : EndLog) (id : ℕ) (message : SentMessage) (done : Unit {0}) (after : EndLog)
     → MayRespond before id message (Ok done) after → P before → P after
 
-responded_keeps : (P : EndLog → Type 0) → CallsKeep P → AnswersKeep P → (before : EndLog)
+pub responded_keeps : (P : EndLog → Type 0) → CallsKeep P → AnswersKeep P → (before : EndLog)
     (id : ℕ) (message : SentMessage) (result : Result (Unit {0}) EndRefusal) (after : EndLog)
     → MayRespond before id message result after → P before → P after
 unfolding MayRespond

@@ -15,11 +15,11 @@ use Rattle.h2_end_laws.proofs.OverSteps.{take_keeps}
 use Rattle.h2_end_laws.proofs.ReadVerdicts.{Says}
 use Rattle.h2_message.specs.Messages.{SentMessage}
 use Rattle.h2_ends.specs.Ends.{EndLog, EndAnswer}
-use Rattle.h2_ends.specs.EndTakes.{EndMayTake, AnswersRefused, fails, hands_nothing, passes}
-use Rattle.h2_ends.specs.EndTakes.{hands_out, refuses, runs_out_of_memory}
+use Rattle.h2_ends.specs.EndTakes.{EndMayTake}
 use Rattle.h2_ends.specs.EndCalls.{MayRespond}
 use Rattle.h2_engines.specs.ServerHistories.{IsResponding}
 use Rattle.h2_engines.proofs.ServerInvariant.{holds_responding}
+use Rattle.h2_engines.proofs.TakeMessages.{take_holds}
 
 -- What holds in any case, a verdict says.
 says_any : (A : Type 0) (verdict : Verdict) → A → Says A A A verdict
@@ -57,34 +57,12 @@ responded_role before id message done after may =
     role_as before after _ may.5 (role_by_call before.log _ _)
 
 -- and a call of `take`.
-refused_role : (before : EndLog) (log : Log) (count id : ℕ) (answer : EndAnswer) (after : EndLog)
-    (failed : Option Code) → AnswersRefused before log count id answer after failed
-    → after.log.role ≡ log.role
-unfolding AnswersRefused
-refused_role before log count id answer after None refused =
-    ap (λ (end : EndLog). end.log.role) refused.1
-refused_role before log count id answer after (Some code) refused =
-    ap (λ (end : EndLog). end.log.role) refused.1
-
 pub taken_role : (before : EndLog) (piece : List ℕ) (answer : EndAnswer) (after : EndLog)
     → EndMayTake before piece answer after → after.log.role ≡ before.log.role
-taken_role before piece answer after (fails code log takes same now) =
-    role_as before after _ now (role_by_take before.log log piece _ takes)
-taken_role before piece answer after (hands_nothing count log takes same now) =
-    role_as before after _ now (role_by_take before.log log piece _ takes)
-taken_role before piece answer after (passes count event log takes none same now) =
-    role_as before after _ now (role_by_take before.log log piece _ takes)
-taken_role before piece answer after (hands_out count event log takes id part is readable same
-    now) =
-    role_as before after _ now (role_by_take before.log log piece _ takes)
-taken_role before piece answer after (refuses count event log takes id part is broken refused may
-    answers) =
-    refused_role before (with_call log (Refuse id 1) refused) count id answer after _ answers
-    ∙ role_by_call log _ _ ∙ role_by_take before.log log piece _ takes
-taken_role before piece answer after (runs_out_of_memory count id list ends log takes role none
-    readable refused may same now) =
-    role_as before after _ now
-    (role_by_call log _ _ ∙ role_by_take before.log log piece _ takes)
+taken_role before piece answer after may =
+    take_holds (λ (log : Log). log.role ≡ before.log.role) before piece answer after
+    (λ log took takes. role_by_take before.log log piece took takes)
+    (λ log id code said same. role_by_call log _ _ ∙ same) may
 
 -- A new server's end is one.
 new_role : (values : Values) → (opened Server values).role ≡ Server

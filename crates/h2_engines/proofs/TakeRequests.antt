@@ -5,12 +5,8 @@ use Rattle.std.proofs.lemmas.Bool.{ne_eqb, eq-eqb}
 use Rattle.std.specs.List.{Contains}
 use Rattle.std.specs.Prelude.{◌==◌}
 use Rattle.hpack.specs.declared.types.field.Field.{Field}
-use Rattle.h2_frame.specs.declared.code.Code.{Code}
 use Rattle.h2_log.specs.declared.role.Role.TheVariants.{Server}
-use Rattle.h2_log.specs.Acts.{Refuse}
 use Rattle.h2_log.specs.Events.{Event, ResetEvent}
-use Rattle.h2_log.specs.Log.{Log}
-use Rattle.h2_log.specs.LogCalls.{with_call}
 use Rattle.h2_log.specs.Settings.{is_server}
 use Rattle.h2_message.specs.declared.reading.Reads.{Reads}
 use Rattle.h2_message.specs.declared.reading.Reads.TheVariants.{Requests, Responses}
@@ -18,15 +14,14 @@ use Rattle.h2_message.specs.declared.reading.Place.{Place}
 use Rattle.h2_message.specs.Phases.{ends}
 use Rattle.h2_message.specs.Reading.{Part, FieldsPart, OctetsPart, IsReadable}
 use Rattle.h2_pair.proofs.FaultsInvariant.{first_in, later_in}
-use Rattle.h2_ends.specs.Ends.{EndLog, EndAnswer, EndTook, Handed, HeadHanded}
+use Rattle.h2_ends.specs.Ends.{EndLog, EndTook, Handed, HeadHanded}
 use Rattle.h2_ends.specs.Ends.{BodyHanded, TrailersHanded, Passed, asked_head, handed_as}
 use Rattle.h2_ends.specs.Ends.{handed_at, message_for, part_on, parts_on, reads_on}
-use Rattle.h2_ends.specs.EndTakes.{EndMayTake, AnswersRefused, fails, hands_nothing, passes}
-use Rattle.h2_ends.specs.EndTakes.{hands_out, refuses, runs_out_of_memory}
+use Rattle.h2_ends.specs.EndTakes.{EndMayTake}
 use Rattle.h2_engines.specs.ServerHistories.{WasReset}
 use Rattle.h2_engines.proofs.NextParts.{place_first, place_later, no_octets_first, goes_with}
 use Rattle.h2_engines.proofs.SameRequests.{SameOn}
-use Rattle.h2_engines.proofs.TakeMessages.{KeepsCalls}
+use Rattle.h2_engines.proofs.TakeMessages.{KeepsCalls, take_hands}
 
 -- What a server's end may hand out: the head of a request where nothing of it has come; octets and
 -- trailers after that, where it hasn't ended; or what is no part of a request.
@@ -95,49 +90,13 @@ hands_as_read end id part reads same readable =
     (subst (λ (one : Reads). IsReadable one (parts_on id end.handed ++ part ∷ [])) same readable))
 
 -- So it is with what a call of `take` hands out.
-hands_refused : (end after : EndLog) (log : Log) (count n id : ℕ) (handed : Handed)
-    (failed : Option Code)
-    → AnswersRefused end log n id (EndTook count (Some handed)) after failed
-    → HandsOut end handed
-unfolding AnswersRefused
-hands_refused end after log count n id handed None refused =
-    let said = refused.0 in
-    let is : handed ≡ Passed (ResetEvent id 1 true) = cc in
-    subst (HandsOut end) (sym is) (hands_event (ResetEvent id 1 true))
-hands_refused end after log count n id handed (Some code) refused =
-    let wrong = refused.0 in absurd (cc)
-
-hands_by : (end after : EndLog) (piece : List ℕ) (count : ℕ) (handed : Handed)
-    (answer : EndAnswer) → end.log.role ≡ Server → EndTook count (Some handed) ≡ answer
-    → EndMayTake end piece answer after → HandsOut end handed
-hands_by end after piece count handed answer role named (fails code log takes same now) =
-    absurd (cc)
-hands_by end after piece count handed answer role named (hands_nothing n log takes same now) =
-    absurd (cc)
-hands_by end after piece count handed answer role named
-    (passes n event log takes none same now) =
-    let is : handed ≡ Passed event = cc in
-    subst (HandsOut end) (sym is) (hands_event event)
-hands_by end after piece count handed answer role named
-    (hands_out n event log takes id part reported readable same now) =
-    let is : handed ≡ handed_as (reads_on end id) (parts_on id end.handed) id part = cc in
-    subst (HandsOut end) (sym is)
-    (hands_as_read end id part (reads_on end id) (reads_requests end id role) readable)
-hands_by end after piece count handed answer role named
-    (refuses n event log takes id part reported broken refused may answers) =
-    hands_refused end after (with_call log (Refuse id 1) refused) count n id handed
-    (with_call log (Refuse id 1) refused).failed
-    (subst (λ (one : EndAnswer). AnswersRefused end (with_call log (Refuse id 1) refused) n id
-    one after (with_call log (Refuse id 1) refused).failed) (sym named) answers)
-hands_by end after piece count handed answer role named
-    (runs_out_of_memory n id list last log takes is_role none readable refused may same now) =
-    absurd (cc)
-
 pub server_hands : (end after : EndLog) (piece : List ℕ) (count : ℕ) (handed : Handed)
     → end.log.role ≡ Server → EndMayTake end piece (EndTook count (Some handed)) after
     → HandsOut end handed
 server_hands end after piece count handed role may =
-    hands_by end after piece count handed (EndTook count (Some handed)) role refl may
+    take_hands (HandsOut end) end piece count handed after hands_event
+    (λ id part readable.
+    hands_as_read end id part (reads_on end id) (reads_requests end id role) readable) may
 
 -- One part of a request was handed out on a stream, and nothing on others.
 pub record Hands (end after : EndLog) (id : ℕ) (part : Part × Bool) : Type 0 where

@@ -1,13 +1,10 @@
 -- How many turns have passed at an end after each act: a call or a take is one at least.
 use Rattle.std.proofs.Common.{◌≡◌, ◌≤◌, ◌<◌, ℕ, ◌+◌, Bool, true, List, [], length, length-append}
-use Rattle.std.proofs.Common.{Option, Some, None, Result, Ok, Err, refl, ap, inl, inr, arith}
+use Rattle.std.proofs.Common.{Option, Some, None, Result, sym, subst, ap, arith}
 use Rattle.h2_frame.specs.declared.code.Code.{Code}
-use Rattle.h2_log.specs.declared.refusal.Refusal.{Refusal}
-use Rattle.h2_log.specs.declared.refusal.Refusal.TheVariants as reasons
-use Rattle.h2_log.specs.Acts.{Act, Answer, Turn, Refuse, SendData, SendFields, Release, Count, Done}
-use Rattle.h2_log.specs.Acts.{Refused}
+use Rattle.h2_log.specs.Acts.{Act, Answer, Turn, Refuse}
 use Rattle.h2_log.specs.Events.{Event}
-use Rattle.h2_log.specs.Log.{Log, owed}
+use Rattle.h2_log.specs.Log.{Log}
 use Rattle.h2_log.specs.LogCalls.{called, with_call}
 use Rattle.h2_log.specs.LogSteps.{used}
 use Rattle.h2_end_laws.specs.Takes.{TakeAnswer, MayTake, Took, has_failed}
@@ -16,14 +13,13 @@ use Rattle.h2_end_laws.specs.Takes.{runs_out_of_memory as lacks_memory}
 use Rattle.h2_end_laws.proofs.TurnsAdded.{Adds, adds_call, adds_take}
 use Rattle.h2_message.specs.Messages.{SentMessage}
 use Rattle.h2_ends.specs.declared.refusal.EndRefusal.{EndRefusal}
-use Rattle.h2_ends.specs.declared.refusal.EndRefusal.TheVariants as refusals
 use Rattle.h2_ends.specs.Ends.{EndLog, Handed, EndAnswer, EndTook}
 use Rattle.h2_ends.specs.EndTakes.{EndMayTake, AnswersRefused, fails, hands_nothing, passes}
 use Rattle.h2_ends.specs.EndTakes.{hands_out, refuses, runs_out_of_memory}
-use Rattle.h2_ends.specs.EndCalls.{MayRespond, MayPump, MayReleaseAll, IsUnchanged, Pumps}
-use Rattle.h2_ends.specs.EndCalls.{pumps_no_more, pumps_data, pumps_trailers, data_refused}
-use Rattle.h2_ends.specs.EndCalls.{trailers_refused, Releases, releases_no_more, releases_one}
-use Rattle.h2_ends.specs.EndCalls.{releases_refused}
+use Rattle.h2_ends.specs.EndCalls.{MayRespond, MayPump, MayReleaseAll}
+use Rattle.h2_engines.proofs.ServerInvariant.{CallsKeep, AnswersKeep, pumped_keeps, released_keeps}
+use Rattle.h2_engines.proofs.ServerInvariant.{responded_keeps}
+use Rattle.h2_engines.proofs.TakeMessages.{take_holds}
 use Rattle.h2_engines.proofs.TurnsOfFrames.{turns_of_event, turns_of_due, turns_of_frame}
 
 -- A log to which turns are added has no fewer.
@@ -70,12 +66,6 @@ took_turn log after piece count event
 took_turn log after piece count event
     (lacks_memory up octets unused joined may answers same) = absurd (cc)
 
--- No take of the connection undoes a turn.
-takes_turn : (log after : Log) (piece : List ℕ) (answer : TakeAnswer)
-    → MayTake log piece answer after → length log.turns ≤ length after.turns
-takes_turn log after piece answer may =
-    turns_added _ log after (adds_take log after piece answer may)
-
 -- No turn is undone once a stream was refused.
 refused_turns : (n : ℕ) (end : EndLog) (log : Log) (count id : ℕ) (answer : EndAnswer)
     (after : EndLog) (fault : Option Code) → AnswersRefused end log count id answer after fault
@@ -113,113 +103,36 @@ turns_of_take end after piece count handed
 -- No take undoes a turn.
 pub turns_of_answer : (end after : EndLog) (piece : List ℕ) (answer : EndAnswer)
     → EndMayTake end piece answer after → length end.log.turns ≤ length after.log.turns
-turns_of_answer end after piece answer (fails code log may answers same) =
-    rw same (takes_turn end.log log piece _ may)
-turns_of_answer end after piece answer (hands_nothing taken log may answers same) =
-    rw same (takes_turn end.log log piece _ may)
-turns_of_answer end after piece answer (passes taken event log may none answers same) =
-    rw same (takes_turn end.log log piece _ may)
-turns_of_answer end after piece answer
-    (hands_out taken event log may id part is readable answers same) =
-    rw same (takes_turn end.log log piece _ may)
-turns_of_answer end after piece answer
-    (refuses taken event log may id part is unreadable refused answered answers) =
-    let took = takes_turn end.log log piece _ may in
-    let call = turns_of_call log (Refuse id 1) refused in
-    refused_turns (length end.log.turns) end (with_call log (Refuse id 1) refused) taken id answer
-    after (with_call log (Refuse id 1) refused).failed answers (omega (arith, took, call))
-turns_of_answer end after piece answer
-    (runs_out_of_memory taken id list ends log may server none readable refused answered fails_so
-    same) =
-    let took = takes_turn end.log log piece _ may in
-    let call = turns_of_call log (Refuse id 2) refused in
-    rw same (omega (arith, took, call))
+turns_of_answer end after piece answer may =
+    take_holds (λ (log : Log). length end.log.turns ≤ length log.turns) end piece answer after
+    (λ log took takes. turns_added _ end.log log (adds_take end.log log piece took takes))
+    (λ log id code said so. omega (arith, so, turns_of_call log (Refuse id code) said)) may
 
--- An end has no fewer turns after a call of its connection.
-call_turns : (end after is : EndLog) (act : Act) (answer : Answer) → after ≡ is
-    → is.log ≡ with_call end.log act answer → length end.log.turns ≤ length after.log.turns
-call_turns end after is act answer same log_is =
-    let call = turns_of_call end.log act answer in
-    let turns = ap (λ (log : Log). length log.turns) log_is in
-    rw same (omega (arith, call, turns))
+-- Nor does a call,
+turns_kept : (n : ℕ) → CallsKeep (λ one. n ≤ length one.log.turns)
+turns_kept n end act answer so = omega (arith, so, turns_of_call end.log act answer)
 
--- A message that was refused undoes no turn.
-unchanged_turns : (before after : EndLog) → IsUnchanged before after
-    → length before.log.turns ≤ length after.log.turns
-unfolding IsUnchanged
-unchanged_turns before after (inl same) = rw same (omega arith)
-unchanged_turns before after (inr called) =
-    call_turns before after _ called.0 _ called.5 refl
+answer_turns : (n : ℕ) → AnswersKeep (λ one. n ≤ length one.log.turns)
+unfolding MayRespond
+answer_turns n before id message done after may so =
+    subst (λ (one : EndLog). n ≤ length one.log.turns) (sym may.5) (turns_kept n before _ _ so)
 
--- No answer undoes a turn.
 pub turns_of_response : (end after : EndLog) (id : ℕ) (message : SentMessage)
     (result : Result (Unit {0}) EndRefusal) → MayRespond end id message result after
     → length end.log.turns ≤ length after.log.turns
-unfolding MayRespond
-turns_of_response end after id message (Ok done) may = call_turns end after _ _ _ may.5 refl
-turns_of_response end after id message (Err refusals.NotAsked) may =
-    rw may.1 (omega arith)
-turns_of_response end after id message (Err refusals.Answered) may =
-    rw may.2 (omega arith)
-turns_of_response end after id message (Err (refusals.BadMessage rule)) may =
-    rw may.3 (omega arith)
-turns_of_response end after id message (Err (refusals.Conn refusal)) may =
-    unchanged_turns end after may.4
+turns_of_response end after id message result may =
+    responded_keeps (λ one. length end.log.turns ≤ length one.log.turns) (turns_kept _)
+    (answer_turns _) end id message result after may (omega arith)
 
--- No calls of a pump undo a turn.
-pumps_turns : (end : EndLog) (count : ℕ) (refused : Option Refusal) (after : EndLog)
-    → Pumps end count refused after → length end.log.turns ≤ length after.log.turns
-pumps_turns end count refused after (pumps_no_more same) = omega arith
-pumps_turns end count refused after
-    (pumps_data before id sent more octets ends refusal last next typed may rest) =
-    let call = turns_of_call before.log (SendData id octets ends) (Count sent) in
-    let others = pumps_turns _ more refusal last rest in
-    omega (arith, call, others)
-pumps_turns end count refused after
-    (pumps_trailers before id more list refusal last next typed may rest) =
-    let call = turns_of_call before.log (SendFields id list true) Done in
-    let others = pumps_turns _ more refusal last rest in
-    omega (arith, call, others)
-pumps_turns end count refused after (data_refused before id octets ends refusal next typed may) =
-    omega (arith, turns_of_call before.log (SendData id octets ends) (Refused refusal))
-pumps_turns end count refused after (trailers_refused before id list refusal next typed may) =
-    omega (arith, turns_of_call before.log (SendFields id list true) (Refused refusal))
-
--- No pump undoes a turn.
+-- a pump or a release.
 pub turns_of_pump : (end after : EndLog) (result : Result ℕ EndRefusal)
     → MayPump end result after → length end.log.turns ≤ length after.log.turns
-unfolding MayPump
-turns_of_pump end after (Ok count) may =
-    elim may.1 [
-      | inl all ↦ pumps_turns end count _ after all.0
-      | inr all ↦ pumps_turns end count _ after all.0
-    ]
-turns_of_pump end after (Err (refusals.Conn reasons.Closed)) may =
-    rw may.1 (omega arith)
-turns_of_pump end after (Err (refusals.Conn reasons.Memory)) may =
-    pumps_turns end may.1 _ after may.2
-turns_of_pump end after (Err other) may = absurd may
+turns_of_pump end after result may =
+    pumped_keeps (λ one. length end.log.turns ≤ length one.log.turns) (turns_kept _) end result
+    after may (omega arith)
 
--- No calls of a release undo a turn.
-releases_turns : (end : EndLog) (refused : Option Refusal) (after : EndLog)
-    → Releases end refused after → length end.log.turns ≤ length after.log.turns
-releases_turns end refused after (releases_no_more same) = omega arith
-releases_turns end refused after (releases_one before id refusal last next typed may rest) =
-    let call = turns_of_call before.log (Release id (owed before.log id)) Done in
-    let others = releases_turns _ refusal last rest in
-    omega (arith, call, others)
-releases_turns end refused after (releases_refused before id refusal next typed may) =
-    omega (arith, turns_of_call before.log (Release id (owed before.log id)) (Refused refusal))
-
--- No release undoes a turn.
 pub turns_of_release : (end after : EndLog) (result : Result (Unit {0}) EndRefusal)
     → MayReleaseAll end result after → length end.log.turns ≤ length after.log.turns
-unfolding MayReleaseAll
-turns_of_release end after (Ok done) may = releases_turns end None after may.1
-turns_of_release end after (Err (refusals.Conn reasons.Closed)) may =
-    rw may.1 (omega arith)
-turns_of_release end after (Err (refusals.Conn reasons.OutputFull)) may =
-    releases_turns end _ after may.1
-turns_of_release end after (Err (refusals.Conn reasons.Memory)) may =
-    releases_turns end _ after may.1
-turns_of_release end after (Err other) may = absurd may
+turns_of_release end after result may =
+    released_keeps (λ one. length end.log.turns ≤ length one.log.turns) (turns_kept _) end result
+    after may (omega arith)
