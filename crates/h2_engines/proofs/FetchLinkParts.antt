@@ -39,12 +39,10 @@ body_goes_on : (head : List Field) (data_parts : List (List ℕ))
 unfolding GoOn
 body_goes_on head data_parts = (refl, data_go_on data_parts)
 
-pub come_not_whole : (coming : Coming) (parts : List (Part × Bool)) → HasCome coming parts
+pub come_not_whole : {coming : Coming} {parts : List (Part × Bool)} → HasCome coming parts
     → ends parts ≡ false
-come_not_whole coming parts (interims_alone are no_head no_body no_trailers) =
+come_not_whole {coming} (interims_alone are no_head no_body no_trailers) =
     none_ends _ (interims_go_on (each (λ list. list.items) coming.interims.items))
-come_not_whole coming parts
-    (head_and_body are head data_parts head_is body_is no_trailers) =
-    none_ends _ (go_on_both _ _
-    (interims_go_on (each (λ list. list.items) coming.interims.items))
+come_not_whole {coming} (head_and_body are head data_parts head_is body_is no_trailers) =
+    none_ends _ (go_on_both _ _ (interims_go_on (each (λ list. list.items) coming.interims.items))
     (body_goes_on head data_parts))

@@ -43,16 +43,16 @@ hands_at coming id i list last places.Interim say = say
 hands_at coming id i list last places.Head say = say
 hands_at coming id i list last places.Trailers say = say
 
-hands_part : (to_head : Bool) (coming : Coming) (id i : ℕ) (parts : List (Part × Bool))
+hands_part : {to_head : Bool} (coming : Coming) (id i : ℕ) (parts : List (Part × Bool))
     (part : Part × Bool) → (i ≡ id → HasCome coming parts)
     → IsReadable (Responses to_head) (parts ++ part ∷ [])
     → MayHand coming id (handed_as (Responses to_head) parts i part)
 unfolding handed_as
-hands_part to_head coming id i parts (FieldsPart list, last) come readable =
+hands_part {to_head} coming id i parts (FieldsPart list, last) come readable =
     hands_at coming id i list last (place_after (Responses to_head) parts list)
-    (λ same. place_says to_head coming parts list last (come same) readable)
-hands_part to_head coming id i parts (OctetsPart octets, last) come readable =
-    λ same. octets_say to_head coming parts octets last (come same) readable
+    (λ same. place_says list last (come same) readable)
+hands_part coming id i parts (OctetsPart octets, last) come readable =
+    λ same. octets_say octets last (come same) readable
 
 -- A client reads responses.
 reads_responses : (end : EndLog) (i : ℕ) → end.log.role ≡ Client
@@ -62,65 +62,50 @@ reads_responses end i role =
     ap (λ (b : Bool). if b then Requests
     else Responses (asked_head (message_for i end.accepted))) (ap is_server role)
 
-hands_as_read : (coming : Coming) (end : EndLog) (id i : ℕ) (part : Part × Bool) (to_head : Bool)
-    (reads : Reads) → reads ≡ Responses to_head → HasCome coming (parts_on id end.handed)
+hands_as_read : {coming : Coming} (end : EndLog) (id i : ℕ) (part : Part × Bool) (to_head : Bool)
+    {reads : Reads} → reads ≡ Responses to_head → HasCome coming (parts_on id end.handed)
     → IsReadable reads (parts_on i end.handed ++ part ∷ [])
     → MayHand coming id (handed_as reads (parts_on i end.handed) i part)
-hands_as_read coming end id i part to_head reads same come readable =
+hands_as_read {coming} end id i part to_head same come readable =
     subst (λ (one : Reads). MayHand coming id (handed_as one (parts_on i end.handed) i part))
-    (sym same) (hands_part to_head coming id i (parts_on i end.handed) part
-    (λ is. subst (λ (one : ℕ). HasCome coming (parts_on one end.handed)) (sym is) come)
-    (subst (λ (one : Reads). IsReadable one (parts_on i end.handed ++ part ∷ [])) same readable))
+    (sym same) (hands_part coming id i (parts_on i end.handed) part
+    (λ is. subst (λ (one : ℕ). HasCome coming (parts_on one end.handed)) (sym is) come) (subst
+    (λ (one : Reads). IsReadable one (parts_on i end.handed ++ part ∷ [])) same readable))
 
 -- So it is with what a call of `take` hands out.
-pub client_hands : (coming : Coming) (end after : EndLog) (id : ℕ) (piece : List ℕ) (count : ℕ)
+pub client_hands : {coming : Coming} {end after : EndLog} (id : ℕ) {piece : List ℕ} (count : ℕ)
     (handed : Handed) → end.log.role ≡ Client → HasCome coming (parts_on id end.handed)
     → EndMayTake end piece (EndTook count (Some handed)) after → MayHand coming id handed
-client_hands coming end after id piece count handed role come may =
-    take_hands (MayHand coming id) end piece count handed after (λ event. tt)
-    (λ i part readable. hands_as_read coming end id i part (asked_head (message_for i end.accepted))
-    (reads_on end i) (reads_responses end i role) come readable) may
+client_hands {coming} {end} id count handed role come may =
+    take_hands (MayHand coming id) count handed (λ event. tt) (λ i part readable. hands_as_read end
+    id i part (asked_head (message_for i end.accepted)) (reads_responses end i role) come
+    readable) may
 
 -- What was handed out is on the stream after what was.
-handed_on : (id : ℕ) (handed now : List Handed) (one : Handed) → now ≡ one ∷ handed
+handed_on : (id : ℕ) (handed : List Handed) {now : List Handed} (one : Handed) → now ≡ one ∷ handed
     → parts_on id now ≡ parts_on id handed ++ part_on id one
 unfolding parts_on
-handed_on id handed now one is = ap (parts_on id) is
+handed_on id handed one is = ap (parts_on id) is
 
 -- So much is kept of the response, by how it goes on.
-keeps_by : (end : EndLog) (id : ℕ) (coming : Coming) (parts : List (Part × Bool)) (whole : Bool)
-    (next : Next) → parts_on id end.handed ≡ parts → KeepsSoFar coming parts whole
+keeps_by : (end : EndLog) (id : ℕ) (coming : Coming) {parts : List (Part × Bool)} (whole : Bool)
+    {next : Next} → parts_on id end.handed ≡ parts → KeepsSoFar coming parts whole
     → next ≡ (if whole then goes.Whole else goes.Again) → KeepsResponse end id coming next
 unfolding KeepsResponse
-keeps_by end id coming parts true next are keeps is =
+keeps_by end id coming {parts} true are keeps is =
     rw is (subst (λ (parts : List (Part × Bool)). KeepsSoFar coming parts true) (sym are) keeps)
-keeps_by end id coming parts false next are keeps is =
+keeps_by end id coming {parts} false are keeps is =
     rw is (subst (λ (parts : List (Part × Bool)). KeepsSoFar coming parts false) (sym are) keeps)
 
--- A call of `take` that handed out this, or nothing.
-took_event : (end after : EndLog) (piece : List ℕ) (taken : EndTaken) (event : EndEvent)
-    → taken.event ≡ Some event
-    → EndMayTake end piece (EndTook taken.used (option_map event_handed taken.event)) after
-    → EndMayTake end piece (EndTook taken.used (Some (event_handed event))) after
-took_event end after piece taken event some may =
-    subst (λ (handed : Option Handed). EndMayTake end piece (EndTook taken.used handed) after)
-    (ap (option_map event_handed) some) may
-
-took_none : (end after : EndLog) (piece : List ℕ) (taken : EndTaken) → taken.event ≡ None
-    → EndMayTake end piece (EndTook taken.used (option_map event_handed taken.event)) after
-    → EndMayTake end piece (EndTook taken.used None) after
-took_none end after piece taken none may =
-    subst (λ (handed : Option Handed). EndMayTake end piece (EndTook taken.used handed) after)
-    (ap (option_map event_handed) none) may
-
 -- Nothing was handed out: the fetch goes on, or is done with the piece.
-keeps_none : (end after : EndLog) (id : ℕ) (coming : Coming) (next : Next)
+keeps_none : (end after : EndLog) (id : ℕ) {coming : Coming} (next : Next)
     → after.handed ≡ end.handed → (next ≡ goes.Again) ⊎ (next ≡ goes.Done)
     → HasCome coming (parts_on id end.handed) → KeepsResponse after id coming next
 unfolding KeepsResponse
-keeps_none end after id coming next same (inl again) come =
-    rw again (subst (λ (handed : List Handed). HasCome coming (parts_on id handed)) (sym same) come)
-keeps_none end after id coming next same (inr done) come =
+keeps_none end after id {coming} next same (inl again) come =
+    rw again
+    (subst (λ (handed : List Handed). HasCome coming (parts_on id handed)) (sym same) come)
+keeps_none end after id {coming} next same (inr done) come =
     rw done (subst (λ (handed : List Handed). HasCome coming (parts_on id handed)) (sym same) come)
 
 pub heard_nothing : (old new : End) (id : ℕ) (coming : Coming) (piece : List ℕ)
@@ -133,14 +118,14 @@ unfolding FetchedSo
 heard_nothing old new id coming piece taken next none other all takes values end represents role
     come =
     let (after, may, now) = takes values end represents in
-    let took = took_none end after piece taken none may in
-    let says = taken_says end piece (EndTook taken.used None) after took in
-    (after, now, (None, took, keeps_none end after id coming next says.handed other come, all))
+    let took = rw none at may in
+    let says = taken_says took in
+    (after, now, (None, took, keeps_none end after id next says.handed other come, all))
 
-not_done : (whole : Bool) (next : Next) {A : Type 0}
+not_done : (whole : Bool) {next : Next} {A : Type 0}
     → next ≡ (if whole then goes.Whole else goes.Again) → next ≡ goes.Done → A
-not_done true next is done = cc
-not_done false next is done = cc
+not_done true is done = cc
+not_done false is done = cc
 
 -- A part was noted: the fetch goes on, or the response is whole.
 pub heard_part : (old new : End) (id : ℕ) (before coming : Coming) (piece : List ℕ)
@@ -154,19 +139,18 @@ heard_part old new id before coming piece taken event whole next some goes_on no
     end represents role come =
     let (after, may, now) = takes values end represents in
     let handed = event_handed event in
-    let took = took_event end after piece taken event some may in
-    let says = taken_says end piece (EndTook taken.used (Some handed)) after took in
-    let hands = client_hands before end after id piece taken.used handed role come took in
+    let took = rw some at may in
+    let says = taken_says took in
+    let hands = client_hands id taken.used handed role come took in
     let parts = parts_on id end.handed in
-    let keeps = notes_on id before coming parts handed whole come hands notes in (
+    let keeps = notes_on come hands notes in (
       after,
       now,
       (
         Some handed,
         took,
-        keeps_by after id coming _ whole next (handed_on id end.handed after.handed handed
-            says.handed) keeps goes_on,
-        λ done. not_done whole next goes_on done,
+        keeps_by after id coming whole (handed_on id end.handed handed says.handed) keeps goes_on,
+        λ done. not_done whole goes_on done,
       ),
     )
 
@@ -180,15 +164,14 @@ unfolding FetchedSo
 heard_error old new id before coming piece taken event error some errs takes values end represents
     role come =
     let (after, may, now) = takes values end represents in
-    let took = took_event end after piece taken event some may in
+    let took = rw some at may in
     (after, now, (EndTook taken.used (Some (event_handed event)), took, errs))
 
 pub heard_fault : (old new : End) (id : ℕ) (before coming : Coming) (piece : List ℕ)
-    (fault : ConnFault) (error : LinkError) → error ≡ error_with fault.code
-    → EndTakes old piece (Err fault) new
-    → ClientHears old new id before coming piece (Err error)
+    (fault : ConnFault) {error : LinkError} → error ≡ error_with fault.code
+    → EndTakes old piece (Err fault) new → ClientHears old new id before coming piece (Err error)
 unfolding FetchedSo ErrsFetching
-heard_fault old new id before coming piece fault error is takes values end represents role come =
+heard_fault old new id before coming piece fault is takes values end represents role come =
     let (after, may, now) = takes values end represents in
     (after, now, (EndFailed fault.code, may, is))
 
@@ -198,16 +181,16 @@ pub errs_memory : (count id : ℕ) (handed : Handed)
 unfolding ErrsFetching
 errs_memory count id handed = inl refl
 
-pub errs_reset : (count id stream code : ℕ) (ours : Bool) (handed : Handed)
+pub errs_reset : (count : ℕ) {id stream : ℕ} (code : ℕ) (ours : Bool) {handed : Handed}
     → handed ≡ Passed (ResetEvent stream code ours) → stream ≡ id
     → ErrsFetching (EndTook count (Some handed)) id (errors.Reset code)
 unfolding ErrsFetching
-errs_reset count id stream code ours handed is same =
+errs_reset count code ours is same =
     inr (inl (code, ours, is ∙ ap (λ (i : ℕ). Passed (ResetEvent i code ours)) same, refl))
 
-pub errs_unprocessed : (count id stream : ℕ) (handed : Handed)
+pub errs_unprocessed : (count : ℕ) {id stream : ℕ} {handed : Handed}
     → handed ≡ Passed (UnprocessedEvent stream) → stream ≡ id
     → ErrsFetching (EndTook count (Some handed)) id (errors.Reset refused_stream)
 unfolding ErrsFetching
-errs_unprocessed count id stream handed is same =
+errs_unprocessed count is same =
     inr (inr (is ∙ ap (λ (i : ℕ). Passed (UnprocessedEvent i)) same, refl))

@@ -9,6 +9,7 @@ pub mod FetcherPlaces
 pub mod FetcherStart
 pub mod FieldValues
 pub mod MachineDrives
+pub mod MachineHears
 pub mod MachineLaws
 pub mod MachineTakes
 pub mod MachineViews

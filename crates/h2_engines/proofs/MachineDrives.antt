@@ -55,13 +55,13 @@ drives_first now held course end is = record { end = end; turns = omega arith; d
 
 -- it ends early where it goes on,
 pub going_ends : (before now : Traffic) (old new : Held) (unused : List ℕ) (rounds : ℕ)
-    (error : LinkError) → error ≡ errors.Memory → DrivesOn before now old new unused rounds
+    {error : LinkError} → error ≡ errors.Memory → DrivesOn before now old new unused rounds
     → Drives before now old new (Err error)
 unfolding DrivenSo
-going_ends before now old new unused rounds error memory on course end is =
+going_ends before now old new unused rounds memory on course end is =
     let go = on course end is in (
       go.end,
-      ends_going true course now new go.end unused error go.driven (lacks_memory memory),
+      ends_going go.driven (lacks_memory memory),
     )
 
 pub no_round : (before now : Traffic) (old new : Held) (unused : List ℕ) (rounds : ℕ)
@@ -72,8 +72,7 @@ no_round before now old new unused rounds all on course end is =
     let go = on course end is in
     let out : 2 ^ 64 - 1 ≤ length go.end.log.turns = omega (arith, all, go.turns) in (
       go.end,
-      ends_going true course now new go.end unused errors.NoProgress go.driven
-          (has_stalled refl (inr out)),
+      ends_going go.driven (has_stalled refl (inr out)),
     )
 
 -- What waits is written,
@@ -82,15 +81,14 @@ pub sent_on : (before middle now : Traffic) (old self new : Held) (rounds : ℕ)
     → SendsWhileUp middle now self new (Ok done) → SentOn before now old new (rounds + 1)
 sent_on before middle now old self new rounds done kept on sends course end is =
     let go = on course end is in
-    let wrote : WritesOut (Happens course self.kept) course.values course.start now go.end new.end []
-    (Ok done) = sends course go.end [] go.driven.represents go.driven.happened go.driven.up
+    let wrote : WritesOut (Happens course self.kept) course.values course.start now go.end new.end
+    [] (Ok done) = sends course go.end [] go.driven.represents go.driven.happened go.driven.up
     go.driven.linked in
     record {
       going = record {
         end = wrote.after;
         turns = omega (arith, go.turns, wrote.turns);
-        driven = written_driven course middle now self new go.end [] nexts.Again done go.driven kept
-            wrote;
+        driven = written_driven new go.driven kept wrote;
       };
       all = wrote.taken.taken;
     }
@@ -103,11 +101,11 @@ pub sent_last : (before middle now : Traffic) (old self new : Held) (rounds : �
 unfolding DrivenSo
 sent_last before middle now old self new rounds error kept on sends writing course end is =
     let go = on course end is in
-    let wrote : WritesOut (Happens course self.kept) course.values course.start now go.end new.end []
-    (Err error) = sends course go.end [] go.driven.represents go.driven.happened go.driven.up
+    let wrote : WritesOut (Happens course self.kept) course.values course.start now go.end new.end
+    [] (Err error) = sends course go.end [] go.driven.represents go.driven.happened go.driven.up
     go.driven.linked in (
       wrote.after,
-      ends_unwritten course now self new go.end [] error kept wrote writing
+      ends_unwritten course self new kept wrote writing
           (holds_again course.message self.kept go.end error go.driven.keeps),
     )
 
@@ -116,43 +114,41 @@ appends_as : (one two : Option (List ℕ)) (octets is : List ℕ) → octets ≡
     → Appends one two octets → Appends one two is
 appends_as one two octets is same appends = subst (Appends one two) same appends
 
-read_links : (start before now : Traffic) (log : Log) (octets : List ℕ)
+read_links : {start before : Traffic} (now : Traffic) {log : Log} {octets : List ℕ}
     → IsLinked start before log [] → Appends before.given now.given octets
     → Appends before.taken now.taken [] → IsLinked start now log octets
-read_links start before now log octets linked gives takes =
+read_links {start} {before} now {log} {octets} linked gives takes =
     record {
       given = appends_as start.given now.given ((log.input ++ []) ++ octets) (log.input ++ octets)
-          (ap (λ (input : List ℕ). input ++ octets) (append-nil log.input))
-          (Appends-trans start.given before.given now.given (log.input ++ []) octets
-          linked.given gives);
+          (ap (λ (input : List ℕ). input ++ octets) (append-nil log.input)) (Appends-trans
+          start.given before.given now.given (log.input ++ []) octets linked.given gives);
       taken = appends_as start.taken now.taken (given_out log ++ []) (given_out log)
           (append-nil (given_out log))
-          (Appends-trans start.taken before.taken now.taken (given_out log) [] linked.taken
-          takes);
+          (Appends-trans start.taken before.taken now.taken (given_out log) [] linked.taken takes);
     }
 
-read_driven : (course : Course) (before now : Traffic) (held : Held) (end : EndLog)
-    (octets : List ℕ) → IsDriven course before held end [] nexts.Again
+read_driven : {course : Course} {before : Traffic} (now : Traffic) {held : Held} {end : EndLog}
+    {octets : List ℕ} → IsDriven course before held end [] nexts.Again
     → Appends before.given now.given octets → Appends before.taken now.taken []
     → IsDriven course now held end octets nexts.Again
-read_driven course before now held end octets is gives takes =
+read_driven now is gives takes =
     record {
       happened = is.happened;
       represents = is.represents;
-      linked = read_links course.start before now end.log octets is.linked gives takes;
+      linked = read_links now is.linked gives takes;
       up = is.up;
       keeps = is.keeps;
     }
 
-pub read_on : (before middle now : Traffic) (old self : Held) (octets : List ℕ) (rounds : ℕ)
+pub read_on : (before middle now : Traffic) (old self : Held) {octets : List ℕ} (rounds : ℕ)
     → SentOn before middle old self rounds → Appends middle.given now.given octets
     → Appends middle.taken now.taken [] → DrivesOn before now old self octets rounds
-read_on before middle now old self octets rounds sent gives takes course end is =
+read_on before middle now old self rounds sent gives takes course end is =
     let so = sent course end is in
     record {
       end = so.going.end;
       turns = so.going.turns;
-      driven = read_driven course middle now self so.going.end octets so.going.driven gives takes;
+      driven = read_driven now so.going.driven gives takes;
     }
 
 -- It gives none, at the end of the input,
@@ -165,7 +161,7 @@ read_ends before middle now old self rounds sent gives takes course end is =
     let log = so.going.end.log in (
       so.going.end,
       (
-        read_driven course middle now self so.going.end [] so.going.driven gives takes,
+        read_driven now so.going.driven gives takes,
         appends_as course.start.taken now.taken (log.written ++ []) log.written
             (append-nil log.written)
             (Appends-trans course.start.taken middle.taken now.taken log.written [] so.all takes),
@@ -180,31 +176,29 @@ unfolding DrivenSo
 read_fails before middle now old self rounds sent gives takes course end is =
     let so = sent course end is in (
       so.going.end,
-      ends_going true course now self so.going.end [] errors.Device
-          (read_driven course middle now self so.going.end [] so.going.driven gives takes)
-          (link_fails refl refl),
+      ends_going (read_driven now so.going.driven gives takes) (link_fails refl refl),
     )
 
 -- A piece is taken,
 pub taken_on : (before middle now : Traffic) (old self new : Held) (piece : List ℕ) (rounds : ℕ)
-    (whole : Bool) → whole ≡ false → DrivesOn before middle old self piece rounds
+    {whole : Bool} → whole ≡ false → DrivesOn before middle old self piece rounds
     → Takes true middle now self new piece (Ok whole) → DrivesOn before now old new [] rounds
 unfolding TakenSo
-taken_on before middle now old self new piece rounds whole not on takes course end is =
+taken_on before middle now old self new piece rounds not on takes course end is =
     let go = on course end is in
     let so = subst (λ (one : Bool). Takes true middle now self new piece (Ok one)) not takes course
     middle go.end go.driven in
     record { end = so.0; turns = omega (arith, go.turns, so.1); driven = so.2 }
 
 -- up to the end of a response that is whole,
-pub taken_whole : (before middle now : Traffic) (old self new : Held) (piece : List ℕ)
-    (rounds : ℕ) (whole : Bool) → whole ≡ true → DrivesOn before middle old self piece rounds
+pub taken_whole : (before middle now : Traffic) (old self new : Held) (piece : List ℕ) (rounds : ℕ)
+    {whole : Bool} → whole ≡ true → DrivesOn before middle old self piece rounds
     → Takes true middle now self new piece (Ok whole) → Drives before now old new (Ok true)
 unfolding TakenSo DrivenSo
-taken_whole before middle now old self new piece rounds whole said on takes course end is =
+taken_whole before middle now old self new piece rounds said on takes course end is =
     let go = on course end is in
-    let so = subst (λ (one : Bool). Takes true middle now self new piece (Ok one)) said takes course
-    middle go.end go.driven in
+    let so = subst (λ (one : Bool). Takes true middle now self new piece (Ok one)) said takes
+    course middle go.end go.driven in
     let driven : (unused : List ℕ) × IsDriven course now new so.0 unused nexts.Whole = so.2 in
     (so.0, driven)
 
@@ -228,10 +222,9 @@ waiting_on before now old self new unused rounds result kept on sends course end
     let sent = sends course.values go.end go.driven.represents in
     record {
       end = sent.0;
-      turns = omega (arith, go.turns, sent_turns go.end sent.0 result sent.2);
-      driven = stays_driven course now self new go.end sent.0 unused nexts.Again go.driven kept
-          (sent_stays go.end sent.0 result sent.2)
-          (sends_at course self.kept go.end sent.0 result go.driven.happened sent.2) sent.1;
+      turns = omega (arith, go.turns, sent_turns sent.2);
+      driven = stays_driven new go.driven kept (sent_stays sent.2)
+          (sends_at course self.kept go.driven.happened sent.2) sent.1;
     }
 
 -- or there is no memory for that.
@@ -242,10 +235,10 @@ unfolding DrivenSo
 waiting_last before now old self new unused rounds error kept on sends course end is =
     let go = on course end is in
     let sent = sends course.values go.end go.driven.represents in
-    let memory = sent_error go.end sent.0 error sent.2 in
-    let then = waiting_on before now old self new unused rounds (Err error) kept on sends course end
-    is in
-    (then.end, ends_going true course now new then.end unused error then.driven (lacks_memory memory))
+    let memory = sent_error sent.2 in
+    let then = waiting_on before now old self new unused rounds (Err error) kept on sends course
+    end is in
+    (then.end, ends_going then.driven (lacks_memory memory))
 
 -- What the link gave of a buffer: nothing,
 pub gives_none : (one two : Option (List ℕ)) (buffer : List ℕ) (count : ℕ) → count ≡ 0
@@ -263,11 +256,11 @@ gives_piece one two count size buffer others octets is all gives =
     subst (λ (list : List ℕ). Appends one two (take count list)) (sym same) gives
 
 -- A read with room that gives nothing has met the end of the input.
-pub meets_end : (before now : Bool) (room count : ℕ) → now ≡ ended_after before room (Ok count)
-    → count ≡ 0 → room ≡ 16384 → now ≡ true
-meets_end before now room count is none all =
-    is ∙ ap (λ (n : ℕ). ended_after before n (Ok count)) all
-    ∙ ap (λ (n : ℕ). ended_after before 16384 (Ok n)) none
+pub meets_end : (before : Bool) {now : Bool} {room count : ℕ}
+    → now ≡ ended_after before room (Ok count) → count ≡ 0 → room ≡ 16384 → now ≡ true
+meets_end before {count} is none all =
+    is ∙ ap (λ (n : ℕ). ended_after before n (Ok count)) all ∙ ap
+    (λ (n : ℕ). ended_after before 16384 (Ok n)) none
 
 -- How often the link has failed doesn't depend on what else is answered.
 pub failures_same : (A B : Type 0) (failures : ℕ) (error : LinkError)

@@ -52,10 +52,9 @@ releases_at course (Fetching id coming whole) end after result was may =
     client.releases was result may
 
 -- It has happened whatever is kept, where that is the same.
-pub happened_as : (course : Course) (old new : Kept) (end : EndLog) → new ≡ old
+pub happened_as : (course : Course) {old new : Kept} (end : EndLog) → new ≡ old
     → Happens course old end → Happens course new end
-happened_as course old new end same was =
-    subst (λ (kept : Kept). Happens course kept end) (sym same) was
+happened_as course end same was = subst (λ (kept : Kept). Happens course kept end) (sym same) was
 
 -- What is kept holds still where nothing of messages has happened,
 pub keeps_same : (message : SentMessage) (kept : Kept) (before after : EndLog) (next : Next)
@@ -63,7 +62,7 @@ pub keeps_same : (message : SentMessage) (kept : Kept) (before after : EndLog) (
     → Keeps message kept after next
 unfolding Keeps
 keeps_same message (Serving requests answered) before after next same keeps = (
-  kept_same_next requests before after next same keeps.0,
+  kept_same_next requests next same keeps.0,
   keeps.1 ∙ ap length (sym same.accepted),
 )
 keeps_same message (Fetching id coming whole) before after nexts.Whole same keeps = (
@@ -89,11 +88,11 @@ unfinished_same before after id errors.Memory same is = tt
 unfinished_same before after id error same is =
     ap (λ (handed : List Handed). ends (parts_on id handed)) same ∙ is
 
-pub holds_same : (message : SentMessage) (kept : Kept) (before after : EndLog) (error : LinkError)
+pub holds_same : (message : SentMessage) (kept : Kept) {before after : EndLog} (error : LinkError)
     → IsSameOfMessages before after → Holds message kept before error
     → Holds message kept after error
-holds_same message (Serving requests answered) before after error same holds = tt
-holds_same message (Fetching id coming whole) before after error same holds = (
+holds_same message (Serving requests answered) error same holds = tt
+holds_same message (Fetching id coming whole) {before} {after} error same holds = (
   ap (message_for id) same.accepted ∙ holds.0,
   unfinished_same before after id error same.handed holds.1,
 )
@@ -109,7 +108,7 @@ pub holds_again : (message : SentMessage) (kept : Kept) (end : EndLog) (error : 
 unfolding Keeps
 holds_again message (Serving requests answered) end error keeps = tt
 holds_again message (Fetching id coming whole) end error keeps =
-    (keeps.0, unfinished end id error (come_not_whole coming (parts_on id end.handed) keeps.1))
+    (keeps.0, unfinished end id error (come_not_whole keeps.1))
 
 -- or something is due.
 pub holds_due : (message : SentMessage) (kept : Kept) (end : EndLog) (due : Next)
@@ -131,29 +130,28 @@ is_due (nexts.Answer id request) again done whole = tt
 is_due (nexts.Reset id) again done whole = tt
 
 -- After a call at which nothing of messages has happened a machine is driven on.
-pub stays_driven : (course : Course) (now : Traffic) (old new : Held) (end after : EndLog)
-    (unused : List ℕ) (next : Next) → IsDriven course now old end unused next
-    → new.kept ≡ old.kept → StaysOn end after → Happens course old.kept after
-    → EndRepresents course.values new.end after → IsDriven course now new after unused next
-stays_driven course now old new end after unused next is kept stays happened represents =
+pub stays_driven : {course : Course} {now : Traffic} {old : Held} (new : Held) {end after : EndLog}
+    {unused : List ℕ} {next : Next} → IsDriven course now old end unused next → new.kept ≡ old.kept
+    → StaysOn end after → Happens course old.kept after → EndRepresents course.values new.end after
+    → IsDriven course now new after unused next
+stays_driven {course} {old} new {end} {after} {next} is kept stays happened represents =
     record {
-      happened = happened_as course old.kept new.kept after kept happened;
+      happened = happened_as course after kept happened;
       represents = represents;
-      linked = goes_links course.start now end.log after.log unused
-          (given_within course.values old.end end is.represents) stays.goes is.linked;
+      linked = goes_links (given_within is.represents) stays.goes is.linked;
       up = stays.goes.failed ∙ is.up;
       keeps = subst (λ (one : Kept). Keeps course.message one after next) (sym kept)
-          (keeps_same course.message old.kept end after next (stays_same end after stays) is.keeps);
+          (keeps_same course.message old.kept end after next (stays_same stays) is.keeps);
     }
 
 -- A machine ends early, and its link took all that was given out.
-pub ends_linked : (writes : Bool) (course : Course) (now : Traffic) (held : Held) (end : EndLog)
-    (unused : List ℕ) (error : LinkError) → Happens course held.kept end
+pub ends_linked : {writes : Bool} (course : Course) {now : Traffic} (held : Held) {end : EndLog}
+    {unused : List ℕ} {error : LinkError} → Happens course held.kept end
     → EndRepresents course.values held.end end → IsLinked course.start now end.log unused
     → Holds course.message held.kept end error
     → EndsFor writes course.start now held.kept end error
     → HasEnded writes course now held end error
-ends_linked writes course now held end unused error happened represents linked holds why =
+ends_linked course {now} held {end} {unused} happened represents linked holds why =
     record {
       happened = happened;
       represents = represents;
@@ -165,12 +163,12 @@ ends_linked writes course now held end unused error happened represents linked h
       why = why;
     }
 
-pub ends_going : (writes : Bool) (course : Course) (now : Traffic) (held : Held) (end : EndLog)
-    (unused : List ℕ) (error : LinkError) → IsDriven course now held end unused nexts.Again
+pub ends_going : {writes : Bool} {course : Course} {now : Traffic} {held : Held} {end : EndLog}
+    {unused : List ℕ} {error : LinkError} → IsDriven course now held end unused nexts.Again
     → EndsFor writes course.start now held.kept end error
     → HasEnded writes course now held end error
-ends_going writes course now held end unused error is why =
-    ends_linked writes course now held end unused error is.happened is.represents is.linked
+ends_going {course} {held} {end} {error} is why =
+    ends_linked course held is.happened is.represents is.linked
     (holds_again course.message held.kept end error is.keeps) why
 
 -- What writes ends it so.

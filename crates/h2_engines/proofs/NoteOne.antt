@@ -19,44 +19,43 @@ use Rattle.h2_engines.specs.PartialMessages.{NotesHanded}
 use Rattle.h2_engines.specs.PartialMessages.{request_at}
 
 -- A head, after which nothing follows, or something does.
-pub notes_whole : (old new : Requests) (handed : Handed) (id : ℕ) (list : List Field)
-    (last : Bool) (request : Request) → handed ≡ HeadHanded id list last → last ≡ true
+pub notes_whole : {old new : Requests} {handed : Handed} {id : ℕ} {list : List Field} {last : Bool}
+    {request : Request} → handed ≡ HeadHanded id list last → last ≡ true
     → IsRequest list [] request → ChangesAt old new id None
     → NotesHanded old new handed (nexts.Answer id request)
 unfolding NotesHanded EndsRequest
-notes_whole old new handed id list last request is whole begun changes =
-    rw (is, whole) (request, begun, (refl, changes))
+notes_whole {request} is whole begun changes = rw (is, whole) (request, begun, (refl, changes))
 
-pub notes_first : (old new : Requests) (handed : Handed) (id : ℕ) (list : List Field)
-    (last : Bool) (request : Request) → handed ≡ HeadHanded id list last → last ≡ false
+pub notes_first : (old new : Requests) {handed : Handed} (id : ℕ) {list : List Field} {last : Bool}
+    {request : Request} → handed ≡ HeadHanded id list last → last ≡ false
     → IsRequest list [] request → ChangesAt old new id (Some request)
     → NotesHanded old new handed nexts.Again
 unfolding NotesHanded EndsRequest
-notes_first old new handed id list last request is goes begun changes =
+notes_first old new id {request} is goes begun changes =
     rw (is, goes) (request, begun, (refl, changes))
 
 -- Octets.
-pub notes_octets : (old new : Requests) (handed : Handed) (id : ℕ) (octets : List ℕ)
-    (last : Bool) (result : Result Next AllocError) → handed ≡ BodyHanded id octets last
+pub notes_octets : (old new : Requests) {handed : Handed} (id : ℕ) (octets : List ℕ) (last : Bool)
+    (result : Result Next AllocError) → handed ≡ BodyHanded id octets last
     → IfOk result (λ next. AddsOctets old new id octets last (request_at id old) next)
     → IfOk result (λ next. NotesHanded old new handed next)
 unfolding NotesHanded
-notes_octets old new handed id octets last (Ok next) is adds = rw is adds
-notes_octets old new handed id octets last (Err error) is adds = tt
+notes_octets old new id octets last (Ok next) is adds = rw is adds
+notes_octets old new id octets last (Err error) is adds = tt
 
 -- Trailers.
-pub notes_trailers : (old new : Requests) (handed : Handed) (id : ℕ) (list : List Field)
+pub notes_trailers : (old new : Requests) {handed : Handed} (id : ℕ) (list : List Field)
     (next : Next) → handed ≡ TrailersHanded id list → EndsKept old new id (request_at id old) next
     → NotesHanded old new handed next
 unfolding NotesHanded
-notes_trailers old new handed id list next is ended = rw is ended
+notes_trailers old new id list next is ended = rw is ended
 
 -- A reset, and what is nothing of a request.
-pub notes_reset : (old new : Requests) (handed : Handed) (id code : ℕ) (ours : Bool)
+pub notes_reset : (old new : Requests) {handed : Handed} (id code : ℕ) (ours : Bool)
     → handed ≡ Passed (ResetEvent id code ours) → ChangesAt old new id None
     → NotesHanded old new handed nexts.Again
 unfolding NotesHanded
-notes_reset old new handed id code ours is changes = rw is (refl, changes)
+notes_reset old new id code ours is changes = rw is (refl, changes)
 
 pub notes_other : (old : Requests) (event : EndEvent)
     → ((id : ℕ) (list : Bor (List Field)) (last : Bool) → event ≡ events.Head id list last → ⊥)

@@ -33,21 +33,20 @@ answers_no_more end id message count all values happened represents =
     (happened, represents, counts_no_more all refl)
 
 -- The answer is taken.
-pub answers_done : (old new : End) (id : ℕ) (message is : SentMessage) (count : ℕ)
+pub answers_done : (old new : End) (id : ℕ) {message is : SentMessage} (count : ℕ)
     (done : Unit {0}) → message ≡ is → EndResponds old id message (Ok done) new
     → ServerAnswers old new id is count (Ok done)
 unfolding AnsweredSo
-answers_done old new id message is count done same responds values end represents =
+answers_done old new id count done same responds values end represents =
     let (after, may, now) = responds.1 values end represents in
     (after, now, rw (sym same) may)
 
 -- The answer is refused.
-pub answers_refused : (old new : End) (id : ℕ) (message is : SentMessage) (count : ℕ)
-    (back : Message × EndRefusal) (error : LinkError) → message ≡ is
-    → error ≡ error_after back.1 → EndResponds old id message (Err back) new
-    → ServerAnswers old new id is count (Err error)
+pub answers_refused : (old new : End) (id : ℕ) {message is : SentMessage} (count : ℕ)
+    (back : Message × EndRefusal) {error : LinkError} → message ≡ is → error ≡ error_after back.1
+    → EndResponds old id message (Err back) new → ServerAnswers old new id is count (Err error)
 unfolding AnsweredSo
-answers_refused old new id message is count back error same ends responds values end represents =
+answers_refused old new id count back same ends responds values end represents =
     let (after, may, now) = responds.1 values end represents in
     (after, now, is_refused back.1 (rw (sym same) may) ends)
 
@@ -75,11 +74,11 @@ reset_after Memory other = (Memory, refl)
 reset_after refusal other = (refusal, refl, other, refl)
 
 -- So the reset was refused otherwise.
-pub resets_refused : (old new : End) (id : ℕ) (refusal : Refusal) (error : LinkError)
+pub resets_refused : (old new : End) (id : ℕ) (refusal : Refusal) {error : LinkError}
     → refusal ≢ TooManyResets → error ≡ error_after (Conn refusal)
     → EndAnswers old (ResetStream id calm) (Refused refusal) new
     → ServerResets old new id (Err error)
-resets_refused old new id refusal error other is answers values end represents =
+resets_refused old new id refusal other is answers values end represents =
     let (may, now) = answers values end represents in
     let so = reset_after refusal other in (
       Refused refusal,

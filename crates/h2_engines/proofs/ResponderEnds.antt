@@ -30,9 +30,9 @@ same_itself end =
       used = refl;
     }
 
-pub same_twice : (one two three : EndLog) → IsSameOfMessages one two → IsSameOfMessages two three
+pub same_twice : {one two three : EndLog} → IsSameOfMessages one two → IsSameOfMessages two three
     → IsSameOfMessages one three
-same_twice one two three first then =
+same_twice first then =
     record {
       accepted = then.accepted ∙ first.accepted;
       handed = then.handed ∙ first.handed;
@@ -55,10 +55,9 @@ same_by_call end act answer failed =
     }
 
 -- No more was given out than was written.
-pub given_within : (values : Values) (end : End) (happened : EndLog)
-    → EndRepresents values end happened
-    → happened.log.given ≤ length happened.log.written
-given_within values end happened represents = represents.streams.conn.machine.output.given
+pub given_within : {values : Values} {end : End} {happened : EndLog}
+    → EndRepresents values end happened → happened.log.given ≤ length happened.log.written
+given_within represents = represents.streams.conn.machine.output.given
 
 -- The link gives nothing where octets are written to it.
 pub gives_as : (start before now : Traffic) (log after : Log) (unused : List ℕ)
@@ -72,11 +71,12 @@ gives_as start before now log after unused same none given =
     (Appends-trans start.given before.given now.given _ [] given none)
 
 -- It has taken all that was given out since.
-pub linked_by : (start before now : Traffic) (log after : Log) (octets unused : List ℕ)
-    → after.input ≡ log.input → given_out after ≡ given_out log ++ octets
-    → Appends before.given now.given [] → Appends before.taken now.taken octets
-    → IsLinked start before log unused → IsLinked start now after unused
-linked_by start before now log after octets unused same more none took linked =
+pub linked_by : {start before : Traffic} (now : Traffic) {log : Log} (after : Log)
+    (octets : List ℕ) {unused : List ℕ} → after.input ≡ log.input
+    → given_out after ≡ given_out log ++ octets → Appends before.given now.given []
+    → Appends before.taken now.taken octets → IsLinked start before log unused
+    → IsLinked start now after unused
+linked_by {start} {before} now {log} after octets {unused} same more none took linked =
     record {
       given = gives_as start before now log after unused same none linked.given;
       taken = subst (Appends start.taken now.taken) (sym more)

@@ -65,8 +65,7 @@ hears_nothing old new requests piece taken next none which done takes values end
       now,
       (
         None,
-        subst (λ (handed : Option Handed). EndMayTake end piece (EndTook taken.used handed) after)
-            (ap (option_map event_handed) none) may,
+        rw none at may,
         (which, refl),
         done,
       ),
@@ -84,8 +83,7 @@ hears_event old new requests kept piece taken event next some notes takes values
       now,
       (
         Some (event_handed event),
-        subst (λ (handed : Option Handed). EndMayTake end piece (EndTook taken.used handed) after)
-            (ap (option_map event_handed) some) may,
+        rw some at may,
         notes,
         λ is. absurd (notes_on requests kept (event_handed event) next notes is),
       ),

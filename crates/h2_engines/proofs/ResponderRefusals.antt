@@ -32,47 +32,44 @@ unfolding EndsAfter
 pumps_some old new count done pumps = (Ok count, pumps, tt)
 
 -- or that was refused.
-pub pumps_err : (old new : End) (refusal : EndRefusal) (error : LinkError)
-    → error ≡ error_after refusal → EndPumps old (Err refusal) new
-    → PumpsSome old new (Err error)
+pub pumps_err : (old new : End) (refusal : EndRefusal) {error : LinkError}
+    → error ≡ error_after refusal → EndPumps old (Err refusal) new → PumpsSome old new (Err error)
 unfolding EndsAfter
-pumps_err old new refusal error is pumps = (Err refusal, pumps, is)
+pumps_err old new refusal is pumps = (Err refusal, pumps, is)
 
 -- The end has released all,
-pub releases_some : (old new : End) (result : Result (Unit {0}) EndRefusal) (done : Unit {0})
+pub releases_some : (old new : End) {result : Result (Unit {0}) EndRefusal} (done : Unit {0})
     → result ≡ Ok done → EndReleases old result new → ReleasesSome old new (Ok done)
 unfolding EndsRelease EndsAfter
-releases_some old new result done is releases = (Ok done, rw is at releases, tt)
+releases_some old new done is releases = (Ok done, rw is at releases, tt)
 
 -- or as much as the output takes.
-pub releases_full : (old new : End) (result : Result (Unit {0}) EndRefusal) (done : Unit {0})
+pub releases_full : (old new : End) {result : Result (Unit {0}) EndRefusal} (done : Unit {0})
     → result ≡ Err (refusals.Conn reasons.OutputFull) → EndReleases old result new
     → ReleasesSome old new (Ok done)
 unfolding EndsRelease EndsAfter
-releases_full old new result done is releases =
+releases_full old new done is releases =
     (Err (refusals.Conn reasons.OutputFull), rw is at releases, tt)
 
 -- A release that was refused otherwise ends as the refusal says.
-ends_release : (refusal : EndRefusal) (error : LinkError)
+ends_release : (refusal : EndRefusal) {error : LinkError}
     → refusal ≢ refusals.Conn reasons.OutputFull → error ≡ error_after refusal
     → EndsRelease (Err refusal) (Err error)
 unfolding EndsRelease EndsAfter
-ends_release (refusals.Conn reasons.OutputFull) error other is = absurd (other refl)
-ends_release refusal error other is = is
+ends_release (refusals.Conn reasons.OutputFull) other is = absurd (other refl)
+ends_release refusal other is = is
 
 -- So the end has not released all.
-pub releases_err : (old new : End) (refusal : EndRefusal) (error : LinkError)
+pub releases_err : (old new : End) (refusal : EndRefusal) {error : LinkError}
     → refusal ≢ refusals.Conn reasons.OutputFull → error ≡ error_after refusal
     → EndReleases old (Err refusal) new → ReleasesSome old new (Err error)
-releases_err old new refusal error other is releases =
-    (Err refusal, releases, ends_release refusal error other is)
+releases_err old new refusal other is releases =
+    (Err refusal, releases, ends_release refusal other is)
 
 -- Once all output was written, none waits.
-pub waits_none : (start now : Traffic) (log : Log) → IsWrittenOut start now log
-    → waiting log ≡ 0
+pub waits_none : {start now : Traffic} {log : Log} → IsWrittenOut start now log → waiting log ≡ 0
 unfolding waiting output
-waits_none start now log written =
-    omega (arith, length-take log.given log.written, ap length written.all)
+waits_none {log} written = omega (arith, length-take log.given log.written, ap length written.all)
 
 -- Where the fourth of six conditions doesn't hold, no call is refused for it.
 fourth_of_six : (a b c d e f : Bool) → d ≡ false

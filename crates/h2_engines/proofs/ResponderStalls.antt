@@ -25,27 +25,26 @@ stalls_by_link now end errors.NoProgress stalled = inl stalled
 stalls_by_link now end other stalled = tt
 
 -- Where memory is wanted, it need not have.
-pub stalls_no_more : (now : Traffic) (end : EndLog) (error : LinkError) → error ≡ errors.Memory
+pub stalls_no_more : (now : Traffic) (end : EndLog) {error : LinkError} → error ≡ errors.Memory
     → StallsWriting {A = Unit {0}} now end (Err error)
-stalls_no_more now end error is =
+stalls_no_more now end is =
     subst (λ (one : LinkError). StallsWriting {A = Unit {0}} now end (Err one)) (sym is) tt
 
 -- A call that puts output out is refused only when out of memory.
-put_out_lacks : (log : Log) (count : ℕ) (refusal : Refusal)
+put_out_lacks : {log : Log} {count : ℕ} {refusal : Refusal}
     → MayAnswer log (PutOut count) (Refused refusal) → refusal ≡ reasons.Memory
 unfolding conditions first_of
-put_out_lacks log count refusal (accepts none is) = absurd (cc)
-put_out_lacks log count refusal (refuses other some is) = absurd (cc)
-put_out_lacks log count refusal (lacks none may is) = cc
-put_out_lacks log count refusal (fails none may is) = absurd (cc)
+put_out_lacks (accepts none is) = absurd (cc)
+put_out_lacks (refuses other some is) = absurd (cc)
+put_out_lacks (lacks none may is) = cc
+put_out_lacks (fails none may is) = absurd (cc)
 
 -- That ends a connection as such.
-pub put_out_ends : (log : Log) (count : ℕ) (refusal : Refusal) (error : LinkError)
-    → MayAnswer log (PutOut count) (Refused refusal)
-    → error ≡ error_after (refusals.Conn refusal) → error ≡ errors.Memory
-put_out_ends log count refusal error may is =
-    is ∙ ap (λ (one : Refusal). error_after (refusals.Conn one))
-    (put_out_lacks log count refusal may)
+pub put_out_ends : {log : Log} {count : ℕ} {refusal : Refusal} {error : LinkError}
+    → MayAnswer log (PutOut count) (Refused refusal) → error ≡ error_after (refusals.Conn refusal)
+    → error ≡ errors.Memory
+put_out_ends may is =
+    is ∙ ap (λ (one : Refusal). error_after (refusals.Conn one)) (put_out_lacks may)
 
 -- So is a pump where the connection is up.
 pub pump_ends : (end after : EndLog) (answer : Result ℕ EndRefusal) (error : LinkError)

@@ -20,12 +20,13 @@ use Rattle.h2_engines.specs.Linked.{Traffic, IsLinked}
 use Rattle.h2_engines.specs.Machines.{WritesOut}
 use Rattle.h2_engines.specs.ServerSteps.{IsSameOfMessages}
 use Rattle.h2_engines.proofs.ResponderOutput.{put_out_failed, refused_failed, put_out_octets}
-use Rattle.h2_engines.proofs.ResponderOutput.{given_more, none_put}
+use Rattle.h2_engines.proofs.ResponderOutput.{given_more}
 use Rattle.h2_engines.proofs.ResponderEnds.{same_itself, same_twice, same_by_call, given_within}
 use Rattle.h2_engines.proofs.ResponderEnds.{gives_as, linked_by, takes_first, given_first}
 use Rattle.h2_engines.proofs.ResponderEnds.{refused_first}
 use Rattle.h2_engines.proofs.ResponderStalls.{stalls_by_link, stalls_no_more, put_out_ends}
 use Rattle.h2_engines.proofs.TurnsPassed.{turns_of_call}
+use Rattle.h2_engines.proofs.WithoutLinkOutput.{none_put}
 
 -- Where this may have happened at an end, it may also have put output out.
 abbrev pub MayPutOut : (EndLog → Type 0) → Type 0
@@ -46,10 +47,10 @@ pub record WritesOn (P : EndLog → Type 0) (values : Values) (start now : Traff
   pub turns : rounds + length before.log.turns ≤ length after.log.turns
 
 -- Nothing was written yet.
-pub writes_nothing : (P : EndLog → Type 0) (values : Values) (start now : Traffic)
-    (end : EndLog) (server : End) (unused : List ℕ) → EndRepresents values server end → P end
+pub writes_nothing : (P : EndLog → Type 0) {values : Values} {start now : Traffic} {end : EndLog}
+    {server : End} {unused : List ℕ} → EndRepresents values server end → P end
     → IsLinked start now end.log unused → WritesOn P values start now end server unused 0
-writes_nothing P values start now end server unused represents happened linked =
+writes_nothing P {end} represents happened linked =
     record {
       after = end;
       happened = happened;
@@ -60,60 +61,56 @@ writes_nothing P values start now end server unused represents happened linked =
     }
 
 -- The next octets are put out, and the link takes all of them.
-pub writes_more : (P : EndLog → Type 0) → MayPutOut P → (values : Values)
-    (start middle now : Traffic) (before : EndLog) (old new : End) (unused : List ℕ)
-    (rounds count given : ℕ) (octets : List ℕ) → count < 2 ^ 64
-    → EndAnswers old (PutOut count) (Count given) new
-    → GivesOut old.conn count given [] octets → Appends middle.given now.given []
-    → Appends middle.taken now.taken octets
+pub writes_more : (P : EndLog → Type 0) → MayPutOut P
+    → {values : Values} {start middle : Traffic} (now : Traffic) {before : EndLog} {old : End}
+    (new : End) {unused : List ℕ} {rounds : ℕ} (count given : ℕ) {octets : List ℕ} → count < 2 ^ 64
+    → EndAnswers old (PutOut count) (Count given) new → GivesOut old.conn count given [] octets
+    → Appends middle.given now.given [] → Appends middle.taken now.taken octets
     → WritesOn P values start middle before old unused rounds
     → WritesOn P values start now before new unused (rounds + 1)
 unfolding IsTypedAct
-writes_more P may values start middle now before old new unused rounds count given octets typed
-    answers gives none took so =
+writes_more P may {values} {middle} now new count given {octets} typed answers gives none took so =
     let end = so.after in
     let after = with_call end.log (PutOut count) (Count given) in
     let put = answers values end so.represents in
-    let within = given_within values old end so.represents in
+    let within = given_within so.represents in
     let same : octets ≡ put_out_octets end.log count given =
     gives values end.log so.represents.streams.conn in
     record {
       after = end_with_log end after;
       happened = may end count (Count given) so.happened typed put.0;
       represents = put.1;
-      same = same_twice before end _ so.same
-          (same_by_call end _ _ (put_out_failed end.log count given));
-      linked = linked_by start middle now end.log after (put_out_octets end.log count given) unused
+      same = same_twice so.same (same_by_call end _ _ (put_out_failed end.log count given));
+      linked = linked_by now after (put_out_octets end.log count given)
           (Keeps-call end.log _ _).input (given_more end.log count given within) none
           (subst (Appends middle.taken now.taken) same took) so.linked;
       turns = omega (arith, so.turns, turns_of_call end.log (PutOut count) (Count given));
     }
 
 -- Or only some of them.
-pub writes_first : (P : EndLog → Type 0) → MayPutOut P → (values : Values)
-    (start middle now : Traffic) (before : EndLog) (old new : End) (unused : List ℕ)
-    (rounds count given : ℕ) (octets : List ℕ) (some : ℕ) (error : LinkError) → count < 2 ^ 64
-    → EndAnswers old (PutOut count) (Count given) new
+pub writes_first : (P : EndLog → Type 0) → MayPutOut P
+    → {values : Values} {start middle : Traffic} (now : Traffic) {before : EndLog} {old : End}
+    (new : End) {unused : List ℕ} {rounds : ℕ} (count given : ℕ) (octets : List ℕ) (some : ℕ)
+    (error : LinkError) → count < 2 ^ 64 → EndAnswers old (PutOut count) (Count given) new
     → GivesOut old.conn count given [] octets → Appends middle.given now.given []
     → Appends middle.taken now.taken (take some octets)
     → StallsAtNoProgress {A = Unit {0}} (Err error) now.stalled
     → WritesOn P values start middle before old unused rounds
     → WritesOut P values start now before new unused (Err error)
 unfolding IsTypedAct
-writes_first P may values start middle now before old new unused rounds count given octets some
-    error typed answers gives none took stalled so =
+writes_first P may {values} {start} {middle} now new {unused} count given octets some error typed
+    answers gives none took stalled so =
     let end = so.after in
     let after = with_call end.log (PutOut count) (Count given) in
     let put = answers values end so.represents in
-    let within = given_within values old end so.represents in
+    let within = given_within so.represents in
     let same : octets ≡ put_out_octets end.log count given =
     gives values end.log so.represents.streams.conn in
     record {
       after = end_with_log end after;
       happened = may end count (Count given) so.happened typed put.0;
       represents = put.1;
-      same = same_twice before end _ so.same
-          (same_by_call end _ _ (put_out_failed end.log count given));
+      same = same_twice so.same (same_by_call end _ _ (put_out_failed end.log count given));
       given = gives_as start middle now end.log after unused (Keeps-call end.log _ _).input none
           so.linked.given;
       taken = takes_first start middle now end.log after (put_out_octets end.log count given) some
@@ -125,24 +122,24 @@ writes_first P may values start middle now before old new unused rounds count gi
     }
 
 -- Where no octets are put out, all of the output was written.
-pub writes_all : (P : EndLog → Type 0) → MayPutOut P → (values : Values) (start now : Traffic)
-    (before : EndLog) (old new : End) (unused : List ℕ) (rounds count : ℕ) (done : Unit {0})
-    → count < 2 ^ 64 → 0 < count → EndAnswers old (PutOut count) (Count 0) new
+pub writes_all : (P : EndLog → Type 0) → MayPutOut P
+    → {values : Values} {start now : Traffic} {before : EndLog} {old : End} (new : End)
+    {unused : List ℕ} {rounds : ℕ} (count : ℕ) (done : Unit {0}) → count < 2 ^ 64 → 0 < count
+    → EndAnswers old (PutOut count) (Count 0) new
     → WritesOn P values start now before old unused rounds
     → WritesOut P values start now before new unused (Ok done)
 unfolding IsTypedAct
-writes_all P may values start now before old new unused rounds count done typed some answers so =
+writes_all P may {values} {start} {now} new {unused} count done typed some answers so =
     let end = so.after in
     let after = with_call end.log (PutOut count) (Count 0) in
     let put = answers values end so.represents in
-    let within = given_within values old end so.represents in
-    let none = none_put end.log count some within put.0 in
+    let within = given_within so.represents in
+    let none = none_put some within put.0 in
     record {
       after = end_with_log end after;
       happened = may end count (Count 0) so.happened typed put.0;
       represents = put.1;
-      same = same_twice before end _ so.same
-          (same_by_call end _ _ (put_out_failed end.log count 0));
+      same = same_twice so.same (same_by_call end _ _ (put_out_failed end.log count 0));
       given = subst (λ (input : List ℕ). Appends start.given now.given (input ++ unused))
           (sym (Keeps-call end.log _ _).input) so.linked.given;
       taken = record {
@@ -154,14 +151,14 @@ writes_all P may values start now before old new unused rounds count done typed 
     }
 
 -- Where that is refused, what was given out was written.
-pub writes_refused : (P : EndLog → Type 0) → MayPutOut P → (values : Values) (start now : Traffic)
-    (before : EndLog) (old new : End) (unused : List ℕ) (rounds count : ℕ) (refusal : Refusal)
-    (error : LinkError) → count < 2 ^ 64 → EndAnswers old (PutOut count) (Refused refusal) new
+pub writes_refused : (P : EndLog → Type 0) → MayPutOut P
+    → {values : Values} {start now : Traffic} {before : EndLog} {old : End} (new : End)
+    {unused : List ℕ} {rounds : ℕ} (count : ℕ) (refusal : Refusal) {error : LinkError}
+    → count < 2 ^ 64 → EndAnswers old (PutOut count) (Refused refusal) new
     → error ≡ error_after (Conn refusal) → WritesOn P values start now before old unused rounds
     → WritesOut P values start now before new unused (Err error)
 unfolding IsTypedAct
-writes_refused P may values start now before old new unused rounds count refusal error typed answers
-    is so =
+writes_refused P may {values} {start} {now} new {unused} count refusal typed answers is so =
     let end = so.after in
     let after = with_call end.log (PutOut count) (Refused refusal) in
     let put = answers values end so.represents in
@@ -169,22 +166,21 @@ writes_refused P may values start now before old new unused rounds count refusal
       after = end_with_log end after;
       happened = may end count (Refused refusal) so.happened typed put.0;
       represents = put.1;
-      same = same_twice before end _ so.same
+      same = same_twice so.same
           (same_by_call end _ _ (refused_failed end.log (PutOut count) refusal));
       given = subst (λ (input : List ℕ). Appends start.given now.given (input ++ unused))
           (sym (Keeps-call end.log _ _).input) so.linked.given;
       taken = refused_first start now end.log (PutOut count) refusal so.linked.taken;
       turns = omega (arith, so.turns, turns_of_call end.log (PutOut count) (Refused refusal));
-      stalls = stalls_no_more now (end_with_log end after) error
-          (put_out_ends end.log count refusal error put.0 is);
+      stalls = stalls_no_more now (end_with_log end after) (put_out_ends put.0 is);
     }
 
 -- So it is where nothing more is tried, since there were as many rounds as may be.
-pub writes_no_more : (P : EndLog → Type 0) (values : Values) (start now : Traffic)
-    (before : EndLog) (new : End) (unused : List ℕ) (rounds : ℕ) → 2 ^ 64 - 1 ≤ rounds
+pub writes_no_more : (P : EndLog → Type 0) {values : Values} {start now : Traffic}
+    {before : EndLog} {new : End} {unused : List ℕ} {rounds : ℕ} → 2 ^ 64 - 1 ≤ rounds
     → WritesOn P values start now before new unused rounds
     → WritesOut P values start now before new unused (Err errors.NoProgress)
-writes_no_more P values start now before new unused rounds all so =
+writes_no_more P {start} {now} all so =
     record {
       after = so.after;
       happened = so.happened;
@@ -197,18 +193,18 @@ writes_no_more P values start now before new unused rounds all so =
     }
 
 -- What is written then is written after the rounds before it.
-pub writes_after : (P : EndLog → Type 0) (values : Values) (start middle now : Traffic)
-    (before : EndLog) (old new : End) (unused : List ℕ) (rounds : ℕ)
-    (result : Result (Unit {0}) LinkError)
+pub writes_after : (P : EndLog → Type 0) {values : Values} {start middle now : Traffic}
+    {before : EndLog} {old new : End} {unused : List ℕ} {rounds : ℕ}
+    {result : Result (Unit {0}) LinkError}
     → (so : WritesOn P values start middle before old unused rounds)
     → WritesOut P values start now so.after new unused result
     → WritesOut P values start now before new unused result
-writes_after P values start middle now before old new unused rounds result so out =
+writes_after P so out =
     record {
       after = out.after;
       happened = out.happened;
       represents = out.represents;
-      same = same_twice before so.after out.after so.same out.same;
+      same = same_twice so.same out.same;
       given = out.given;
       taken = out.taken;
       turns = omega (arith, so.turns, out.turns);
@@ -216,17 +212,17 @@ writes_after P values start middle now before old new unused rounds result so ou
     }
 
 -- Rounds may follow one another.
-pub writes_on_after : (P : EndLog → Type 0) (values : Values) (start middle now : Traffic)
-    (before : EndLog) (old new : End) (unused : List ℕ) (rounds more : ℕ)
+pub writes_on_after : (P : EndLog → Type 0) {values : Values} {start middle now : Traffic}
+    {before : EndLog} {old new : End} {unused : List ℕ} {rounds more : ℕ}
     → (so : WritesOn P values start middle before old unused rounds)
     → WritesOn P values start now so.after new unused more
     → WritesOn P values start now before new unused (rounds + more)
-writes_on_after P values start middle now before old new unused rounds more so then =
+writes_on_after P so then =
     record {
       after = then.after;
       happened = then.happened;
       represents = then.represents;
-      same = same_twice before so.after then.after so.same then.same;
+      same = same_twice so.same then.same;
       linked = then.linked;
       turns = omega (arith, so.turns, then.turns);
     }

@@ -29,9 +29,9 @@ says_any A NoEvent is = is
 says_any A Reported is = is
 
 -- Taking octets keeps the role.
-role_by_take : (log after : Log) (piece : List ℕ) (answer : TakeAnswer)
+role_by_take : {log after : Log} {piece : List ℕ} {answer : TakeAnswer}
     → MayTake log piece answer after → after.role ≡ log.role
-role_by_take log after piece answer may =
+role_by_take {log} {after} {piece} {answer} may =
     take_keeps 0 (λ role received sent reported. role ≡ log.role)
     (λ role received sent reported items none same. same)
     (λ role received sent reported events same. same)
@@ -44,9 +44,9 @@ pub role_by_call : (log : Log) (act : Act) (answer : Answer)
 role_by_call log act answer = (grows_call log act answer).role
 
 -- and an end that is the same or has a log with the same role.
-pub role_as : (before after is : EndLog) → after ≡ is → is.log.role ≡ before.log.role
+pub role_as : (before : EndLog) {after is : EndLog} → after ≡ is → is.log.role ≡ before.log.role
     → after.log.role ≡ before.log.role
-role_as before after is same role = ap (λ (end : EndLog). end.log.role) same ∙ role
+role_as before same role = ap (λ (end : EndLog). end.log.role) same ∙ role
 
 -- So does a message that is accepted,
 responded_role : (before : EndLog) (id : ℕ) (message : SentMessage) (done : Unit {0})
@@ -54,14 +54,13 @@ responded_role : (before : EndLog) (id : ℕ) (message : SentMessage) (done : Un
     → after.log.role ≡ before.log.role
 unfolding MayRespond
 responded_role before id message done after may =
-    role_as before after _ may.5 (role_by_call before.log _ _)
+    role_as before may.5 (role_by_call before.log _ _)
 
 -- and a call of `take`.
-pub taken_role : (before : EndLog) (piece : List ℕ) (answer : EndAnswer) (after : EndLog)
+pub taken_role : {before : EndLog} {piece : List ℕ} {answer : EndAnswer} {after : EndLog}
     → EndMayTake before piece answer after → after.log.role ≡ before.log.role
-taken_role before piece answer after may =
-    take_holds (λ (log : Log). log.role ≡ before.log.role) before piece answer after
-    (λ log took takes. role_by_take before.log log piece took takes)
+taken_role {before} may =
+    take_holds (λ (log : Log). log.role ≡ before.log.role) (λ log took takes. role_by_take takes)
     (λ log id code said same. role_by_call log _ _ ∙ same) may
 
 -- A new server's end is one.
@@ -70,12 +69,9 @@ unfolding opened with_sent
 new_role values = refl
 
 -- Whatever has happened at a server over a link, it is a server's end.
-pub kept_role : (values : Values) (end : EndLog) → IsResponding values end
-    → end.log.role ≡ Server
-kept_role values end responding =
+pub kept_role : {values : Values} {end : EndLog} → IsResponding values end → end.log.role ≡ Server
+kept_role {values} responding =
     holds_responding (λ one. one.log.role ≡ Server)
-    (λ one act answer was. role_by_call one.log act answer ∙ was)
-    (λ before id message done after may was.
-    responded_role before id message done after may ∙ was)
-    (λ before piece answer after may was. taken_role before piece answer after may ∙ was)
-    values (new_role values) end responding
+    (λ one act answer was. role_by_call one.log act answer ∙ was) (λ before id message done
+    after may was. responded_role before id message done after may ∙ was)
+    (λ before piece answer after may was. taken_role may ∙ was) (new_role values) responding

@@ -54,9 +54,9 @@ as_body : (reads : Reads) (parts : List (Part × Bool)) (id : ℕ) (octets : Lis
 unfolding handed_as
 as_body reads parts id octets last = refl
 
-some_parts : (parts : List (Part × Bool)) (first : Part × Bool) (rest : List (Part × Bool))
+some_parts : {parts : List (Part × Bool)} (first : Part × Bool) (rest : List (Part × Bool))
     → parts ≡ first ∷ rest → parts ≢ []
-some_parts parts first rest are none = absurd (cc)
+some_parts first rest are none = absurd (cc)
 
 hands_part : (end : EndLog) (id : ℕ) (parts : List (Part × Bool)) (part : Part × Bool)
     → parts_on id end.handed ≡ parts → IsReadable Requests (parts ++ part ∷ [])
@@ -66,12 +66,12 @@ hands_part end id [] (FieldsPart list, last) are readable =
 hands_part end id [] (OctetsPart octets, last) are readable =
     absurd (no_octets_first octets last readable)
 hands_part end id (first ∷ parts) (FieldsPart list, last) are readable =
-    subst (HandsOut end) (sym (as_trailers first parts id list last readable))
-    (hands_trailers id list (some_parts _ first parts are)
+    subst (HandsOut end) (sym (as_trailers first parts id list last readable)) (hands_trailers id
+    list (some_parts first parts are)
     (ap ends are ∙ goes_with (first ∷ parts) (FieldsPart list, last) readable))
 hands_part end id (first ∷ parts) (OctetsPart octets, last) are readable =
-    subst (HandsOut end) (as_body Requests (first ∷ parts) id octets last)
-    (hands_body id octets last (some_parts _ first parts are)
+    subst (HandsOut end) (as_body Requests (first ∷ parts) id octets last) (hands_body id octets
+    last (some_parts first parts are)
     (ap ends are ∙ goes_with (first ∷ parts) (OctetsPart octets, last) readable))
 
 -- A server reads requests.
@@ -81,22 +81,21 @@ reads_requests end id role =
     ap (λ (b : Bool). if b then Requests
     else Responses (asked_head (message_for id end.accepted))) (ap is_server role)
 
-hands_as_read : (end : EndLog) (id : ℕ) (part : Part × Bool) (reads : Reads) → reads ≡ Requests
+hands_as_read : (end : EndLog) (id : ℕ) (part : Part × Bool) {reads : Reads} → reads ≡ Requests
     → IsReadable reads (parts_on id end.handed ++ part ∷ [])
     → HandsOut end (handed_as reads (parts_on id end.handed) id part)
-hands_as_read end id part reads same readable =
+hands_as_read end id part same readable =
     subst (λ (one : Reads). HandsOut end (handed_as one (parts_on id end.handed) id part))
-    (sym same) (hands_part end id (parts_on id end.handed) part refl
-    (subst (λ (one : Reads). IsReadable one (parts_on id end.handed ++ part ∷ [])) same readable))
+    (sym same) (hands_part end id (parts_on id end.handed) part refl (subst
+    (λ (one : Reads). IsReadable one (parts_on id end.handed ++ part ∷ [])) same readable))
 
 -- So it is with what a call of `take` hands out.
-pub server_hands : (end after : EndLog) (piece : List ℕ) (count : ℕ) (handed : Handed)
+pub server_hands : {end after : EndLog} {piece : List ℕ} (count : ℕ) (handed : Handed)
     → end.log.role ≡ Server → EndMayTake end piece (EndTook count (Some handed)) after
     → HandsOut end handed
-server_hands end after piece count handed role may =
-    take_hands (HandsOut end) end piece count handed after hands_event
-    (λ id part readable.
-    hands_as_read end id part (reads_on end id) (reads_requests end id role) readable) may
+server_hands {end} count handed role may =
+    take_hands (HandsOut end) count handed hands_event
+    (λ id part readable. hands_as_read end id part (reads_requests end id role) readable) may
 
 -- One part of a request was handed out on a stream, and nothing on others.
 pub record Hands (end after : EndLog) (id : ℕ) (part : Part × Bool) : Type 0 where
@@ -112,43 +111,43 @@ pub record HandedOne (end after : EndLog) (one : Handed) : Type 0 where
   pub accepted : after.accepted ≡ end.accepted
   pub calls : KeepsCalls end.log after.log
 
-parts_with : (end after : EndLog) (one : Handed) (i : ℕ) (more : List (Part × Bool))
+parts_with : {end after : EndLog} {one : Handed} (i : ℕ) {more : List (Part × Bool)}
     → HandedOne end after one → part_on i one ≡ more
     → parts_on i after.handed ≡ parts_on i end.handed ++ more
 unfolding parts_on
-parts_with end after one i more hands is =
-    ap (parts_on i) hands.handed
-    ∙ ap (λ (part : List (Part × Bool)). parts_on i end.handed ++ part) is
+parts_with {end} i hands is =
+    ap (parts_on i) hands.handed ∙ ap
+    (λ (part : List (Part × Bool)). parts_on i end.handed ++ part) is
 
-resets_with : (end after : EndLog) (one : Handed) (i : ℕ) → HandedOne end after one
+resets_with : {end after : EndLog} {one : Handed} (i : ℕ) → HandedOne end after one
     → WasReset end i → WasReset after i
-resets_with end after one i hands reset = (
+resets_with {end} {one} i hands reset = (
   reset.0,
   reset.1,
   subst (λ (all : List Handed). Contains all (Passed (ResetEvent i reset.0 reset.1)))
       (sym hands.handed) (later_in one end.handed _ reset.2),
 )
 
-pub same_besides : (end after : EndLog) (one : Handed) (i : ℕ) → HandedOne end after one
+pub same_besides : {end after : EndLog} {one : Handed} (i : ℕ) → HandedOne end after one
     → part_on i one ≡ [] → SameOn end after i
-same_besides end after one i hands none =
+same_besides {end} i hands none =
     record {
-      parts = parts_with end after one i [] hands none ∙ append-nil (parts_on i end.handed);
+      parts = parts_with i hands none ∙ append-nil (parts_on i end.handed);
       message = ap (message_for i) hands.accepted;
-      resets = resets_with end after one i hands;
+      resets = resets_with i hands;
       calls = hands.calls;
     }
 
-hands_one : (end after : EndLog) (one : Handed) (id : ℕ) (part : Part × Bool)
+hands_one : {end after : EndLog} {one : Handed} (id : ℕ) (part : Part × Bool)
     → HandedOne end after one → part_on id one ≡ part ∷ []
     → ((i : ℕ) → i ≢ id → part_on i one ≡ []) → Hands end after id part
-hands_one end after one id part hands here there =
+hands_one id part hands here there =
     record {
-      parts = parts_with end after one id (part ∷ []) hands here;
+      parts = parts_with id hands here;
       message = ap (message_for id) hands.accepted;
-      resets = resets_with end after one id hands;
+      resets = resets_with id hands;
       calls = hands.calls;
-      others = λ i other. same_besides end after one i hands (there i other);
+      others = λ i other. same_besides i hands (there i other);
     }
 
 -- A stream is itself, and no other one.
@@ -162,43 +161,40 @@ there_is id i part other =
     ap (λ (b : Bool). if b then part ∷ [] else []) (ne_eqb id i (λ same. other (sym same)))
 
 -- So it is with a head, octets and trailers.
-pub head_hands : (end after : EndLog) (id : ℕ) (list : List Field) (last : Bool)
+pub head_hands : {end after : EndLog} {id : ℕ} {list : List Field} {last : Bool}
     → HandedOne end after (HeadHanded id list last) → Hands end after id (FieldsPart list, last)
 unfolding part_on
-head_hands end after id list last hands =
-    hands_one end after (HeadHanded id list last) id (FieldsPart list, last) hands
-    (here_is id (FieldsPart list, last))
+head_hands {id} {list} {last} hands =
+    hands_one id (FieldsPart list, last) hands (here_is id (FieldsPart list, last))
     (λ i other. there_is id i (FieldsPart list, last) other)
 
-pub body_hands : (end after : EndLog) (id : ℕ) (octets : List ℕ) (last : Bool)
+pub body_hands : {end after : EndLog} {id : ℕ} {octets : List ℕ} {last : Bool}
     → HandedOne end after (BodyHanded id octets last)
     → Hands end after id (OctetsPart octets, last)
 unfolding part_on
-body_hands end after id octets last hands =
-    hands_one end after (BodyHanded id octets last) id (OctetsPart octets, last) hands
-    (here_is id (OctetsPart octets, last))
+body_hands {id} {octets} {last} hands =
+    hands_one id (OctetsPart octets, last) hands (here_is id (OctetsPart octets, last))
     (λ i other. there_is id i (OctetsPart octets, last) other)
 
-pub trailers_hands : (end after : EndLog) (id : ℕ) (list : List Field)
+pub trailers_hands : {end after : EndLog} {id : ℕ} {list : List Field}
     → HandedOne end after (TrailersHanded id list) → Hands end after id (FieldsPart list, true)
 unfolding part_on
-trailers_hands end after id list hands =
-    hands_one end after (TrailersHanded id list) id (FieldsPart list, true) hands
-    (here_is id (FieldsPart list, true))
+trailers_hands {id} {list} hands =
+    hands_one id (FieldsPart list, true) hands (here_is id (FieldsPart list, true))
     (λ i other. there_is id i (FieldsPart list, true) other)
 
 -- An event is no part of a request.
-pub event_besides : (end after : EndLog) (event : Event) (i : ℕ)
+pub event_besides : {end after : EndLog} {event : Event} (i : ℕ)
     → HandedOne end after (Passed event) → SameOn end after i
 unfolding part_on
-event_besides end after event i hands = same_besides end after (Passed event) i hands refl
+event_besides i hands = same_besides i hands refl
 
 -- A reset that was handed out.
-pub reset_now : (end after : EndLog) (id code : ℕ) (ours : Bool)
+pub reset_now : {end after : EndLog} (id code : ℕ) (ours : Bool)
     → HandedOne end after (Passed (ResetEvent id code ours)) → WasReset after id
-reset_now end after id code ours hands = (
+reset_now {end} id code ours hands = (
   code,
   ours,
-  subst (λ (all : List Handed). Contains all (Passed (ResetEvent id code ours)))
-      (sym hands.handed) (first_in (Passed (ResetEvent id code ours)) end.handed),
+  subst (λ (all : List Handed). Contains all (Passed (ResetEvent id code ours))) (sym hands.handed)
+      (first_in (Passed (ResetEvent id code ours)) end.handed),
 )

@@ -23,9 +23,9 @@ use Rattle.h2_engines.proofs.TakeMessages.{take_holds}
 use Rattle.h2_engines.proofs.TurnsOfFrames.{turns_of_event, turns_of_due, turns_of_frame}
 
 -- A log to which turns are added has no fewer.
-turns_added : (p : Turn → Bool) (log next : Log) → Adds p log next
+turns_added : {p : Turn → Bool} {log next : Log} → Adds p log next
     → length log.turns ≤ length next.turns
-turns_added p log next adds =
+turns_added {log} adds =
     omega (
       arith,
       ap (λ (turns : List Turn). length turns) adds.turns,
@@ -36,7 +36,7 @@ turns_added p log next adds =
 pub turns_of_call : (log : Log) (act : Act) (answer : Answer)
     → length log.turns < length (with_call log act answer).turns
 turns_of_call log act answer =
-    let more = turns_added _ (called log act answer) _ (adds_call log act answer) in
+    let more = turns_added (adds_call log act answer) in
     omega (arith, more)
 
 -- The octets that are used are a turn.
@@ -46,25 +46,22 @@ unfolding used
 turns_of_used log octets unparsed = omega arith
 
 -- A take of the connection that doesn't end it is a turn at least.
-took_turn : (log after : Log) (piece : List ℕ) (count : ℕ) (event : Option Event)
+took_turn : {log after : Log} {piece : List ℕ} {count : ℕ} {event : Option Event}
     → MayTake log piece (Took count event) after → length log.turns < length after.turns
-took_turn log after piece count event (has_failed code failed answers same) = absurd (cc)
-took_turn log after piece count event (reports_unprocessed up some answers same) =
+took_turn (has_failed code failed answers same) = absurd (cc)
+took_turn {log} (reports_unprocessed up some answers same) =
     rw same (turns_of_event (length log.turns) _ _
     (turns_of_due (length log.turns) _ log (omega arith)))
-took_turn log after piece count event (ends_no_frame takes unparsed part answers same) =
+took_turn {log} {piece} (ends_no_frame takes unparsed part answers same) =
     rw same (turns_of_used log piece unparsed)
-took_turn log after piece count event
-    (ends_frame takes octets unused joined frame decoded framed sees same answers) =
+took_turn {log} (ends_frame takes octets unused joined frame decoded framed sees same answers) =
     rw same (omega (
       arith,
       turns_of_frame (length log.turns + 1) (used log octets []) decoded frame
           (omega (arith, turns_of_used log octets [])),
     ))
-took_turn log after piece count event
-    (meets_fault takes octets unused joined fault at answers same) = absurd (cc)
-took_turn log after piece count event
-    (lacks_memory up octets unused joined may answers same) = absurd (cc)
+took_turn (meets_fault takes octets unused joined fault at answers same) = absurd (cc)
+took_turn (lacks_memory up octets unused joined may answers same) = absurd (cc)
 
 -- No turn is undone once a stream was refused.
 refused_turns : (n : ℕ) (end : EndLog) (log : Log) (count id : ℕ) (answer : EndAnswer)
@@ -75,20 +72,17 @@ refused_turns n end log count id answer after None so turns = rw so.1 turns
 refused_turns n end log count id answer after (Some code) so turns = rw so.1 turns
 
 -- A take that doesn't end the connection is a turn at least.
-pub turns_of_take : (end after : EndLog) (piece : List ℕ) (count : ℕ) (handed : Option Handed)
+pub turns_of_take : {end after : EndLog} {piece : List ℕ} {count : ℕ} {handed : Option Handed}
     → EndMayTake end piece (EndTook count handed) after
     → length end.log.turns < length after.log.turns
-turns_of_take end after piece count handed (fails code log may answers same) = absurd (cc)
-turns_of_take end after piece count handed (hands_nothing taken log may answers same) =
-    rw same (took_turn end.log log piece taken None may)
-turns_of_take end after piece count handed (passes taken event log may none answers same) =
-    rw same (took_turn end.log log piece taken (Some event) may)
-turns_of_take end after piece count handed
-    (hands_out taken event log may id part is readable answers same) =
-    rw same (took_turn end.log log piece taken (Some event) may)
-turns_of_take end after piece count handed
+turns_of_take (fails code log may answers same) = absurd (cc)
+turns_of_take (hands_nothing taken log may answers same) = rw same (took_turn may)
+turns_of_take (passes taken event log may none answers same) = rw same (took_turn may)
+turns_of_take (hands_out taken event log may id part is readable answers same) =
+    rw same (took_turn may)
+turns_of_take {end} {after} {count} {handed}
     (refuses taken event log may id part is unreadable refused answered answers) =
-    let took = took_turn end.log log piece taken (Some event) may in
+    let took = took_turn may in
     let call = turns_of_call log (Refuse id 1) refused in
     let all : length end.log.turns + 1 ≤ length (with_call log (Refuse id 1) refused).turns =
     omega (arith, took, call) in
@@ -96,16 +90,15 @@ turns_of_take end after piece count handed
     (with_call log (Refuse id 1) refused) taken id (EndTook count handed) after
     (with_call log (Refuse id 1) refused).failed answers all in
     omega (arith, after_all)
-turns_of_take end after piece count handed
-    (runs_out_of_memory taken id list ends log may server none readable refused answered fails_so
-    same) = absurd (cc)
+turns_of_take (runs_out_of_memory taken id list ends log may server none readable refused answered
+    fails_so same) = absurd (cc)
 
 -- No take undoes a turn.
-pub turns_of_answer : (end after : EndLog) (piece : List ℕ) (answer : EndAnswer)
+pub turns_of_answer : {end after : EndLog} {piece : List ℕ} {answer : EndAnswer}
     → EndMayTake end piece answer after → length end.log.turns ≤ length after.log.turns
-turns_of_answer end after piece answer may =
-    take_holds (λ (log : Log). length end.log.turns ≤ length log.turns) end piece answer after
-    (λ log took takes. turns_added _ end.log log (adds_take end.log log piece took takes))
+turns_of_answer {end} {piece} may =
+    take_holds (λ (log : Log). length end.log.turns ≤ length log.turns)
+    (λ log took takes. turns_added (adds_take end.log log piece took takes))
     (λ log id code said so. omega (arith, so, turns_of_call log (Refuse id code) said)) may
 
 -- Nor does a call,

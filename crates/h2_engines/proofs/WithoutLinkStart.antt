@@ -15,11 +15,11 @@ new_up : (values : Values) → (opened Server values).failed ≡ None
 unfolding opened with_sent
 new_up values = refl
 
-pub new_serves : (values : Values) (responder : Responder) → AreInRange values
+pub new_serves : {values : Values} (responder : Responder) → AreInRange values
     → EndRepresents values responder.server.end (new_end Server values)
     → responder.requests.kept.entries ≡ [] → responder.answered ≡ 0
     → IsServingAlone values responder (new_end Server values)
-new_serves values responder range represents none zero =
+new_serves {values} responder range represents none zero =
     record {
       responding = begins range;
       represents = represents;

@@ -9,19 +9,18 @@ use Rattle.h2_engines.proofs.fetcher.hear.Goals as goal
 pub returns-in-Some-Reset-clause-hears : goal.returns-in-Some-Reset-clause-hears
 returns-in-Some-Reset-clause-hears c =
     let is = rw c.in-Some-Reset.is at c.in-Some-Reset.field-0-is in
-    heard_error c.args.client.now.end c.take.follows.lender-at-none.end c.args.id
-    c.args.coming.now c.args.coming.now c.args.piece.now c.in-Ok.taken _ _ c.in-Some-Reset.is
-    (errs_reset c.in-Ok.taken.used c.args.id c.in-Some-Reset.stream c.in-Some-Reset.code _ _
-    (ap event_handed is) c.if-stream-id.true) (rw c.in-Ok.is at c.take.follows.holds-at-none)
+    heard_error c.args.client.now.end c.take.follows.lender-at-none.end c.args.id c.args.coming.now
+    c.args.coming.now c.args.piece.now c.in-Ok.taken _ _ c.in-Some-Reset.is (errs_reset
+    c.in-Ok.taken.used c.in-Some-Reset.code _ (ap event_handed is) c.if-stream-id.true)
+    (rw c.in-Ok.is at c.take.follows.holds-at-none)
 
 pub returns-in-Some-Unprocessed-clause-hears : goal.returns-in-Some-Unprocessed-clause-hears
 returns-in-Some-Unprocessed-clause-hears c =
     let is = rw c.in-Some-Unprocessed.is at c.in-Some-Unprocessed.field-0-is in
-    heard_error c.args.client.now.end c.take.follows.lender-at-none.end c.args.id
-    c.args.coming.now c.args.coming.now c.args.piece.now c.in-Ok.taken _ _
-    c.in-Some-Unprocessed.is
-    (errs_unprocessed c.in-Ok.taken.used c.args.id c.in-Some-Unprocessed.stream _
-    (ap event_handed is) c.if-stream-id-2.true) (rw c.in-Ok.is at c.take.follows.holds-at-none)
+    heard_error c.args.client.now.end c.take.follows.lender-at-none.end c.args.id c.args.coming.now
+    c.args.coming.now c.args.piece.now c.in-Ok.taken _ _ c.in-Some-Unprocessed.is
+    (errs_unprocessed c.in-Ok.taken.used (ap event_handed is) c.if-stream-id-2.true)
+    (rw c.in-Ok.is at c.take.follows.holds-at-none)
 
 pub returns-in-Err-note-clause-hears : goal.returns-in-Err-note-clause-hears
 returns-in-Err-note-clause-hears c =
@@ -59,6 +58,6 @@ returns-in-Ok-false-clause-hears c =
 
 pub returns-in-Err-clause-hears : goal.returns-in-Err-clause-hears
 returns-in-Err-clause-hears c =
-    heard_fault c.args.client.now.end c.take.follows.lender-at-none.end c.args.id
-    c.args.coming.now c.args.coming.now c.args.piece.now c.in-Err.fault c.error_of_code.result
-    c.error_of_code.ensures.error (rw c.in-Err.is at c.take.follows.holds-at-none)
+    heard_fault c.args.client.now.end c.take.follows.lender-at-none.end c.args.id c.args.coming.now
+    c.args.coming.now c.args.piece.now c.in-Err.fault c.error_of_code.ensures.error
+    (rw c.in-Err.is at c.take.follows.holds-at-none)

@@ -13,8 +13,7 @@ returns-in_err-input-clause-drives g c =
     let answer = err_from_is_err_and c.from_residual.result c.from_residual.ensures.1 in
     let old = g.M.Machine.held c.args.machine.now in
     rw (answer.1, answer.2)
-    (going_ends _ _ old old [] 0 c.in_err-input.field-0.0 c.in_err-input.ensures.err
-    (drives_first _ old))
+    (going_ends _ _ old old [] 0 c.in_err-input.ensures.err (drives_first _ old))
 
 pub returns-in_err-send-clause-drives : goal.returns-in_err-send-clause-drives
 returns-in_err-send-clause-drives g c =
@@ -39,9 +38,8 @@ returns-in-Ok-eq0-clause-drives g c =
 
 pub returns-in-Ok-eq0-clause-ended : goal.returns-in-Ok-eq0-clause-ended
 returns-in-Ok-eq0-clause-ended g c =
-    meets_end (g.L.Link.ended c.send.new.link) (g.L.Link.ended c.read.new.self)
-    (length c.deref_mut.result.now) c.in-Ok-eq0.field-0 c.in-Ok-eq0.ensures.ended
-    c.in-Ok-eq0.field-0-test (c.deref_mut.ensures.len ∙ c.loop.input.ok.0 ∙ c.loop.invariant.room)
+    meets_end (g.L.Link.ended c.send.new.link) c.in-Ok-eq0.ensures.ended c.in-Ok-eq0.field-0-test
+    (c.deref_mut.ensures.len ∙ c.loop.input.ok.0 ∙ c.loop.invariant.room)
 
 pub returns-in-Err-clause-drives : goal.returns-in-Err-clause-drives
 returns-in-Err-clause-drives g c =
@@ -59,17 +57,14 @@ returns-in_err-is_whole-in-Ok-clause-drives g c =
     let old = g.M.Machine.held c.args.machine.now in
     let sent = g.M.Machine.held c.send.new.machine in
     let piece = take c.in-Ok.count c.deref.result.now in
-    rw (answer.1, answer.2)
-    (taken_last _ _ _ old sent (g.M.Machine.held c.take_all.new.machine) piece (c.loop.counter + 1)
-    c.in_err-is_whole-in-Ok.field-0.0
-    (read_on _ _ _ old sent piece (c.loop.counter + 1)
-    (sent_on _ _ _ old (g.M.Machine.held c.loop.machine) sent c.loop.counter c.in_ok-send.field-0
-    c.in_ok-send.ensures.kept c.loop.invariant.drives c.in_ok-send.ensures.sends)
-    (gives_piece _ _ c.in-Ok.count c.loop.input.len c.read.new.buffer
-    (drop (length c.read.new.buffer) c.loop.input.items) c.deref.result.now c.deref.ensures.value
-    (c.in-Ok.ensures.length ∙ c.deref_mut.ensures.len) c.in-Ok.ensures.gives.1)
-    c.in-Ok.ensures.takes_none)
-    c.in_err-is_whole-in-Ok.ensures.takes)
+    rw (answer.1, answer.2) (taken_last _ _ _ old sent (g.M.Machine.held c.take_all.new.machine)
+    piece (c.loop.counter + 1) c.in_err-is_whole-in-Ok.field-0.0 (read_on _ _ _ old sent
+    (c.loop.counter + 1) (sent_on _ _ _ old (g.M.Machine.held c.loop.machine) sent
+    c.loop.counter c.in_ok-send.field-0 c.in_ok-send.ensures.kept c.loop.invariant.drives
+    c.in_ok-send.ensures.sends) (gives_piece _ _ c.in-Ok.count c.loop.input.len
+    c.read.new.buffer (drop (length c.read.new.buffer) c.loop.input.items) c.deref.result.now
+    c.deref.ensures.value (c.in-Ok.ensures.length ∙ c.deref_mut.ensures.len)
+    c.in-Ok.ensures.gives.1) c.in-Ok.ensures.takes_none) c.in_err-is_whole-in-Ok.ensures.takes)
 
 pub returns-then-is_whole-clause-drives : goal.returns-then-is_whole-clause-drives
 returns-then-is_whole-clause-drives g c =
@@ -77,15 +72,13 @@ returns-then-is_whole-clause-drives g c =
     let sent = g.M.Machine.held c.send.new.machine in
     let piece = take c.in-Ok.count c.deref.result.now in
     taken_whole _ _ _ old sent (g.M.Machine.held c.take_all.new.machine) piece (c.loop.counter + 1)
-    c.in_ok-is_whole-in-Ok.is_whole c.if-is_whole.true
-    (read_on _ _ _ old sent piece (c.loop.counter + 1)
-    (sent_on _ _ _ old (g.M.Machine.held c.loop.machine) sent c.loop.counter c.in_ok-send.field-0
-    c.in_ok-send.ensures.kept c.loop.invariant.drives c.in_ok-send.ensures.sends)
-    (gives_piece _ _ c.in-Ok.count c.loop.input.len c.read.new.buffer
-    (drop (length c.read.new.buffer) c.loop.input.items) c.deref.result.now c.deref.ensures.value
-    (c.in-Ok.ensures.length ∙ c.deref_mut.ensures.len) c.in-Ok.ensures.gives.1)
-    c.in-Ok.ensures.takes_none)
-    c.in_ok-is_whole-in-Ok.ensures.takes
+    c.if-is_whole.true (read_on _ _ _ old sent (c.loop.counter + 1) (sent_on _ _ _ old
+    (g.M.Machine.held c.loop.machine) sent c.loop.counter c.in_ok-send.field-0
+    c.in_ok-send.ensures.kept c.loop.invariant.drives c.in_ok-send.ensures.sends) (gives_piece
+    _ _ c.in-Ok.count c.loop.input.len c.read.new.buffer
+    (drop (length c.read.new.buffer) c.loop.input.items) c.deref.result.now
+    c.deref.ensures.value (c.in-Ok.ensures.length ∙ c.deref_mut.ensures.len)
+    c.in-Ok.ensures.gives.1) c.in-Ok.ensures.takes_none) c.in_ok-is_whole-in-Ok.ensures.takes
 
 pub returns-in_err-send_waiting-clause-drives : goal.returns-in_err-send_waiting-clause-drives
 returns-in_err-send_waiting-clause-drives g c =
@@ -95,19 +88,16 @@ returns-in_err-send_waiting-clause-drives g c =
     let sent = g.M.Machine.held c.send.new.machine in
     let taken = g.M.Machine.held c.take_all.new.machine in
     let piece = take c.in-Ok.count c.deref.result.now in
-    rw (answer.1, answer.2)
-    (waiting_last _ _ old taken (g.M.Machine.held c.send_waiting.new.machine) []
-    (c.loop.counter + 1) c.in_err-send_waiting.field-0.0 c.in_err-send_waiting.ensures.kept
-    (taken_on _ _ _ old sent taken piece (c.loop.counter + 1) c.in_ok-is_whole-in-Ok.is_whole
-    c.if-is_whole.false
-    (read_on _ _ _ old sent piece (c.loop.counter + 1)
-    (sent_on _ _ _ old (g.M.Machine.held c.loop.machine) sent c.loop.counter c.in_ok-send.field-0
-    c.in_ok-send.ensures.kept c.loop.invariant.drives c.in_ok-send.ensures.sends)
-    (gives_piece _ _ c.in-Ok.count c.loop.input.len c.read.new.buffer
-    (drop (length c.read.new.buffer) c.loop.input.items) c.deref.result.now c.deref.ensures.value
-    (c.in-Ok.ensures.length ∙ c.deref_mut.ensures.len) c.in-Ok.ensures.gives.1)
-    c.in-Ok.ensures.takes_none)
-    c.in_ok-is_whole-in-Ok.ensures.takes)
+    rw (answer.1, answer.2) (waiting_last _ _ old taken
+    (g.M.Machine.held c.send_waiting.new.machine) [] (c.loop.counter + 1)
+    c.in_err-send_waiting.field-0.0 c.in_err-send_waiting.ensures.kept (taken_on _ _ _ old sent
+    taken piece (c.loop.counter + 1) c.if-is_whole.false (read_on _ _ _ old sent
+    (c.loop.counter + 1) (sent_on _ _ _ old (g.M.Machine.held c.loop.machine) sent
+    c.loop.counter c.in_ok-send.field-0 c.in_ok-send.ensures.kept c.loop.invariant.drives
+    c.in_ok-send.ensures.sends) (gives_piece _ _ c.in-Ok.count c.loop.input.len
+    c.read.new.buffer (drop (length c.read.new.buffer) c.loop.input.items) c.deref.result.now
+    c.deref.ensures.value (c.in-Ok.ensures.length ∙ c.deref_mut.ensures.len)
+    c.in-Ok.ensures.gives.1) c.in-Ok.ensures.takes_none) c.in_ok-is_whole-in-Ok.ensures.takes)
     c.in_err-send_waiting.ensures.sends)
 
 pub returns-clause-drives : goal.returns-clause-drives
@@ -132,22 +122,17 @@ loop-preserved g c =
     record {
       failures = c.in_ok-is_whole-in-Ok.ensures.failures ∙ c.in-Ok.ensures.failures
           ∙ c.in_ok-send.ensures.failures ∙ c.loop.invariant.failures;
-      room = sym (length_refill c.loop.input.len c.loop.input.items c.read.new.buffer
-          c.loop.input.ok.0)
+      room = sym
+          (length_refill c.loop.input.len c.loop.input.items c.read.new.buffer c.loop.input.ok.0)
           ∙ c.loop.input.ok.0 ∙ c.loop.invariant.room;
       drives = waiting_on _ _ old taken (g.M.Machine.held c.send_waiting.new.machine) []
-          (c.loop.counter + 1) _ c.in_ok-send_waiting.ensures.kept
-          (taken_on _ _ _ old sent taken piece (c.loop.counter + 1) c.in_ok-is_whole-in-Ok.is_whole
-          c.if-is_whole.false
-          (read_on _ _ _ old sent piece (c.loop.counter + 1)
-          (sent_on _ _ _ old (g.M.Machine.held c.loop.machine) sent c.loop.counter
-          c.in_ok-send.field-0 c.in_ok-send.ensures.kept c.loop.invariant.drives
-          c.in_ok-send.ensures.sends)
-          (gives_piece _ _ c.in-Ok.count c.loop.input.len c.read.new.buffer
-          (drop (length c.read.new.buffer) c.loop.input.items) c.deref.result.now
+          (c.loop.counter + 1) _ c.in_ok-send_waiting.ensures.kept (taken_on _ _ _ old sent taken
+          piece (c.loop.counter + 1) c.if-is_whole.false (read_on _ _ _ old sent
+          (c.loop.counter + 1) (sent_on _ _ _ old (g.M.Machine.held c.loop.machine) sent
+          c.loop.counter c.in_ok-send.field-0 c.in_ok-send.ensures.kept c.loop.invariant.drives
+          c.in_ok-send.ensures.sends) (gives_piece _ _ c.in-Ok.count c.loop.input.len
+          c.read.new.buffer (drop (length c.read.new.buffer) c.loop.input.items) c.deref.result.now
           c.deref.ensures.value (c.in-Ok.ensures.length ∙ c.deref_mut.ensures.len)
-          c.in-Ok.ensures.gives.1)
-          c.in-Ok.ensures.takes_none)
-          c.in_ok-is_whole-in-Ok.ensures.takes)
-          c.in_ok-send_waiting.ensures.sends;
+          c.in-Ok.ensures.gives.1) c.in-Ok.ensures.takes_none)
+          c.in_ok-is_whole-in-Ok.ensures.takes) c.in_ok-send_waiting.ensures.sends;
     }

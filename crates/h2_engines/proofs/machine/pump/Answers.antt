@@ -10,4 +10,4 @@ returns-in-Ok-clause-pumps g c =
 pub returns-in-Err-clause-pumps : goal.returns-in-Err-clause-pumps
 returns-in-Err-clause-pumps g c =
     pumps_err (g.M.Machine.held c.args.machine.now).end (g.M.Machine.held c.pump.new.self).end
-    c.in-Err.refusal _ c.error_of_refusal.ensures.error c.in-Err.ensures.pumps
+    c.in-Err.refusal c.error_of_refusal.ensures.error c.in-Err.ensures.pumps

@@ -23,7 +23,6 @@ pub returns-in-Err-clause-puts : goal.returns-in-Err-clause-puts
 returns-in-Err-clause-puts g c =
     machine_refused (g.M.Machine.held c.args.machine.now)
     (g.M.Machine.held c.send_waiting.new.machine) (g.M.Machine.held c.give_out.new.self)
-    c.args.count c.in-Err.refusal c.args.out.now.items c.give_out.new.out.items
-    c.in_ok-send_waiting.field-0 c.error_of_refusal.result (omega arith)
-    c.in_ok-send_waiting.ensures.sends c.in-Err.ensures.answers c.error_of_refusal.ensures.error
-    c.in-Err.ensures.err
+    c.args.count c.in-Err.refusal c.in_ok-send_waiting.field-0 (omega arith)
+    c.in_ok-send_waiting.ensures.sends c.in-Err.ensures.answers
+    c.error_of_refusal.ensures.error c.in-Err.ensures.err

@@ -11,9 +11,8 @@ pub loop-init : goal.loop-init
 loop-init g c = record {
   failures = refl;
   kept = refl;
-  sends = λ course end unused is was up linked.
-      writes_nothing (Happens course (g.M.Machine.held c.args.machine.now).kept) course.values
-      course.start _ end _ unused is was linked;
+  sends = λ course end unused is was up linked. writes_nothing
+      (Happens course (g.M.Machine.held c.args.machine.now).kept) is was linked;
 }
 
 pub returns-in_err-write_out-clause-sends : goal.returns-in_err-write_out-clause-sends

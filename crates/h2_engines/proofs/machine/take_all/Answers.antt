@@ -31,9 +31,8 @@ returns-in-Whole-clause-takes g c =
     let old = g.M.Machine.held c.args.machine.now in
     let new = g.M.Machine.held c.take.new.self in
     let rest = drop (c.loop.used + c.in-Ok.heard.used) c.args.piece.now in
-    whole_rest c.args.writes (c.loop.counter + 1) _ _ old new c.args.piece.now rest
-    (next_as c.args.writes (c.loop.counter + 1) _ _ old new c.args.piece.now rest c.in-Ok.heard.next
-    nexts.Whole c.in-Whole.is
+    whole_rest c.args.writes (c.loop.counter + 1) _ _ old new c.args.piece.now rest (next_as
+    c.args.writes (c.loop.counter + 1) _ _ old new c.args.piece.now rest c.in-Whole.is
     (heard_rest c.args.writes c.loop.counter _ _ old (g.M.Machine.held c.loop.machine) new
     c.args.piece.now c.loop.used c.in-Ok.heard c.loop.invariant.takes c.in-Ok.ensures.hears))
 
@@ -85,23 +84,21 @@ loop-preserved g c =
     (g.M.Machine.held self) piece rest nexts.Again in
     let taking : takes c.match-heard.machine c.match-heard.link =
     elim c.match-heard.branch [
-      | in-Again w ↦ moved_to takes _ _ _ _ w.machine-is w.link-is
-          (next_as c.args.writes (c.loop.counter + 1) before middle old new piece rest
-          c.in-Ok.heard.next nexts.Again w.in-Again.is heard)
+      | in-Again w ↦ moved_to takes w.machine-is w.link-is (next_as c.args.writes
+          (c.loop.counter + 1) before middle old new piece rest w.in-Again.is heard)
       | in_default+in_ok-do_due-in_default w ↦
-          moved_to takes _ _ _ _ w.machine-is w.link-is
-          (due_rest c.args.writes (c.loop.counter + 1) before middle _ old new
-          (g.M.Machine.held w.do_due.new.machine) piece rest c.in-Ok.heard.next
-          w.in_ok-do_due-in_default.field-0
-          (is_due c.in-Ok.heard.next w.in_default.not-Again w.in_default.not-Done
-          w.in_default.not-Whole) heard w.in_ok-do_due-in_default.ensures.does)
+          moved_to takes w.machine-is w.link-is (due_rest c.args.writes (c.loop.counter + 1) before
+          middle _ old new (g.M.Machine.held w.do_due.new.machine) piece rest
+          c.in-Ok.heard.next w.in_ok-do_due-in_default.field-0 (is_due c.in-Ok.heard.next
+          w.in_default.not-Again w.in_default.not-Done w.in_default.not-Whole) heard
+          w.in_ok-do_due-in_default.ensures.does)
     ] in
-    let fails = λ (self : g.row.M.Denot) (link : g.row.L.Denot).
-    g.L.Link.faults link ≡ g.L.Link.faults c.args.link.now in
+    let fails = λ (self : g.row.M.Denot) (link : g.row.L.Denot). g.L.Link.faults link
+    ≡ g.L.Link.faults c.args.link.now in
     let failures : g.L.Link.faults c.match-heard.link ≡ g.L.Link.faults c.args.link.now =
     elim c.match-heard.branch [
-      | in-Again w ↦ moved_to fails _ _ _ _ w.machine-is w.link-is c.loop.invariant.failures
-      | in_default+in_ok-do_due-in_default w ↦ moved_to fails _ _ _ _ w.machine-is w.link-is
+      | in-Again w ↦ moved_to fails w.machine-is w.link-is c.loop.invariant.failures
+      | in_default+in_ok-do_due-in_default w ↦ moved_to fails w.machine-is w.link-is
           (w.in_ok-do_due-in_default.ensures.failures ∙ c.loop.invariant.failures)
     ] in
     record {

@@ -17,6 +17,6 @@ returns c =
       c.in_ok-text.ensures.items,
     ) refl in
     let whole = c.push-2.new.self.ok.0 in
-    is_begun c.args.head.now _ method path c.value_or_nothing-method.ensures
-    c.value_or_nothing-path.ensures text (omega (arith, c.len.ensures, whole))
+    is_begun c.args.head.now _ c.value_or_nothing-method.ensures c.value_or_nothing-path.ensures
+    text (omega (arith, c.len.ensures, whole))
     (c.eq.ensures ∙ ap (λ (word : List ℕ). bytes_eq method word) c.as_slice.ensures)

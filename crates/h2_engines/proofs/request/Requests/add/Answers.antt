@@ -12,8 +12,7 @@ use Rattle.h2_engines.proofs.request.Requests.add.Goals as goal
 pub returns-in_default : goal.returns-in_default
 returns-in_default c =
     let none = sym c.in_default.ensures.value in
-    adds_none c.args.self.now _ c.args.id c.args.bytes.now c.args.end _ none
-    (changes_none c.args.self.now _ c.args.id none
+    adds_none c.args.bytes.now c.args.end none (changes_none c.args.self.now _ c.args.id none
     (ap (λ (map : BTreeMap ℕ Request). map.entries) c.get_mut.follows.holds-at-none))
 
 pub returns-then-bytes-saturating_sub : goal.returns-then-bytes-saturating_sub
@@ -29,9 +28,7 @@ returns-then-bytes-saturating_sub c =
       c.len.ensures,
       request.text.ok.0,
     ) in
-    adds_no_more c.args.self.now _ c.args.id c.args.bytes.now c.args.end _ request found
-    (omega (arith, room))
-    (changes_twice c.args.self.now before _ c.args.id (Some request) None
+    adds_no_more c.args.bytes.now c.args.end request found (omega (arith, room)) (changes_twice
     (changes_one c.args.self.now before c.args.id (Some request)
     ((c.get_mut.follows.holds request).3 (ap is_some found)).0)
     (changes_one before _ c.args.id None c.remove.ensures.updates.0))
@@ -50,8 +47,7 @@ returns-then-end c =
       c.len.ensures,
       request.text.ok.0,
     ) in
-    rw c.if-end.true (adds_last c.args.self.now next _ c.args.id c.args.bytes.now _ request longer
-    c.end.result found (omega (arith, room))
+    rw c.if-end.true (adds_last _ c.args.bytes.now request c.end.result found (omega (arith, room))
     (record { text = c.in_ok-extend_from_slice.ensures.items; start = refl; to_head = refl })
     (changes_one c.args.self.now next c.args.id (Some longer)
     ((c.get_mut.follows.holds longer).3 (ap is_some found)).0) c.end.ensures)
@@ -70,8 +66,7 @@ returns c =
       c.len.ensures,
       request.text.ok.0,
     ) in
-    rw c.if-end.false (adds_more c.args.self.now next c.args.id c.args.bytes.now _ request longer
-    found (omega (arith, room))
+    rw c.if-end.false (adds_more c.args.bytes.now request found (omega (arith, room))
     (record { text = c.in_ok-extend_from_slice.ensures.items; start = refl; to_head = refl })
     (changes_one c.args.self.now next c.args.id (Some longer)
     ((c.get_mut.follows.holds longer).3 (ap is_some found)).0))

@@ -5,10 +5,10 @@ use Rattle.h2_engines.proofs.request.Requests.end.Goals as goal
 
 pub returns-in-Some : goal.returns-in-Some
 returns-in-Some c =
-    ends_some c.args.self.now _ c.args.id _ c.in-Some.request (sym c.in-Some.ensures.value)
+    ends_some c.in-Some.request (sym c.in-Some.ensures.value)
     (changes_one c.args.self.now _ c.args.id None c.remove.ensures.updates.0)
 
 pub returns-in-None : goal.returns-in-None
 returns-in-None c =
-    ends_none c.args.self.now _ c.args.id _ (sym c.in-None.ensures.value)
+    ends_none (sym c.in-None.ensures.value)
     (changes_one c.args.self.now _ c.args.id None c.remove.ensures.updates.0)

@@ -28,12 +28,10 @@ returns-in_default-into_answer-clause-count c = refl
 pub returns-clause-answers : goal.returns-clause-answers
 returns-clause-answers c =
     elim c.match-respond.branch [
-      | in-Ok-respond w ↦ rw (w.self-is, w.result-is)
-          (answers_done c.args.self.now.server.end c.respond.new.self.end c.args.id _ _ _ _
-          c.in-Ok.ensures w.in-Ok-respond.ensures)
-      | in-Err w ↦ rw (w.self-is, w.result-is)
-          (answers_refused c.args.self.now.server.end c.respond.new.self.end c.args.id _ _ _
-          (w.in-Err.field-0-0, w.in-Err.refusal) _ c.in-Ok.ensures
+      | in-Ok-respond w ↦ rw (w.self-is, w.result-is) (answers_done c.args.self.now.server.end
+          c.respond.new.self.end c.args.id _ _ c.in-Ok.ensures w.in-Ok-respond.ensures)
+      | in-Err w ↦ rw (w.self-is, w.result-is) (answers_refused c.args.self.now.server.end
+          c.respond.new.self.end c.args.id _ (w.in-Err.field-0-0, w.in-Err.refusal) c.in-Ok.ensures
           w.error_of_refusal.ensures.error w.in-Err.ensures)
     ]
 

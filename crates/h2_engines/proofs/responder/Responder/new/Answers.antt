@@ -6,5 +6,4 @@ use Rattle.h2_engines.proofs.responder.Responder.new.Goals as goal
 
 pub returns-clause-alone : goal.returns-clause-alone
 returns-clause-alone c =
-    new_serves (values_of c.args.config) _ c.args.config.in_range c.in-Ok.ensures.ok
-    c.new-2.ensures refl
+    new_serves _ c.args.config.in_range c.in-Ok.ensures.ok c.new-2.ensures refl

@@ -19,8 +19,7 @@ returns-in-Err c =
     let other : c.in-Err.refusal ≢ TooManyResets = search rules in
     record {
       resets = resets_refused c.args.self.now.server.end c.reset.new.self.end c.args.id
-          c.in-Err.refusal c.error_of_refusal.result other c.error_of_refusal.ensures.error
-          c.in-Err.ensures;
+          c.in-Err.refusal other c.error_of_refusal.ensures.error c.in-Err.ensures;
       fits = c.ranges.id.fits;
       answered = refl;
       requests = refl;
