@@ -1,7 +1,7 @@
 -- What a client's end hands out of its response, and what is kept of that.
 use Rattle.std.proofs.Common.{◌≡◌, ◌⊎◌, ℕ, Bool, true, false}
-use Rattle.std.proofs.Common.{if◌then◌else◌, List, [], ◌∷◌, ◌++◌, length, Option, Some, None}
-use Rattle.std.proofs.Common.{option_map, Ok, Err, refl, sym, ap, ◌∙◌, subst, inl, inr}
+use Rattle.std.proofs.Common.{if◌then◌else◌, List, [], ◌∷◌, ◌++◌, length, Some, None}
+use Rattle.std.proofs.Common.{Ok, Err, refl, sym, ap, ◌∙◌, subst, inl, inr}
 use Rattle.hpack.specs.declared.types.field.Field.{Field}
 use Rattle.h2_log.specs.declared.role.Role.TheVariants.{Client}
 use Rattle.h2_log.specs.Events.{ResetEvent, UnprocessedEvent}
@@ -16,7 +16,7 @@ use Rattle.h2_message.specs.Phases.{place_after}
 use Rattle.h2_ends.specs.declared.end.End.{End}
 use Rattle.h2_ends.specs.declared.event.EndEvent.{EndEvent}
 use Rattle.h2_ends.specs.declared.event.EndTaken.{EndTaken}
-use Rattle.h2_ends.specs.Ends.{EndLog, EndAnswer, EndTook, EndFailed, Handed, Passed, asked_head}
+use Rattle.h2_ends.specs.Ends.{EndLog, EndTook, EndFailed, Handed, Passed, asked_head}
 use Rattle.h2_ends.specs.Ends.{handed_as, handed_at, message_for, part_on, parts_on, reads_on}
 use Rattle.h2_ends.specs.EndTakes.{EndMayTake}
 use Rattle.h2_ends.specs.Loans.{event_handed}

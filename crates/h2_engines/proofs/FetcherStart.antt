@@ -8,7 +8,7 @@ use Rattle.h2_log.specs.declared.role.Role.TheVariants.{Client}
 use Rattle.h2_log.specs.Acts.{Values}
 use Rattle.h2_message.specs.declared.malformed.Malformed.{Malformed}
 use Rattle.h2_message.specs.declared.message.Message.{Message}
-use Rattle.h2_message.specs.Messages.{SentMessage, broken_by_request}
+use Rattle.h2_message.specs.Messages.{SentMessage}
 use Rattle.h2_link.specs.declared.error.LinkError.{LinkError}
 use Rattle.h2_ends.specs.declared.end.End.{End}
 use Rattle.h2_ends.specs.declared.refusal.EndRefusal.{EndRefusal}

@@ -1,15 +1,14 @@
 -- What a call of `take` has made of a piece, and of what is kept of requests.
 use Rattle.std.proofs.Common.{◌≡◌, ◌≢◌, ◌⊎◌, ℕ, Bool, true, false, List, length, Option, Some, None}
-use Rattle.std.proofs.Common.{Ok, Err, option_map, refl, ap, subst, inl, inr}
+use Rattle.std.proofs.Common.{Ok, Err, refl, inl, inr}
 use Rattle.h2_log.specs.Events.{ResetEvent}
 use Rattle.h2_conn.specs.declared.event.ConnFault.{ConnFault}
 use Rattle.h2_link.specs.declared.error.LinkError.TheVariants as errors
 use Rattle.h2_ends.specs.declared.end.End.{End}
 use Rattle.h2_ends.specs.declared.event.EndEvent.{EndEvent}
 use Rattle.h2_ends.specs.declared.event.EndTaken.{EndTaken}
-use Rattle.h2_ends.specs.Ends.{Handed, EndTook, HeadHanded}
+use Rattle.h2_ends.specs.Ends.{Handed, HeadHanded}
 use Rattle.h2_ends.specs.Ends.{BodyHanded, TrailersHanded, Passed}
-use Rattle.h2_ends.specs.EndTakes.{EndMayTake}
 use Rattle.h2_ends.specs.Loans.{event_handed}
 use Rattle.h2_ends.specs.Represents.{EndTakes}
 use Rattle.h2_engines.specs.declared.request.Next.{Next}

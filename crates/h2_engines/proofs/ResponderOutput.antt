@@ -1,15 +1,14 @@
 -- What a call that puts output out makes of a log: its octets are the next ones of the output; and
 -- where it puts none out, none waits.
-use Rattle.std.proofs.Common.{◌≡◌, ◌≤◌, ◌<◌, ℕ, ◌+◌, ◌-◌, min, Bool, true, false}
+use Rattle.std.proofs.Common.{◌≡◌, ◌≤◌, ℕ, ◌+◌, Bool, true, false}
 use Rattle.std.proofs.Common.{if◌then◌else◌, List, ◌++◌, length, take, drop, refl, sym, ap, ◌∙◌}
-use Rattle.std.proofs.Common.{arith}
-use Rattle.std.proofs.lemmas.List.{take-append-drop, take-append-le, take-take, take_all}
+use Rattle.std.proofs.lemmas.List.{take-append-drop, take-append-le, take-take}
 use Rattle.h2_log.specs.declared.refusal.Refusal.{Refusal}
 use Rattle.h2_log.specs.Acts.{Act, PutOut, Count, Refused}
-use Rattle.h2_log.specs.CallRules.{returns_before_put_out, update_size}
-use Rattle.h2_log.specs.Log.{Log, waiting, output}
+use Rattle.h2_log.specs.CallRules.{returns_before_put_out}
+use Rattle.h2_log.specs.Log.{Log}
 use Rattle.h2_log.specs.LogSteps.{with_credit_returned}
-use Rattle.h2_log.specs.LogCalls.{MayAnswer, accepts, refuses, lacks, fails, called, before_put_out}
+use Rattle.h2_log.specs.LogCalls.{called, before_put_out}
 use Rattle.h2_log.specs.LogCalls.{with_call}
 use Rattle.h2_log.specs.LogView.{log_view}
 use Rattle.h2_end_laws.proofs.Failures.{sent_failed}

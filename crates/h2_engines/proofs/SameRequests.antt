@@ -14,7 +14,6 @@ use Rattle.h2_engines.specs.Answers.{answer_to, is_too_large_body}
 use Rattle.h2_engines.specs.PartialMessages.{RequestState, has_not_come, comes, was_answered}
 use Rattle.h2_engines.specs.PartialMessages.{was_given_up}
 use Rattle.h2_engines.specs.PartialMessages.{KeepsRequests, KeepsOthers, IsToAnswer, KeepsNext}
-use Rattle.h2_engines.specs.PartialMessages.{request_at}
 use Rattle.h2_engines.specs.ServerHistories.{WasReset, WasTooLarge, WasAnswered}
 use Rattle.h2_engines.specs.ServerSteps.{IsSameOfMessages}
 use Rattle.h2_engines.proofs.TakeMessages.{KeepsCalls}

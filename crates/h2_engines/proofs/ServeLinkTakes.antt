@@ -4,7 +4,6 @@ use Rattle.std.proofs.Common.{ap, ◌∙◌, subst, append_assoc}
 use Rattle.std.proofs.Math.Seq.{drop-append_seam}
 use Rattle.std.specs.Io.KnownBytes.{Appends}
 use Rattle.h2_frame.specs.declared.code.Code.{Code}
-use Rattle.h2_frame.specs.declared.code.Code.TheVariants.{InternalError}
 use Rattle.h2_log.specs.Acts.{Answer, Refuse}
 use Rattle.h2_log.specs.Events.{Event}
 use Rattle.h2_log.specs.Log.{Log}

@@ -1,8 +1,7 @@
 -- The end of a server over a link stays a server's.
-use Rattle.std.proofs.Common.{◌≡◌, ℕ, List, Option, Some, None, Ok, refl, ap, ◌∙◌}
-use Rattle.h2_frame.specs.declared.code.Code.{Code}
+use Rattle.std.proofs.Common.{◌≡◌, ℕ, List, Ok, refl, ap, ◌∙◌}
 use Rattle.h2_log.specs.declared.role.Role.TheVariants.{Server}
-use Rattle.h2_log.specs.Acts.{Values, Act, Answer, Refuse}
+use Rattle.h2_log.specs.Acts.{Values, Act, Answer}
 use Rattle.h2_log.specs.ItemRules.{verdict_by_rules}
 use Rattle.h2_log.specs.Log.{Log}
 use Rattle.h2_log.specs.LogCalls.{with_call, opened}

@@ -1,13 +1,13 @@
 -- How many turns have passed at an end after each act: a call or a take is one at least.
-use Rattle.std.proofs.Common.{◌≡◌, ◌≤◌, ◌<◌, ℕ, ◌+◌, Bool, true, List, [], length, length-append}
+use Rattle.std.proofs.Common.{◌≤◌, ◌<◌, ℕ, ◌+◌, Bool, List, [], length, length-append}
 use Rattle.std.proofs.Common.{Option, Some, None, Result, sym, subst, ap, arith}
 use Rattle.h2_frame.specs.declared.code.Code.{Code}
 use Rattle.h2_log.specs.Acts.{Act, Answer, Turn, Refuse}
 use Rattle.h2_log.specs.Events.{Event}
 use Rattle.h2_log.specs.Log.{Log}
-use Rattle.h2_log.specs.LogCalls.{called, with_call}
+use Rattle.h2_log.specs.LogCalls.{with_call}
 use Rattle.h2_log.specs.LogSteps.{used}
-use Rattle.h2_end_laws.specs.Takes.{TakeAnswer, MayTake, Took, has_failed}
+use Rattle.h2_end_laws.specs.Takes.{MayTake, Took, has_failed}
 use Rattle.h2_end_laws.specs.Takes.{reports_unprocessed, ends_no_frame, ends_frame, meets_fault}
 use Rattle.h2_end_laws.specs.Takes.{runs_out_of_memory as lacks_memory}
 use Rattle.h2_end_laws.proofs.TurnsAdded.{Adds, adds_call, adds_take}

@@ -8,29 +8,27 @@ use Rattle.h2_log.specs.LogCalls.{with_call}
 use Rattle.h2_conn.specs.Conn.{GivesOut}
 use Rattle.h2_message.specs.Messages.{SentMessage}
 use Rattle.h2_pair.specs.Pairs.{given_out}
-use Rattle.h2_ends.specs.declared.end.End.{End}
 use Rattle.h2_ends.specs.declared.refusal.EndRefusal.TheVariants.{Conn}
 use Rattle.h2_ends.specs.Ends.{EndLog}
 use Rattle.h2_ends.specs.EndTakes.{end_with_log}
-use Rattle.h2_ends.specs.Represents.{EndRepresents, EndAnswers}
+use Rattle.h2_ends.specs.Represents.{EndAnswers}
 use Rattle.h2_link.specs.declared.error.LinkError.{LinkError}
 use Rattle.h2_engines.specs.declared.fetcher.Fetcher.{Fetcher}
 use Rattle.h2_engines.specs.declared.request.Next.{Next}
 use Rattle.h2_engines.specs.declared.request.Next.TheVariants as nexts
 use Rattle.h2_engines.specs.declared.responder.Responder.{Responder}
 use Rattle.h2_engines.specs.Failures.{error_after}
-use Rattle.h2_engines.specs.Machines.{Kept, Serving, Fetching, Held, Course, Happens, Keeps}
-use Rattle.h2_engines.specs.Machines.{HasPutOut, PutsWaiting}
+use Rattle.h2_engines.specs.Machines.{Kept, Serving, Fetching, Held, Course, Keeps}
+use Rattle.h2_engines.specs.Machines.{PutsWaiting}
 use Rattle.h2_engines.specs.PartialMessages.{KeepsNext}
 use Rattle.h2_engines.specs.ServerSteps.{IsSameOfMessages}
-use Rattle.h2_engines.specs.WithoutLink.{HasSent, SendsWaiting, PutsOut, PutOutSo}
+use Rattle.h2_engines.specs.WithoutLink.{SendsWaiting, PutsOut, PutOutSo}
 use Rattle.h2_engines.specs.WithoutLink.{ServerPutsOut, ClientPutsOut}
 use Rattle.h2_engines.proofs.MachineLaws.{puts_at, keeps_same}
 use Rattle.h2_engines.proofs.MachineViews.{server_held, client_held, no_message, begun}
 use Rattle.h2_engines.proofs.ResponderEnds.{same_twice, same_by_call, given_within}
 use Rattle.h2_engines.proofs.ResponderOutput.{put_out_failed, refused_failed}
 use Rattle.h2_engines.proofs.ResponderStalls.{put_out_ends}
-use Rattle.h2_engines.proofs.ResponderWrites.{MayPutOut}
 use Rattle.h2_engines.proofs.WithoutLinkOutput.{puts_out}
 use Rattle.h2_engines.proofs.WithoutLinkSends.{sent_same, sent_given, sent_error, sends_at}
 

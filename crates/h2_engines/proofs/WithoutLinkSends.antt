@@ -1,6 +1,6 @@
 -- What is given back and sent before output is put out, and what that leaves.
 use Rattle.std.proofs.Common.{◌≡◌, ◌≢◌, ◌≤◌, true, false, length, Option, Some, None, is_some}
-use Rattle.std.proofs.Common.{Result, Ok, Err, refl, sym, ap, ◌∙◌, subst, arith}
+use Rattle.std.proofs.Common.{Result, Ok, Err, refl, sym, ◌∙◌, subst, arith}
 use Rattle.h2_frame.specs.declared.code.Code.{Code}
 use Rattle.h2_log.specs.declared.refusal.Refusal.TheVariants as reasons
 use Rattle.h2_log.specs.Acts.{Values}

@@ -1,7 +1,6 @@
 -- Each return, by how the server was driven.
 use Rattle.std.proofs.Common.{ℕ, Bool, refl, ◌∙◌}
 use Rattle.std.proofs.lemmas.Result.{err_from_is_err_and}
-use Rattle.h2_config.specs.ConfigValues.{values_of}
 use Rattle.h2_link.specs.declared.error.LinkError.TheVariants as errors
 use Rattle.h2_engines.proofs.MachineDrives.{failures_same}
 use Rattle.h2_engines.proofs.MachineViews.{met, fails_none}

@@ -1,5 +1,5 @@
 -- What was handed out is kept, where it is a part of the response.
-use Rattle.std.proofs.Common.{rules, ℕ, true, false, Vec, Global, map as each, ◌++◌, ◌∷◌, [], List, Some}
+use Rattle.std.proofs.Common.{rules, ℕ, Vec, Global, map as each, ◌++◌, ◌∷◌, [], List, Some}
 use Rattle.std.proofs.Common.{refl, ap, ◌∙◌}
 use Rattle.std.proofs.lemmas.List.{map_push}
 use Rattle.hpack.specs.declared.types.field.Field.{Field}

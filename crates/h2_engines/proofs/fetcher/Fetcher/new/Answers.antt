@@ -3,7 +3,6 @@ use Rattle.std.proofs.Common.{◌≡◌, ◌≢◌, refl, rules}
 use Rattle.h2_log.specs.declared.refusal.Refusal.TheVariants as reasons
 use Rattle.h2_ends.specs.declared.refusal.EndRefusal.TheVariants as refusals
 use Rattle.h2_message.specs.declared.malformed.Malformed.{Malformed}
-use Rattle.h2_config.specs.ConfigValues.{values_of}
 use Rattle.h2_message.specs.Values.{message_value}
 use Rattle.h2_engines.specs.Failures.{error_after}
 use Rattle.h2_engines.proofs.FetcherStart.{has_requested, refused_as_broken, refused_as_large}

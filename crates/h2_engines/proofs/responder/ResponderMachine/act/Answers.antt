@@ -1,5 +1,4 @@
 -- By what the server has answered or reset.
-use Rattle.h2_engines.specs.declared.request.Next.TheVariants as nexts
 use Rattle.h2_engines.proofs.MachineViews.{server_held}
 use Rattle.h2_engines.proofs.ServerMachine.{server_answers, server_resets, acts_as}
 use Rattle.h2_engines.proofs.responder.ResponderMachine.act.Goals as goal
