@@ -16,11 +16,15 @@ use Rattle.h2_engines.specs.declared.request.Next.TheVariants as nexts
 use Rattle.h2_engines.specs.Failures.{EndsWriting, failures_at_end}
 use Rattle.h2_engines.specs.Linked.{Traffic, IsLinked, HasTakenAll}
 use Rattle.h2_engines.specs.Machines.{Held, Course, Happens, IsDriven, lacks_memory}
-use Rattle.h2_engines.specs.Machines.{link_fails, has_stalled, WritesOut, SendsWhileUp, TakenSo}
+use Rattle.h2_engines.specs.Machines.{link_fails, has_stalled, WritesOut, WritesWaiting, TakenSo}
 use Rattle.h2_engines.specs.Machines.{Takes, DrivenSo, Drives}
+use Rattle.h2_engines.specs.ServerSteps.{PumpsSome}
 use Rattle.h2_engines.specs.WithoutLink.{SendsWaiting}
-use Rattle.h2_engines.proofs.MachineLaws.{holds_again, stays_driven, ends_going}
+use Rattle.h2_engines.proofs.MachineLaws.{holds_again, stays_driven, ends_going, pumps_at}
 use Rattle.h2_engines.proofs.MachineTakes.{written_driven, ends_unwritten}
+use Rattle.h2_engines.proofs.ResponderStalls.{pump_ends}
+use Rattle.h2_engines.proofs.ServeLinkPumps.{pumped_stays}
+use Rattle.h2_engines.proofs.TurnsPassed.{turns_of_pump}
 use Rattle.h2_engines.proofs.WithoutLinkSends.{sends_at, sent_stays, sent_turns, sent_error}
 
 -- What the loop keeps: the machine is driven, these octets weren't used yet, and in each round a
@@ -78,11 +82,11 @@ no_round before now old new unused rounds all on course end is =
 -- What waits is written,
 pub sent_on : (before middle now : Traffic) (old self new : Held) (rounds : ℕ) (done : Unit {0})
     → new.kept ≡ self.kept → DrivesOn before middle old self [] rounds
-    → SendsWhileUp middle now self new (Ok done) → SentOn before now old new (rounds + 1)
+    → WritesWaiting middle now self new (Ok done) → SentOn before now old new (rounds + 1)
 sent_on before middle now old self new rounds done kept on sends course end is =
     let go = on course end is in
     let wrote : WritesOut (Happens course self.kept) course.values course.start now go.end new.end
-    [] (Ok done) = sends course go.end [] go.driven.represents go.driven.happened go.driven.up
+    [] (Ok done) = sends course go.end [] go.driven.represents go.driven.happened
     go.driven.linked in
     record {
       going = record {
@@ -96,18 +100,46 @@ sent_on before middle now old self new rounds done kept on sends course end is =
 -- or can't be.
 pub sent_last : (before middle now : Traffic) (old self new : Held) (rounds : ℕ)
     (error : LinkError) → new.kept ≡ self.kept → DrivesOn before middle old self [] rounds
-    → SendsWhileUp middle now self new (Err error) → EndsWriting error
+    → WritesWaiting middle now self new (Err error) → EndsWriting error
     → Drives before now old new (Err error)
 unfolding DrivenSo
 sent_last before middle now old self new rounds error kept on sends writing course end is =
     let go = on course end is in
     let wrote : WritesOut (Happens course self.kept) course.values course.start now go.end new.end
-    [] (Err error) = sends course go.end [] go.driven.represents go.driven.happened go.driven.up
+    [] (Err error) = sends course go.end [] go.driven.represents go.driven.happened
     go.driven.linked in (
       wrote.after,
       ends_unwritten course self new kept wrote writing
           (holds_again course.message self.kept go.end error go.driven.keeps),
     )
+
+-- Where the output was full, what more can be sent is put into it,
+pub pumped_on : (before now : Traffic) (old self new : Held) (rounds : ℕ)
+    (result : Result (Unit {0}) LinkError) → new.kept ≡ self.kept
+    → SentOn before now old self rounds → PumpsSome self.end new.end result
+    → DrivesOn before now old new [] rounds
+pumped_on before now old self new rounds result kept sent (answer, pumps, ends) course end is =
+    let going = (sent course end is).going in
+    let driven = going.driven in
+    let (after, pumped, represents) = pumps course.values going.end driven.represents in
+    record {
+      end = after;
+      turns = omega (arith, going.turns, turns_of_pump going.end after answer pumped);
+      driven = stays_driven new driven kept (pumped_stays going.end answer after pumped)
+          (pumps_at course self.kept going.end after answer driven.happened pumped) represents;
+    }
+
+-- or there is no memory for that.
+pub pumped_last : (before now : Traffic) (old self new : Held) (rounds : ℕ) (error : LinkError)
+    → new.kept ≡ self.kept → SentOn before now old self rounds
+    → PumpsSome self.end new.end (Err error) → Drives before now old new (Err error)
+unfolding DrivenSo
+pumped_last before now old self new rounds error kept sent pumps course end is =
+    let going = (sent course end is).going in
+    let pumped = pumps.1 course.values going.end going.driven.represents in
+    let memory = pump_ends going.end pumped.0 pumps.0 error going.driven.up pumped.1 pumps.2 in
+    let then = pumped_on before now old self new rounds (Err error) kept sent pumps course end is in
+    (then.end, ends_going then.driven (lacks_memory memory))
 
 -- The link gives octets, and takes none.
 appends_as : (one two : Option (List ℕ)) (octets is : List ℕ) → octets ≡ is

@@ -1,6 +1,6 @@
 -- What has happened at an end and over a link since its output began to be written.
 use Rattle.std.proofs.Common.{◌≡◌, ◌≤◌, ◌<◌, ℕ, ◌+◌, ◌-◌, ◌^◌, List, [], ◌++◌, length, take}
-use Rattle.std.proofs.Common.{Result, Ok, Err, sym, subst, inr, arith}
+use Rattle.std.proofs.Common.{Ok, Err, sym, subst, inr, arith}
 use Rattle.std.specs.Io.KnownBytes.{Appends}
 use Rattle.h2_log.specs.declared.refusal.Refusal.{Refusal}
 use Rattle.h2_log.specs.Acts.{Values, Answer, PutOut, Count, Refused, IsTypedAct}
@@ -190,39 +190,4 @@ writes_no_more P {start} {now} all so =
       taken = given_first start now so.after.log so.linked.taken;
       turns = omega (arith, all, so.turns);
       stalls = inr (omega (arith, all, so.turns));
-    }
-
--- What is written then is written after the rounds before it.
-pub writes_after : (P : EndLog → Type 0) {values : Values} {start middle now : Traffic}
-    {before : EndLog} {old new : End} {unused : List ℕ} {rounds : ℕ}
-    {result : Result (Unit {0}) LinkError}
-    → (so : WritesOn P values start middle before old unused rounds)
-    → WritesOut P values start now so.after new unused result
-    → WritesOut P values start now before new unused result
-writes_after P so out =
-    record {
-      after = out.after;
-      happened = out.happened;
-      represents = out.represents;
-      same = same_twice so.same out.same;
-      given = out.given;
-      taken = out.taken;
-      turns = omega (arith, so.turns, out.turns);
-      stalls = out.stalls;
-    }
-
--- Rounds may follow one another.
-pub writes_on_after : (P : EndLog → Type 0) {values : Values} {start middle now : Traffic}
-    {before : EndLog} {old new : End} {unused : List ℕ} {rounds more : ℕ}
-    → (so : WritesOn P values start middle before old unused rounds)
-    → WritesOn P values start now so.after new unused more
-    → WritesOn P values start now before new unused (rounds + more)
-writes_on_after P so then =
-    record {
-      after = then.after;
-      happened = then.happened;
-      represents = then.represents;
-      same = same_twice so.same then.same;
-      linked = then.linked;
-      turns = omega (arith, so.turns, then.turns);
     }

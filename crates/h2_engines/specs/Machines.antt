@@ -223,15 +223,6 @@ WritesWaiting before now old new result =
     → Happens course old.kept end → IsLinked course.start before end.log unused
     → WritesOut (Happens course old.kept) course.values course.start now end new.end unused result
 
--- The same while the connection is up.
-abbrev pub SendsWhileUp : (before now : Traffic) → (old new : Held) → Result (Unit {0}) LinkError
-    → Type 0
-SendsWhileUp before now old new result =
-    (course : Course) (end : EndLog) (unused : List ℕ) → EndRepresents course.values old.end end
-    → Happens course old.kept end → end.log.failed ≡ None
-    → IsLinked course.start before end.log unused
-    → WritesOut (Happens course old.kept) course.values course.start now end new.end unused result
-
 -- what the link has given and taken; without one, that is whatever it was
 abbrev pub flow : (writes : Bool) → (real base : Traffic) → Traffic
 flow true real base = real

@@ -9,7 +9,7 @@ ghost use Rattle.h2_engines.specs.Failures.{EndsWriting, IsOfCall, failures_at_e
 ghost use Rattle.h2_engines.specs.Linked.{traffic};
 ghost use Rattle.h2_engines.specs.Machines.{Held, Hears, Acts, IsOf, MayEnd, Does, EndsEarly};
 ghost use Rattle.h2_engines.specs.Machines.{Takes};
-ghost use Rattle.h2_engines.specs.Machines.{Drives, MeetsEnd, WritesWaiting, SendsWhileUp};
+ghost use Rattle.h2_engines.specs.Machines.{Drives, MeetsEnd, WritesWaiting};
 ghost use Rattle.h2_engines.specs.Machines.{PutsWaiting};
 ghost use Rattle.h2_engines.specs.ServerSteps.{PumpsSome, ReleasesSome};
 ghost use Rattle.h2_engines.specs.WithoutLink.{SendsWaiting};
@@ -128,31 +128,6 @@ fn write_out<M: Machine, L: Link>(machine: &mut M, link: &mut L) -> Result<(), L
     Err(LinkError::NoProgress)
 }
 
-// rule: engines (own) Over a link input is used in order and all output is written
-// rule (tested): engines (own) Where the output was full it pumps and writes before it reads
-// rule: engines (own) N5 comes only where a write has taken nothing
-/// Writes all that waits, and what more can be sent where the output was full.
-fn send<M: Machine, L: Link>(machine: &mut M, link: &mut L) -> Result<(), LinkError>
-    requires { L.faults link.old < 2 ^ 64 - 1 }
-    ensures sends { SendsWhileUp
-        (traffic (L.given link.old) (L.taken link.old) (L.stalled link.old))
-        (traffic (L.given link.new) (L.taken link.new) (L.stalled link.new))
-        (M.held machine.old) (M.held machine.new) result }
-    ensures kept { (M.held machine.new).kept ≡ (M.held machine.old).kept }
-    ensures failures { L.faults link.new ≡ failures_at_end (L.faults link.old) result }
-    ensures err { IfErr result EndsWriting }
-{
-    for _ in 0..u64::MAX {
-        let is_full = machine.conn().waiting() >= FULL_OUTPUT;
-        write_out(machine, link)?;
-        if !is_full {
-            return Ok(());
-        }
-        pump(machine)?;
-    }
-    Err(LinkError::NoProgress)
-}
-
 /// Does what is due, once all that waits is written, where it is written to a link.
 fn do_due<M: Machine, L: Link>(
     machine: &mut M,
@@ -240,8 +215,11 @@ pub(crate) fn take_all<M: Machine, L: Link>(
     Err(LinkError::NoProgress)
 }
 
+// rule: engines (own) Over a link input is used in order and all output is written
+// rule (tested): engines (own) Where the output was full it pumps and writes before it reads
+// rule: engines (own) N5 comes only where a write has taken nothing
 /// Drives a machine over a link until its response is whole, or the input has ended: answers
-/// whether it is whole.
+/// whether it is whole. Where the output was full, what more can be sent is written before a read.
 pub(crate) fn drive<M: Machine, L: Link>(machine: &mut M, link: &mut L) -> Result<bool, LinkError>
     requires { L.faults link.old < 2 ^ 64 - 1 }
     ensures drives { Drives
@@ -254,7 +232,12 @@ pub(crate) fn drive<M: Machine, L: Link>(machine: &mut M, link: &mut L) -> Resul
 {
     let mut input = room_for_input(machine.alloc())?;
     for _ in 0..u64::MAX {
-        send(machine, link)?;
+        let is_full = machine.conn().waiting() >= FULL_OUTPUT;
+        write_out(machine, link)?;
+        if is_full {
+            pump(machine)?;
+            continue;
+        }
         let is_whole = match link.read(&mut input) {
             Ok(0) => return Ok(false),
             Ok(count) => take_all(machine, link, true, &input[..count])?,
