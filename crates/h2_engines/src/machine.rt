@@ -11,7 +11,7 @@ ghost use Rattle.h2_engines.specs.Machines.{Held, Hears, Acts, IsOf, MayEnd, Doe
 ghost use Rattle.h2_engines.specs.Machines.{Takes};
 ghost use Rattle.h2_engines.specs.Machines.{Drives, MeetsEnd, WritesWaiting};
 ghost use Rattle.h2_engines.specs.Machines.{PutsWaiting};
-ghost use Rattle.h2_engines.specs.ServerSteps.{PumpsSome, ReleasesSome};
+ghost use Rattle.h2_engines.specs.ServerSteps.{PumpsSome};
 ghost use Rattle.h2_engines.specs.WithoutLink.{SendsWaiting};
 
 use crate::copies::room_for_input;
@@ -79,18 +79,6 @@ pub(crate) trait Machine {
             out.old.items out.new.items) }
         ensures err { OnErr result (out.new.items ≡ out.old.items) }
         ensures kept { (held self.new).kept ≡ (held self.old).kept };
-}
-
-/// Gives back all that is owed. What a full output holds back is given back later.
-fn release<M: Machine>(machine: &mut M) -> Result<(), LinkError>
-    ensures releases { ReleasesSome (M.held machine.old).end (M.held machine.new).end result }
-    ensures kept { (M.held machine.new).kept ≡ (M.held machine.old).kept }
-    ensures err { IfErr result IsOfCall }
-{
-    match machine.release_all() {
-        Ok(()) | Err(EndRefusal::Conn(Refusal::OutputFull)) => Ok(()),
-        Err(refusal) => Err(error_of_refusal(refusal)),
-    }
 }
 
 /// Sends what waits of messages, as windows allow.
@@ -251,7 +239,8 @@ pub(crate) fn drive<M: Machine, L: Link>(machine: &mut M, link: &mut L) -> Resul
     Err(LinkError::NoProgress)
 }
 
-/// Gives back all that is owed and sends what waits of messages, while the connection is up.
+/// Gives back all that is owed and sends what waits of messages, while the connection is up. What a
+/// full output holds back is given back later.
 fn send_waiting<M: Machine>(machine: &mut M) -> Result<(), LinkError>
     ensures sends { SendsWaiting (M.held machine.old).end (M.held machine.new).end result }
     ensures kept { (M.held machine.new).kept ≡ (M.held machine.old).kept }
@@ -260,8 +249,10 @@ fn send_waiting<M: Machine>(machine: &mut M) -> Result<(), LinkError>
     if machine.conn().failed().is_some() {
         return Ok(());
     }
-    release(machine)?;
-    pump(machine)
+    match machine.release_all() {
+        Ok(()) | Err(EndRefusal::Conn(Refusal::OutputFull)) => pump(machine),
+        Err(refusal) => Err(error_of_refusal(refusal)),
+    }
 }
 
 /// Sends what waits, and appends at most so many octets of the output.

@@ -13,7 +13,7 @@ pub returns-in_ok-push-in-Interim : goal.returns-in_ok-push-in-Interim
 returns-in_ok-push-in-Interim c =
     let list = c.in-Interim.list.now in
     noted_as (λ (i : ℕ). InterimHanded i list) (ap event_handed c.in-Interim.is)
-    c.if-stream-id.true (notes_interim list (ap (each (λ (one : Vec Field Global). one.items))
+    c.if-id-stream.true (notes_interim list (ap (each (λ (one : Vec Field Global). one.items))
     c.in_ok-push-in-Interim.ensures.items ∙ map_push (λ (one : Vec Field Global). one.items)
     c.args.self.now.interims.items c.in_ok-list-in-Interim.list ∙ ap (λ (list : List Field).
     each (λ (one : Vec Field Global). one.items) c.args.self.now.interims.items ++ list ∷ [])
@@ -23,49 +23,49 @@ pub returns-in_ok-copy_list-in-Head : goal.returns-in_ok-copy_list-in-Head
 returns-in_ok-copy_list-in-Head c =
     let list = c.in-Head.list.now in
     noted_as (λ (i : ℕ). HeadHanded i list c.in-Head.end) (ap event_handed c.in-Head.is)
-    c.if-stream-id-2.true (notes_head list c.in-Head.end
+    c.if-id-stream-2.true (notes_head list c.in-Head.end
     (ap Some c.in_ok-copy_list-in-Head.ensures) refl c.clear.ensures.items refl)
 
 pub returns-in_ok-extend_from_slice-in-Body : goal.returns-in_ok-extend_from_slice-in-Body
 returns-in_ok-extend_from_slice-in-Body c =
     let octets = c.in-Body.bytes.now in
     noted_as (λ (i : ℕ). BodyHanded i octets c.in-Body.end) (ap event_handed c.in-Body.is)
-    c.if-stream-id-3.true (notes_body octets c.in-Body.end
+    c.if-id-stream-3.true (notes_body octets c.in-Body.end
     c.in_ok-extend_from_slice-in-Body.ensures.items refl refl refl)
 
 pub returns-in_ok-copy_list-in-Trailers : goal.returns-in_ok-copy_list-in-Trailers
 returns-in_ok-copy_list-in-Trailers c =
     let list = c.in-Trailers.list.now in
     noted_as (λ (i : ℕ). TrailersHanded i list) (ap event_handed c.in-Trailers.is)
-    c.if-stream-id-4.true
+    c.if-id-stream-4.true
     (notes_trailers list (ap Some c.in_ok-copy_list-in-Trailers.ensures) refl refl refl)
 
 pub returns-in_default : goal.returns-in_default
 unfolding part_on
 returns-in_default c =
-    other_part c.args.id c.in-Interim.stream c.args.self.now _ (ap event_handed c.in-Interim.is)
-    refl c.if-stream-id.false
+    other_part c.args.stream c.in-Interim.id c.args.self.now _ (ap event_handed c.in-Interim.is)
+    refl c.if-id-stream.false
 
 pub returns-in_default-2 : goal.returns-in_default-2
 unfolding part_on
 returns-in_default-2 c =
-    other_part c.args.id c.in-Head.stream c.args.self.now _ (ap event_handed c.in-Head.is) refl
-    c.if-stream-id-2.false
+    other_part c.args.stream c.in-Head.id c.args.self.now _ (ap event_handed c.in-Head.is) refl
+    c.if-id-stream-2.false
 
 pub returns-in_default-3 : goal.returns-in_default-3
 unfolding part_on
 returns-in_default-3 c =
-    other_part c.args.id c.in-Body.stream c.args.self.now _ (ap event_handed c.in-Body.is) refl
-    c.if-stream-id-3.false
+    other_part c.args.stream c.in-Body.id c.args.self.now _ (ap event_handed c.in-Body.is) refl
+    c.if-id-stream-3.false
 
 pub returns-in_default-4 : goal.returns-in_default-4
 unfolding part_on
 returns-in_default-4 c =
-    other_part c.args.id c.in-Trailers.stream c.args.self.now _ (ap event_handed c.in-Trailers.is)
-    refl c.if-stream-id-4.false
+    other_part c.args.stream c.in-Trailers.id c.args.self.now _ (ap event_handed c.in-Trailers.is)
+    refl c.if-id-stream-4.false
 
 pub returns-in_default-5 : goal.returns-in_default-5
 returns-in_default-5 c =
-    other_event c.args.id c.args.self.now c.args.event (λ stream list is. search rules)
+    other_event c.args.stream c.args.self.now c.args.event (λ stream list is. search rules)
     (λ stream list last is. search rules) (λ stream bytes last is. search rules)
     (λ stream list is. search rules)
