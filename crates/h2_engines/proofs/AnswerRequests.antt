@@ -1,31 +1,22 @@
 -- What is kept of requests once one of them was answered, or its stream was reset; and at first.
-use Rattle.std.proofs.Common.{◌≡◌, ◌≢◌, ℕ, Bool, true, false, if◌then◌else◌, List, [], ◌∷◌}
-use Rattle.std.proofs.Common.{Option, Some, None, Ok, refl, sym, ap, ◌∙◌, subst, inl, inr}
-use Rattle.std.proofs.lemmas.Bool.{ne_eqb, eq-eqb, cases_eq, both_ways}
-use Rattle.std.specs.Prelude.{◌⊎◌}
-use Rattle.std.specs.List.{Contains}
-use Rattle.h2_log.specs.declared.role.Role.TheVariants.{Server}
-use Rattle.h2_log.specs.Acts.{Values, Act, Answer, SendFields, ResetStream, Done}
+use Rattle.h2_engines.proofs.Names.{◌≡◌, ◌≢◌, ℕ, Bool, true, false, if◌then◌else◌, List, [], ◌∷◌}
+use Rattle.h2_engines.proofs.Names.{Option, Some, None, Ok, refl, sym, ap, ◌∙◌, subst, inl, inr}
+use Rattle.h2_engines.proofs.Names.{ne_eqb, eq-eqb, cases_eq, both_ways, ◌⊎◌, Contains, Server}
+use Rattle.h2_engines.proofs.Names.{Values, Act, Answer, SendFields, ResetStream, Done, SentMessage}
+use Rattle.h2_engines.proofs.Names.{Part, first_in, call_calls, is_head_alone, EndLog, end_with_log}
+use Rattle.h2_engines.proofs.Names.{new_end}
 use Rattle.h2_log.specs.LogCalls.{with_call}
-use Rattle.h2_message.specs.Messages.{SentMessage}
 use Rattle.h2_message.specs.Phases.{ends}
-use Rattle.h2_message.specs.Reading.{Part}
-use Rattle.h2_pair.proofs.FaultsInvariant.{first_in}
-use Rattle.h2_pair.proofs.HeardCalls.{call_calls}
-use Rattle.h2_pair.specs.Tokens.{is_head_alone}
-use Rattle.h2_ends.specs.Ends.{EndLog, message_for, parts_on}
-use Rattle.h2_ends.specs.EndTakes.{end_with_log}
+use Rattle.h2_ends.specs.Ends.{message_for, parts_on}
 use Rattle.h2_ends.specs.EndCalls.{MayRespond, end_with_message}
-use Rattle.h2_ends.specs.Represents.{new_end}
 use Rattle.h2_engines.specs.declared.request.Request.{Request}
 use Rattle.h2_engines.specs.declared.request.Requests.{Requests}
 use Rattle.h2_engines.specs.Answers.{answer_to, answer_with, body_of_parts, is_too_large_body}
 use Rattle.h2_engines.specs.PartialMessages.{RequestState, has_not_come, comes, was_answered}
-use Rattle.h2_engines.specs.PartialMessages.{was_given_up}
-use Rattle.h2_engines.specs.PartialMessages.{KeepsRequests, KeepsOthers, IsToAnswer, request_at}
+use Rattle.h2_engines.specs.PartialMessages.{was_given_up, KeepsRequests, KeepsOthers, IsToAnswer}
+use Rattle.h2_engines.specs.PartialMessages.{request_at}
 use Rattle.h2_engines.specs.ServerHistories.{IsResponding, WasReset, WasTooLarge, WasAnswered}
-use Rattle.h2_engines.specs.ServerHistories.{AreOnce}
-use Rattle.h2_engines.specs.ServerHistories.{AnswersAll, calm}
+use Rattle.h2_engines.specs.ServerHistories.{AreOnce, AnswersAll, calm}
 use Rattle.h2_engines.proofs.SameRequests.{SameOn, same_on, stands_as}
 use Rattle.h2_engines.proofs.ServerInvariant.{holds_responding}
 use Rattle.h2_engines.proofs.TakeMessages.{keeps_by_call, taken_says}
@@ -110,8 +101,7 @@ kept_answered {requests} {end} after {id} {request} done keeps is may =
     let message = answer_with request.text.items request.to_head in
     let accepted = accepts end after id message done may in
     let now = end_with_message end accepted.act Done id message in
-    subst (λ (one : EndLog). KeepsRequests requests one) (sym accepted.is) (by_stream keeps
-    (was_answered (answered_now accepted.act is))
+    rw accepted.is (by_stream keeps (was_answered (answered_now accepted.act is))
     (λ i other. answered_others end id message accepted.act i other))
 
 -- The stream of a request that is too large was reset.
@@ -122,8 +112,7 @@ kept_reset {end} {id} keeps large =
     let after = end_with_log end (with_call end.log (ResetStream id calm) Done) in
     by_stream keeps (was_given_up (inr (record {
       too_large = large;
-      reset = subst (λ (calls : List (Act × Answer)). Contains calls (ResetStream id calm, Done))
-          (sym (call_calls end.log (ResetStream id calm) Done))
+      reset = rw ((call_calls end.log (ResetStream id calm) Done))
           (first_in (ResetStream id calm, Done) end.log.calls);
     })) keeps.unanswered) (λ i other. same_on end after i refl refl (keeps_by_call end.log (ResetStream id calm) Done))
 
@@ -138,9 +127,7 @@ none_come values id = has_not_come refl refl
 
 pub kept_none : (requests : Requests) → requests.kept.entries ≡ [] → (values : Values)
     → KeepsRequests requests (new_end Server values)
-kept_none requests none values id =
-    subst (λ (request : Option Request). RequestState (new_end Server values) id request)
-    (sym (none_at requests id none)) (none_come values id)
+kept_none requests none values id = rw ((none_at requests id none)) (none_come values id)
 
 -- A stream of which all has come was answered or given up.
 no_end : {parts : List (Part × Bool)} → parts ≡ [] → ends parts ≡ true → ⊥
@@ -185,8 +172,7 @@ once_more : (before : EndLog) (id : ℕ) (message : SentMessage) (done : Unit {0
 unfolding AreOnce
 once_more before id message done after may was =
     let accepted = accepts before after id message done may in
-    subst (λ (one : EndLog). AreOnce one.accepted) (sym accepted.is)
-    (accepted.unanswered, was)
+    rw accepted.is (accepted.unanswered, was)
 
 none_once : AreOnce []
 unfolding AreOnce

@@ -1,16 +1,10 @@
 -- What a client that is driven makes of octets.
-use Rattle.std.proofs.Common.{◌≡◌, ◌≢◌, ℕ, Bool, true, false, List, ◌∷◌, Some}
-use Rattle.std.proofs.Common.{None, Result, Ok, Err, refl, sym, ap, ◌∙◌, subst, inl, inr, append-nil}
-use Rattle.std.specs.List.{Contains}
-use Rattle.h2_log.specs.Events.{Event}
-use Rattle.h2_message.specs.Messages.{SentMessage}
+use Rattle.h2_engines.proofs.Names.{◌≡◌, ◌≢◌, ℕ, Bool, true, false, List, ◌∷◌, Some, None, Result}
+use Rattle.h2_engines.proofs.Names.{Ok, Err, refl, sym, ap, ◌∙◌, subst, inl, inr, append-nil}
+use Rattle.h2_engines.proofs.Names.{Contains, Event, SentMessage, first_in, End, EndLog, Handed}
+use Rattle.h2_engines.proofs.Names.{EndAnswer, EndTook, EndFailed, Passed, EndMayTake, LinkError}
 use Rattle.h2_message.specs.Phases.{ends}
-use Rattle.h2_pair.proofs.FaultsInvariant.{first_in}
-use Rattle.h2_ends.specs.declared.end.End.{End}
-use Rattle.h2_ends.specs.Ends.{EndLog, Handed, EndAnswer, EndTook, EndFailed, Passed, message_for}
-use Rattle.h2_ends.specs.Ends.{part_on, parts_on}
-use Rattle.h2_ends.specs.EndTakes.{EndMayTake}
-use Rattle.h2_link.specs.declared.error.LinkError.{LinkError}
+use Rattle.h2_ends.specs.Ends.{message_for, part_on, parts_on}
 use Rattle.h2_engines.specs.declared.fetcher.Coming.{Coming}
 use Rattle.h2_engines.specs.declared.machine.Heard.{Heard}
 use Rattle.h2_engines.specs.declared.request.Next.{Next}
@@ -18,8 +12,9 @@ use Rattle.h2_engines.specs.declared.request.Next.TheVariants as nexts
 use Rattle.h2_engines.specs.Fetches.{EndsUnfinished, refused_stream}
 use Rattle.h2_engines.specs.ClientHistories.{takes}
 use Rattle.h2_engines.specs.ClientSteps.{ClientHears, FetchedSo, ErrsFetching, KeepsResponse}
-use Rattle.h2_engines.specs.Machines.{Fetching, Held, Keeps, HearsNoMore, fails}
-use Rattle.h2_engines.specs.Machines.{gives_up, Hears, IsDue, Acts}
+use Rattle.h2_engines.specs.Machines.{Fetching, MachineState, Keeps, HearsNoMore, fails, gives_up}
+use Rattle.h2_engines.specs.Machines.{Hears}
+use Rattle.h2_engines.specs.Machines.{IsDue, Responds}
 use Rattle.h2_engines.proofs.FetchLinkHolds.{fetching_role}
 use Rattle.h2_engines.proofs.FetchLinkParts.{come_not_whole}
 use Rattle.h2_engines.proofs.MachineHears.{hears_on, hears_last}
@@ -28,14 +23,13 @@ use Rattle.h2_engines.proofs.ServeLinkTakes.{SaysUsed}
 use Rattle.h2_engines.proofs.TakeMessages.{taken_says, kept_failed}
 
 -- a client, by its parts
-abbrev pub client_with : End → ℕ → Coming → Bool → Held
+abbrev pub client_with : End → ℕ → Coming → Bool → MachineState
 client_with end id coming whole = record { end = end; kept = Fetching id coming whole }
 
 -- What was handed out last is among what was.
 handed_last : (one : Handed) (handed : List Handed) {all : List Handed} → all ≡ one ∷ handed
     → Contains all one
-handed_last one handed same =
-    subst (λ (those : List Handed). Contains those one) (sym same) (first_in one handed)
+handed_last one handed same = rw same (first_in one handed)
 
 -- What is no part of a message changes none.
 passed_parts : (id : ℕ) (event : Event) (handed : List Handed) {all : List Handed}
@@ -150,6 +144,6 @@ none_due message id coming whole end due is keeps = is
 
 pub client_acts : (end : End) (id : ℕ) (coming : Coming) (whole : Bool) (due : Next)
     (result : Result (Unit {0}) LinkError)
-    → Acts (client_with end id coming whole) (client_with end id coming whole) due result
+    → Responds (client_with end id coming whole) (client_with end id coming whole) due result
 client_acts end id coming whole due result writes course now log unused is none driven =
     absurd (none_due course.message id coming whole log due is driven.keeps)

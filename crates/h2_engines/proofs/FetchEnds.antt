@@ -1,28 +1,17 @@
 -- How a client ends its fetch, over a link and without one, by how it was driven.
-use Rattle.std.proofs.Common.{◌≡◌, ◌⊎◌, ℕ, Bool, true, false, List, [], ◌∷◌, ◌++◌}
-use Rattle.std.proofs.Common.{map as each, take, Option, Some, None, Result, Ok, Err, if◌then◌else◌}
-use Rattle.std.proofs.Common.{IfOk, refl, sym, ap, ◌∙◌, subst, inl, inr}
-use Rattle.std.specs.Prelude.{IfErr, OnErr}
-use Rattle.std.proofs.lemmas.Bool.{eq-eqb}
-use Rattle.std.proofs.KnownBytes.{Appends-nil}
-use Rattle.std.specs.Io.KnownBytes.{Appends}
-use Rattle.hpack.specs.declared.types.field.Field.{Field}
-use Rattle.h2_frame.specs.declared.code.Code.{Code}
-use Rattle.h2_frame.specs.declared.code.Code.TheVariants.{InternalError}
-use Rattle.h2_log.specs.declared.role.Role.TheVariants.{Client}
-use Rattle.h2_log.specs.Acts.{Values, AreInRange, Open, Number}
-use Rattle.h2_log.specs.Log.{Log}
+use Rattle.h2_engines.proofs.Names.{◌≡◌, ℕ, Bool, true, false, List, [], ◌∷◌, ◌++◌, take, Option}
+use Rattle.h2_engines.proofs.Names.{Some, None, Result, Ok, Err, if◌then◌else◌, refl, sym, ap, ◌∙◌}
+use Rattle.h2_engines.proofs.Names.{subst, inl, inr, IfErr, eq-eqb, Appends-nil, Appends, Field}
+use Rattle.h2_engines.proofs.Names.{Code, InternalError, Client, Values, AreInRange, Log}
+use Rattle.h2_engines.proofs.Names.{Keeps-call, SentMessage, Part, call_given, is_head_alone}
+use Rattle.h2_engines.proofs.Names.{EndLog, new_end, LinkError}
+use Rattle.std.proofs.Common.{◌⊎◌, map as each, IfOk}
+use Rattle.std.specs.Prelude.{OnErr}
+use Rattle.h2_log.specs.Acts.{Open, Number}
 use Rattle.h2_log.specs.LogCalls.{opened, with_call}
 use Rattle.h2_log.specs.LogSteps.{with_sent}
-use Rattle.h2_log.proofs.StreamLemmas.{Keeps-call}
-use Rattle.h2_message.specs.Messages.{SentMessage}
-use Rattle.h2_message.specs.Reading.{Part}
-use Rattle.h2_pair.proofs.StepCalls.{call_given}
-use Rattle.h2_pair.specs.Tokens.{is_head_alone}
-use Rattle.h2_ends.specs.Ends.{EndLog, message_for, parts_on}
+use Rattle.h2_ends.specs.Ends.{message_for, parts_on}
 use Rattle.h2_ends.specs.EndCalls.{MayRequest}
-use Rattle.h2_ends.specs.Represents.{new_end}
-use Rattle.h2_link.specs.declared.error.LinkError.{LinkError}
 use Rattle.h2_link.specs.declared.error.LinkError.TheVariants as errors
 use Rattle.h2_engines.specs.declared.fetcher.Coming.{Coming}
 use Rattle.h2_engines.specs.declared.fetcher.Fetched.{Fetched}
@@ -33,14 +22,14 @@ use Rattle.h2_engines.specs.Fetches.{EndsFetchSo, Fetches, IsNotAccepted}
 use Rattle.h2_engines.specs.ClientHistories.{IsFetched, begins, requests}
 use Rattle.h2_engines.specs.ClientSteps.{HasRequested, IsFetchedOf}
 use Rattle.h2_engines.specs.Linked.{Traffic, IsLinked, HasTakenAll}
-use Rattle.h2_engines.specs.Machines.{Course, Keeps, IsDriven, EndsFor, lacks_memory}
-use Rattle.h2_engines.specs.Machines.{link_fails, has_failed, has_stalled, stops_itself, HasEnded}
-use Rattle.h2_engines.specs.Machines.{TakenSo, Takes, DrivenSo, Drives}
+use Rattle.h2_engines.specs.Machines.{Course, Keeps, IsDriven, EndsFor, lacks_memory, link_fails}
+use Rattle.h2_engines.specs.Machines.{has_failed, has_stalled, stops_itself, HasEnded, TakenSo}
+use Rattle.h2_engines.specs.Machines.{TakesPiece, DrivenSo, Drives}
 use Rattle.h2_engines.specs.PartialMessages.{AreHeads, HasCome, IsWhole, interims_alone}
 use Rattle.h2_engines.specs.PartialMessages.{interim_parts}
 use Rattle.h2_engines.specs.ServerSteps.{error_with}
-use Rattle.h2_engines.specs.WithoutLink.{IsFetchingAlone, StopsFetchAlone}
-use Rattle.h2_engines.specs.WithoutLink.{FetchesInSo, ClientTakesIn}
+use Rattle.h2_engines.specs.WithoutLink.{IsFetchingAlone, StopsFetchAlone, FetchesInSo}
+use Rattle.h2_engines.specs.WithoutLink.{ClientTakesIn}
 use Rattle.h2_engines.proofs.MachineLaws.{holds_again}
 use Rattle.h2_engines.proofs.MachineViews.{client_held, begun, carried, links_alone, uses_alone}
 use Rattle.h2_engines.proofs.MachineViews.{all_in_part, goes_for, not_cut}
@@ -51,10 +40,8 @@ nothing_linked : (start : Traffic) (log : Log) → log.input ≡ [] → log.give
     → IsLinked start start log []
 nothing_linked start log input given =
     record {
-      given = subst (λ (all : List ℕ). Appends start.given start.given (all ++ [])) (sym input)
-          (Appends-nil start.given);
-      taken = subst (λ (count : ℕ). Appends start.taken start.taken (take count log.written))
-          (sym given) (Appends-nil start.taken);
+      given = rw input (Appends-nil start.given);
+      taken = rw given (Appends-nil start.taken);
     }
 
 new_log : (values : Values)
@@ -321,7 +308,7 @@ ends_alone fetcher none (stops_itself (number, is, dropped)) = rw is dropped
 -- So it takes octets in.
 pub takes_in : (real now : Traffic) (old new : Fetcher) (piece : List ℕ)
     (result : Result Bool LinkError)
-    → Takes false real now (client_held old) (client_held new) piece result
+    → TakesPiece false real now (client_held old) (client_held new) piece result
     → ClientTakesIn old new piece result
 unfolding TakenSo FetchesInSo Keeps
 takes_in real now old new piece (Ok true) takes values message end is =

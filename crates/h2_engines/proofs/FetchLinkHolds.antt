@@ -1,16 +1,11 @@
 -- What each call keeps of a client over a link, holds whatever has happened at it; so it stays a
 -- client's end.
-use Rattle.std.proofs.Common.{◌≡◌, ℕ, Result, Ok, Err, refl, ◌∙◌}
-use Rattle.h2_log.specs.declared.role.Role.TheVariants.{Client}
-use Rattle.h2_log.specs.Acts.{Values}
+use Rattle.h2_engines.proofs.Names.{◌≡◌, ℕ, Result, Ok, Err, refl, ◌∙◌, Client, Values, SentMessage}
+use Rattle.h2_engines.proofs.Names.{EndRefusal, EndLog, new_end}
 use Rattle.h2_log.specs.LogCalls.{opened}
 use Rattle.h2_log.specs.LogSteps.{with_sent}
-use Rattle.h2_message.specs.Messages.{SentMessage}
-use Rattle.h2_ends.specs.declared.refusal.EndRefusal.{EndRefusal}
 use Rattle.h2_ends.specs.declared.refusal.EndRefusal.TheVariants as refusals
-use Rattle.h2_ends.specs.Ends.{EndLog}
 use Rattle.h2_ends.specs.EndCalls.{MayRequest}
-use Rattle.h2_ends.specs.Represents.{new_end}
 use Rattle.h2_engines.specs.ClientHistories.{IsFetching, begins, requests, takes, releases, pumps}
 use Rattle.h2_engines.specs.ClientHistories.{gives_out}
 use Rattle.h2_engines.proofs.ServerRole.{role_as, role_by_call, taken_role}

@@ -1,8 +1,8 @@
 -- A response of which so much is kept isn't whole.
-use Rattle.std.proofs.Common.{◌≡◌, ℕ, Bool, false, List, [], ◌∷◌, ◌++◌, map as each, refl}
-use Rattle.hpack.specs.declared.types.field.Field.{Field}
+use Rattle.h2_engines.proofs.Names.{◌≡◌, ℕ, Bool, false, List, [], ◌∷◌, ◌++◌, refl, Field, Part}
+use Rattle.h2_engines.proofs.Names.{FieldsPart}
+use Rattle.std.proofs.Common.{map as each}
 use Rattle.h2_message.specs.Phases.{ends}
-use Rattle.h2_message.specs.Reading.{Part, FieldsPart}
 use Rattle.h2_engines.specs.declared.fetcher.Coming.{Coming}
 use Rattle.h2_engines.specs.PartialMessages.{HasCome, interims_alone, head_and_body, interim_parts}
 use Rattle.h2_engines.specs.PartialMessages.{data_parts_of}

@@ -1,27 +1,15 @@
 -- What a client's end hands out of its response, and what is kept of that.
-use Rattle.std.proofs.Common.{◌≡◌, ◌⊎◌, ℕ, Bool, true, false}
-use Rattle.std.proofs.Common.{if◌then◌else◌, List, [], ◌∷◌, ◌++◌, length, Some, None}
-use Rattle.std.proofs.Common.{Ok, Err, refl, sym, ap, ◌∙◌, subst, inl, inr}
-use Rattle.hpack.specs.declared.types.field.Field.{Field}
-use Rattle.h2_log.specs.declared.role.Role.TheVariants.{Client}
-use Rattle.h2_log.specs.Events.{ResetEvent, UnprocessedEvent}
-use Rattle.h2_log.specs.Settings.{is_server}
-use Rattle.h2_conn.specs.declared.event.ConnFault.{ConnFault}
-use Rattle.h2_message.specs.declared.reading.Reads.{Reads}
-use Rattle.h2_message.specs.declared.reading.Reads.TheVariants.{Requests, Responses}
-use Rattle.h2_message.specs.declared.reading.Place.{Place}
+use Rattle.h2_engines.proofs.Names.{◌≡◌, ℕ, Bool, true, false, if◌then◌else◌, List, [], ◌∷◌, ◌++◌}
+use Rattle.h2_engines.proofs.Names.{length, Some, None, Ok, Err, refl, sym, ap, ◌∙◌, subst, inl}
+use Rattle.h2_engines.proofs.Names.{inr, Field, Client, ResetEvent, is_server, ConnFault, Reads}
+use Rattle.h2_engines.proofs.Names.{Requests, Responses, Place, Part, FieldsPart, OctetsPart}
+use Rattle.h2_engines.proofs.Names.{IsReadable, place_after, End, EndEvent, EndTaken, EndLog}
+use Rattle.h2_engines.proofs.Names.{EndTook, EndFailed, Handed, Passed, asked_head, EndMayTake}
+use Rattle.h2_engines.proofs.Names.{event_handed, EndTakes, LinkError}
+use Rattle.std.proofs.Common.{◌⊎◌}
+use Rattle.h2_log.specs.Events.{UnprocessedEvent}
 use Rattle.h2_message.specs.declared.reading.Place.TheVariants as places
-use Rattle.h2_message.specs.Reading.{Part, FieldsPart, OctetsPart, IsReadable}
-use Rattle.h2_message.specs.Phases.{place_after}
-use Rattle.h2_ends.specs.declared.end.End.{End}
-use Rattle.h2_ends.specs.declared.event.EndEvent.{EndEvent}
-use Rattle.h2_ends.specs.declared.event.EndTaken.{EndTaken}
-use Rattle.h2_ends.specs.Ends.{EndLog, EndTook, EndFailed, Handed, Passed, asked_head}
 use Rattle.h2_ends.specs.Ends.{handed_as, handed_at, message_for, part_on, parts_on, reads_on}
-use Rattle.h2_ends.specs.EndTakes.{EndMayTake}
-use Rattle.h2_ends.specs.Loans.{event_handed}
-use Rattle.h2_ends.specs.Represents.{EndTakes}
-use Rattle.h2_link.specs.declared.error.LinkError.{LinkError}
 use Rattle.h2_link.specs.declared.error.LinkError.TheVariants as errors
 use Rattle.h2_engines.specs.declared.fetcher.Coming.{Coming}
 use Rattle.h2_engines.specs.declared.request.Next.{Next}
@@ -67,8 +55,7 @@ hands_as_read : {coming : Coming} (end : EndLog) (id i : ℕ) (part : Part × Bo
     → IsReadable reads (parts_on i end.handed ++ part ∷ [])
     → MayHand coming id (handed_as reads (parts_on i end.handed) i part)
 hands_as_read {coming} end id i part to_head same come readable =
-    subst (λ (one : Reads). MayHand coming id (handed_as one (parts_on i end.handed) i part))
-    (sym same) (hands_part coming id i (parts_on i end.handed) part
+    rw same (hands_part coming id i (parts_on i end.handed) part
     (λ is. subst (λ (one : ℕ). HasCome coming (parts_on one end.handed)) (sym is) come) (subst
     (λ (one : Reads). IsReadable one (parts_on i end.handed ++ part ∷ [])) same readable))
 
@@ -92,10 +79,8 @@ keeps_by : (end : EndLog) (id : ℕ) (coming : Coming) {parts : List (Part × Bo
     {next : Next} → parts_on id end.handed ≡ parts → KeepsSoFar coming parts whole
     → next ≡ (if whole then goes.Whole else goes.Again) → KeepsResponse end id coming next
 unfolding KeepsResponse
-keeps_by end id coming {parts} true are keeps is =
-    rw is (subst (λ (parts : List (Part × Bool)). KeepsSoFar coming parts true) (sym are) keeps)
-keeps_by end id coming {parts} false are keeps is =
-    rw is (subst (λ (parts : List (Part × Bool)). KeepsSoFar coming parts false) (sym are) keeps)
+keeps_by end id coming {parts} true are keeps is = rw is (rw are keeps)
+keeps_by end id coming {parts} false are keeps is = rw is (rw are keeps)
 
 -- Nothing was handed out: the fetch goes on, or is done with the piece.
 keeps_none : (end after : EndLog) (id : ℕ) {coming : Coming} (next : Next)
@@ -105,8 +90,7 @@ unfolding KeepsResponse
 keeps_none end after id {coming} next same (inl again) come =
     rw again
     (subst (λ (handed : List Handed). HasCome coming (parts_on id handed)) (sym same) come)
-keeps_none end after id {coming} next same (inr done) come =
-    rw done (subst (λ (handed : List Handed). HasCome coming (parts_on id handed)) (sym same) come)
+keeps_none end after id {coming} next same (inr done) come = rw done (rw same come)
 
 pub heard_nothing : (old new : End) (id : ℕ) (coming : Coming) (piece : List ℕ)
     (taken : EndTaken) (next : Next) → taken.event ≡ None

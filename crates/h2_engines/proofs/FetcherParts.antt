@@ -1,24 +1,20 @@
 -- What has come of a response, one part on.
-use Rattle.std.proofs.Common.{map as each, ◌≡◌, ◌≢◌, ℕ, Bool, true, false, if◌then◌else◌, Vec}
-use Rattle.std.proofs.Common.{Global, List, [], ◌∷◌, ◌++◌, Option, Some, None, option_map, refl}
-use Rattle.std.proofs.Common.{sym, ap, ◌∙◌, subst, append_assoc, append-nil}
-use Rattle.std.specs.Prelude.{◌==◌}
-use Rattle.std.specs.List.{AllByRecursion, concat}
-use Rattle.std.proofs.lemmas.Bool.{eq-eqb}
-use Rattle.std.proofs.lemmas.List.{map_push}
+use Rattle.h2_engines.proofs.Names.{◌≡◌, ◌≢◌, ℕ, Bool, true, false, if◌then◌else◌, Vec, Global}
+use Rattle.h2_engines.proofs.Names.{List, [], ◌∷◌, ◌++◌, Option, Some, None, option_map, refl, sym}
+use Rattle.h2_engines.proofs.Names.{ap, ◌∙◌, subst, append_assoc, append-nil, ◌==◌, AllByRecursion}
+use Rattle.h2_engines.proofs.Names.{eq-eqb, map_push, Field, first_broken, interim_rules, Part}
+use Rattle.h2_engines.proofs.Names.{FieldsPart, OctetsPart, BreakNone, Handed, InterimHanded}
+use Rattle.h2_engines.proofs.Names.{HeadHanded, BodyHanded, TrailersHanded, Passed}
+use Rattle.std.proofs.Common.{map as each}
+use Rattle.std.specs.List.{concat}
 use Rattle.std.proofs.lemmas.List.Folds.{concat-append}
-use Rattle.hpack.specs.declared.types.field.Field.{Field}
-use Rattle.h2_message.specs.Messages.{first_broken, interim_rules}
-use Rattle.h2_message.specs.Reading.{Part, FieldsPart, OctetsPart, BreakNone}
 use Rattle.h2_message.specs.Reading.{ended, message_parts, final_parts, trailers_parts}
-use Rattle.h2_ends.specs.Ends.{Handed, InterimHanded, HeadHanded, BodyHanded, TrailersHanded}
-use Rattle.h2_ends.specs.Ends.{Passed, part_on}
+use Rattle.h2_ends.specs.Ends.{part_on}
 use Rattle.h2_engines.specs.declared.fetcher.Coming.{Coming}
 use Rattle.h2_engines.specs.ClientSteps.{NotesPart, notes_interim, notes_head, notes_body}
 use Rattle.h2_engines.specs.ClientSteps.{notes_trailers, notes_nothing}
 use Rattle.h2_engines.specs.PartialMessages.{AreHeads, HasCome, interims_alone, head_and_body}
-use Rattle.h2_engines.specs.PartialMessages.{IsWhole}
-use Rattle.h2_engines.specs.PartialMessages.{interim_parts, data_parts_of}
+use Rattle.h2_engines.specs.PartialMessages.{IsWhole, interim_parts, data_parts_of}
 use Rattle.h2_engines.proofs.FetcherPlaces.{head_there}
 
 -- What may be handed out of the response: interim responses and its head, as long as no head has
@@ -59,8 +55,7 @@ on_interim {old} new list interims head body trailers none sound
     let now : new.head ≡ None = head ∙ none in
     let come : HasCome new (interim_parts (lists_of new.interims)) =
     interims_alone (record {
-      interims = subst (λ (lists : List (List Field)). AllByRecursion
-          (λ fields. BreakNone (interim_rules fields)) lists) (sym interims) all;
+      interims = rw interims all;
       head = λ one is. absurd
           (head_there (λ (list : Vec Field Global). list.items) new.head one is now);
     }) now (ap (λ (body : Vec ℕ Global). body.items) body ∙ empty) (trailers ∙ end) in
@@ -192,9 +187,7 @@ on_head new list false head interims body trailers none final
     let come : HasCome new (interim_parts (lists_of new.interims) ++ (FieldsPart list, false) ∷ [])
     =
     head_and_body (record {
-      interims = subst (λ (all : Vec (Vec Field Global) Global). AllByRecursion
-          (λ fields. BreakNone (interim_rules fields)) (lists_of all)) (sym interims)
-          heads.interims;
+      interims = rw interims heads.interims;
       head = λ one is.
           let same : list ≡ one = cc in
           subst (λ (fields : List Field). first_broken (interim_rules fields) ≢ None) same final;
@@ -210,9 +203,7 @@ same_heads : {old : Coming} (new : Coming) → new.interims ≡ old.interims →
     → AreHeads old → AreHeads new
 same_heads new interims head heads =
     record {
-      interims = subst (λ (all : Vec (Vec Field Global) Global). AllByRecursion
-          (λ fields. BreakNone (interim_rules fields)) (lists_of all)) (sym interims)
-          heads.interims;
+      interims = rw interims heads.interims;
       head = λ one is. heads.head one
           (ap (option_map (λ (one : Vec Field Global). one.items)) (sym head) ∙ is);
     }
@@ -293,9 +284,7 @@ on_trailers {old} new list trailers interims head body some
 on_stream : (coming : Coming) (parts : List (Part × Bool)) (id : ℕ) (part : Part × Bool)
     (whole : Bool) → KeepsSoFar coming (parts ++ part ∷ []) whole
     → KeepsSoFar coming (parts ++ (if id == id then part ∷ [] else [])) whole
-on_stream coming parts id part whole keeps =
-    subst (λ (b : Bool). KeepsSoFar coming (parts ++ (if b then part ∷ [] else [])) whole)
-    (sym (eq-eqb id id refl)) keeps
+on_stream coming parts id part whole keeps = rw ((eq-eqb id id refl)) keeps
 
 -- So much is kept of the response after one part more.
 pub notes_on : {id : ℕ} {old new : Coming} {parts : List (Part × Bool)} {handed : Handed}

@@ -1,27 +1,19 @@
 -- Which part of a response may come next, after what has come.
-use Rattle.std.proofs.Common.{◌≡◌, ◌≢◌, ℕ, ◌-◌, Bool, true, false, if◌then◌else◌}
-use Rattle.std.proofs.Common.{List, [], ◌∷◌, ◌++◌, length, Option, Some, None, option_map, refl}
-use Rattle.std.proofs.Common.{sym, ap, ◌∙◌, subst}
-use Rattle.std.specs.Prelude.{nat_lt, is_some}
-use Rattle.std.specs.List.{AllByRecursion}
-use Rattle.hpack.specs.declared.types.field.Field.{Field}
-use Rattle.h2_message.specs.declared.malformed.Malformed.{Malformed}
-use Rattle.h2_message.specs.declared.reading.Reads.{Reads}
-use Rattle.h2_message.specs.declared.reading.Reads.TheVariants.{Responses}
-use Rattle.h2_message.specs.declared.reading.Phase.{Phase}
-use Rattle.h2_message.specs.declared.reading.Phase.TheVariants.{AtHead, InBody, AtEnd}
-use Rattle.h2_message.specs.declared.reading.Place.{Place}
+use Rattle.h2_engines.proofs.Names.{◌≡◌, ◌≢◌, ℕ, ◌-◌, Bool, true, false, if◌then◌else◌, List, []}
+use Rattle.h2_engines.proofs.Names.{◌∷◌, ◌++◌, length, Option, Some, None, option_map, refl, sym}
+use Rattle.h2_engines.proofs.Names.{ap, ◌∙◌, subst, nat_lt, is_some, AllByRecursion, Field}
+use Rattle.h2_engines.proofs.Names.{Malformed, Reads, Responses, Phase, AtHead, InBody, AtEnd}
+use Rattle.h2_engines.proofs.Names.{Place, first_broken, interim_rules, Part, FieldsPart}
+use Rattle.h2_engines.proofs.Names.{OctetsPart, BreakNone, IsReadable, final_rules, compared_length}
+use Rattle.h2_engines.proofs.Names.{place_after, not_readable}
 use Rattle.h2_message.specs.declared.reading.Place.TheVariants as places
-use Rattle.h2_message.specs.Messages.{first_broken, interim_rules}
-use Rattle.h2_message.specs.Reading.{Part, FieldsPart, OctetsPart, BreakNone, IsReadable}
-use Rattle.h2_message.specs.Reading.{final_rules, compared_length}
 use Rattle.h2_message.specs.Phases.{phase_in_body, phase_after_final, phase_after_head}
-use Rattle.h2_message.specs.Phases.{phase_after_data, phase_after, phase_after_all}
-use Rattle.h2_message.specs.Phases.{place_at_head, place_in, place_after}
-use Rattle.h2_message.proofs.PhaseWhole.{after_interim, not_readable}
+use Rattle.h2_message.specs.Phases.{phase_after_data, phase_after, phase_after_all, place_at_head}
+use Rattle.h2_message.specs.Phases.{place_in}
+use Rattle.h2_message.proofs.PhaseWhole.{after_interim}
 use Rattle.h2_engines.specs.declared.fetcher.Coming.{Coming}
-use Rattle.h2_engines.specs.PartialMessages.{HasCome, interims_alone, head_and_body}
-use Rattle.h2_engines.specs.PartialMessages.{interim_parts, data_parts_of}
+use Rattle.h2_engines.specs.PartialMessages.{HasCome, interims_alone, head_and_body, interim_parts}
+use Rattle.h2_engines.specs.PartialMessages.{data_parts_of}
 use Rattle.h2_engines.proofs.NextParts.{after_none, after_both}
 
 -- What is not nothing is something.
@@ -148,9 +140,7 @@ pub place_says : {to_head : Bool} {coming : Coming} {parts : List (Part × Bool)
     → SaysPlace coming list (place_after (Responses to_head) parts list)
 unfolding place_in
 place_says {to_head} {coming} list last (interims_alone heads none empty end) readable =
-    subst
-    (λ (phase : Option Phase). SaysPlace coming list (place_in (Responses to_head) phase list))
-    (sym (after_interims to_head _ heads.interims)) (at_head_says to_head coming list none)
+    rw ((after_interims to_head _ heads.interims)) (at_head_says to_head coming list none)
 place_says {to_head} {coming} {parts} list last (head_and_body heads head data_parts came body end)
     readable =
     in_body_says coming parts list last _ refl

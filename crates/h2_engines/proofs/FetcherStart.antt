@@ -1,21 +1,12 @@
 -- How a new client has made its request.
-use Rattle.std.proofs.Common.{◌≡◌, ◌≢◌, [], Option, Some, None, Ok, Err}
-use Rattle.std.proofs.Common.{refl, sym, ap, ◌∙◌, subst, inl, inr}
-use Rattle.std.specs.Prelude.{◌⊎◌}
-use Rattle.h2_log.specs.declared.refusal.Refusal.{Refusal}
-use Rattle.h2_log.specs.declared.refusal.Refusal.TheVariants.{ListTooLarge, Memory}
-use Rattle.h2_log.specs.declared.role.Role.TheVariants.{Client}
-use Rattle.h2_log.specs.Acts.{Values}
-use Rattle.h2_message.specs.declared.malformed.Malformed.{Malformed}
-use Rattle.h2_message.specs.declared.message.Message.{Message}
-use Rattle.h2_message.specs.Messages.{SentMessage}
-use Rattle.h2_link.specs.declared.error.LinkError.{LinkError}
-use Rattle.h2_ends.specs.declared.end.End.{End}
-use Rattle.h2_ends.specs.declared.refusal.EndRefusal.{EndRefusal}
+use Rattle.h2_engines.proofs.Names.{◌≡◌, ◌≢◌, [], Option, Some, None, Ok, Err, refl, sym, ap, ◌∙◌}
+use Rattle.h2_engines.proofs.Names.{subst, inl, inr, ◌⊎◌, Refusal, Memory, Client, Values}
+use Rattle.h2_engines.proofs.Names.{Malformed, Message, SentMessage, LinkError, End, EndRefusal}
+use Rattle.h2_engines.proofs.Names.{EndLog, EndRepresents, new_end}
+use Rattle.h2_log.specs.declared.refusal.Refusal.TheVariants.{ListTooLarge}
 use Rattle.h2_ends.specs.declared.refusal.EndRefusal.TheVariants as refusals
-use Rattle.h2_ends.specs.Ends.{EndLog}
 use Rattle.h2_ends.specs.EndCalls.{MayRequest}
-use Rattle.h2_ends.specs.Represents.{EndRepresents, EndRequests, new_end}
+use Rattle.h2_ends.specs.Represents.{EndRequests}
 use Rattle.h2_engines.specs.declared.fetcher.Fetcher.{Fetcher}
 use Rattle.h2_engines.specs.Failures.{error_after}
 use Rattle.h2_engines.specs.Fetches.{IsRefusedMessage, IsRefusedOtherwise, IsNotAccepted}
@@ -125,5 +116,4 @@ pub refused_otherwise : {values : Values} (message : SentMessage) {old : End} (n
     → EndRequests old message (Err (back, refusal)) new → IsNotAccepted values message (Err error)
 refused_otherwise {values} message new back refusal represents kept small is requests =
     let (end, may, now) = requests.1 values (new_end Client values) represents in
-    subst (λ (one : LinkError). IsNotAccepted values message (Err one)) (sym is)
-    (refused_so values message refusal end kept small may)
+    rw is (refused_so values message refusal end kept small may)

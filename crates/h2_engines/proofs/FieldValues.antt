@@ -1,11 +1,8 @@
 -- The value of the first field with a name, field by field.
-use Rattle.std.proofs.Common.{◌≡◌, ℕ, ◌+◌, ◌≤◌, Bool, true, false, if◌then◌else◌, List, [], ◌∷◌}
-use Rattle.std.proofs.Common.{length, drop, Some, ap, ◌∙◌}
-use Rattle.std.specs.List.{slice_get}
-use Rattle.std.specs.Str.{bytes_eq}
-use Rattle.std.proofs.lemmas.List.{drop_more, drop_all}
-use Rattle.std.proofs.lemmas.Option.{slice_get_within, get_or_from_slice_get}
-use Rattle.hpack.specs.declared.types.field.Field.{Field}
+use Rattle.h2_engines.proofs.Names.{◌≡◌, ℕ, ◌+◌, ◌≤◌, Bool, true, false, if◌then◌else◌, List, []}
+use Rattle.h2_engines.proofs.Names.{◌∷◌, length, drop, Some, ap, ◌∙◌, slice_get, bytes_eq, drop_all}
+use Rattle.h2_engines.proofs.Names.{slice_get_within, get_or_from_slice_get, Field}
+use Rattle.std.proofs.lemmas.List.{drop_more}
 use Rattle.h2_message.specs.Fields.{is_named, value_of, or_nothing, value_or_nothing}
 
 -- The next field is the first of those that are left.

@@ -14,6 +14,7 @@ pub mod MachineLaws
 pub mod MachineTakes
 pub mod MachineViews
 pub mod MachineWrites
+pub mod Names
 pub mod NextParts
 pub mod NoteBodies
 pub mod NoteHanded

@@ -1,23 +1,19 @@
 -- What each round of a machine that is driven over a link makes of it: what waits is written, octets
 -- are read and taken, and credit is returned.
-use Rattle.std.proofs.Common.{◌≡◌, ◌≤◌, ℕ, ◌+◌, ◌-◌, ◌^◌, Bool, true, false, List, [], ◌++◌}
-use Rattle.std.proofs.Common.{length, take, Option, Result, Ok, Err, refl, sym, ap, ◌∙◌, subst}
-use Rattle.std.proofs.Common.{append-nil, inr, arith}
+use Rattle.h2_engines.proofs.Names.{◌≡◌, ◌≤◌, ℕ, ◌+◌, ◌-◌, ◌^◌, Bool, true, false, List, [], ◌++◌}
+use Rattle.h2_engines.proofs.Names.{length, take, Option, Result, Ok, Err, refl, sym, ap, ◌∙◌}
+use Rattle.h2_engines.proofs.Names.{subst, append-nil, inr, arith, Appends, Appends-trans, Log}
+use Rattle.h2_engines.proofs.Names.{given_out, EndLog, LinkError}
 use Rattle.std.proofs.Math.Seq.{take-append_seam}
-use Rattle.std.specs.Io.KnownBytes.{Appends}
-use Rattle.std.proofs.KnownBytes.{Appends-trans}
-use Rattle.h2_log.specs.Log.{Log}
-use Rattle.h2_pair.specs.Pairs.{given_out}
-use Rattle.h2_ends.specs.Ends.{EndLog}
-use Rattle.h2_link.specs.declared.error.LinkError.{LinkError}
 use Rattle.h2_link.specs.declared.error.LinkError.TheVariants as errors
 use Rattle.h2_link.specs.Links.{ended_after}
 use Rattle.h2_engines.specs.declared.request.Next.TheVariants as nexts
 use Rattle.h2_engines.specs.Failures.{EndsWriting, failures_at_end}
 use Rattle.h2_engines.specs.Linked.{Traffic, IsLinked, HasTakenAll}
-use Rattle.h2_engines.specs.Machines.{Held, Course, Happens, IsDriven, lacks_memory}
-use Rattle.h2_engines.specs.Machines.{link_fails, has_stalled, WritesOut, WritesWaiting, TakenSo}
-use Rattle.h2_engines.specs.Machines.{Takes, DrivenSo, Drives}
+use Rattle.h2_engines.specs.Machines.{MachineState, Course, Happens, IsDriven, lacks_memory}
+use Rattle.h2_engines.specs.Machines.{link_fails}
+use Rattle.h2_engines.specs.Machines.{has_stalled, WritesOut, WritesWaiting, TakenSo, TakesPiece}
+use Rattle.h2_engines.specs.Machines.{DrivenSo, Drives}
 use Rattle.h2_engines.specs.ServerSteps.{PumpsSome}
 use Rattle.h2_engines.specs.WithoutLink.{SendsWaiting}
 use Rattle.h2_engines.proofs.MachineLaws.{holds_again, stays_driven, ends_going, pumps_at}
@@ -30,35 +26,35 @@ use Rattle.h2_engines.proofs.WithoutLinkSends.{sends_at, sent_stays, sent_turns,
 -- What the loop keeps: the machine is driven, these octets weren't used yet, and in each round a
 -- turn has passed at least. What more is to hold at each read and at the end, as that the output is
 -- full or nothing that waits could go, has its place here.
-pub record IsGoing (course : Course) (now : Traffic) (held : Held) (unused : List ℕ)
+pub record IsGoing (course : Course) (now : Traffic) (held : MachineState) (unused : List ℕ)
     (rounds : ℕ) : Type 0 where
   pub end : EndLog
   pub turns : rounds ≤ length end.log.turns
   pub driven : IsDriven course now held end unused nexts.Again
 
 -- Whatever had happened at first, it goes on now.
-abbrev pub DrivesOn : (before now : Traffic) → (old new : Held) → (unused : List ℕ)
+abbrev pub DrivesOn : (before now : Traffic) → (old new : MachineState) → (unused : List ℕ)
     → (rounds : ℕ) → Type 0
 DrivesOn before now old new unused rounds =
     (course : Course) (end : EndLog) → IsDriven course before old end [] nexts.Again
     → IsGoing course now new unused rounds
 
 -- The same, where the link took the whole output.
-pub record IsSent (course : Course) (now : Traffic) (held : Held) (rounds : ℕ) : Type 0 where
+pub record IsSent (course : Course) (now : Traffic) (held : MachineState) (rounds : ℕ) : Type 0 where
   pub going : IsGoing course now held [] rounds
   pub all : HasTakenAll course.start now going.end.log
 
-abbrev pub SentOn : (before now : Traffic) → (old new : Held) → (rounds : ℕ) → Type 0
+abbrev pub SentOn : (before now : Traffic) → (old new : MachineState) → (rounds : ℕ) → Type 0
 SentOn before now old new rounds =
     (course : Course) (end : EndLog) → IsDriven course before old end [] nexts.Again
     → IsSent course now new rounds
 
 -- At first it is driven;
-pub drives_first : (now : Traffic) (held : Held) → DrivesOn now now held held [] 0
+pub drives_first : (now : Traffic) (held : MachineState) → DrivesOn now now held held [] 0
 drives_first now held course end is = record { end = end; turns = omega arith; driven = is }
 
 -- it ends early where it goes on,
-pub going_ends : (before now : Traffic) (old new : Held) (unused : List ℕ) (rounds : ℕ)
+pub going_ends : (before now : Traffic) (old new : MachineState) (unused : List ℕ) (rounds : ℕ)
     {error : LinkError} → error ≡ errors.Memory → DrivesOn before now old new unused rounds
     → Drives before now old new (Err error)
 unfolding DrivenSo
@@ -68,7 +64,7 @@ going_ends before now old new unused rounds memory on course end is =
       ends_going go.driven (lacks_memory memory),
     )
 
-pub no_round : (before now : Traffic) (old new : Held) (unused : List ℕ) (rounds : ℕ)
+pub no_round : (before now : Traffic) (old new : MachineState) (unused : List ℕ) (rounds : ℕ)
     → 2 ^ 64 - 1 ≤ rounds → DrivesOn before now old new unused rounds
     → Drives before now old new (Err errors.NoProgress)
 unfolding DrivenSo
@@ -80,8 +76,8 @@ no_round before now old new unused rounds all on course end is =
     )
 
 -- What waits is written,
-pub sent_on : (before middle now : Traffic) (old self new : Held) (rounds : ℕ) (done : Unit {0})
-    → new.kept ≡ self.kept → DrivesOn before middle old self [] rounds
+pub sent_on : (before middle now : Traffic) (old self new : MachineState) (rounds : ℕ)
+    (done : Unit {0}) → new.kept ≡ self.kept → DrivesOn before middle old self [] rounds
     → WritesWaiting middle now self new (Ok done) → SentOn before now old new (rounds + 1)
 sent_on before middle now old self new rounds done kept on sends course end is =
     let go = on course end is in
@@ -98,7 +94,7 @@ sent_on before middle now old self new rounds done kept on sends course end is =
     }
 
 -- or can't be.
-pub sent_last : (before middle now : Traffic) (old self new : Held) (rounds : ℕ)
+pub sent_last : (before middle now : Traffic) (old self new : MachineState) (rounds : ℕ)
     (error : LinkError) → new.kept ≡ self.kept → DrivesOn before middle old self [] rounds
     → WritesWaiting middle now self new (Err error) → EndsWriting error
     → Drives before now old new (Err error)
@@ -114,7 +110,7 @@ sent_last before middle now old self new rounds error kept on sends writing cour
     )
 
 -- Where the output was full, what more can be sent is put into it,
-pub pumped_on : (before now : Traffic) (old self new : Held) (rounds : ℕ)
+pub pumped_on : (before now : Traffic) (old self new : MachineState) (rounds : ℕ)
     (result : Result (Unit {0}) LinkError) → new.kept ≡ self.kept
     → SentOn before now old self rounds → PumpsSome self.end new.end result
     → DrivesOn before now old new [] rounds
@@ -130,8 +126,8 @@ pumped_on before now old self new rounds result kept sent (answer, pumps, ends) 
     }
 
 -- or there is no memory for that.
-pub pumped_last : (before now : Traffic) (old self new : Held) (rounds : ℕ) (error : LinkError)
-    → new.kept ≡ self.kept → SentOn before now old self rounds
+pub pumped_last : (before now : Traffic) (old self new : MachineState) (rounds : ℕ)
+    (error : LinkError) → new.kept ≡ self.kept → SentOn before now old self rounds
     → PumpsSome self.end new.end (Err error) → Drives before now old new (Err error)
 unfolding DrivenSo
 pumped_last before now old self new rounds error kept sent pumps course end is =
@@ -159,8 +155,8 @@ read_links {start} {before} now {log} {octets} linked gives takes =
           (Appends-trans start.taken before.taken now.taken (given_out log) [] linked.taken takes);
     }
 
-read_driven : {course : Course} {before : Traffic} (now : Traffic) {held : Held} {end : EndLog}
-    {octets : List ℕ} → IsDriven course before held end [] nexts.Again
+read_driven : {course : Course} {before : Traffic} (now : Traffic) {held : MachineState}
+    {end : EndLog} {octets : List ℕ} → IsDriven course before held end [] nexts.Again
     → Appends before.given now.given octets → Appends before.taken now.taken []
     → IsDriven course now held end octets nexts.Again
 read_driven now is gives takes =
@@ -172,7 +168,7 @@ read_driven now is gives takes =
       keeps = is.keeps;
     }
 
-pub read_on : (before middle now : Traffic) (old self : Held) {octets : List ℕ} (rounds : ℕ)
+pub read_on : (before middle now : Traffic) (old self : MachineState) {octets : List ℕ} (rounds : ℕ)
     → SentOn before middle old self rounds → Appends middle.given now.given octets
     → Appends middle.taken now.taken [] → DrivesOn before now old self octets rounds
 read_on before middle now old self rounds sent gives takes course end is =
@@ -184,7 +180,7 @@ read_on before middle now old self rounds sent gives takes course end is =
     }
 
 -- It gives none, at the end of the input,
-pub read_ends : (before middle now : Traffic) (old self : Held) (rounds : ℕ)
+pub read_ends : (before middle now : Traffic) (old self : MachineState) (rounds : ℕ)
     → SentOn before middle old self rounds → Appends middle.given now.given []
     → Appends middle.taken now.taken [] → Drives before now old self (Ok false)
 unfolding DrivenSo
@@ -201,7 +197,7 @@ read_ends before middle now old self rounds sent gives takes course end is =
     )
 
 -- or where a read has failed.
-pub read_fails : (before middle now : Traffic) (old self : Held) (rounds : ℕ)
+pub read_fails : (before middle now : Traffic) (old self : MachineState) (rounds : ℕ)
     → SentOn before middle old self rounds → Appends middle.given now.given []
     → Appends middle.taken now.taken [] → Drives before now old self (Err errors.Device)
 unfolding DrivenSo
@@ -212,32 +208,32 @@ read_fails before middle now old self rounds sent gives takes course end is =
     )
 
 -- A piece is taken,
-pub taken_on : (before middle now : Traffic) (old self new : Held) (piece : List ℕ) (rounds : ℕ)
-    {whole : Bool} → whole ≡ false → DrivesOn before middle old self piece rounds
-    → Takes true middle now self new piece (Ok whole) → DrivesOn before now old new [] rounds
+pub taken_on : (before middle now : Traffic) (old self new : MachineState) (piece : List ℕ)
+    (rounds : ℕ) {whole : Bool} → whole ≡ false → DrivesOn before middle old self piece rounds
+    → TakesPiece true middle now self new piece (Ok whole) → DrivesOn before now old new [] rounds
 unfolding TakenSo
 taken_on before middle now old self new piece rounds not on takes course end is =
     let go = on course end is in
-    let so = subst (λ (one : Bool). Takes true middle now self new piece (Ok one)) not takes course
-    middle go.end go.driven in
+    let so = subst (λ (one : Bool). TakesPiece true middle now self new piece (Ok one)) not takes
+    course middle go.end go.driven in
     record { end = so.0; turns = omega (arith, go.turns, so.1); driven = so.2 }
 
 -- up to the end of a response that is whole,
-pub taken_whole : (before middle now : Traffic) (old self new : Held) (piece : List ℕ) (rounds : ℕ)
-    {whole : Bool} → whole ≡ true → DrivesOn before middle old self piece rounds
-    → Takes true middle now self new piece (Ok whole) → Drives before now old new (Ok true)
+pub taken_whole : (before middle now : Traffic) (old self new : MachineState) (piece : List ℕ)
+    (rounds : ℕ) {whole : Bool} → whole ≡ true → DrivesOn before middle old self piece rounds
+    → TakesPiece true middle now self new piece (Ok whole) → Drives before now old new (Ok true)
 unfolding TakenSo DrivenSo
 taken_whole before middle now old self new piece rounds said on takes course end is =
     let go = on course end is in
-    let so = subst (λ (one : Bool). Takes true middle now self new piece (Ok one)) said takes
+    let so = subst (λ (one : Bool). TakesPiece true middle now self new piece (Ok one)) said takes
     course middle go.end go.driven in
     let driven : (unused : List ℕ) × IsDriven course now new so.0 unused nexts.Whole = so.2 in
     (so.0, driven)
 
 -- or with it the machine ends.
-pub taken_last : (before middle now : Traffic) (old self new : Held) (piece : List ℕ)
+pub taken_last : (before middle now : Traffic) (old self new : MachineState) (piece : List ℕ)
     (rounds : ℕ) (error : LinkError) → DrivesOn before middle old self piece rounds
-    → Takes true middle now self new piece (Err error) → Drives before now old new (Err error)
+    → TakesPiece true middle now self new piece (Err error) → Drives before now old new (Err error)
 unfolding TakenSo DrivenSo
 taken_last before middle now old self new piece rounds error on takes course end is =
     let go = on course end is in
@@ -245,7 +241,7 @@ taken_last before middle now old self new piece rounds error on takes course end
     (so.0, so.2)
 
 -- Credit is returned, and what waits of messages is sent,
-pub waiting_on : (before now : Traffic) (old self new : Held) (unused : List ℕ) (rounds : ℕ)
+pub waiting_on : (before now : Traffic) (old self new : MachineState) (unused : List ℕ) (rounds : ℕ)
     (result : Result (Unit {0}) LinkError) → new.kept ≡ self.kept
     → DrivesOn before now old self unused rounds → SendsWaiting self.end new.end result
     → DrivesOn before now old new unused rounds
@@ -260,9 +256,10 @@ waiting_on before now old self new unused rounds result kept on sends course end
     }
 
 -- or there is no memory for that.
-pub waiting_last : (before now : Traffic) (old self new : Held) (unused : List ℕ) (rounds : ℕ)
-    (error : LinkError) → new.kept ≡ self.kept → DrivesOn before now old self unused rounds
-    → SendsWaiting self.end new.end (Err error) → Drives before now old new (Err error)
+pub waiting_last : (before now : Traffic) (old self new : MachineState) (unused : List ℕ)
+    (rounds : ℕ) (error : LinkError) → new.kept ≡ self.kept
+    → DrivesOn before now old self unused rounds → SendsWaiting self.end new.end (Err error)
+    → Drives before now old new (Err error)
 unfolding DrivenSo
 waiting_last before now old self new unused rounds error kept on sends course end is =
     let go = on course end is in
@@ -285,7 +282,7 @@ pub gives_piece : (one two : Option (List ℕ)) (count size : ℕ) (buffer other
 gives_piece one two count size buffer others octets is all gives =
     let same : octets ≡ buffer =
     is ∙ ap (λ (n : ℕ). take n (buffer ++ others)) (sym all) ∙ take-append_seam buffer others in
-    subst (λ (list : List ℕ). Appends one two (take count list)) (sym same) gives
+    rw same gives
 
 -- A read with room that gives nothing has met the end of the input.
 pub meets_end : (before : Bool) {now : Bool} {room count : ℕ}

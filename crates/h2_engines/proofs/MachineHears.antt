@@ -1,20 +1,18 @@
 -- What a machine that is driven makes of octets, by what a call of `take` has made of its end.
-use Rattle.std.proofs.Common.{◌≡◌, ℕ, List, length, Option, Ok, Err}
-use Rattle.h2_ends.specs.Ends.{EndLog, Handed, EndAnswer, EndTook}
-use Rattle.h2_ends.specs.EndTakes.{EndMayTake}
-use Rattle.h2_ends.specs.Represents.{EndRepresents}
-use Rattle.h2_link.specs.declared.error.LinkError.{LinkError}
+use Rattle.h2_engines.proofs.Names.{◌≡◌, ℕ, List, length, Option, Ok, Err, EndLog, Handed}
+use Rattle.h2_engines.proofs.Names.{EndAnswer, EndTook, EndMayTake, EndRepresents, LinkError}
 use Rattle.h2_engines.specs.declared.machine.Heard.{Heard}
 use Rattle.h2_engines.specs.declared.request.Next.TheVariants as nexts
 use Rattle.h2_engines.specs.Linked.{Traffic}
-use Rattle.h2_engines.specs.Machines.{Held, Course, Happens, Keeps, IsDriven, HearsNoMore, HearsSo}
+use Rattle.h2_engines.specs.Machines.{MachineState, Course, Happens, Keeps, IsDriven, HearsNoMore}
+use Rattle.h2_engines.specs.Machines.{HearsSo}
 use Rattle.h2_engines.proofs.ResponderEnds.{given_within}
 use Rattle.h2_engines.proofs.ServeLinkTakes.{SaysUsed, takes_first, took_links, links_first}
 use Rattle.h2_engines.proofs.TurnsPassed.{turns_of_take, turns_of_answer}
 
 -- It goes on,
-pub hears_on : {course : Course} {now : Traffic} {old : Held} (new : Held) {end after : EndLog}
-    {piece : List ℕ} (heard : Heard) (handed : Option Handed)
+pub hears_on : {course : Course} {now : Traffic} {old : MachineState} (new : MachineState)
+    {end after : EndLog} {piece : List ℕ} (heard : Heard) (handed : Option Handed)
     → IsDriven course now old end piece nexts.Again
     → EndMayTake end piece (EndTook heard.used handed) after
     → EndRepresents course.values new.end after → Happens course new.kept after
@@ -36,8 +34,8 @@ hears_on new heard handed is may represents happened keeps done =
     )
 
 -- or can't hear on.
-pub hears_last : {course : Course} {now : Traffic} {old : Held} (new : Held) {end after : EndLog}
-    {piece : List ℕ} {answer : EndAnswer} (error : LinkError)
+pub hears_last : {course : Course} {now : Traffic} {old : MachineState} (new : MachineState)
+    {end after : EndLog} {piece : List ℕ} {answer : EndAnswer} (error : LinkError)
     → IsDriven course now old end piece nexts.Again → EndMayTake end piece answer after
     → EndRepresents course.values new.end after → Happens course new.kept after
     → ((octets : List ℕ) → SaysUsed answer octets after.log → HearsNoMore course.message new.kept

@@ -1,17 +1,12 @@
 -- What waits is written, whatever has happened at the end of a machine and over its link.
-use Rattle.std.proofs.Common.{ℕ, List}
-use Rattle.std.proofs.Common.{sym, subst}
-use Rattle.std.specs.Io.KnownBytes.{Appends}
-use Rattle.h2_log.specs.Log.{Log}
-use Rattle.h2_ends.specs.Ends.{EndLog}
-use Rattle.h2_ends.specs.Represents.{EndRepresents}
+use Rattle.h2_engines.proofs.Names.{ℕ, List, sym, subst, Appends, Log, EndLog, EndRepresents}
 use Rattle.h2_engines.specs.Linked.{Traffic, HasGiven, IsLinked}
-use Rattle.h2_engines.specs.Machines.{Held, Course, Happens}
+use Rattle.h2_engines.specs.Machines.{MachineState, Course, Happens}
 use Rattle.h2_engines.specs.ServerSteps.{IsWrittenOut}
 use Rattle.h2_engines.proofs.ResponderWrites.{WritesOn}
 
 -- The link took all that the end has given out, in so many rounds, whatever had happened.
-abbrev pub WritesFrom : (before now : Traffic) → (old new : Held) → (rounds : ℕ) → Type 0
+abbrev pub WritesFrom : (before now : Traffic) → (old new : MachineState) → (rounds : ℕ) → Type 0
 WritesFrom before now old new rounds =
     (course : Course) (end : EndLog) (unused : List ℕ) → EndRepresents course.values old.end end
     → Happens course old.kept end → IsLinked course.start before end.log unused
@@ -23,5 +18,5 @@ pub written_links : {start now : Traffic} {log : Log} (unused : List ℕ)
 written_links {start} {now} unused given written =
     record {
       given = given;
-      taken = subst (Appends start.taken now.taken) (sym written.all) written.taken;
+      taken = rw written.all written.taken;
     }

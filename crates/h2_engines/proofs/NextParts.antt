@@ -1,22 +1,17 @@
 -- Which part of a request is read next: a head comes first, and nothing after the end.
-use Rattle.std.proofs.Common.{map as each, ◌≡◌, ◌≢◌, ℕ, ◌-◌, Bool, true, false, List, [], ◌∷◌}
-use Rattle.std.proofs.Common.{◌++◌, length, Option, Some, None, refl, sym, ap, ◌∙◌}
-use Rattle.std.proofs.Common.{append_assoc}
-use Rattle.std.specs.Prelude.{if◌then◌else◌, nat_lt, is_some, not, ◌||◌}
-use Rattle.hpack.specs.declared.types.field.Field.{Field}
-use Rattle.h2_message.specs.declared.reading.Reads.{Reads}
-use Rattle.h2_message.specs.declared.reading.Reads.TheVariants.{Requests}
-use Rattle.h2_message.specs.declared.reading.Phase.{Phase}
-use Rattle.h2_message.specs.declared.reading.Phase.TheVariants.{AtHead, InBody, AtEnd}
+use Rattle.h2_engines.proofs.Names.{◌≡◌, ◌≢◌, ℕ, ◌-◌, Bool, true, false, List, [], ◌∷◌, ◌++◌}
+use Rattle.h2_engines.proofs.Names.{length, Option, Some, None, refl, sym, ap, ◌∙◌, append_assoc}
+use Rattle.h2_engines.proofs.Names.{nat_lt, is_some, Field, Reads, Requests, Phase, AtHead, InBody}
+use Rattle.h2_engines.proofs.Names.{AtEnd, first_broken, Part, FieldsPart, OctetsPart, final_rules}
+use Rattle.h2_engines.proofs.Names.{compared_length, IsReadable, place_after, not_readable}
+use Rattle.std.proofs.Common.{map as each}
+use Rattle.std.specs.Prelude.{if◌then◌else◌, not, ◌||◌}
 use Rattle.h2_message.specs.declared.reading.Place.TheVariants as places
-use Rattle.h2_message.specs.Messages.{first_broken, trailer_rules}
-use Rattle.h2_message.specs.Reading.{Part, FieldsPart, OctetsPart, final_rules, compared_length}
-use Rattle.h2_message.specs.Reading.{IsReadable, AreSoundInterims, ended, message_parts}
-use Rattle.h2_message.specs.Reading.{final_parts}
+use Rattle.h2_message.specs.Messages.{trailer_rules}
+use Rattle.h2_message.specs.Reading.{AreSoundInterims, ended, message_parts, final_parts}
 use Rattle.h2_message.specs.Phases.{is_short, phase_in_body, phase_after_final, phase_after_head}
 use Rattle.h2_message.specs.Phases.{phase_after_data, phase_after, phase_after_all, ends}
-use Rattle.h2_message.specs.Phases.{place_at_head, place_in, place_after}
-use Rattle.h2_message.proofs.PhaseWhole.{not_readable}
+use Rattle.h2_message.specs.Phases.{place_at_head, place_in}
 
 -- What is taken passes the test.
 passes : {X : Type 0} (test : Bool) (option : Option X) (value : X)

@@ -1,13 +1,10 @@
 -- The octets of a request's body, as they come, and what is kept of it.
-use Rattle.std.proofs.Common.{◌≡◌, ℕ, ◌+◌, ◌<◌, ◌≤◌, Bool, true, false, List, [], ◌∷◌, ◌++◌}
-use Rattle.std.proofs.Common.{length, refl, sym, ap, ◌∙◌, append_assoc, append-nil, arith}
-use Rattle.std.specs.Prelude.{nat_lt}
+use Rattle.h2_engines.proofs.Names.{◌≡◌, ℕ, ◌+◌, ◌<◌, ◌≤◌, Bool, true, false, List, [], ◌∷◌, ◌++◌}
+use Rattle.h2_engines.proofs.Names.{length, refl, sym, ap, ◌∙◌, append_assoc, append-nil, arith}
+use Rattle.h2_engines.proofs.Names.{nat_lt, Field, method_of, path_of, Part, FieldsPart, OctetsPart}
 use Rattle.std.proofs.lemmas.Bool.{ltb-true, ltb-false, lt-ltb, le-ltb}
 use Rattle.std.proofs.lemmas.List.{length-append}
-use Rattle.hpack.specs.declared.types.field.Field.{Field}
-use Rattle.h2_message.specs.Fields.{method_of, path_of}
 use Rattle.h2_message.specs.Phases.{ends}
-use Rattle.h2_message.specs.Reading.{Part, FieldsPart, OctetsPart}
 use Rattle.h2_engines.specs.declared.request.Request.{Request}
 use Rattle.h2_engines.specs.Answers.{IsRequest, body_in, body_of_parts, is_too_large_body, text_of}
 use Rattle.h2_engines.specs.PartialMessages.{IsLonger, room_of}

@@ -1,27 +1,20 @@
 -- What was handed out at a server is kept as it is noted.
-use Rattle.std.proofs.Common.{◌≡◌, ◌≢◌, ℕ, ◌≤◌, Bool, true, false, List, [], ◌∷◌, ◌++◌, length}
-use Rattle.std.proofs.Common.{Option, Some, None, refl, sym, ap, ◌∙◌, subst, inl, inr, arith}
-use Rattle.std.specs.Prelude.{◌⊎◌}
-use Rattle.std.proofs.lemmas.Bool.{both_ways, cases_eq}
-use Rattle.hpack.specs.declared.types.field.Field.{Field}
-use Rattle.h2_log.specs.declared.role.Role.TheVariants.{Server}
-use Rattle.h2_log.specs.Events.{Event, ResetEvent}
+use Rattle.h2_engines.proofs.Names.{◌≡◌, ◌≢◌, ℕ, ◌≤◌, Bool, true, false, List, [], ◌∷◌, ◌++◌}
+use Rattle.h2_engines.proofs.Names.{length, Option, Some, None, refl, sym, ap, ◌∙◌, subst, inl, inr}
+use Rattle.h2_engines.proofs.Names.{arith, ◌⊎◌, both_ways, cases_eq, Field, Server, Event}
+use Rattle.h2_engines.proofs.Names.{ResetEvent, Part, FieldsPart, OctetsPart, EndLog, EndTook}
+use Rattle.h2_engines.proofs.Names.{Handed, Passed, EndMayTake}
 use Rattle.h2_message.specs.Phases.{ends}
-use Rattle.h2_message.specs.Reading.{Part, FieldsPart, OctetsPart}
-use Rattle.h2_ends.specs.Ends.{EndLog, EndTook, Handed}
-use Rattle.h2_ends.specs.Ends.{Passed, message_for, parts_on}
-use Rattle.h2_ends.specs.EndTakes.{EndMayTake}
+use Rattle.h2_ends.specs.Ends.{message_for, parts_on}
 use Rattle.h2_engines.specs.declared.request.Next.{Next}
 use Rattle.h2_engines.specs.declared.request.Next.TheVariants as nexts
 use Rattle.h2_engines.specs.declared.request.Request.{Request}
 use Rattle.h2_engines.specs.declared.request.Requests.{Requests}
 use Rattle.h2_engines.specs.Answers.{IsRequest, body_in, is_too_large_body}
 use Rattle.h2_engines.specs.PartialMessages.{RequestState, has_not_come, comes, was_answered}
-use Rattle.h2_engines.specs.PartialMessages.{was_given_up}
-use Rattle.h2_engines.specs.PartialMessages.{KeepsRequests, KeepsOthers, IsToAnswer, KeepsNext}
-use Rattle.h2_engines.specs.PartialMessages.{request_at}
-use Rattle.h2_engines.specs.PartialMessages.{ChangesAt, EndsRequest, AddsOctets}
-use Rattle.h2_engines.specs.PartialMessages.{EndsKept, NotesHanded, NotesTaken}
+use Rattle.h2_engines.specs.PartialMessages.{was_given_up, KeepsRequests, KeepsOthers, IsToAnswer}
+use Rattle.h2_engines.specs.PartialMessages.{KeepsNext, request_at, ChangesAt, EndsRequest}
+use Rattle.h2_engines.specs.PartialMessages.{AddsOctets, EndsKept, NotesHanded, NotesTaken}
 use Rattle.h2_engines.specs.ServerHistories.{WasReset, WasTooLarge}
 use Rattle.h2_engines.proofs.NoteBodies.{ends_last, is_large, is_not_large, not_large}
 use Rattle.h2_engines.proofs.NoteBodies.{too_large_more, no_room, has_room, longer_request}
@@ -89,8 +82,7 @@ request_whole has =
 -- It is to be answered, or kept.
 keeps_next : (requests : Requests) (end : EndLog) {is next : Next} → next ≡ is
     → KeepsNext requests end is → KeepsNext requests end next
-keeps_next requests end same keeps =
-    subst (λ (one : Next). KeepsNext requests end one) (sym same) keeps
+keeps_next requests end same keeps = rw same keeps
 
 ends_request : (old new : Requests) (end : EndLog) {after : EndLog} {id : ℕ} (last : Bool)
     {request : Request} (next : Next) → KeepsRequests old end
@@ -267,9 +259,7 @@ notes_trailers old new {end} {id} list (Some request) next at keeps some goes ha
 -- Where nothing of a request was handed out, and nothing is noted.
 notes_nothing : {old new : Requests} (end after : EndLog) (next : Next) → KeepsRequests old end
     → ((i : ℕ) → SameOn end after i) → new ≡ old → KeepsRequests new after
-notes_nothing end after next keeps same is =
-    subst (λ (requests : Requests). KeepsRequests requests after) (sym is)
-    (λ i. stands_as (same i) (keeps i))
+notes_nothing end after next keeps same is = rw is (λ i. stands_as (same i) (keeps i))
 
 goes_on : (requests : Requests) (end : EndLog) (next : Next)
     → (next ≡ nexts.Again) ⊎ (next ≡ nexts.Done) → KeepsRequests requests end

@@ -1,22 +1,17 @@
 -- How it is noted what was handed out.
-use Rattle.std.proofs.Common.{◌≡◌, ℕ, Bool, true, false, List, [], Some, None, Bor}
-use Rattle.std.proofs.Common.{Result, Ok, Err, refl}
+use Rattle.h2_engines.proofs.Names.{◌≡◌, ℕ, Bool, true, false, List, [], Some, None, Bor, Result}
+use Rattle.h2_engines.proofs.Names.{Ok, Err, refl, Field, ResetEvent, EndEvent, event_handed}
+use Rattle.h2_engines.proofs.Names.{Handed, HeadHanded, BodyHanded, TrailersHanded, Passed}
 use Rattle.std.specs.Prelude.{IfOk}
 use Rattle.std.specs.declared.alloc.AllocError.{AllocError}
-use Rattle.hpack.specs.declared.types.field.Field.{Field}
-use Rattle.h2_log.specs.Events.{ResetEvent}
-use Rattle.h2_ends.specs.declared.event.EndEvent.{EndEvent}
 use Rattle.h2_ends.specs.declared.event.EndEvent.TheVariants as events
-use Rattle.h2_ends.specs.Loans.{event_handed}
-use Rattle.h2_ends.specs.Ends.{Handed, HeadHanded, BodyHanded, TrailersHanded, Passed}
 use Rattle.h2_engines.specs.declared.request.Next.{Next}
 use Rattle.h2_engines.specs.declared.request.Next.TheVariants as nexts
 use Rattle.h2_engines.specs.declared.request.Request.{Request}
 use Rattle.h2_engines.specs.declared.request.Requests.{Requests}
 use Rattle.h2_engines.specs.Answers.{IsRequest}
 use Rattle.h2_engines.specs.PartialMessages.{ChangesAt, EndsRequest, AddsOctets, EndsKept}
-use Rattle.h2_engines.specs.PartialMessages.{NotesHanded}
-use Rattle.h2_engines.specs.PartialMessages.{request_at}
+use Rattle.h2_engines.specs.PartialMessages.{NotesHanded, request_at}
 
 -- A head, after which nothing follows, or something does.
 pub notes_whole : {old new : Requests} {handed : Handed} {id : ℕ} {list : List Field} {last : Bool}

@@ -1,14 +1,10 @@
 -- What is noted of a response, part by part.
-use Rattle.std.proofs.Common.{◌≡◌, ℕ, Bool, false, if◌then◌else◌, List, [], ◌∷◌, Bor, refl, sym, ap}
-use Rattle.std.proofs.Common.{◌∙◌, subst}
-use Rattle.std.specs.Prelude.{◌==◌, ◌≢◌}
-use Rattle.std.proofs.lemmas.Bool.{ne_eqb}
-use Rattle.hpack.specs.declared.types.field.Field.{Field}
-use Rattle.h2_message.specs.Reading.{Part}
-use Rattle.h2_ends.specs.declared.event.EndEvent.{EndEvent}
+use Rattle.h2_engines.proofs.Names.{◌≡◌, ℕ, Bool, false, if◌then◌else◌, List, [], ◌∷◌, Bor, refl}
+use Rattle.h2_engines.proofs.Names.{sym, ap, ◌∙◌, subst, ◌==◌, ne_eqb, Field, Part, EndEvent}
+use Rattle.h2_engines.proofs.Names.{event_handed, Handed}
+use Rattle.std.specs.Prelude.{◌≢◌}
 use Rattle.h2_ends.specs.declared.event.EndEvent.TheVariants as events
-use Rattle.h2_ends.specs.Loans.{event_handed}
-use Rattle.h2_ends.specs.Ends.{Handed, part_on}
+use Rattle.h2_ends.specs.Ends.{part_on}
 use Rattle.h2_engines.specs.declared.fetcher.Coming.{Coming}
 use Rattle.h2_engines.specs.ClientSteps.{NotesPart, notes_nothing}
 
@@ -16,8 +12,7 @@ use Rattle.h2_engines.specs.ClientSteps.{NotesPart, notes_nothing}
 pub noted_as : {id stream : ℕ} {old new : Coming} {handed : Handed} (hand : ℕ → Handed)
     {whole : Bool} → handed ≡ hand stream → stream ≡ id → NotesPart id old new (hand id) whole
     → NotesPart id old new handed whole
-noted_as {id} {old} {new} hand {whole} is same notes =
-    subst (λ (other : Handed). NotesPart id old new other whole) (sym (is ∙ ap hand same)) notes
+noted_as {id} {old} {new} hand {whole} is same notes = rw ((is ∙ ap hand same)) notes
 
 -- A part of another stream is none of the response.
 other_stream : (stream id : ℕ) (part : Part × Bool) → stream ≢ id

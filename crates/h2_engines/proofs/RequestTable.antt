@@ -1,7 +1,7 @@
 -- What is kept of requests after one of the entries was changed.
-use Rattle.std.proofs.Common.{◌≡◌, ◌≢◌, ℕ, Bool, true, false, cond, List, Option, Some, None}
-use Rattle.std.proofs.Common.{◌<◌, ◌≤◌, length, refl, sym, ap, ◌∙◌, inl, inr}
-use Rattle.std.proofs.lemmas.Bool.{ne_eqb, eq-eqb}
+use Rattle.h2_engines.proofs.Names.{◌≡◌, ◌≢◌, ℕ, Bool, true, false, List, Option, Some, None, ◌<◌}
+use Rattle.h2_engines.proofs.Names.{◌≤◌, length, refl, sym, ap, ◌∙◌, inl, inr, ne_eqb, eq-eqb}
+use Rattle.std.proofs.Common.{cond}
 use Rattle.std.specs.Map.{lookup}
 use Rattle.std.specs.Ordering.{nat_cmp, is_eq}
 use Rattle.std.specs.BTreeMap.{is_at}
@@ -11,8 +11,7 @@ use Rattle.h2_engines.specs.declared.request.Requests.{Requests}
 use Rattle.h2_engines.specs.declared.request.Next.{Next}
 use Rattle.h2_engines.specs.declared.request.Next.TheVariants as nexts
 use Rattle.h2_engines.specs.PartialMessages.{ChangesAt, request_at, EndsKept, EndsRequest}
-use Rattle.h2_engines.specs.PartialMessages.{AddsOctets}
-use Rattle.h2_engines.specs.PartialMessages.{IsLonger, room_of}
+use Rattle.h2_engines.specs.PartialMessages.{AddsOctets, IsLonger, room_of}
 
 -- other entries, with another one at a number
 abbrev pub HasEntry : ℕ → Option Request → (old new : List (ℕ × Request)) → Type 0

@@ -1,22 +1,13 @@
 -- What the calls of a server that answer, reset and end say of it, by what its end has answered.
-use Rattle.std.proofs.Common.{◌≡◌, ◌≢◌, ◌≤◌, ℕ, ◌-◌, ◌^◌}
-use Rattle.std.proofs.Common.{Ok, Err, refl, sym, subst}
-use Rattle.h2_log.specs.declared.refusal.Refusal.{Refusal}
-use Rattle.h2_log.specs.declared.refusal.Refusal.TheVariants.{TooManyResets, Memory}
-use Rattle.h2_log.specs.Acts.{ResetStream, Done, Refused}
-use Rattle.h2_link.specs.declared.error.LinkError.{LinkError}
+use Rattle.h2_engines.proofs.Names.{◌≡◌, ◌≢◌, ◌≤◌, ℕ, ◌-◌, ◌^◌, Ok, Err, refl, sym, subst, Refusal}
+use Rattle.h2_engines.proofs.Names.{TooManyResets, Memory, ResetStream, Done, Refused, LinkError}
+use Rattle.h2_engines.proofs.Names.{Message, SentMessage, End, EndRefusal, Conn, EndAnswers}
 use Rattle.h2_link.specs.declared.error.LinkError.TheVariants as errors
-use Rattle.h2_message.specs.declared.message.Message.{Message}
-use Rattle.h2_message.specs.Messages.{SentMessage}
-use Rattle.h2_ends.specs.declared.end.End.{End}
-use Rattle.h2_ends.specs.declared.refusal.EndRefusal.{EndRefusal}
-use Rattle.h2_ends.specs.declared.refusal.EndRefusal.TheVariants.{Conn}
-use Rattle.h2_ends.specs.Represents.{EndResponds, EndAnswers}
+use Rattle.h2_ends.specs.Represents.{EndResponds}
 use Rattle.h2_engines.specs.Failures.{error_after}
 use Rattle.h2_engines.specs.ServerHistories.{calm}
 use Rattle.h2_engines.specs.ServerSteps.{ServerAnswers, AnsweredSo, ServerResets, ResetSo}
-use Rattle.h2_engines.specs.ServerSteps.{no_memory}
-use Rattle.h2_engines.specs.ServerSteps.{counts_no_more, is_refused}
+use Rattle.h2_engines.specs.ServerSteps.{no_memory, counts_no_more, is_refused}
 
 -- Nothing was called, since there was no memory.
 pub answers_none : (end : End) (id : ℕ) (message : SentMessage) (count : ℕ)

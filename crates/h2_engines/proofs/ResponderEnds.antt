@@ -1,20 +1,10 @@
 -- What a call that puts output out, and writing its octets to a link, make of an end and of what
 -- has gone over the link.
-use Rattle.std.proofs.Common.{◌≡◌, ◌≤◌, ℕ, List, [], ◌++◌, length, take, drop}
-use Rattle.std.proofs.Common.{refl, sym, ap, ◌∙◌, subst, append_assoc, append-nil}
-use Rattle.std.proofs.lemmas.List.{take-append-drop}
-use Rattle.std.specs.Io.KnownBytes.{Appends}
-use Rattle.std.proofs.KnownBytes.{Appends-trans}
-use Rattle.h2_log.specs.declared.refusal.Refusal.{Refusal}
-use Rattle.h2_log.specs.Acts.{Values, Act, Answer, Refused}
-use Rattle.h2_log.specs.Log.{Log}
+use Rattle.h2_engines.proofs.Names.{◌≡◌, ◌≤◌, ℕ, List, [], ◌++◌, length, take, drop, refl, sym, ap}
+use Rattle.h2_engines.proofs.Names.{◌∙◌, subst, append_assoc, append-nil, take-append-drop, Appends}
+use Rattle.h2_engines.proofs.Names.{Appends-trans, Refusal, Values, Act, Answer, Refused, Log}
+use Rattle.h2_engines.proofs.Names.{Keeps-call, given_out, End, EndLog, end_with_log, EndRepresents}
 use Rattle.h2_log.specs.LogCalls.{with_call}
-use Rattle.h2_log.proofs.StreamLemmas.{Keeps-call}
-use Rattle.h2_pair.specs.Pairs.{given_out}
-use Rattle.h2_ends.specs.declared.end.End.{End}
-use Rattle.h2_ends.specs.Ends.{EndLog}
-use Rattle.h2_ends.specs.EndTakes.{end_with_log}
-use Rattle.h2_ends.specs.Represents.{EndRepresents}
 use Rattle.h2_engines.specs.Linked.{Traffic, HasGiven, IsLinked, HasTakenFirst}
 use Rattle.h2_engines.specs.ServerSteps.{IsSameOfMessages}
 use Rattle.h2_engines.proofs.TakeMessages.{keeps_by_call}
@@ -79,7 +69,7 @@ pub linked_by : {start before : Traffic} (now : Traffic) {log : Log} (after : Lo
 linked_by {start} {before} now {log} after octets {unused} same more none took linked =
     record {
       given = gives_as start before now log after unused same none linked.given;
-      taken = subst (Appends start.taken now.taken) (sym more)
+      taken = rw more
           (Appends-trans start.taken before.taken now.taken _ octets linked.taken took);
     }
 

@@ -1,6 +1,5 @@
 -- How often a link has failed, and what it has taken, where writing to it has ended early.
-use Rattle.std.proofs.Common.{◌≡◌, ℕ, ◌+◌, List, Option, Err, refl, ap, ◌∙◌}
-use Rattle.h2_link.specs.declared.error.LinkError.{LinkError}
+use Rattle.h2_engines.proofs.Names.{◌≡◌, ℕ, ◌+◌, List, Option, Err, refl, ap, ◌∙◌, LinkError}
 use Rattle.h2_link.specs.declared.error.LinkError.TheVariants as errors
 use Rattle.h2_link.specs.Links.{WritesAll, TakesFirst}
 use Rattle.h2_engines.specs.Failures.{failures_at_end, IsOfCall, EndsWriting, IsOfServer}

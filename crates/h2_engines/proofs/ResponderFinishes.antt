@@ -1,15 +1,13 @@
 -- What a server has left once the input has ended, by what its connection answers of itself.
-use Rattle.std.proofs.Common.{◌≡◌, ◌≢◌, inl, inr, ℕ, ◌<◌, ◌≤◌, ◌==◌, ◌||◌, Bool, true}
-use Rattle.std.proofs.Common.{false, if◌then◌else◌, List, [], ◌∷◌, length, Option, Some, None}
-use Rattle.std.proofs.Common.{is_some, zero, suc}
-use Rattle.std.proofs.Common.{Ok, Err, refl, sym, ap, ◌∙◌, arith}
-use Rattle.std.proofs.lemmas.Bool.{and_parts, or_parts, eqb-true, both_ways, false_from_ne_true}
-use Rattle.h2_frame.specs.declared.code.Code.{Code}
-use Rattle.h2_log.specs.Log.{Log, active, next_active, reader_next_live, reader_held}
+use Rattle.h2_engines.proofs.Names.{◌≡◌, ◌≢◌, inl, inr, ℕ, ◌<◌, ◌≤◌, Bool, true, false}
+use Rattle.h2_engines.proofs.Names.{if◌then◌else◌, List, [], ◌∷◌, length, Option, Some, None, Ok}
+use Rattle.h2_engines.proofs.Names.{Err, refl, sym, ap, ◌∙◌, arith, both_ways, Code, Log, EndLog}
+use Rattle.std.proofs.Common.{◌==◌, ◌||◌, is_some, zero, suc}
+use Rattle.std.proofs.lemmas.Bool.{and_parts, or_parts, eqb-true, false_from_ne_true}
+use Rattle.h2_log.specs.Log.{active, next_active, reader_next_live, reader_held}
 use Rattle.h2_log_laws.proofs.NextStreams.{next_passes, next_found}
 use Rattle.h2_log_laws.proofs.ReaderStates.{active_parts}
 use Rattle.h2_link.specs.declared.error.LinkError.TheVariants as errors
-use Rattle.h2_ends.specs.Ends.{EndLog}
 use Rattle.h2_engines.specs.ServerSteps.{FinishedSo}
 
 -- How many octets are held while the connection is up.

@@ -1,23 +1,16 @@
 -- What a call of `take` has made of a piece, and of what is kept of requests.
-use Rattle.std.proofs.Common.{◌≡◌, ◌≢◌, ◌⊎◌, ℕ, Bool, true, false, List, length, Option, Some, None}
-use Rattle.std.proofs.Common.{Ok, Err, refl, inl, inr}
-use Rattle.h2_log.specs.Events.{ResetEvent}
-use Rattle.h2_conn.specs.declared.event.ConnFault.{ConnFault}
+use Rattle.h2_engines.proofs.Names.{◌≡◌, ◌≢◌, ℕ, Bool, true, false, List, length, Option, Some}
+use Rattle.h2_engines.proofs.Names.{None, Ok, Err, refl, inl, inr, ResetEvent, ConnFault, End}
+use Rattle.h2_engines.proofs.Names.{EndEvent, EndTaken, Handed, HeadHanded, BodyHanded}
+use Rattle.h2_engines.proofs.Names.{TrailersHanded, Passed, event_handed, EndTakes}
+use Rattle.std.proofs.Common.{◌⊎◌}
 use Rattle.h2_link.specs.declared.error.LinkError.TheVariants as errors
-use Rattle.h2_ends.specs.declared.end.End.{End}
-use Rattle.h2_ends.specs.declared.event.EndEvent.{EndEvent}
-use Rattle.h2_ends.specs.declared.event.EndTaken.{EndTaken}
-use Rattle.h2_ends.specs.Ends.{Handed, HeadHanded}
-use Rattle.h2_ends.specs.Ends.{BodyHanded, TrailersHanded, Passed}
-use Rattle.h2_ends.specs.Loans.{event_handed}
-use Rattle.h2_ends.specs.Represents.{EndTakes}
 use Rattle.h2_engines.specs.declared.request.Next.{Next}
 use Rattle.h2_engines.specs.declared.request.Next.TheVariants as nexts
 use Rattle.h2_engines.specs.declared.request.Request.{Request}
 use Rattle.h2_engines.specs.declared.request.Requests.{Requests}
 use Rattle.h2_engines.specs.PartialMessages.{NotesHanded, NotesTaken, AddsOctets, EndsKept}
-use Rattle.h2_engines.specs.PartialMessages.{EndsRequest}
-use Rattle.h2_engines.specs.PartialMessages.{request_at}
+use Rattle.h2_engines.specs.PartialMessages.{EndsRequest, request_at}
 use Rattle.h2_engines.specs.ServerSteps.{ServerHears, HeardSo, ErrsServing, error_with}
 
 -- Where something was handed out, there may be more.

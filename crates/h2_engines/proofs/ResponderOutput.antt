@@ -1,19 +1,12 @@
 -- What a call that puts output out makes of a log: its octets are the next ones of the output; and
 -- where it puts none out, none waits.
-use Rattle.std.proofs.Common.{◌≡◌, ◌≤◌, ℕ, ◌+◌, Bool, true, false}
-use Rattle.std.proofs.Common.{if◌then◌else◌, List, ◌++◌, length, take, drop, refl, sym, ap, ◌∙◌}
-use Rattle.std.proofs.lemmas.List.{take-append-drop, take-append-le, take-take}
-use Rattle.h2_log.specs.declared.refusal.Refusal.{Refusal}
-use Rattle.h2_log.specs.Acts.{Act, PutOut, Count, Refused}
-use Rattle.h2_log.specs.CallRules.{returns_before_put_out}
-use Rattle.h2_log.specs.Log.{Log}
-use Rattle.h2_log.specs.LogSteps.{with_credit_returned}
-use Rattle.h2_log.specs.LogCalls.{called, before_put_out}
-use Rattle.h2_log.specs.LogCalls.{with_call}
-use Rattle.h2_log.specs.LogView.{log_view}
-use Rattle.h2_end_laws.proofs.Failures.{sent_failed}
-use Rattle.h2_pair.specs.Pairs.{given_out}
-use Rattle.h2_pair.proofs.LogOutput.{gives_call}
+use Rattle.h2_engines.proofs.Names.{◌≡◌, ◌≤◌, ℕ, ◌+◌, Bool, true, false, if◌then◌else◌, List, ◌++◌}
+use Rattle.h2_engines.proofs.Names.{length, take, drop, refl, sym, ap, ◌∙◌, take-append-drop}
+use Rattle.h2_engines.proofs.Names.{take-append-le, Refusal, Act, PutOut, Count, Refused}
+use Rattle.h2_engines.proofs.Names.{returns_before_put_out, Log, with_credit_returned, called}
+use Rattle.h2_engines.proofs.Names.{log_view, sent_failed, given_out, gives_call}
+use Rattle.std.proofs.lemmas.List.{take-take}
+use Rattle.h2_log.specs.LogCalls.{before_put_out, with_call}
 
 -- The connection is as up as before, whether credit is returned first or not.
 ready_failed_by : (log : Log) (b : Bool)

@@ -1,23 +1,16 @@
 -- What a call of an end that is refused makes of a connection over a link.
-use Rattle.std.proofs.Common.{◌≡◌, ◌≢◌, ℕ, Bool, true, false, if◌then◌else◌, length, Some, None}
-use Rattle.std.proofs.Common.{Result, Ok, Err, refl, ap, subst, inl, inr, arith}
+use Rattle.h2_engines.proofs.Names.{◌≡◌, ◌≢◌, ℕ, Bool, true, false, if◌then◌else◌, length, Some}
+use Rattle.h2_engines.proofs.Names.{None, Result, Ok, Err, refl, ap, subst, inl, inr, arith}
+use Rattle.h2_engines.proofs.Names.{length-take, SendFields, has_failed, is_no_stream, is_full}
+use Rattle.h2_engines.proofs.Names.{full_output, Log, log_view, SentMessage, is_head_alone}
+use Rattle.h2_engines.proofs.Names.{LinkError, End, EndRefusal, EndLog}
 use Rattle.std.specs.Prelude.{nat_le}
-use Rattle.std.proofs.lemmas.List.{length-take}
-use Rattle.h2_log.specs.Acts.{SendFields}
-use Rattle.h2_log.specs.CallRules.{conditions, first_of, has_failed, is_no_stream, is_full}
-use Rattle.h2_log.specs.CallRules.{is_too_large}
-use Rattle.h2_log.specs.Limits.{full_output}
-use Rattle.h2_log.specs.Log.{Log, output, waiting}
-use Rattle.h2_log.specs.LogView.{log_view}
+use Rattle.h2_log.specs.CallRules.{conditions, first_of, is_too_large}
+use Rattle.h2_log.specs.Log.{output, waiting}
 use Rattle.h2_log.specs.View.{ended_out}
 use Rattle.h2_log.specs.declared.refusal.Refusal.TheVariants as reasons
-use Rattle.h2_message.specs.Messages.{SentMessage, trailer_fields}
-use Rattle.h2_pair.specs.Tokens.{is_head_alone}
-use Rattle.h2_link.specs.declared.error.LinkError.{LinkError}
-use Rattle.h2_ends.specs.declared.end.End.{End}
-use Rattle.h2_ends.specs.declared.refusal.EndRefusal.{EndRefusal}
+use Rattle.h2_message.specs.Messages.{trailer_fields}
 use Rattle.h2_ends.specs.declared.refusal.EndRefusal.TheVariants as refusals
-use Rattle.h2_ends.specs.Ends.{EndLog}
 use Rattle.h2_ends.specs.EndCalls.{MayRespond, RefusesMessage, refusal_of_message}
 use Rattle.h2_ends.specs.Represents.{EndPumps, EndReleases}
 use Rattle.h2_engines.specs.Failures.{error_after}

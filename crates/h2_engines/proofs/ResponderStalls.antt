@@ -1,17 +1,11 @@
 -- Why what waits is not written: the link has stalled, or memory was refused.
-use Rattle.std.proofs.Common.{◌≡◌, ℕ, None, Result, Ok, Err, sym, ap, ◌∙◌, subst, inl}
-use Rattle.h2_log.specs.declared.refusal.Refusal.{Refusal}
+use Rattle.h2_engines.proofs.Names.{◌≡◌, ℕ, None, Result, Ok, Err, sym, ap, ◌∙◌, subst, inl}
+use Rattle.h2_engines.proofs.Names.{Refusal, PutOut, Refused, Log, MayAnswer, accepts, refuses}
+use Rattle.h2_engines.proofs.Names.{lacks, fails, LinkError, StallsAtNoProgress, EndRefusal, EndLog}
 use Rattle.h2_log.specs.declared.refusal.Refusal.TheVariants as reasons
-use Rattle.h2_log.specs.Acts.{PutOut, Refused}
 use Rattle.h2_log.specs.CallRules.{conditions, first_of}
-use Rattle.h2_log.specs.Log.{Log}
-use Rattle.h2_log.specs.LogCalls.{MayAnswer, accepts, refuses, lacks, fails}
-use Rattle.h2_link.specs.declared.error.LinkError.{LinkError}
 use Rattle.h2_link.specs.declared.error.LinkError.TheVariants as errors
-use Rattle.h2_link.specs.Links.{StallsAtNoProgress}
-use Rattle.h2_ends.specs.declared.refusal.EndRefusal.{EndRefusal}
 use Rattle.h2_ends.specs.declared.refusal.EndRefusal.TheVariants as refusals
-use Rattle.h2_ends.specs.Ends.{EndLog}
 use Rattle.h2_ends.specs.EndCalls.{MayPump}
 use Rattle.h2_engines.specs.Failures.{error_after}
 use Rattle.h2_engines.specs.Linked.{Traffic, StallsWriting}
@@ -27,8 +21,7 @@ stalls_by_link now end other stalled = tt
 -- Where memory is wanted, it need not have.
 pub stalls_no_more : (now : Traffic) (end : EndLog) {error : LinkError} → error ≡ errors.Memory
     → StallsWriting {A = Unit {0}} now end (Err error)
-stalls_no_more now end is =
-    subst (λ (one : LinkError). StallsWriting {A = Unit {0}} now end (Err one)) (sym is) tt
+stalls_no_more now end is = rw is tt
 
 -- A call that puts output out is refused only when out of memory.
 put_out_lacks : {log : Log} {count : ℕ} {refusal : Refusal}

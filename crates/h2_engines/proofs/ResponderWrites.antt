@@ -1,20 +1,12 @@
 -- What has happened at an end and over a link since its output began to be written.
-use Rattle.std.proofs.Common.{◌≡◌, ◌≤◌, ◌<◌, ℕ, ◌+◌, ◌-◌, ◌^◌, List, [], ◌++◌, length, take}
-use Rattle.std.proofs.Common.{Ok, Err, sym, subst, inr, arith}
-use Rattle.std.specs.Io.KnownBytes.{Appends}
-use Rattle.h2_log.specs.declared.refusal.Refusal.{Refusal}
-use Rattle.h2_log.specs.Acts.{Values, Answer, PutOut, Count, Refused, IsTypedAct}
-use Rattle.h2_log.specs.LogCalls.{MayAnswer, with_call}
-use Rattle.h2_log.proofs.StreamLemmas.{Keeps-call}
-use Rattle.h2_conn.specs.Conn.{GivesOut}
-use Rattle.h2_link.specs.declared.error.LinkError.{LinkError}
+use Rattle.h2_engines.proofs.Names.{◌≡◌, ◌≤◌, ◌<◌, ℕ, ◌+◌, ◌-◌, ◌^◌, List, [], ◌++◌, length, take}
+use Rattle.h2_engines.proofs.Names.{Ok, Err, sym, subst, inr, arith, Appends, Refusal, Values}
+use Rattle.h2_engines.proofs.Names.{Answer, PutOut, Count, Refused, MayAnswer, Keeps-call, GivesOut}
+use Rattle.h2_engines.proofs.Names.{LinkError, StallsAtNoProgress, End, Conn, EndLog, end_with_log}
+use Rattle.h2_engines.proofs.Names.{EndRepresents, EndAnswers}
+use Rattle.h2_log.specs.Acts.{IsTypedAct}
+use Rattle.h2_log.specs.LogCalls.{with_call}
 use Rattle.h2_link.specs.declared.error.LinkError.TheVariants as errors
-use Rattle.h2_link.specs.Links.{StallsAtNoProgress}
-use Rattle.h2_ends.specs.declared.end.End.{End}
-use Rattle.h2_ends.specs.declared.refusal.EndRefusal.TheVariants.{Conn}
-use Rattle.h2_ends.specs.Ends.{EndLog}
-use Rattle.h2_ends.specs.EndTakes.{end_with_log}
-use Rattle.h2_ends.specs.Represents.{EndRepresents, EndAnswers}
 use Rattle.h2_engines.specs.Failures.{error_after}
 use Rattle.h2_engines.specs.Linked.{Traffic, IsLinked}
 use Rattle.h2_engines.specs.Machines.{WritesOut}
@@ -140,11 +132,10 @@ writes_all P may {values} {start} {now} new {unused} count done typed some answe
       happened = may end count (Count 0) so.happened typed put.0;
       represents = put.1;
       same = same_twice so.same (same_by_call end _ _ (put_out_failed end.log count 0));
-      given = subst (λ (input : List ℕ). Appends start.given now.given (input ++ unused))
-          (sym (Keeps-call end.log _ _).input) so.linked.given;
+      given = rw ((Keeps-call end.log _ _).input) so.linked.given;
       taken = record {
         all = none.all;
-        taken = subst (Appends start.taken now.taken) (sym none.same) so.linked.taken;
+        taken = rw none.same so.linked.taken;
       };
       turns = omega (arith, so.turns, turns_of_call end.log (PutOut count) (Count 0));
       stalls = tt;
@@ -168,8 +159,7 @@ writes_refused P may {values} {start} {now} new {unused} count refusal typed ans
       represents = put.1;
       same = same_twice so.same
           (same_by_call end _ _ (refused_failed end.log (PutOut count) refusal));
-      given = subst (λ (input : List ℕ). Appends start.given now.given (input ++ unused))
-          (sym (Keeps-call end.log _ _).input) so.linked.given;
+      given = rw ((Keeps-call end.log _ _).input) so.linked.given;
       taken = refused_first start now end.log (PutOut count) refusal so.linked.taken;
       turns = omega (arith, so.turns, turns_of_call end.log (PutOut count) (Refused refusal));
       stalls = stalls_no_more now (end_with_log end after) (put_out_ends put.0 is);

@@ -1,19 +1,16 @@
 -- What is kept of requests says the same of an end at which nothing of a request has happened.
-use Rattle.std.proofs.Common.{◌≡◌, ℕ, List, Option}
-use Rattle.std.proofs.Common.{sym, ap, ◌∙◌, subst, inl, inr}
-use Rattle.std.specs.Prelude.{◌⊎◌}
-use Rattle.std.specs.List.{Contains}
-use Rattle.h2_log.specs.Events.{ResetEvent}
+use Rattle.h2_engines.proofs.Names.{◌≡◌, ℕ, List, Option, sym, ap, ◌∙◌, subst, inl, inr, ◌⊎◌}
+use Rattle.h2_engines.proofs.Names.{Contains, ResetEvent, EndLog, Handed, Passed}
 use Rattle.h2_message.specs.Phases.{ends}
-use Rattle.h2_ends.specs.Ends.{EndLog, Handed, Passed, message_for, parts_on}
+use Rattle.h2_ends.specs.Ends.{message_for, parts_on}
 use Rattle.h2_engines.specs.declared.request.Next.{Next}
 use Rattle.h2_engines.specs.declared.request.Next.TheVariants as nexts
 use Rattle.h2_engines.specs.declared.request.Request.{Request}
 use Rattle.h2_engines.specs.declared.request.Requests.{Requests}
 use Rattle.h2_engines.specs.Answers.{answer_to, is_too_large_body}
 use Rattle.h2_engines.specs.PartialMessages.{RequestState, has_not_come, comes, was_answered}
-use Rattle.h2_engines.specs.PartialMessages.{was_given_up}
-use Rattle.h2_engines.specs.PartialMessages.{KeepsRequests, KeepsOthers, IsToAnswer, KeepsNext}
+use Rattle.h2_engines.specs.PartialMessages.{was_given_up, KeepsRequests, KeepsOthers, IsToAnswer}
+use Rattle.h2_engines.specs.PartialMessages.{KeepsNext}
 use Rattle.h2_engines.specs.ServerHistories.{WasReset, WasTooLarge, WasAnswered}
 use Rattle.h2_engines.specs.ServerSteps.{IsSameOfMessages}
 use Rattle.h2_engines.proofs.TakeMessages.{KeepsCalls}

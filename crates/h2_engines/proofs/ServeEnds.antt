@@ -1,28 +1,22 @@
 -- How a server ends, over a link and without one, by how it was driven.
-use Rattle.std.proofs.Common.{◌≡◌, ℕ, Bool, true, false, List, [], ◌++◌}
-use Rattle.std.proofs.Common.{Some, None, Result, Ok, Err, refl, sym, ap, ◌∙◌, subst, inl}
-use Rattle.std.proofs.Common.{inr}
-use Rattle.std.specs.Prelude.{IfErr, OnOk}
-use Rattle.std.proofs.KnownBytes.{Appends-nil}
-use Rattle.h2_frame.specs.declared.code.Code.{Code}
-use Rattle.h2_frame.specs.declared.code.Code.TheVariants.{InternalError}
-use Rattle.h2_log.specs.declared.role.Role.TheVariants.{Server}
-use Rattle.h2_log.specs.Acts.{Values, AreInRange}
+use Rattle.h2_engines.proofs.Names.{◌≡◌, ℕ, Bool, true, false, List, [], ◌++◌, Some, None, Result}
+use Rattle.h2_engines.proofs.Names.{Ok, Err, refl, sym, ap, ◌∙◌, subst, inl, inr, IfErr}
+use Rattle.h2_engines.proofs.Names.{Appends-nil, Code, InternalError, Server, Values, AreInRange}
+use Rattle.h2_engines.proofs.Names.{EndLog, new_end, LinkError}
+use Rattle.std.specs.Prelude.{OnOk}
 use Rattle.h2_log.specs.LogCalls.{opened}
 use Rattle.h2_log.specs.LogSteps.{with_sent}
 use Rattle.h2_pair.specs.Tokens.{Token, tokens_sent}
-use Rattle.h2_ends.specs.Ends.{EndLog, message_for, tokens_given}
-use Rattle.h2_ends.specs.Represents.{new_end}
-use Rattle.h2_link.specs.declared.error.LinkError.{LinkError}
+use Rattle.h2_ends.specs.Ends.{message_for, tokens_given}
 use Rattle.h2_link.specs.declared.error.LinkError.TheVariants as errors
 use Rattle.h2_engines.specs.declared.request.Next.TheVariants as nexts
 use Rattle.h2_engines.specs.declared.responder.Responder.{Responder}
 use Rattle.h2_engines.specs.Failures.{CutsOffAtEnd, EndsServing}
 use Rattle.h2_engines.specs.Linked.{Traffic, IsLinked, HasTakenAll}
-use Rattle.h2_engines.specs.Machines.{Course, Keeps, IsDriven, EndsFor, lacks_memory}
-use Rattle.h2_engines.specs.Machines.{link_fails, has_failed, has_stalled, stops_itself}
-use Rattle.h2_engines.specs.Machines.{cannot_reset, counts_no_more, answer_refused, reset_refused}
-use Rattle.h2_engines.specs.Machines.{ServerStops, TakenSo, Takes, DrivenSo, Drives, MayEnd}
+use Rattle.h2_engines.specs.Machines.{Course, Keeps, IsDriven, EndsFor, lacks_memory, link_fails}
+use Rattle.h2_engines.specs.Machines.{has_failed, has_stalled, stops_itself, cannot_reset}
+use Rattle.h2_engines.specs.Machines.{counts_no_more, answer_refused, reset_refused, ServerStops}
+use Rattle.h2_engines.specs.Machines.{TakenSo, TakesPiece, DrivenSo, Drives, MayEnd}
 use Rattle.h2_engines.specs.PartialMessages.{KeepsNext}
 use Rattle.h2_engines.specs.ServerHistories.{begins}
 use Rattle.h2_engines.specs.Serves.{Serves, SendsAll, EndsServingSo}
@@ -265,7 +259,7 @@ ends_alone responder none (stops_itself why) = stops_alone why
 
 -- So it takes octets in: all of them, or until it stops.
 pub takes_in : (real now : Traffic) (old new : Responder) (piece : List ℕ) (whole : Bool)
-    → Takes false real now (server_held old) (server_held new) piece (Ok whole)
+    → TakesPiece false real now (server_held old) (server_held new) piece (Ok whole)
     → ServerTakesIn old new piece (Ok tt)
 unfolding TakenSo TakesInSo
 takes_in real now old new piece true takes values end is =
@@ -284,7 +278,7 @@ takes_in real now old new piece false takes values end is =
 
 pub takes_in_part : (real now : Traffic) (old new : Responder) (piece : List ℕ)
     (error : LinkError)
-    → Takes false real now (server_held old) (server_held new) piece (Err error)
+    → TakesPiece false real now (server_held old) (server_held new) piece (Err error)
     → ServerTakesIn old new piece (Err error)
 unfolding TakenSo TakesInSo
 takes_in_part real now old new piece error takes values end is =
@@ -321,4 +315,4 @@ cuts_at_end (Err error) is = tt
 pub errs_cut : (result : Result ℕ LinkError) → IfErr result (λ error. error ≡ errors.CutOff)
     → IfErr result EndsServing
 errs_cut (Ok count) is = tt
-errs_cut (Err error) is = subst EndsServing (sym is) tt
+errs_cut (Err error) is = rw is tt

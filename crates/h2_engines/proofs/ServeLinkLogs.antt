@@ -1,21 +1,15 @@
 -- What calls and octets that were taken leave of the input and the output of a log.
-use Rattle.std.proofs.Common.{◌≡◌, ◌≢◌, ◌≤◌, ℕ, List, [], ◌++◌, length, take, refl, sym, ap, ◌∙◌}
-use Rattle.std.proofs.Common.{append_assoc, append-nil, subst}
-use Rattle.std.specs.Io.KnownBytes.{Appends}
-use Rattle.std.proofs.lemmas.List.{take-append-le}
-use Rattle.h2_log.specs.declared.refusal.Refusal.{Refusal}
-use Rattle.h2_log.specs.Acts.{Act, Answer, Refuse, PutOut, OutOfMemory, Refused}
-use Rattle.h2_log.specs.Log.{Log}
+use Rattle.h2_engines.proofs.Names.{◌≡◌, ◌≢◌, ◌≤◌, ℕ, List, [], ◌++◌, length, take, refl, sym, ap}
+use Rattle.h2_engines.proofs.Names.{◌∙◌, append_assoc, append-nil, subst, Appends, take-append-le}
+use Rattle.h2_engines.proofs.Names.{Refusal, Act, Answer, Refuse, PutOut, OutOfMemory, Refused, Log}
+use Rattle.h2_engines.proofs.Names.{Keeps-call, TakeAnswer, MayTake, reports_unprocessed}
+use Rattle.h2_engines.proofs.Names.{ends_no_frame, ends_frame, meets_fault, sent_failed, given_out}
+use Rattle.h2_engines.proofs.Names.{gives_call, call_given}
 use Rattle.h2_log.specs.LogCalls.{with_items, with_call}
-use Rattle.h2_log.proofs.StreamLemmas.{Keeps-call}
-use Rattle.h2_end_laws.specs.Takes.{TakeAnswer, MayTake, has_failed, reports_unprocessed}
-use Rattle.h2_end_laws.specs.Takes.{ends_no_frame, ends_frame, meets_fault, runs_out_of_memory}
-use Rattle.h2_end_laws.proofs.Failures.{sent_failed, unreturned_failed}
+use Rattle.h2_end_laws.specs.Takes.{has_failed, runs_out_of_memory}
+use Rattle.h2_end_laws.proofs.Failures.{unreturned_failed}
 use Rattle.h2_machine_laws.specs.Machines as steps
 use Rattle.h2_machine_laws.specs.Machines.{Step, log_after}
-use Rattle.h2_pair.specs.Pairs.{given_out}
-use Rattle.h2_pair.proofs.LogOutput.{gives_call}
-use Rattle.h2_pair.proofs.StepCalls.{call_given}
 use Rattle.h2_pair.proofs.StepsOfLogs.{step_adds, IsNoCall}
 use Rattle.h2_engines.specs.Linked.{Traffic, IsLinked}
 
@@ -151,8 +145,6 @@ pub goes_links : {start now : Traffic} {before after : Log} {unused : List ℕ}
     → IsLinked start now after unused
 goes_links {start} {now} {unused} within goes linked =
     record {
-      given = subst (λ (input : List ℕ). Appends start.given now.given (input ++ unused))
-          (sym goes.input) linked.given;
-      taken = subst (Appends start.taken now.taken) (sym (writes_given within goes.writes))
-          linked.taken;
+      given = rw goes.input linked.given;
+      taken = rw ((writes_given within goes.writes)) linked.taken;
     }

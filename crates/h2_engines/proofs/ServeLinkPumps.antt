@@ -1,18 +1,16 @@
 -- What a pump and a release leave of what has happened at a server.
-use Rattle.std.proofs.Common.{◌≡◌, ◌≢◌, ℕ, Option, Result, Ok, Err, refl, sym, ◌∙◌, subst, inl, inr}
-use Rattle.h2_log.specs.declared.refusal.Refusal.{Refusal}
+use Rattle.h2_engines.proofs.Names.{◌≡◌, ◌≢◌, ℕ, Option, Result, Ok, Err, refl, sym, ◌∙◌, subst}
+use Rattle.h2_engines.proofs.Names.{inl, inr, Refusal, Act, Answer, Refuse, PutOut, Count, Done}
+use Rattle.h2_engines.proofs.Names.{OutOfMemory, Refused, EndRefusal, EndLog, end_with_log, Pumps}
+use Rattle.h2_engines.proofs.Names.{pumps_no_more, pumps_data, pumps_trailers, data_refused}
+use Rattle.h2_engines.proofs.Names.{trailers_refused, Releases, releases_no_more, releases_one}
+use Rattle.h2_engines.proofs.Names.{releases_refused}
 use Rattle.h2_log.specs.declared.refusal.Refusal.TheVariants as reasons
-use Rattle.h2_log.specs.Acts.{Act, Answer, SendData, Release, Refuse, PutOut, Count, Done}
-use Rattle.h2_log.specs.Acts.{OutOfMemory, Refused}
+use Rattle.h2_log.specs.Acts.{SendData, Release}
 use Rattle.h2_log.specs.Log.{owed}
 use Rattle.h2_log.specs.LogCalls.{with_call}
-use Rattle.h2_ends.specs.declared.refusal.EndRefusal.{EndRefusal}
 use Rattle.h2_ends.specs.declared.refusal.EndRefusal.TheVariants as refusals
-use Rattle.h2_ends.specs.Ends.{EndLog}
-use Rattle.h2_ends.specs.EndTakes.{end_with_log}
-use Rattle.h2_ends.specs.EndCalls.{MayPump, MayReleaseAll, Pumps, pumps_no_more, pumps_data}
-use Rattle.h2_ends.specs.EndCalls.{pumps_trailers, data_refused, trailers_refused, Releases}
-use Rattle.h2_ends.specs.EndCalls.{releases_no_more, releases_one, releases_refused}
+use Rattle.h2_ends.specs.EndCalls.{MayPump, MayReleaseAll}
 use Rattle.h2_engines.specs.ServerSteps.{IsSameOfMessages}
 use Rattle.h2_engines.proofs.TakeMessages.{KeepsCalls, keeps_by_call}
 use Rattle.h2_engines.proofs.ServeLinkLogs.{GoesOn, goes_none, goes_twice, call_goes, refused_goes}
@@ -50,8 +48,7 @@ stays_twice a b =
     }
 
 pub stays_as : {before after : EndLog} → after ≡ before → StaysOn before after
-stays_as {before} same = subst (λ (one : EndLog). StaysOn before one) (sym same)
-    (stays_none before)
+stays_as {before} same = rw same (stays_none before)
 
 -- A call is made, or refused.
 called_stays : (end : EndLog) (act : Act) (answer : Answer) → ((count : ℕ) → act ≢ PutOut count)

@@ -1,19 +1,13 @@
 -- A call of `take` uses the first octets of a piece, and gives nothing out.
-use Rattle.std.proofs.Common.{◌≡◌, ◌≤◌, ℕ, List, ◌++◌, length, drop, Option, Some, None, refl, sym}
-use Rattle.std.proofs.Common.{ap, ◌∙◌, subst, append_assoc}
+use Rattle.h2_engines.proofs.Names.{◌≡◌, ◌≤◌, ℕ, List, ◌++◌, length, drop, Option, Some, None, refl}
+use Rattle.h2_engines.proofs.Names.{sym, ap, ◌∙◌, subst, append_assoc, Appends, Code, Answer}
+use Rattle.h2_engines.proofs.Names.{Refuse, Event, Log, Keeps-call, MayTake, Took, Failed}
+use Rattle.h2_engines.proofs.Names.{log_after_take, EndLog, EndAnswer, EndTook, EndFailed}
+use Rattle.h2_engines.proofs.Names.{EndMayTake, hands_nothing, passes, hands_out}
+use Rattle.h2_engines.proofs.Names.{runs_out_of_memory}
 use Rattle.std.proofs.Math.Seq.{drop-append_seam}
-use Rattle.std.specs.Io.KnownBytes.{Appends}
-use Rattle.h2_frame.specs.declared.code.Code.{Code}
-use Rattle.h2_log.specs.Acts.{Answer, Refuse}
-use Rattle.h2_log.specs.Events.{Event}
-use Rattle.h2_log.specs.Log.{Log}
 use Rattle.h2_log.specs.LogCalls.{with_call}
-use Rattle.h2_log.proofs.StreamLemmas.{Keeps-call}
-use Rattle.h2_end_laws.specs.Takes.{MayTake, Took, Failed}
-use Rattle.h2_end_laws.proofs.TakeAnswers.{log_after_take}
-use Rattle.h2_ends.specs.Ends.{EndLog, EndAnswer, EndTook, EndFailed}
-use Rattle.h2_ends.specs.EndTakes.{EndMayTake, AnswersRefused, fails, hands_nothing, passes}
-use Rattle.h2_ends.specs.EndTakes.{hands_out, refuses, runs_out_of_memory}
+use Rattle.h2_ends.specs.EndTakes.{AnswersRefused, fails, refuses}
 use Rattle.h2_engines.specs.Linked.{Traffic, HasGiven, IsLinked}
 use Rattle.h2_engines.proofs.ServeLinkLogs.{Writes, writes_twice, writes_given, call_writes}
 use Rattle.h2_engines.proofs.ServeLinkLogs.{take_writes}
@@ -38,9 +32,7 @@ pub record TakesFirst (before after : Log) (piece : List ℕ) (answer : EndAnswe
 -- By its answer, and what has happened then.
 takes_as : (before : Log) {log after : Log} (piece : List ℕ) {answer is : EndAnswer} → answer ≡ is
     → after ≡ log → TakesFirst before log piece is → TakesFirst before after piece answer
-takes_as before {log} piece {answer} same now takes =
-    subst (λ (new : Log). TakesFirst before new piece answer) (sym now)
-    (subst (λ (one : EndAnswer). TakesFirst before log piece one) (sym same) takes)
+takes_as before {log} piece {answer} same now takes = rw now (rw same takes)
 
 -- The octets of the connection,
 took_first : {before after : Log} {piece : List ℕ} {count : ℕ} {event : Option Event}
@@ -142,8 +134,7 @@ pub links_first : {start now : Traffic} {before after : Log} {piece : List ℕ}
 links_first {start} {now} within linked uses =
     record {
       given = given_first start now linked.given uses;
-      taken = subst (Appends start.taken now.taken) (sym (writes_given within uses.writes))
-          linked.taken;
+      taken = rw ((writes_given within uses.writes)) linked.taken;
     }
 
 -- So many octets are dropped.

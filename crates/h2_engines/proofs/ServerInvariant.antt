@@ -1,21 +1,14 @@
 -- What each call keeps of a server over a link, holds whatever has happened at it.
-use Rattle.std.proofs.Common.{◌≡◌, ℕ, List, Option, Result, Ok, Err, sym, subst}
-use Rattle.std.proofs.Common.{inl, inr}
-use Rattle.h2_log.specs.declared.refusal.Refusal.{Refusal}
+use Rattle.h2_engines.proofs.Names.{◌≡◌, ℕ, List, Option, Result, Ok, Err, sym, subst, inl, inr}
+use Rattle.h2_engines.proofs.Names.{Refusal, Server, Values, Act, Answer, SentMessage, EndRefusal}
+use Rattle.h2_engines.proofs.Names.{EndLog, EndAnswer, EndMayTake, end_with_log, Pumps}
+use Rattle.h2_engines.proofs.Names.{pumps_no_more, pumps_data, pumps_trailers, data_refused}
+use Rattle.h2_engines.proofs.Names.{trailers_refused, Releases, releases_no_more, releases_one}
+use Rattle.h2_engines.proofs.Names.{releases_refused, new_end}
 use Rattle.h2_log.specs.declared.refusal.Refusal.TheVariants as reasons
-use Rattle.h2_log.specs.declared.role.Role.TheVariants.{Server}
-use Rattle.h2_log.specs.Acts.{Values, Act, Answer}
 use Rattle.h2_log.specs.LogCalls.{with_call}
-use Rattle.h2_message.specs.Messages.{SentMessage}
-use Rattle.h2_ends.specs.declared.refusal.EndRefusal.{EndRefusal}
 use Rattle.h2_ends.specs.declared.refusal.EndRefusal.TheVariants as refusals
-use Rattle.h2_ends.specs.Ends.{EndLog, EndAnswer}
-use Rattle.h2_ends.specs.EndTakes.{EndMayTake, end_with_log}
 use Rattle.h2_ends.specs.EndCalls.{MayRespond, MayPump, MayReleaseAll, IsUnchanged}
-use Rattle.h2_ends.specs.EndCalls.{Pumps, pumps_no_more, pumps_data, pumps_trailers}
-use Rattle.h2_ends.specs.EndCalls.{data_refused, trailers_refused}
-use Rattle.h2_ends.specs.EndCalls.{Releases, releases_no_more, releases_one, releases_refused}
-use Rattle.h2_ends.specs.Represents.{new_end}
 use Rattle.h2_engines.specs.ServerHistories.{IsResponding, begins, takes, answers, resets, releases}
 use Rattle.h2_engines.specs.ServerHistories.{pumps, gives_out}
 
@@ -27,7 +20,7 @@ CallsKeep P =
 
 -- What holds of an end, holds of the same end.
 pub holds_as : (P : EndLog → Type 0) {before after : EndLog} → after ≡ before → P before → P after
-holds_as P same holds = subst P (sym same) holds
+holds_as P same holds = rw same holds
 
 -- So do the calls of a pump and of a release,
 pump_keeps : (P : EndLog → Type 0) → CallsKeep P

@@ -1,27 +1,22 @@
 -- What a server that is driven makes of octets, and of what is due.
-use Rattle.std.proofs.Common.{◌≡◌, ◌≤◌, ◌<◌, ℕ, ◌+◌, ◌-◌, ◌^◌, Bool, true, false, List, ◌∷◌}
-use Rattle.std.proofs.Common.{length, Some, None, Result, Ok, Err, if◌then◌else◌, refl}
-use Rattle.std.proofs.Common.{sym, ap, ◌∙◌, subst, inl, inr, arith}
-use Rattle.std.specs.Prelude.{IfErr}
+use Rattle.h2_engines.proofs.Names.{◌≡◌, ◌≤◌, ◌<◌, ℕ, ◌+◌, ◌-◌, ◌^◌, Bool, true, false, List, ◌∷◌}
+use Rattle.h2_engines.proofs.Names.{length, Some, None, Result, Ok, Err, if◌then◌else◌, refl, sym}
+use Rattle.h2_engines.proofs.Names.{ap, ◌∙◌, subst, inl, inr, arith, IfErr, Refusal, Answer}
+use Rattle.h2_engines.proofs.Names.{SendFields, ResetStream, Done, Refused, has_failed}
+use Rattle.h2_engines.proofs.Names.{is_no_stream, is_full, Log, log_view, MayAnswer, accepts}
+use Rattle.h2_engines.proofs.Names.{refuses, lacks, fails, is_head_alone, first_in, SentMessage}
+use Rattle.h2_engines.proofs.Names.{EndRefusal, EndLog, EndAnswer, EndTook, EndFailed, EndMayTake}
+use Rattle.h2_engines.proofs.Names.{end_with_log, LinkError}
 use Rattle.std.proofs.lemmas.Bool.{leb-true}
-use Rattle.h2_log.specs.declared.refusal.Refusal.{Refusal}
 use Rattle.h2_log.specs.declared.refusal.Refusal.TheVariants as reasons
-use Rattle.h2_log.specs.Acts.{Answer, SendFields, ResetStream, Done, Refused, IsTypedAct}
-use Rattle.h2_log.specs.CallRules.{conditions, first_of, refusal_of, has_failed, is_no_stream}
-use Rattle.h2_log.specs.CallRules.{is_full, has_all_resets}
+use Rattle.h2_log.specs.Acts.{IsTypedAct}
+use Rattle.h2_log.specs.CallRules.{conditions, first_of, refusal_of, has_all_resets}
 use Rattle.h2_log.specs.Limits.{max_resets}
-use Rattle.h2_log.specs.Log.{Log, waiting, resets_written}
-use Rattle.h2_log.specs.LogView.{log_view}
-use Rattle.h2_log.specs.LogCalls.{MayAnswer, accepts, refuses, lacks, fails, with_call}
-use Rattle.h2_pair.specs.Tokens.{is_head_alone}
-use Rattle.h2_pair.proofs.FaultsInvariant.{first_in}
-use Rattle.h2_message.specs.Messages.{SentMessage}
-use Rattle.h2_ends.specs.declared.refusal.EndRefusal.{EndRefusal}
+use Rattle.h2_log.specs.Log.{waiting, resets_written}
+use Rattle.h2_log.specs.LogCalls.{with_call}
 use Rattle.h2_ends.specs.declared.refusal.EndRefusal.TheVariants as refusals
-use Rattle.h2_ends.specs.Ends.{EndLog, EndAnswer, EndTook, EndFailed, parts_on}
-use Rattle.h2_ends.specs.EndTakes.{EndMayTake, end_with_log}
+use Rattle.h2_ends.specs.Ends.{parts_on}
 use Rattle.h2_ends.specs.EndCalls.{MayRespond, IsUnchanged}
-use Rattle.h2_link.specs.declared.error.LinkError.{LinkError}
 use Rattle.h2_link.specs.declared.error.LinkError.TheVariants as errors
 use Rattle.h2_engines.specs.declared.machine.Heard.{Heard}
 use Rattle.h2_engines.specs.declared.request.Next.{Next}
@@ -33,8 +28,9 @@ use Rattle.h2_engines.specs.Answers.{answer_with, is_too_large_body}
 use Rattle.h2_engines.specs.Failures.{IsOfCall}
 use Rattle.h2_engines.specs.PartialMessages.{KeepsNext, KeepsRequests, IsToAnswer}
 use Rattle.h2_engines.specs.Linked.{Traffic}
-use Rattle.h2_engines.specs.Machines.{Serving, Held, Course, Keeps, IsDriven, EndsFor}
-use Rattle.h2_engines.specs.Machines.{HearsNoMore, gives_up, Hears, IsDue, ActedSo, Acts}
+use Rattle.h2_engines.specs.Machines.{Serving, MachineState, Course, Keeps, IsDriven, EndsFor}
+use Rattle.h2_engines.specs.Machines.{HearsNoMore}
+use Rattle.h2_engines.specs.Machines.{gives_up, Hears, IsDue, RespondedSo, Responds}
 use Rattle.h2_engines.specs.Machines as stops
 use Rattle.h2_engines.specs.ServerHistories.{IsResponding, takes, answers, resets, calm}
 use Rattle.h2_engines.specs.Serves.{CannotReset}
@@ -97,8 +93,7 @@ responded_goes : (end : EndLog) (id : ℕ) (message : SentMessage) (done : Unit 
     (after : EndLog) → MayRespond end id message (Ok done) after → GoesOn end.log after.log
 unfolding MayRespond
 responded_goes end id message done after may =
-    subst (λ (one : EndLog). GoesOn end.log one.log) (sym may.5)
-    (call_goes end.log (SendFields id message.head (is_head_alone message)) Done
+    rw may.5 (call_goes end.log (SendFields id message.head (is_head_alone message)) Done
     (λ count same. cc) (λ i code same. cc) (λ same. cc))
 
 responded_counts : (end : EndLog) (id : ℕ) (message : SentMessage) (done : Unit {0})
@@ -120,8 +115,7 @@ unchanged_goes before after (inr called) =
     (refused_goes before.log called.0 called.1)
 
 same_goes : {before after : EndLog} → after ≡ before → GoesOn before.log after.log
-same_goes {before} same =
-    subst (λ (one : EndLog). GoesOn before.log one.log) (sym same) (goes_none before.log)
+same_goes {before} same = rw same (goes_none before.log)
 
 unanswered_goes : (end : EndLog) (id : ℕ) (message : SentMessage) (refusal : EndRefusal)
     (after : EndLog) → MayRespond end id message (Err refusal) after → GoesOn end.log after.log
@@ -164,7 +158,7 @@ not_answered writes course now new of_call responding counted to_answer none
     (no_memory memory same) =
     record {
       turns = same_turns same;
-      responding = subst (λ (one : EndLog). IsResponding course.values one) (sym same) responding;
+      responding = rw same responding;
       goes = same_goes same;
       why = stops.lacks_memory memory;
     }
@@ -175,7 +169,7 @@ not_answered writes course now new {end} {after} {error} of_call responding coun
     let all : 2 ^ 32 - 1 ≤ length after.accepted = omega (arith, most, counted, accepted) in
     record {
       turns = same_turns same;
-      responding = subst (λ (one : EndLog). IsResponding course.values one) (sym same) responding;
+      responding = rw same responding;
       goes = same_goes same;
       why = calls_ends writes course.start now new.requests new.answered after error of_call
           (λ is. stops.counts_no_more is all);
@@ -200,8 +194,8 @@ pub server_answers : (old new : Responder) (id : ℕ) (request : Request)
     → new.requests ≡ old.requests → IfErr result IsOfCall
     → ServerAnswers old.server.end new.server.end id
     (answer_with request.text.items request.to_head) old.answered result
-    → Acts (server_held old) (server_held new) (nexts.Answer id request) result
-unfolding KeepsNext Keeps AnsweredSo counted_answer ActedSo
+    → Responds (server_held old) (server_held new) (nexts.Answer id request) result
+unfolding KeepsNext Keeps AnsweredSo counted_answer RespondedSo
 server_answers old new id request (Ok done) counted requests of_call answered writes course now end
     unused due none is =
     let message = answer_with request.text.items request.to_head in
@@ -320,9 +314,7 @@ reset_refused answer errors.Refused so = absurd so
 
 reset_goes : (log : Log) (id : ℕ) {answer : Answer} (refusal : Refusal) → answer ≡ Refused refusal
     → GoesOn log (with_call log (ResetStream id calm) answer)
-reset_goes log id refusal is =
-    subst (λ (one : Answer). GoesOn log (with_call log (ResetStream id calm) one)) (sym is)
-    (refused_goes log (ResetStream id calm) refusal)
+reset_goes log id refusal is = rw is (refused_goes log (ResetStream id calm) refusal)
 
 -- A stream is reset.
 reset_typed : (id : ℕ) → id < 2 ^ 32 → IsTypedAct (ResetStream id calm)
@@ -332,8 +324,8 @@ reset_typed id fits = (fits, omega arith)
 pub server_resets : (old new : Responder) (id : ℕ) (result : Result (Unit {0}) LinkError)
     → id < 2 ^ 32 → new.answered ≡ old.answered → new.requests ≡ old.requests
     → ServerResets old.server.end new.server.end id result
-    → Acts (server_held old) (server_held new) (nexts.Reset id) result
-unfolding KeepsNext Keeps ResetSo ActedSo
+    → Responds (server_held old) (server_held new) (nexts.Reset id) result
+unfolding KeepsNext Keeps ResetSo RespondedSo
 server_resets old new id (Ok done) fits same requests reset writes course now end unused due none
     is =
     let now_is = reset course.values end is.represents in
@@ -376,6 +368,6 @@ server_resets old new id (Err error) fits same requests reset writes course now 
     )
 
 -- The same is due.
-pub acts_as : (old new : Held) {due is : Next} (result : Result (Unit {0}) LinkError) → due ≡ is
-    → Acts old new is result → Acts old new due result
-acts_as old new result same acts = subst (λ (one : Next). Acts old new one result) (sym same) acts
+pub acts_as : (old new : MachineState) {due is : Next} (result : Result (Unit {0}) LinkError)
+    → due ≡ is → Responds old new is result → Responds old new due result
+acts_as old new result same acts = rw same acts

@@ -1,20 +1,14 @@
 -- The end of a server over a link stays a server's.
-use Rattle.std.proofs.Common.{◌≡◌, ℕ, List, Ok, refl, ap, ◌∙◌}
-use Rattle.h2_log.specs.declared.role.Role.TheVariants.{Server}
-use Rattle.h2_log.specs.Acts.{Values, Act, Answer}
+use Rattle.h2_engines.proofs.Names.{◌≡◌, ℕ, List, Ok, refl, ap, ◌∙◌, Server, Values, Act, Answer}
+use Rattle.h2_engines.proofs.Names.{Log, log_view, Verdict, ConnectionFault, StreamFault, NoEvent}
+use Rattle.h2_engines.proofs.Names.{Reported, TakeAnswer, MayTake, SentMessage, EndLog, EndAnswer}
+use Rattle.h2_engines.proofs.Names.{EndMayTake}
 use Rattle.h2_log.specs.ItemRules.{verdict_by_rules}
-use Rattle.h2_log.specs.Log.{Log}
 use Rattle.h2_log.specs.LogCalls.{with_call, opened}
 use Rattle.h2_log.specs.LogSteps.{with_sent}
-use Rattle.h2_log.specs.LogView.{log_view}
-use Rattle.h2_log.specs.Verdicts.{Verdict, ConnectionFault, StreamFault, NoEvent, Reported}
 use Rattle.h2_log_laws.proofs.LogGrowth.{grows_call}
-use Rattle.h2_end_laws.specs.Takes.{TakeAnswer, MayTake}
 use Rattle.h2_end_laws.proofs.OverSteps.{take_keeps}
 use Rattle.h2_end_laws.proofs.ReadVerdicts.{Says}
-use Rattle.h2_message.specs.Messages.{SentMessage}
-use Rattle.h2_ends.specs.Ends.{EndLog, EndAnswer}
-use Rattle.h2_ends.specs.EndTakes.{EndMayTake}
 use Rattle.h2_ends.specs.EndCalls.{MayRespond}
 use Rattle.h2_engines.specs.ServerHistories.{IsResponding}
 use Rattle.h2_engines.proofs.ServerInvariant.{holds_responding}

@@ -1,22 +1,14 @@
 -- What a call of `take` of an end says of its messages and its calls.
-use Rattle.std.proofs.Common.{◌≡◌, ℕ, Bool, true, List, [], ◌∷◌, ◌++◌, Option, Some, None, refl}
-use Rattle.std.proofs.Common.{sym, ap, ◌∙◌, subst}
-use Rattle.std.specs.List.{Contains}
-use Rattle.h2_frame.specs.declared.code.Code.{Code}
-use Rattle.h2_frame.specs.declared.code.Code.TheVariants.{InternalError}
-use Rattle.h2_log.specs.Acts.{Act, Answer, Refuse}
-use Rattle.h2_log.specs.Events.{Event, ResetEvent}
-use Rattle.h2_log.specs.Log.{Log}
+use Rattle.h2_engines.proofs.Names.{◌≡◌, ℕ, Bool, true, List, [], ◌∷◌, ◌++◌, Option, Some, None}
+use Rattle.h2_engines.proofs.Names.{refl, sym, ap, ◌∙◌, subst, Contains, Code, InternalError, Act}
+use Rattle.h2_engines.proofs.Names.{Answer, Refuse, Event, ResetEvent, Log, TakeAnswer, Failed}
+use Rattle.h2_engines.proofs.Names.{MayTake, log_after_take, Part, IsReadable, later_in, call_calls}
+use Rattle.h2_engines.proofs.Names.{EndLog, Handed, EndAnswer, EndTook, EndFailed, Passed}
+use Rattle.h2_engines.proofs.Names.{EndMayTake, hands_nothing, passes, hands_out}
+use Rattle.h2_engines.proofs.Names.{runs_out_of_memory}
 use Rattle.h2_log.specs.LogCalls.{with_call}
-use Rattle.h2_end_laws.specs.Takes.{TakeAnswer, Failed, MayTake}
-use Rattle.h2_end_laws.proofs.TakeAnswers.{log_after_take}
-use Rattle.h2_message.specs.Reading.{Part, IsReadable}
-use Rattle.h2_pair.proofs.FaultsInvariant.{later_in}
-use Rattle.h2_pair.proofs.HeardCalls.{call_calls}
-use Rattle.h2_ends.specs.Ends.{EndLog, Handed, EndAnswer, EndTook, EndFailed, Passed, handed_as}
-use Rattle.h2_ends.specs.Ends.{parts_on, reads_on}
-use Rattle.h2_ends.specs.EndTakes.{EndMayTake, AnswersRefused, fails, hands_nothing, passes}
-use Rattle.h2_ends.specs.EndTakes.{hands_out, refuses, runs_out_of_memory}
+use Rattle.h2_ends.specs.Ends.{handed_as, parts_on, reads_on}
+use Rattle.h2_ends.specs.EndTakes.{AnswersRefused, fails, refuses}
 use Rattle.h2_ends.proofs.EndTokens.{take_calls}
 use Rattle.h2_ends.proofs.TakeRefusing.{memory_fails}
 
@@ -29,8 +21,7 @@ KeepsCalls before after =
 pub keeps_by_call : (log : Log) (act : Act) (answer : Answer)
     → KeepsCalls log (with_call log act answer)
 keeps_by_call log act answer one said was =
-    subst (λ (calls : List (Act × Answer)). Contains calls (one, said))
-    (sym (call_calls log act answer)) (later_in (act, answer) log.calls (one, said) was)
+    rw ((call_calls log act answer)) (later_in (act, answer) log.calls (one, said) was)
 
 -- What holds of each log after octets were taken of the connection, and still does once a stream
 -- was refused, holds after a call of `take`.
@@ -38,10 +29,8 @@ refused_holds : (P : Log → Type 0) (before : EndLog) (log : Log) (count id : �
     (after : EndLog) (failed : Option Code)
     → AnswersRefused before log count id answer after failed → P log → P after.log
 unfolding AnswersRefused
-refused_holds P before log count id answer after None refused holds =
-    subst (λ (end : EndLog). P end.log) (sym refused.1) holds
-refused_holds P before log count id answer after (Some code) refused holds =
-    subst (λ (end : EndLog). P end.log) (sym refused.1) holds
+refused_holds P before log count id answer after None refused holds = rw refused.1 holds
+refused_holds P before log count id answer after (Some code) refused holds = rw refused.1 holds
 
 pub take_holds : (P : Log → Type 0) {before : EndLog} {piece : List ℕ} {answer : EndAnswer}
     {after : EndLog}
@@ -81,7 +70,7 @@ unfolding AnswersRefused
 handed_refused Q pass end log n id count handed after None refused =
     let said = refused.0 in
     let is : handed ≡ Passed (ResetEvent id 1 true) = cc in
-    subst Q (sym is) (pass (ResetEvent id 1 true))
+    rw is (pass (ResetEvent id 1 true))
 handed_refused Q pass end log n id count handed after (Some code) refused =
     let wrong = refused.0 in absurd (cc)
 
@@ -94,11 +83,11 @@ handed_by : (Q : Handed → Type 0) {end : EndLog} {piece : List ℕ} (count : �
 handed_by Q count handed pass read named (fails code log takes same now) = absurd (cc)
 handed_by Q count handed pass read named (hands_nothing n log takes same now) = absurd (cc)
 handed_by Q count handed pass read named (passes n event log takes none same now) =
-    let is : handed ≡ Passed event = cc in subst Q (sym is) (pass event)
+    let is : handed ≡ Passed event = cc in rw is (pass event)
 handed_by Q {end} count handed pass read named
     (hands_out n event log takes id part reported readable same now) =
     let is : handed ≡ handed_as (reads_on end id) (parts_on id end.handed) id part = cc in
-    subst Q (sym is) (read id part readable)
+    rw is (read id part readable)
 handed_by Q {end} count handed {after} pass read named
     (refuses n event log takes id part reported broken refused may answers) =
     handed_refused Q pass end (with_call log (Refuse id 1) refused) n id count handed after

@@ -1,23 +1,13 @@
 -- What a server's end hands out of a request, and where.
-use Rattle.std.proofs.Common.{◌≡◌, ◌≢◌, ℕ, Bool, true, false, if◌then◌else◌, List, [], ◌∷◌, ◌++◌}
-use Rattle.std.proofs.Common.{Some, refl, sym, ap, ◌∙◌, subst, append-nil}
-use Rattle.std.proofs.lemmas.Bool.{ne_eqb, eq-eqb}
-use Rattle.std.specs.List.{Contains}
-use Rattle.std.specs.Prelude.{◌==◌}
-use Rattle.hpack.specs.declared.types.field.Field.{Field}
-use Rattle.h2_log.specs.declared.role.Role.TheVariants.{Server}
-use Rattle.h2_log.specs.Events.{Event, ResetEvent}
-use Rattle.h2_log.specs.Settings.{is_server}
-use Rattle.h2_message.specs.declared.reading.Reads.{Reads}
-use Rattle.h2_message.specs.declared.reading.Reads.TheVariants.{Requests, Responses}
-use Rattle.h2_message.specs.declared.reading.Place.{Place}
+use Rattle.h2_engines.proofs.Names.{◌≡◌, ◌≢◌, ℕ, Bool, true, false, if◌then◌else◌, List, [], ◌∷◌}
+use Rattle.h2_engines.proofs.Names.{◌++◌, Some, refl, sym, ap, ◌∙◌, subst, append-nil, ne_eqb}
+use Rattle.h2_engines.proofs.Names.{eq-eqb, Contains, ◌==◌, Field, Server, Event, ResetEvent}
+use Rattle.h2_engines.proofs.Names.{is_server, Reads, Requests, Responses, Place, Part, FieldsPart}
+use Rattle.h2_engines.proofs.Names.{OctetsPart, IsReadable, first_in, later_in, EndLog, EndTook}
+use Rattle.h2_engines.proofs.Names.{Handed, HeadHanded, BodyHanded, TrailersHanded, Passed}
+use Rattle.h2_engines.proofs.Names.{asked_head, EndMayTake}
 use Rattle.h2_message.specs.Phases.{ends}
-use Rattle.h2_message.specs.Reading.{Part, FieldsPart, OctetsPart, IsReadable}
-use Rattle.h2_pair.proofs.FaultsInvariant.{first_in, later_in}
-use Rattle.h2_ends.specs.Ends.{EndLog, EndTook, Handed, HeadHanded}
-use Rattle.h2_ends.specs.Ends.{BodyHanded, TrailersHanded, Passed, asked_head, handed_as}
-use Rattle.h2_ends.specs.Ends.{handed_at, message_for, part_on, parts_on, reads_on}
-use Rattle.h2_ends.specs.EndTakes.{EndMayTake}
+use Rattle.h2_ends.specs.Ends.{handed_as, handed_at, message_for, part_on, parts_on, reads_on}
 use Rattle.h2_engines.specs.ServerHistories.{WasReset}
 use Rattle.h2_engines.proofs.NextParts.{place_first, place_later, no_octets_first, goes_with}
 use Rattle.h2_engines.proofs.SameRequests.{SameOn}
@@ -62,12 +52,12 @@ hands_part : (end : EndLog) (id : ℕ) (parts : List (Part × Bool)) (part : Par
     → parts_on id end.handed ≡ parts → IsReadable Requests (parts ++ part ∷ [])
     → HandsOut end (handed_as Requests parts id part)
 hands_part end id [] (FieldsPart list, last) are readable =
-    subst (HandsOut end) (sym (as_head id list last)) (hands_head id list last are)
+    rw ((as_head id list last)) (hands_head id list last are)
 hands_part end id [] (OctetsPart octets, last) are readable =
     absurd (no_octets_first octets last readable)
 hands_part end id (first ∷ parts) (FieldsPart list, last) are readable =
-    subst (HandsOut end) (sym (as_trailers first parts id list last readable)) (hands_trailers id
-    list (some_parts first parts are)
+    rw ((as_trailers first parts id list last readable)) (hands_trailers id list
+    (some_parts first parts are)
     (ap ends are ∙ goes_with (first ∷ parts) (FieldsPart list, last) readable))
 hands_part end id (first ∷ parts) (OctetsPart octets, last) are readable =
     subst (HandsOut end) (as_body Requests (first ∷ parts) id octets last) (hands_body id octets
@@ -85,8 +75,7 @@ hands_as_read : (end : EndLog) (id : ℕ) (part : Part × Bool) {reads : Reads} 
     → IsReadable reads (parts_on id end.handed ++ part ∷ [])
     → HandsOut end (handed_as reads (parts_on id end.handed) id part)
 hands_as_read end id part same readable =
-    subst (λ (one : Reads). HandsOut end (handed_as one (parts_on id end.handed) id part))
-    (sym same) (hands_part end id (parts_on id end.handed) part refl (subst
+    rw same (hands_part end id (parts_on id end.handed) part refl (subst
     (λ (one : Reads). IsReadable one (parts_on id end.handed ++ part ∷ [])) same readable))
 
 -- So it is with what a call of `take` hands out.

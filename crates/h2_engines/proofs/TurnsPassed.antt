@@ -1,21 +1,16 @@
 -- How many turns have passed at an end after each act: a call or a take is one at least.
-use Rattle.std.proofs.Common.{◌≤◌, ◌<◌, ℕ, ◌+◌, Bool, List, [], length, length-append}
-use Rattle.std.proofs.Common.{Option, Some, None, Result, sym, subst, ap, arith}
-use Rattle.h2_frame.specs.declared.code.Code.{Code}
-use Rattle.h2_log.specs.Acts.{Act, Answer, Turn, Refuse}
-use Rattle.h2_log.specs.Events.{Event}
-use Rattle.h2_log.specs.Log.{Log}
+use Rattle.h2_engines.proofs.Names.{◌≤◌, ◌<◌, ℕ, ◌+◌, Bool, List, [], length, length-append, Option}
+use Rattle.h2_engines.proofs.Names.{Some, None, Result, sym, subst, ap, arith, Code, Act, Answer}
+use Rattle.h2_engines.proofs.Names.{Refuse, Event, Log, MayTake, Took, reports_unprocessed}
+use Rattle.h2_engines.proofs.Names.{ends_no_frame, ends_frame, meets_fault, SentMessage, EndRefusal}
+use Rattle.h2_engines.proofs.Names.{EndLog, Handed, EndAnswer, EndTook, EndMayTake, hands_nothing}
+use Rattle.h2_engines.proofs.Names.{passes, hands_out, runs_out_of_memory}
+use Rattle.h2_log.specs.Acts.{Turn}
 use Rattle.h2_log.specs.LogCalls.{with_call}
 use Rattle.h2_log.specs.LogSteps.{used}
-use Rattle.h2_end_laws.specs.Takes.{MayTake, Took, has_failed}
-use Rattle.h2_end_laws.specs.Takes.{reports_unprocessed, ends_no_frame, ends_frame, meets_fault}
-use Rattle.h2_end_laws.specs.Takes.{runs_out_of_memory as lacks_memory}
+use Rattle.h2_end_laws.specs.Takes.{has_failed, runs_out_of_memory as lacks_memory}
 use Rattle.h2_end_laws.proofs.TurnsAdded.{Adds, adds_call, adds_take}
-use Rattle.h2_message.specs.Messages.{SentMessage}
-use Rattle.h2_ends.specs.declared.refusal.EndRefusal.{EndRefusal}
-use Rattle.h2_ends.specs.Ends.{EndLog, Handed, EndAnswer, EndTook}
-use Rattle.h2_ends.specs.EndTakes.{EndMayTake, AnswersRefused, fails, hands_nothing, passes}
-use Rattle.h2_ends.specs.EndTakes.{hands_out, refuses, runs_out_of_memory}
+use Rattle.h2_ends.specs.EndTakes.{AnswersRefused, fails, refuses}
 use Rattle.h2_ends.specs.EndCalls.{MayRespond, MayPump, MayReleaseAll}
 use Rattle.h2_engines.proofs.ServerInvariant.{CallsKeep, AnswersKeep, pumped_keeps, released_keeps}
 use Rattle.h2_engines.proofs.ServerInvariant.{responded_keeps}
@@ -107,8 +102,7 @@ turns_kept n end act answer so = omega (arith, so, turns_of_call end.log act ans
 
 answer_turns : (n : ℕ) → AnswersKeep (λ one. n ≤ length one.log.turns)
 unfolding MayRespond
-answer_turns n before id message done after may so =
-    subst (λ (one : EndLog). n ≤ length one.log.turns) (sym may.5) (turns_kept n before _ _ so)
+answer_turns n before id message done after may so = rw may.5 (turns_kept n before _ _ so)
 
 pub turns_of_response : (end after : EndLog) (id : ℕ) (message : SentMessage)
     (result : Result (Unit {0}) EndRefusal) → MayRespond end id message result after

@@ -1,21 +1,20 @@
 -- How many octets a call puts out of the output of a log: as many as were asked for, or all.
-use Rattle.std.proofs.Common.{◌≡◌, ◌≤◌, ◌<◌, ℕ, ◌+◌, ◌-◌, min, Bool, true, false, if◌then◌else◌}
-use Rattle.std.proofs.Common.{List, [], ◌∷◌, ◌++◌, length, take, drop, refl, sym, ap, ◌∙◌, arith}
-use Rattle.std.proofs.Common.{length-append, append-nil}
-use Rattle.std.proofs.lemmas.List.{take_all, length-drop, length-take}
+use Rattle.h2_engines.proofs.Names.{◌≡◌, ◌≤◌, ◌<◌, ℕ, ◌+◌, ◌-◌, Bool, true, false, if◌then◌else◌}
+use Rattle.h2_engines.proofs.Names.{List, [], ◌∷◌, ◌++◌, length, take, drop, refl, sym, ap, ◌∙◌}
+use Rattle.h2_engines.proofs.Names.{arith, length-append, append-nil, take_all, length-drop}
+use Rattle.h2_engines.proofs.Names.{length-take, PutOut, Count, returns_before_put_out, Log}
+use Rattle.h2_engines.proofs.Names.{with_credit_returned, MayAnswer, accepts, refuses, lacks, fails}
+use Rattle.h2_engines.proofs.Names.{called, log_view, given_out}
+use Rattle.std.proofs.Common.{min}
 use Rattle.h2_frame.specs.Frames.{WindowUpdate}
 use Rattle.h2_block.specs.Grouping.{alone}
-use Rattle.h2_log.specs.Acts.{PutOut, Count}
-use Rattle.h2_log.specs.CallRules.{returns_before_put_out, update_size}
+use Rattle.h2_log.specs.CallRules.{update_size}
 use Rattle.h2_log.specs.Items.{encoding_of_items}
-use Rattle.h2_log.specs.Log.{Log, waiting, output, max_payload_sent}
-use Rattle.h2_log.specs.LogSteps.{with_sent, with_credit_returned}
-use Rattle.h2_log.specs.LogCalls.{MayAnswer, accepts, refuses, lacks, fails, called, before_put_out}
-use Rattle.h2_log.specs.LogCalls.{with_call}
-use Rattle.h2_log.specs.LogView.{log_view}
+use Rattle.h2_log.specs.Log.{waiting, output, max_payload_sent}
+use Rattle.h2_log.specs.LogSteps.{with_sent}
+use Rattle.h2_log.specs.LogCalls.{before_put_out, with_call}
 use Rattle.h2_log.proofs.SentPayloads.{most_is_limit}
 use Rattle.h2_log_laws.proofs.ItemSizes.{size-update}
-use Rattle.h2_pair.specs.Pairs.{given_out}
 use Rattle.h2_engines.specs.WithoutLink.{PutsOut}
 use Rattle.h2_engines.proofs.ResponderOutput.{given_more, put_out_octets}
 

@@ -1,29 +1,21 @@
 -- What an end without a link puts out, and that a server and a client go on then.
-use Rattle.std.proofs.Common.{◌≡◌, ◌<◌, ℕ, ◌^◌, List, ◌++◌, Result, Ok, Err, refl}
-use Rattle.std.proofs.Common.{sym, ap, ◌∙◌, subst}
-use Rattle.h2_log.specs.declared.refusal.Refusal.{Refusal}
-use Rattle.h2_log.specs.Acts.{Values, PutOut, Count, Refused, IsTypedAct}
-use Rattle.h2_log.specs.Log.{Log}
+use Rattle.h2_engines.proofs.Names.{◌≡◌, ◌<◌, ℕ, ◌^◌, List, ◌++◌, Result, Ok, Err, refl, sym, ap}
+use Rattle.h2_engines.proofs.Names.{◌∙◌, subst, Refusal, Values, PutOut, Count, Refused, Log}
+use Rattle.h2_engines.proofs.Names.{GivesOut, SentMessage, given_out, Conn, EndLog, end_with_log}
+use Rattle.h2_engines.proofs.Names.{EndAnswers, LinkError}
+use Rattle.h2_log.specs.Acts.{IsTypedAct}
 use Rattle.h2_log.specs.LogCalls.{with_call}
-use Rattle.h2_conn.specs.Conn.{GivesOut}
-use Rattle.h2_message.specs.Messages.{SentMessage}
-use Rattle.h2_pair.specs.Pairs.{given_out}
-use Rattle.h2_ends.specs.declared.refusal.EndRefusal.TheVariants.{Conn}
-use Rattle.h2_ends.specs.Ends.{EndLog}
-use Rattle.h2_ends.specs.EndTakes.{end_with_log}
-use Rattle.h2_ends.specs.Represents.{EndAnswers}
-use Rattle.h2_link.specs.declared.error.LinkError.{LinkError}
 use Rattle.h2_engines.specs.declared.fetcher.Fetcher.{Fetcher}
 use Rattle.h2_engines.specs.declared.request.Next.{Next}
 use Rattle.h2_engines.specs.declared.request.Next.TheVariants as nexts
 use Rattle.h2_engines.specs.declared.responder.Responder.{Responder}
 use Rattle.h2_engines.specs.Failures.{error_after}
-use Rattle.h2_engines.specs.Machines.{Kept, Serving, Fetching, Held, Course, Keeps}
+use Rattle.h2_engines.specs.Machines.{MessageState, Serving, Fetching, MachineState, Course, Keeps}
 use Rattle.h2_engines.specs.Machines.{PutsWaiting}
 use Rattle.h2_engines.specs.PartialMessages.{KeepsNext}
 use Rattle.h2_engines.specs.ServerSteps.{IsSameOfMessages}
-use Rattle.h2_engines.specs.WithoutLink.{SendsWaiting, PutsOut, PutOutSo}
-use Rattle.h2_engines.specs.WithoutLink.{ServerPutsOut, ClientPutsOut}
+use Rattle.h2_engines.specs.WithoutLink.{SendsWaiting, PutsOut, PutOutSo, ServerPutsOut}
+use Rattle.h2_engines.specs.WithoutLink.{ClientPutsOut}
 use Rattle.h2_engines.proofs.MachineLaws.{puts_at, keeps_same}
 use Rattle.h2_engines.proofs.MachineViews.{server_held, client_held, no_message, begun}
 use Rattle.h2_engines.proofs.ResponderEnds.{same_twice, same_by_call, given_within}
@@ -47,7 +39,7 @@ puts_after one same puts =
     }
 
 -- A machine has put octets out;
-pub machine_put : (old middle new : Held) (count given : ℕ) (before now : List ℕ)
+pub machine_put : (old middle new : MachineState) (count given : ℕ) (before now : List ℕ)
     (done : Unit {0}) → count < 2 ^ 64 → SendsWaiting old.end middle.end (Ok done)
     → EndAnswers middle.end (PutOut count) (Count given) new.end
     → GivesOut middle.end.conn count given before now
@@ -79,8 +71,8 @@ refused_given : (log : Log) (count : ℕ) (refusal : Refusal)
 unfolding with_call
 refused_given log count refusal = refl
 
-pub machine_refused : (old middle new : Held) (count : ℕ) (refusal : Refusal) {before now : List ℕ}
-    (done : Unit {0}) {error : LinkError} → count < 2 ^ 64
+pub machine_refused : (old middle new : MachineState) (count : ℕ) (refusal : Refusal)
+    {before now : List ℕ} (done : Unit {0}) {error : LinkError} → count < 2 ^ 64
     → SendsWaiting old.end middle.end (Ok done)
     → EndAnswers middle.end (PutOut count) (Refused refusal) new.end
     → error ≡ error_after (Conn refusal) → now ≡ before
@@ -106,7 +98,7 @@ machine_refused old middle new count refusal done typed sends answers why nothin
     }
 
 -- or what waits can't be sent.
-pub machine_unsent : (old new : Held) (count : ℕ) (before now : List ℕ) (error : LinkError)
+pub machine_unsent : (old new : MachineState) (count : ℕ) (before now : List ℕ) (error : LinkError)
     → SendsWaiting old.end new.end (Err error) → now ≡ before
     → PutsWaiting old new count before now (Err error)
 unfolding PutOutSo
@@ -125,12 +117,11 @@ machine_unsent old new count before now error sends nothing course end is was =
     }
 
 -- It goes on then.
-goes_as : (course : Course) {old new : Kept} {before after : EndLog} (next : Next) → new ≡ old
-    → IsSameOfMessages before after → Keeps course.message old before next
+goes_as : (course : Course) {old new : MessageState} {before after : EndLog} (next : Next)
+    → new ≡ old → IsSameOfMessages before after → Keeps course.message old before next
     → Keeps course.message new after next
 goes_as course {old} {before} {after} next kept same keeps =
-    subst (λ (one : Kept). Keeps course.message one after next) (sym kept)
-    (keeps_same course.message old before after next same keeps)
+    rw kept (keeps_same course.message old before after next same keeps)
 
 -- what is driven without a link
 abbrev pub unlinked : Values → SentMessage → Course

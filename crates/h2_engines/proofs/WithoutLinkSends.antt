@@ -1,21 +1,15 @@
 -- What is given back and sent before output is put out, and what that leaves.
-use Rattle.std.proofs.Common.{◌≡◌, ◌≢◌, ◌≤◌, true, false, length, Option, Some, None, is_some}
-use Rattle.std.proofs.Common.{Result, Ok, Err, refl, sym, ◌∙◌, subst, arith}
-use Rattle.h2_frame.specs.declared.code.Code.{Code}
+use Rattle.h2_engines.proofs.Names.{◌≡◌, ◌≢◌, ◌≤◌, true, false, length, Option, Some, None, Result}
+use Rattle.h2_engines.proofs.Names.{Ok, Err, refl, sym, ◌∙◌, subst, arith, Code, Values, Log}
+use Rattle.h2_engines.proofs.Names.{given_out, End, EndRefusal, EndLog, LinkError}
+use Rattle.std.proofs.Common.{is_some}
 use Rattle.h2_log.specs.declared.refusal.Refusal.TheVariants as reasons
-use Rattle.h2_log.specs.Acts.{Values}
-use Rattle.h2_log.specs.Log.{Log}
 use Rattle.h2_conn.specs.declared.conn.Conn.{Conn}
 use Rattle.h2_conn.specs.Conn.{ConnRepresents}
-use Rattle.h2_pair.specs.Pairs.{given_out}
-use Rattle.h2_ends.specs.declared.end.End.{End}
-use Rattle.h2_ends.specs.declared.refusal.EndRefusal.{EndRefusal}
 use Rattle.h2_ends.specs.declared.refusal.EndRefusal.TheVariants as refusals
-use Rattle.h2_ends.specs.Ends.{EndLog}
 use Rattle.h2_ends.specs.EndCalls.{MayReleaseAll}
-use Rattle.h2_link.specs.declared.error.LinkError.{LinkError}
 use Rattle.h2_link.specs.declared.error.LinkError.TheVariants as errors
-use Rattle.h2_engines.specs.Machines.{Kept, Course, Happens}
+use Rattle.h2_engines.specs.Machines.{MessageState, Course, Happens}
 use Rattle.h2_engines.specs.ServerSteps.{IsSameOfMessages, ReleasesSome, PumpsSome, EndsAfter}
 use Rattle.h2_engines.specs.ServerSteps.{EndsRelease}
 use Rattle.h2_engines.specs.WithoutLink.{HasSent, has_failed, sends, releases_no_more}
@@ -156,7 +150,7 @@ sent_error (releases_no_more released is same up may) = same
 sent_error (sends_no_more middle released sent is same up may then) = same
 
 -- It may have happened at a machine.
-pub sends_at : (course : Course) (kept : Kept) {before after : EndLog}
+pub sends_at : (course : Course) (kept : MessageState) {before after : EndLog}
     {result : Result (Unit {0}) LinkError} → Happens course kept before
     → HasSent before after result → Happens course kept after
 sends_at course kept was sent =

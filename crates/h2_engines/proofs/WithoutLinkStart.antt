@@ -1,10 +1,8 @@
 -- A new server without a link.
-use Rattle.std.proofs.Common.{◌≡◌, [], None, refl}
-use Rattle.h2_log.specs.declared.role.Role.TheVariants.{Server}
-use Rattle.h2_log.specs.Acts.{Values, AreInRange}
+use Rattle.h2_engines.proofs.Names.{◌≡◌, [], None, refl, Server, Values, AreInRange, EndRepresents}
+use Rattle.h2_engines.proofs.Names.{new_end}
 use Rattle.h2_log.specs.LogCalls.{opened}
 use Rattle.h2_log.specs.LogSteps.{with_sent}
-use Rattle.h2_ends.specs.Represents.{EndRepresents, new_end}
 use Rattle.h2_engines.specs.declared.responder.Responder.{Responder}
 use Rattle.h2_engines.specs.ServerHistories.{begins}
 use Rattle.h2_engines.specs.WithoutLink.{IsServingAlone}

@@ -7,8 +7,8 @@ ghost use Rattle.h2_conn.specs.Conn.{GivesOut, answer_by};
 ghost use Rattle.h2_ends.specs.Represents.{EndAnswers, EndPumps, EndReleases};
 ghost use Rattle.h2_engines.specs.Failures.{EndsWriting, IsOfCall, failures_at_end, failures_by};
 ghost use Rattle.h2_engines.specs.Linked.{traffic};
-ghost use Rattle.h2_engines.specs.Machines.{Held, Hears, Acts, IsOf, MayEnd, Does, EndsEarly};
-ghost use Rattle.h2_engines.specs.Machines.{Takes};
+ghost use Rattle.h2_engines.specs.Machines.{MachineState, Hears, Responds, IsOf, MayEnd, WritesAndResponds, EndsEarly};
+ghost use Rattle.h2_engines.specs.Machines.{TakesPiece};
 ghost use Rattle.h2_engines.specs.Machines.{Drives, MeetsEnd, WritesWaiting};
 ghost use Rattle.h2_engines.specs.Machines.{PutsWaiting};
 ghost use Rattle.h2_engines.specs.ServerSteps.{PumpsSome};
@@ -38,7 +38,7 @@ pub(crate) struct Heard {
 /// out.
 pub(crate) trait Machine {
     /// Its end, and what it keeps beside that.
-    ghost held: { Self → Held };
+    ghost held: { Self → MachineState };
 
     /// Whether it is a server.
     ghost serves: { Bool };
@@ -58,7 +58,7 @@ pub(crate) trait Machine {
 
     /// Makes an answer or a reset that is due.
     fn act(&mut self, due: Next) -> Result<(), LinkError>
-        ensures acts { Acts (held self.old) (held self.new) due result }
+        ensures acts { Responds (held self.old) (held self.new) due result }
         ensures err { IfErr result (IsOf serves) };
 
     /// Sends what waits of messages, as windows allow.
@@ -124,7 +124,7 @@ fn do_due<M: Machine, L: Link>(
     due: Next,
 ) -> Result<(), LinkError>
     requires { L.faults link.old < 2 ^ 64 - 1 }
-    ensures does { Does writes
+    ensures does { WritesAndResponds writes
         (traffic (L.given link.old) (L.taken link.old) (L.stalled link.old))
         (traffic (L.given link.new) (L.taken link.new) (L.stalled link.new))
         (M.held machine.old) (M.held machine.new) due result }
@@ -178,7 +178,7 @@ pub(crate) fn take_all<M: Machine, L: Link>(
     piece: &[u8],
 ) -> Result<bool, LinkError>
     requires { L.faults link.old < 2 ^ 64 - 1 }
-    ensures takes { Takes writes
+    ensures takes { TakesPiece writes
         (traffic (L.given link.old) (L.taken link.old) (L.stalled link.old))
         (traffic (L.given link.new) (L.taken link.new) (L.stalled link.new))
         (M.held machine.old) (M.held machine.new) piece.now result }

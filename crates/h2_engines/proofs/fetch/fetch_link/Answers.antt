@@ -1,7 +1,5 @@
 -- Each return, by how the client was driven.
-use Rattle.std.proofs.Common.{Bool, refl, ◌∙◌}
-use Rattle.std.proofs.lemmas.Result.{err_from_is_err_and}
-use Rattle.h2_message.specs.Values.{message_value}
+use Rattle.h2_engines.proofs.Names.{Bool, refl, ◌∙◌, err_from_is_err_and, message_value}
 use Rattle.h2_engines.specs.declared.fetcher.Fetched.{Fetched}
 use Rattle.h2_engines.proofs.FetchEnds.{ends_at_once, drive_fetches, drive_not_cut, drive_cut_off}
 use Rattle.h2_engines.proofs.FetchEnds.{drive_whole, fetched_not_cut}

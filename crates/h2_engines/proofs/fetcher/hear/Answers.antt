@@ -1,6 +1,5 @@
 -- By the lemmas on what a client hears.
-use Rattle.std.proofs.Common.{refl, ap, arith, false, true, inl, inr}
-use Rattle.h2_ends.specs.Loans.{event_handed}
+use Rattle.h2_engines.proofs.Names.{refl, ap, arith, false, true, inl, inr, event_handed}
 use Rattle.h2_engines.specs.declared.request.Next.TheVariants as goes
 use Rattle.h2_engines.proofs.FetcherHears.{heard_nothing, heard_part, heard_error, heard_fault}
 use Rattle.h2_engines.proofs.FetcherHears.{errs_memory, errs_reset, errs_unprocessed}

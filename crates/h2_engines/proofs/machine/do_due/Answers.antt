@@ -1,5 +1,5 @@
 -- What is due is done once all that waits was written, or at once.
-use Rattle.std.proofs.lemmas.Result.{err_from_is_err_and}
+use Rattle.h2_engines.proofs.Names.{err_from_is_err_and}
 use Rattle.h2_engines.specs.Linked.{traffic}
 use Rattle.h2_engines.proofs.MachineTakes.{wrote_due, unwritten_due, plain_due, does_as}
 use Rattle.h2_engines.proofs.machine.do_due.Goals as goal

@@ -1,6 +1,6 @@
 -- Each return, by what the rounds before it and the last one have made of the machine and the link.
-use Rattle.std.proofs.Common.{◌+◌, [], refl, sym, ◌∙◌, take, drop, length, arith}
-use Rattle.std.proofs.lemmas.Result.{err_from_is_err_and}
+use Rattle.h2_engines.proofs.Names.{◌+◌, [], refl, sym, ◌∙◌, take, drop, length, arith}
+use Rattle.h2_engines.proofs.Names.{err_from_is_err_and}
 use Rattle.std.specs.List.{length_refill}
 use Rattle.h2_engines.proofs.MachineDrives.{drives_first, going_ends, no_round, sent_on, sent_last}
 use Rattle.h2_engines.proofs.MachineDrives.{read_on, read_ends, read_fails, taken_on, taken_whole}

@@ -1,6 +1,6 @@
 -- It ends at once without a link, or while the connection is up; else once all was written, or that
 -- could not be.
-use Rattle.std.proofs.Common.{◌∙◌, sym, subst}
+use Rattle.h2_engines.proofs.Names.{◌∙◌, sym, subst}
 use Rattle.h2_conn.specs.declared.conn.Conn.{Conn}
 use Rattle.h2_engines.specs.Linked.{traffic}
 use Rattle.h2_engines.proofs.MachineTakes.{ends_alone, ends_up, ends_written, ends_not_written}

@@ -1,6 +1,5 @@
 -- By the lemmas on output that is put out.
-use Rattle.std.proofs.Common.{refl, arith}
-use Rattle.std.proofs.lemmas.Result.{err_from_is_err_and}
+use Rattle.h2_engines.proofs.Names.{refl, arith, err_from_is_err_and}
 use Rattle.h2_engines.proofs.WithoutLinkPutOut.{machine_put, machine_refused, machine_unsent}
 use Rattle.h2_engines.proofs.machine.put_out.Goals as goal
 

@@ -1,5 +1,5 @@
 -- By the lemmas on what is sent before output is put out.
-use Rattle.std.proofs.Common.{◌≡◌, ◌≢◌, Ok, Err, rules, sym, ◌∙◌, subst}
+use Rattle.h2_engines.proofs.Names.{◌≡◌, ◌≢◌, Ok, Err, rules, sym, ◌∙◌, subst}
 use Rattle.h2_log.specs.declared.refusal.Refusal.TheVariants as reasons
 use Rattle.h2_conn.specs.declared.conn.Conn.{Conn}
 use Rattle.h2_ends.specs.declared.refusal.EndRefusal.TheVariants as refusals

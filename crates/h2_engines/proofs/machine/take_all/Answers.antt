@@ -1,7 +1,6 @@
 -- Each part of the piece is heard of, and what is due is done, until nothing is left or the machine
 -- ends.
-use Rattle.std.proofs.Common.{◌≡◌, ◌+◌, drop, refl, ◌∙◌, arith}
-use Rattle.std.proofs.lemmas.Result.{err_from_is_err_and}
+use Rattle.h2_engines.proofs.Names.{◌≡◌, ◌+◌, drop, refl, ◌∙◌, arith, err_from_is_err_and}
 use Rattle.h2_engines.specs.declared.request.Next.TheVariants as nexts
 use Rattle.h2_engines.specs.Linked.{traffic}
 use Rattle.h2_engines.proofs.MachineLaws.{is_due}
@@ -9,8 +8,7 @@ use Rattle.h2_engines.proofs.MachineTakes.{TakesOn, takes_first, heard_rest, don
 use Rattle.h2_engines.proofs.MachineTakes.{whole_rest, due_rest, not_done_rest, last_rest}
 use Rattle.h2_engines.proofs.MachineTakes.{no_round_rest, within_rest, moved_to}
 use Rattle.h2_engines.proofs.machine.take_all.Goals as goal
-use Rattle.h2_engines.proofs.machine.take_all.Goals.{in-Again}
-use Rattle.h2_engines.proofs.machine.take_all.Goals.{in_default+in_ok-do_due-in_default}
+use Rattle.h2_engines.proofs.machine.take_all.Goals.{in-Again, in_default+in_ok-do_due-in_default}
 
 pub loop-init : goal.loop-init
 loop-init g c =

@@ -1,9 +1,7 @@
 -- By the lemmas on output that is written.
-use Rattle.std.proofs.Common.{ℕ, refl, ◌∙◌, subst, arith}
-use Rattle.std.proofs.lemmas.Result.{err_from_is_err_and}
-use Rattle.h2_log.specs.Acts.{PutOut, Count}
+use Rattle.h2_engines.proofs.Names.{ℕ, refl, ◌∙◌, subst, arith, err_from_is_err_and, PutOut, Count}
+use Rattle.h2_engines.proofs.Names.{EndAnswers}
 use Rattle.h2_link.specs.Links.{WritesAll}
-use Rattle.h2_ends.specs.Represents.{EndAnswers}
 use Rattle.h2_engines.specs.Machines.{Happens}
 use Rattle.h2_engines.proofs.MachineLaws.{puts_at}
 use Rattle.h2_engines.proofs.ResponderFaults.{written_some, written_failures, written_ends}

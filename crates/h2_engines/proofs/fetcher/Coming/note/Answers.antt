@@ -1,10 +1,9 @@
 -- What was handed out is kept, where it is a part of the response.
-use Rattle.std.proofs.Common.{rules, ℕ, Vec, Global, map as each, ◌++◌, ◌∷◌, [], List, Some}
-use Rattle.std.proofs.Common.{refl, ap, ◌∙◌}
-use Rattle.std.proofs.lemmas.List.{map_push}
-use Rattle.hpack.specs.declared.types.field.Field.{Field}
-use Rattle.h2_ends.specs.Loans.{event_handed}
-use Rattle.h2_ends.specs.Ends.{InterimHanded, HeadHanded, BodyHanded, TrailersHanded, part_on}
+use Rattle.h2_engines.proofs.Names.{rules, ℕ, Vec, Global, ◌++◌, ◌∷◌, [], List, Some, refl, ap, ◌∙◌}
+use Rattle.h2_engines.proofs.Names.{map_push, Field, event_handed, InterimHanded, HeadHanded}
+use Rattle.h2_engines.proofs.Names.{BodyHanded, TrailersHanded}
+use Rattle.std.proofs.Common.{map as each}
+use Rattle.h2_ends.specs.Ends.{part_on}
 use Rattle.h2_engines.specs.ClientSteps.{notes_interim, notes_head, notes_body, notes_trailers}
 use Rattle.h2_engines.proofs.NoteResponses.{noted_as, other_part, other_event}
 use Rattle.h2_engines.proofs.fetcher.Coming.note.Goals as goal

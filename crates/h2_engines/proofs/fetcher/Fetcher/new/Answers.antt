@@ -1,9 +1,7 @@
 -- By the lemmas on a new client's request.
-use Rattle.std.proofs.Common.{◌≡◌, ◌≢◌, refl, rules}
+use Rattle.h2_engines.proofs.Names.{◌≡◌, ◌≢◌, refl, rules, Malformed, message_value}
 use Rattle.h2_log.specs.declared.refusal.Refusal.TheVariants as reasons
 use Rattle.h2_ends.specs.declared.refusal.EndRefusal.TheVariants as refusals
-use Rattle.h2_message.specs.declared.malformed.Malformed.{Malformed}
-use Rattle.h2_message.specs.Values.{message_value}
 use Rattle.h2_engines.specs.Failures.{error_after}
 use Rattle.h2_engines.proofs.FetcherStart.{has_requested, refused_as_broken, refused_as_large}
 use Rattle.h2_engines.proofs.FetcherStart.{refused_otherwise}

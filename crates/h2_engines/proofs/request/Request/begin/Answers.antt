@@ -1,6 +1,5 @@
 -- The method and the path of the head, and whether it asks with HEAD.
-use Rattle.std.proofs.Common.{◌≡◌, ◌++◌, ◌∷◌, [], List, ℕ, refl, ap, ◌∙◌, arith}
-use Rattle.std.specs.Str.{bytes_eq}
+use Rattle.h2_engines.proofs.Names.{◌≡◌, ◌++◌, ◌∷◌, [], List, ℕ, refl, ap, ◌∙◌, arith, bytes_eq}
 use Rattle.h2_engines.proofs.NoteHeads.{is_begun}
 use Rattle.h2_engines.proofs.request.Request.begin.Goals as goal
 

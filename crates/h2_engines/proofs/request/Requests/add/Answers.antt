@@ -1,5 +1,5 @@
 -- The octets are added to what is kept.
-use Rattle.std.proofs.Common.{◌≡◌, ℕ, ap, sym, Some, None, refl, arith}
+use Rattle.h2_engines.proofs.Names.{◌≡◌, ℕ, ap, sym, Some, None, refl, arith}
 use Rattle.std.specs.Option.{is_some}
 use Rattle.std.specs.BTreeMap.{BTreeMap}
 use Rattle.h2_engines.specs.declared.request.Request.{Request}

@@ -1,5 +1,5 @@
 -- The request is taken out, if it is kept.
-use Rattle.std.proofs.Common.{None, sym}
+use Rattle.h2_engines.proofs.Names.{None, sym}
 use Rattle.h2_engines.proofs.RequestTable.{changes_one, ends_some, ends_none}
 use Rattle.h2_engines.proofs.request.Requests.end.Goals as goal
 

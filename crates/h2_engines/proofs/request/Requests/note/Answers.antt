@@ -1,17 +1,13 @@
 -- What was handed out of a request is kept.
-use Rattle.std.proofs.Common.{None, Some, ap}
-use Rattle.h2_ends.specs.Loans.{event_handed}
+use Rattle.h2_engines.proofs.Names.{None, Some, ap, event_handed}
 use Rattle.h2_engines.proofs.NoteOne.{notes_whole, notes_first, notes_octets, notes_trailers}
 use Rattle.h2_engines.proofs.NoteOne.{notes_reset, notes_other}
 use Rattle.h2_engines.proofs.RequestTable.{changes_one}
 use Rattle.h2_engines.proofs.request.Requests.note.Goals as goal
-use Rattle.h2_engines.proofs.request.Requests.note.Goals.{
-  in-Head+in_ok-request-in-Head+else-end+in_ok-insert-in-Head+in-Some-1,
-  in-Head+in_ok-request-in-Head+else-end+in_ok-insert-in-Head+in-None-1,
-  in-Reset+in-Some-1,
-  in-Reset+in-None-1,
-  in_default,
-}
+use Rattle.h2_engines.proofs.request.Requests.note.Goals.{in-Head+in_ok-request-in-Head+else-end+in_ok-insert-in-Head+in-Some-1}
+use Rattle.h2_engines.proofs.request.Requests.note.Goals.{in-Head+in_ok-request-in-Head+else-end+in_ok-insert-in-Head+in-None-1}
+use Rattle.h2_engines.proofs.request.Requests.note.Goals.{in-Reset+in-Some-1, in-Reset+in-None-1}
+use Rattle.h2_engines.proofs.request.Requests.note.Goals.{in_default}
 
 pub returns-then-end : goal.returns-then-end
 returns-then-end c =

@@ -1,5 +1,5 @@
 -- By the lemmas on an answer.
-use Rattle.std.proofs.Common.{refl, arith}
+use Rattle.h2_engines.proofs.Names.{refl, arith}
 use Rattle.h2_engines.specs.ServerSteps.{counted_answer}
 use Rattle.h2_engines.proofs.ResponderCalls.{answers_none, answers_no_more, answers_done}
 use Rattle.h2_engines.proofs.ResponderCalls.{answers_refused}

@@ -1,5 +1,5 @@
 -- By the lemma on a new server.
-use Rattle.std.proofs.Common.{refl}
+use Rattle.h2_engines.proofs.Names.{refl}
 use Rattle.h2_engines.proofs.WithoutLinkStart.{new_serves}
 use Rattle.h2_engines.proofs.responder.Responder.new.Goals as goal
 

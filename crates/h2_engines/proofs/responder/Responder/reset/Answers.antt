@@ -1,6 +1,5 @@
 -- By the lemmas on a reset.
-use Rattle.std.proofs.Common.{◌≢◌, refl, rules}
-use Rattle.h2_log.specs.declared.refusal.Refusal.TheVariants.{TooManyResets}
+use Rattle.h2_engines.proofs.Names.{◌≢◌, refl, rules, TooManyResets}
 use Rattle.h2_engines.proofs.ResponderCalls.{resets_done, resets_no_more, resets_refused}
 use Rattle.h2_engines.proofs.ResponderFaults.{call_ends_server}
 use Rattle.h2_engines.proofs.responder.Responder.reset.Goals as goal

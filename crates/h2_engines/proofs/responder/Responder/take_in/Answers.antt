@@ -1,5 +1,5 @@
 -- By how the server was driven without a link.
-use Rattle.std.proofs.lemmas.Result.{err_from_is_err_and}
+use Rattle.h2_engines.proofs.Names.{err_from_is_err_and}
 use Rattle.h2_engines.proofs.ServeEnds.{takes_in, takes_in_part}
 use Rattle.h2_engines.proofs.MachineViews.{begun}
 use Rattle.h2_engines.proofs.responder.Responder.take_in.Goals as goal
