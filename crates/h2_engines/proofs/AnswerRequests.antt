@@ -1,8 +1,8 @@
 -- What is kept of requests once one of them was answered, or its stream was reset; and at first.
 use Rattle.h2_engines.proofs.Names.{◌≡◌, ◌≢◌, ℕ, Bool, true, false, if◌then◌else◌, List, [], ◌∷◌}
 use Rattle.h2_engines.proofs.Names.{Option, Some, None, Ok, refl, sym, ap, ◌∙◌, subst, inl, inr}
-use Rattle.h2_engines.proofs.Names.{ne_eqb, eq-eqb, cases_eq, both_ways, ◌⊎◌, Contains, Server}
-use Rattle.h2_engines.proofs.Names.{Values, Act, Answer, SendFields, ResetStream, Done, SentMessage}
+use Rattle.h2_engines.proofs.Names.{ne_eqb, eq-eqb, cases_eq, both_ways, ◌⊎◌, Server}
+use Rattle.h2_engines.proofs.Names.{Values, Act, SendFields, ResetStream, Done, SentMessage}
 use Rattle.h2_engines.proofs.Names.{Part, first_in, call_calls, is_head_alone, EndLog, end_with_log}
 use Rattle.h2_engines.proofs.Names.{new_end}
 use Rattle.h2_log.specs.LogCalls.{with_call}

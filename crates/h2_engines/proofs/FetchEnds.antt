@@ -1,7 +1,7 @@
 -- How a client ends its fetch, over a link and without one, by how it was driven.
-use Rattle.h2_engines.proofs.Names.{◌≡◌, ℕ, Bool, true, false, List, [], ◌∷◌, ◌++◌, take, Option}
+use Rattle.h2_engines.proofs.Names.{◌≡◌, ℕ, Bool, true, false, List, [], ◌∷◌, Option}
 use Rattle.h2_engines.proofs.Names.{Some, None, Result, Ok, Err, if◌then◌else◌, refl, sym, ap, ◌∙◌}
-use Rattle.h2_engines.proofs.Names.{subst, inl, inr, IfErr, eq-eqb, Appends-nil, Appends, Field}
+use Rattle.h2_engines.proofs.Names.{subst, inl, inr, IfErr, eq-eqb, Appends-nil, Field}
 use Rattle.h2_engines.proofs.Names.{Code, InternalError, Client, Values, AreInRange, Log}
 use Rattle.h2_engines.proofs.Names.{Keeps-call, SentMessage, Part, call_given, is_head_alone}
 use Rattle.h2_engines.proofs.Names.{EndLog, new_end, LinkError}

@@ -9,7 +9,7 @@ use Rattle.h2_ends.specs.EndCalls.{MayRequest}
 use Rattle.h2_engines.specs.ClientHistories.{IsFetching, begins, requests, takes, releases, pumps}
 use Rattle.h2_engines.specs.ClientHistories.{gives_out}
 use Rattle.h2_engines.proofs.ServerRole.{role_as, role_by_call, taken_role}
-use Rattle.h2_engines.proofs.ServerInvariant.{CallsKeep, TakesKeep, holds_as, pumped_keeps}
+use Rattle.h2_engines.proofs.ServerInvariant.{CallsKeep, TakesKeep, pumped_keeps}
 use Rattle.h2_engines.proofs.ServerInvariant.{released_keeps, unchanged_keeps}
 
 -- A request that is accepted keeps this.
@@ -25,7 +25,7 @@ unfolding MayRequest
 requested_keeps P keep request before message (Ok id) after may holds =
     request before message id after may holds
 requested_keeps P keep request before message (Err (refusals.BadMessage rule)) after may holds =
-    holds_as P may.1 holds
+    rw may.1 holds
 requested_keeps P keep request before message (Err (refusals.Conn refusal)) after may holds =
     unchanged_keeps P keep before after may.2 holds
 requested_keeps P keep request before message (Err other) after may holds = absurd may

@@ -1,7 +1,7 @@
 -- Which part of a response may come next, after what has come.
 use Rattle.h2_engines.proofs.Names.{◌≡◌, ◌≢◌, ℕ, ◌-◌, Bool, true, false, if◌then◌else◌, List, []}
-use Rattle.h2_engines.proofs.Names.{◌∷◌, ◌++◌, length, Option, Some, None, option_map, refl, sym}
-use Rattle.h2_engines.proofs.Names.{ap, ◌∙◌, subst, nat_lt, is_some, AllByRecursion, Field}
+use Rattle.h2_engines.proofs.Names.{◌∷◌, ◌++◌, length, Option, Some, None, option_map, refl}
+use Rattle.h2_engines.proofs.Names.{ap, ◌∙◌, nat_lt, is_some, AllByRecursion, Field}
 use Rattle.h2_engines.proofs.Names.{Malformed, Reads, Responses, Phase, AtHead, InBody, AtEnd}
 use Rattle.h2_engines.proofs.Names.{Place, first_broken, interim_rules, Part, FieldsPart}
 use Rattle.h2_engines.proofs.Names.{OctetsPart, BreakNone, IsReadable, final_rules, compared_length}

@@ -1,5 +1,5 @@
 -- How a new client has made its request.
-use Rattle.h2_engines.proofs.Names.{◌≡◌, ◌≢◌, [], Option, Some, None, Ok, Err, refl, sym, ap, ◌∙◌}
+use Rattle.h2_engines.proofs.Names.{◌≡◌, ◌≢◌, [], Option, Some, None, Ok, Err, refl, ap, ◌∙◌}
 use Rattle.h2_engines.proofs.Names.{subst, inl, inr, ◌⊎◌, Refusal, Memory, Client, Values}
 use Rattle.h2_engines.proofs.Names.{Malformed, Message, SentMessage, LinkError, End, EndRefusal}
 use Rattle.h2_engines.proofs.Names.{EndLog, EndRepresents, new_end}

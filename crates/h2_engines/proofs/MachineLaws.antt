@@ -48,11 +48,6 @@ releases_at course (Serving requests answered) end after result was may =
 releases_at course (Fetching id coming whole) end after result was may =
     client.releases was result may
 
--- It has happened whatever is kept, where that is the same.
-pub happened_as : (course : Course) {old new : MessageState} (end : EndLog) → new ≡ old
-    → Happens course old end → Happens course new end
-happened_as course end same was = rw same was
-
 -- What is kept holds still where nothing of messages has happened,
 pub keeps_same : (message : SentMessage) (kept : MessageState) (before after : EndLog) (next : Next)
     → IsSameOfMessages before after → Keeps message kept before next
@@ -133,7 +128,7 @@ pub stays_driven : {course : Course} {now : Traffic} {old : MachineState} (new :
     → EndRepresents course.values new.end after → IsDriven course now new after unused next
 stays_driven {course} {old} new {end} {after} {next} is kept stays happened represents =
     record {
-      happened = happened_as course after kept happened;
+      happened = rw kept happened;
       represents = represents;
       linked = goes_links (given_within is.represents) stays.goes is.linked;
       up = stays.goes.failed ∙ is.up;

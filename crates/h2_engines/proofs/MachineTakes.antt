@@ -20,7 +20,7 @@ use Rattle.h2_engines.specs.Machines.{WritesOut, WritesWaiting, flow, WritesAndR
 use Rattle.h2_engines.specs.Machines.{TakenSo}
 use Rattle.h2_engines.specs.Machines.{TakesPiece}
 use Rattle.h2_engines.specs.PartialMessages.{KeepsNext}
-use Rattle.h2_engines.proofs.MachineLaws.{happened_as, keeps_same, holds_same, holds_due}
+use Rattle.h2_engines.proofs.MachineLaws.{keeps_same, holds_same, holds_due}
 use Rattle.h2_engines.proofs.MachineLaws.{ends_linked, ends_going, writing_ends}
 use Rattle.h2_engines.proofs.MachineWrites.{written_links}
 use Rattle.h2_engines.proofs.ResponderRefusals.{waits_none}
@@ -33,7 +33,7 @@ pub written_driven : {course : Course} {before now : Traffic} {old : MachineStat
     unused (Ok done)) → IsDriven course now new wrote.after unused next
 written_driven {course} {old} new {end} {unused} {next} is kept wrote =
     record {
-      happened = happened_as course wrote.after kept wrote.happened;
+      happened = rw kept wrote.happened;
       represents = wrote.represents;
       linked = written_links unused wrote.given wrote.taken;
       up = wrote.same.failed ∙ is.up;
@@ -49,7 +49,7 @@ pub ends_unwritten : (course : Course) {now : Traffic} (old new : MachineState) 
     → HasEnded true course now new wrote.after error
 ends_unwritten course {now} old new {unused} {error} kept wrote writing holds =
     record {
-      happened = happened_as course wrote.after kept wrote.happened;
+      happened = rw kept wrote.happened;
       represents = wrote.represents;
       unused = unused;
       given = wrote.given;
@@ -90,12 +90,6 @@ pub plain_due : (before now : Traffic) (old new : MachineState) (due : Next)
     → WritesAndResponds false before now old new due result
 plain_due before now old new due result acts course base end unused is driven =
     acts false course base end unused is (λ said. absurd (cc)) driven
-
-pub does_as : {writes is : Bool} (before now : Traffic) (old new : MachineState) (due : Next)
-    (result : Result (Unit {0}) LinkError) → writes ≡ is
-    → WritesAndResponds is before now old new due result
-    → WritesAndResponds writes before now old new due result
-does_as before now old new due result same does = rw same does
 
 -- Why it can't hear on, and what holds then.
 holds_last : {message : SentMessage} {kept : MessageState} {end : EndLog} {error : LinkError}
@@ -160,7 +154,7 @@ ends_written before now old new error done failed kept writes course base end la
     wrote.same.failed wrote.taken.taken last.why in (
       wrote.after,
       omega (arith, wrote.turns),
-      ends_linked course new (happened_as course wrote.after kept wrote.happened) wrote.represents
+      ends_linked course new (rw kept wrote.happened) wrote.represents
           (written_links last.unused wrote.given wrote.taken) (subst
           (λ (one : MessageState). Holds course.message one wrote.after error) (sym kept) holds)
           (subst (λ (one : MessageState). EndsFor true course.start now one wrote.after error)
@@ -186,11 +180,6 @@ ends_not_written before now old new error other failed kept writes writing cours
       ends_unwritten course old new kept wrote writing
           (holds_failed course other (failed course end last.represents) last.why),
     )
-
-pub early_as : {writes is : Bool} (before now : Traffic) (old new : MachineState)
-    (error result : LinkError) → writes ≡ is → EndsEarly is before now old new error result
-    → EndsEarly writes before now old new error result
-early_as before now old new error result same ends = rw same ends
 
 -- What ends a machine by itself is no failure of its link.
 pub failures_of : (serves : Bool) (failures : ℕ) (error : LinkError) → IsOf serves error
@@ -284,14 +273,6 @@ done_rest writes rounds before now old self new piece used heard takes hears don
             (subst (λ (one : Next). Keeps course.message new.kept next.0 one) done driven.keeps);
       },
     )
-
--- the same is to be done;
-pub next_as : (writes : Bool) (rounds : ℕ) (before now : Traffic) (old new : MachineState)
-    (piece unused : List ℕ) {next is : Next} → next ≡ is
-    → TakesOn writes rounds before now old new piece unused next
-    → TakesOn writes rounds before now old new piece unused is
-next_as writes rounds before now old new piece unused same takes =
-    subst (λ (one : Next). TakesOn writes rounds before now old new piece unused one) same takes
 
 -- the response is whole;
 pub whole_rest : (writes : Bool) (rounds : ℕ) (before now : Traffic) (old new : MachineState)

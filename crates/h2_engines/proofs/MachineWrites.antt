@@ -1,5 +1,5 @@
 -- What waits is written, whatever has happened at the end of a machine and over its link.
-use Rattle.h2_engines.proofs.Names.{ℕ, List, sym, subst, Appends, Log, EndLog, EndRepresents}
+use Rattle.h2_engines.proofs.Names.{ℕ, List, Log, EndLog, EndRepresents}
 use Rattle.h2_engines.specs.Linked.{Traffic, HasGiven, IsLinked}
 use Rattle.h2_engines.specs.Machines.{MachineState, Course, Happens}
 use Rattle.h2_engines.specs.ServerSteps.{IsWrittenOut}

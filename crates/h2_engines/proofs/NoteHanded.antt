@@ -80,9 +80,6 @@ request_whole has =
     }
 
 -- It is to be answered, or kept.
-keeps_next : (requests : Requests) (end : EndLog) {is next : Next} → next ≡ is
-    → KeepsNext requests end is → KeepsNext requests end next
-keeps_next requests end same keeps = rw same keeps
 
 ends_request : (old new : Requests) (end : EndLog) {after : EndLog} {id : ℕ} (last : Bool)
     {request : Request} (next : Next) → KeepsRequests old end
@@ -90,12 +87,12 @@ ends_request : (old new : Requests) (end : EndLog) {after : EndLog} {id : ℕ} (
     → EndsRequest old new id last request next → KeepsNext new after next
 unfolding EndsRequest KeepsNext
 ends_request old new end {after} true next keeps same has ended =
-    keeps_next new after ended.0 (
+    rw ended.0 (
       changes_others end after keeps ended.1 same has.unsaid,
       request_whole has,
     )
 ends_request old new end {after} false next keeps same has ended =
-    keeps_next new after ended.0 (changes_all end keeps ended.1 same (request_comes has))
+    rw ended.0 (changes_all end keeps ended.1 same (request_comes has))
 
 -- Where nothing is kept of a stream, it goes on.
 drops_request : {old new : Requests} (end : EndLog) {after : EndLog} {id : ℕ} {next : Next}
@@ -103,7 +100,7 @@ drops_request : {old new : Requests} (end : EndLog) {after : EndLog} {id : ℕ} 
     → ChangesAt old new id None → RequestState after id None → KeepsNext new after next
 unfolding KeepsNext
 drops_request {new} end {after} keeps same again changes one =
-    keeps_next new after again (changes_all end keeps changes same one)
+    rw again (changes_all end keeps changes same one)
 
 -- A stream that goes on was not answered.
 not_answered : {end : EndLog} {id : ℕ} {request : Option Request}
@@ -225,7 +222,7 @@ notes_octets old new {end} {after} {id} octets last (Some request) next at keeps
     (inl (less, resets, changes)) =
     let coming = is_coming end id (request_at id old) request at (keeps id) in
     let part : Part × Bool = (OctetsPart octets, last) in
-    keeps_next new after resets (
+    rw resets (
       changes_others end after keeps changes hands.others (hands.message ∙ coming.unsaid),
       is_large (coming.parts ++ part ∷ []) coming.head false (came_more coming hands)
           (no_room octets last coming.request_is less),
@@ -265,8 +262,8 @@ goes_on : (requests : Requests) (end : EndLog) (next : Next)
     → (next ≡ nexts.Again) ⊎ (next ≡ nexts.Done) → KeepsRequests requests end
     → KeepsNext requests end next
 unfolding KeepsNext
-goes_on requests end next (inl again) keeps = keeps_next requests end again keeps
-goes_on requests end next (inr done) keeps = keeps_next requests end done keeps
+goes_on requests end next (inl again) keeps = rw again keeps
+goes_on requests end next (inr done) keeps = rw done keeps
 
 -- A reset is noted.
 after_reset : {end after : EndLog} {id : ℕ} {request : Option Request} → SameOn end after id

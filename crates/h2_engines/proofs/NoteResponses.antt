@@ -1,6 +1,6 @@
 -- What is noted of a response, part by part.
 use Rattle.h2_engines.proofs.Names.{◌≡◌, ℕ, Bool, false, if◌then◌else◌, List, [], ◌∷◌, Bor, refl}
-use Rattle.h2_engines.proofs.Names.{sym, ap, ◌∙◌, subst, ◌==◌, ne_eqb, Field, Part, EndEvent}
+use Rattle.h2_engines.proofs.Names.{ap, ◌∙◌, ◌==◌, ne_eqb, Field, Part, EndEvent}
 use Rattle.h2_engines.proofs.Names.{event_handed, Handed}
 use Rattle.std.specs.Prelude.{◌≢◌}
 use Rattle.h2_ends.specs.declared.event.EndEvent.TheVariants as events

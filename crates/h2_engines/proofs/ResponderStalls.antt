@@ -1,5 +1,5 @@
 -- Why what waits is not written: the link has stalled, or memory was refused.
-use Rattle.h2_engines.proofs.Names.{◌≡◌, ℕ, None, Result, Ok, Err, sym, ap, ◌∙◌, subst, inl}
+use Rattle.h2_engines.proofs.Names.{◌≡◌, ℕ, None, Result, Ok, Err, ap, ◌∙◌, inl}
 use Rattle.h2_engines.proofs.Names.{Refusal, PutOut, Refused, Log, MayAnswer, accepts, refuses}
 use Rattle.h2_engines.proofs.Names.{lacks, fails, LinkError, StallsAtNoProgress, EndRefusal, EndLog}
 use Rattle.h2_log.specs.declared.refusal.Refusal.TheVariants as reasons

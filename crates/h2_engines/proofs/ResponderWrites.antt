@@ -1,6 +1,6 @@
 -- What has happened at an end and over a link since its output began to be written.
-use Rattle.h2_engines.proofs.Names.{◌≡◌, ◌≤◌, ◌<◌, ℕ, ◌+◌, ◌-◌, ◌^◌, List, [], ◌++◌, length, take}
-use Rattle.h2_engines.proofs.Names.{Ok, Err, sym, subst, inr, arith, Appends, Refusal, Values}
+use Rattle.h2_engines.proofs.Names.{◌≡◌, ◌≤◌, ◌<◌, ℕ, ◌+◌, ◌-◌, ◌^◌, List, [], length, take}
+use Rattle.h2_engines.proofs.Names.{Ok, Err, subst, inr, arith, Appends, Refusal, Values}
 use Rattle.h2_engines.proofs.Names.{Answer, PutOut, Count, Refused, MayAnswer, Keeps-call, GivesOut}
 use Rattle.h2_engines.proofs.Names.{LinkError, StallsAtNoProgress, End, Conn, EndLog, end_with_log}
 use Rattle.h2_engines.proofs.Names.{EndRepresents, EndAnswers}

@@ -1,6 +1,6 @@
 -- How a server ends, over a link and without one, by how it was driven.
 use Rattle.h2_engines.proofs.Names.{◌≡◌, ℕ, Bool, true, false, List, [], ◌++◌, Some, None, Result}
-use Rattle.h2_engines.proofs.Names.{Ok, Err, refl, sym, ap, ◌∙◌, subst, inl, inr, IfErr}
+use Rattle.h2_engines.proofs.Names.{Ok, Err, refl, sym, ap, ◌∙◌, inl, inr, IfErr}
 use Rattle.h2_engines.proofs.Names.{Appends-nil, Code, InternalError, Server, Values, AreInRange}
 use Rattle.h2_engines.proofs.Names.{EndLog, new_end, LinkError}
 use Rattle.std.specs.Prelude.{OnOk}

@@ -1,6 +1,6 @@
 -- What calls and octets that were taken leave of the input and the output of a log.
 use Rattle.h2_engines.proofs.Names.{◌≡◌, ◌≢◌, ◌≤◌, ℕ, List, [], ◌++◌, length, take, refl, sym, ap}
-use Rattle.h2_engines.proofs.Names.{◌∙◌, append_assoc, append-nil, subst, Appends, take-append-le}
+use Rattle.h2_engines.proofs.Names.{◌∙◌, append_assoc, append-nil, take-append-le}
 use Rattle.h2_engines.proofs.Names.{Refusal, Act, Answer, Refuse, PutOut, OutOfMemory, Refused, Log}
 use Rattle.h2_engines.proofs.Names.{Keeps-call, TakeAnswer, MayTake, reports_unprocessed}
 use Rattle.h2_engines.proofs.Names.{ends_no_frame, ends_frame, meets_fault, sent_failed, given_out}

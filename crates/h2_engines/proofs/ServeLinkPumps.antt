@@ -1,5 +1,5 @@
 -- What a pump and a release leave of what has happened at a server.
-use Rattle.h2_engines.proofs.Names.{◌≡◌, ◌≢◌, ℕ, Option, Result, Ok, Err, refl, sym, ◌∙◌, subst}
+use Rattle.h2_engines.proofs.Names.{◌≡◌, ◌≢◌, ℕ, Option, Result, Ok, Err, refl, ◌∙◌}
 use Rattle.h2_engines.proofs.Names.{inl, inr, Refusal, Act, Answer, Refuse, PutOut, Count, Done}
 use Rattle.h2_engines.proofs.Names.{OutOfMemory, Refused, EndRefusal, EndLog, end_with_log, Pumps}
 use Rattle.h2_engines.proofs.Names.{pumps_no_more, pumps_data, pumps_trailers, data_refused}

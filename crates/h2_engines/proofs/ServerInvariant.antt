@@ -1,5 +1,5 @@
 -- What each call keeps of a server over a link, holds whatever has happened at it.
-use Rattle.h2_engines.proofs.Names.{◌≡◌, ℕ, List, Option, Result, Ok, Err, sym, subst, inl, inr}
+use Rattle.h2_engines.proofs.Names.{ℕ, List, Option, Result, Ok, Err, inl, inr}
 use Rattle.h2_engines.proofs.Names.{Refusal, Server, Values, Act, Answer, SentMessage, EndRefusal}
 use Rattle.h2_engines.proofs.Names.{EndLog, EndAnswer, EndMayTake, end_with_log, Pumps}
 use Rattle.h2_engines.proofs.Names.{pumps_no_more, pumps_data, pumps_trailers, data_refused}
@@ -17,10 +17,6 @@ abbrev pub CallsKeep : (EndLog → Type 0) → Type 0
 CallsKeep P =
     (end : EndLog) (act : Act) (answer : Answer) → P end
     → P (end_with_log end (with_call end.log act answer))
-
--- What holds of an end, holds of the same end.
-pub holds_as : (P : EndLog → Type 0) {before after : EndLog} → after ≡ before → P before → P after
-holds_as P same holds = rw same holds
 
 -- So do the calls of a pump and of a release,
 pump_keeps : (P : EndLog → Type 0) → CallsKeep P
@@ -46,7 +42,7 @@ pumped_keeps P keep before (Ok count) after may holds =
       | inr all ↦ pump_keeps P keep all.0 holds
     ]
 pumped_keeps P keep before (Err (refusals.Conn reasons.Closed)) after may holds =
-    holds_as P may.1 holds
+    rw may.1 holds
 pumped_keeps P keep before (Err (refusals.Conn reasons.Memory)) after may holds =
     pump_keeps P keep may.2 holds
 pumped_keeps P keep before (Err other) after may holds = absurd may
@@ -65,7 +61,7 @@ pub released_keeps : (P : EndLog → Type 0) → CallsKeep P → (before : EndLo
 unfolding MayReleaseAll
 released_keeps P keep before (Ok done) after may holds = release_keeps P keep may.1 holds
 released_keeps P keep before (Err (refusals.Conn reasons.Closed)) after may holds =
-    holds_as P may.1 holds
+    rw may.1 holds
 released_keeps P keep before (Err (refusals.Conn reasons.OutputFull)) after may holds =
     release_keeps P keep may.1 holds
 released_keeps P keep before (Err (refusals.Conn reasons.Memory)) after may holds =
@@ -76,9 +72,10 @@ released_keeps P keep before (Err other) after may holds = absurd may
 pub unchanged_keeps : (P : EndLog → Type 0) → CallsKeep P → (before after : EndLog)
     → IsUnchanged before after → P before → P after
 unfolding IsUnchanged
-unchanged_keeps P keep before after (inl same) holds = holds_as P same holds
+unchanged_keeps P keep before after (inl same) holds =
+    rw same holds
 unchanged_keeps P keep before after (inr called) holds =
-    holds_as P called.5 (keep before _ _ holds)
+    rw called.5 (keep before _ _ holds)
 
 -- An answer that is taken keeps this.
 abbrev pub AnswersKeep : (EndLog → Type 0) → Type 0
@@ -93,11 +90,11 @@ unfolding MayRespond
 responded_keeps P keep answer before id message (Ok done) after may holds =
     answer before id message done after may holds
 responded_keeps P keep answer before id message (Err refusals.NotAsked) after may holds =
-    holds_as P may.1 holds
+    rw may.1 holds
 responded_keeps P keep answer before id message (Err refusals.Answered) after may holds =
-    holds_as P may.2 holds
+    rw may.2 holds
 responded_keeps P keep answer before id message (Err (refusals.BadMessage rule)) after may holds =
-    holds_as P may.3 holds
+    rw may.3 holds
 responded_keeps P keep answer before id message (Err (refusals.Conn refusal)) after may holds =
     unchanged_keeps P keep before after may.4 holds
 

@@ -19,7 +19,6 @@ use Rattle.h2_ends.specs.Ends.{parts_on}
 use Rattle.h2_ends.specs.EndCalls.{MayRespond, IsUnchanged}
 use Rattle.h2_link.specs.declared.error.LinkError.TheVariants as errors
 use Rattle.h2_engines.specs.declared.machine.Heard.{Heard}
-use Rattle.h2_engines.specs.declared.request.Next.{Next}
 use Rattle.h2_engines.specs.declared.request.Next.TheVariants as nexts
 use Rattle.h2_engines.specs.declared.request.Request.{Request}
 use Rattle.h2_engines.specs.declared.request.Requests.{Requests}
@@ -366,8 +365,3 @@ server_resets old new id (Err error) fits same requests reset writes course now 
           (goes_links (given_within is.represents) goes is.linked) tt (reset_ends writes
           course.start now new.requests new.answered end error is.keeps.0.1 now_is.1 now_is.3),
     )
-
--- The same is due.
-pub acts_as : (old new : MachineState) {due is : Next} (result : Result (Unit {0}) LinkError)
-    → due ≡ is → Responds old new is result → Responds old new due result
-acts_as old new result same acts = rw same acts

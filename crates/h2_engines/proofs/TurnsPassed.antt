@@ -1,6 +1,6 @@
 -- How many turns have passed at an end after each act: a call or a take is one at least.
 use Rattle.h2_engines.proofs.Names.{◌≤◌, ◌<◌, ℕ, ◌+◌, Bool, List, [], length, length-append, Option}
-use Rattle.h2_engines.proofs.Names.{Some, None, Result, sym, subst, ap, arith, Code, Act, Answer}
+use Rattle.h2_engines.proofs.Names.{Some, None, Result, ap, arith, Code, Act, Answer}
 use Rattle.h2_engines.proofs.Names.{Refuse, Event, Log, MayTake, Took, reports_unprocessed}
 use Rattle.h2_engines.proofs.Names.{ends_no_frame, ends_frame, meets_fault, SentMessage, EndRefusal}
 use Rattle.h2_engines.proofs.Names.{EndLog, Handed, EndAnswer, EndTook, EndMayTake, hands_nothing}

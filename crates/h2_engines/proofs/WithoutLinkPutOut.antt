@@ -1,6 +1,6 @@
 -- What an end without a link puts out, and that a server and a client go on then.
-use Rattle.h2_engines.proofs.Names.{◌≡◌, ◌<◌, ℕ, ◌^◌, List, ◌++◌, Result, Ok, Err, refl, sym, ap}
-use Rattle.h2_engines.proofs.Names.{◌∙◌, subst, Refusal, Values, PutOut, Count, Refused, Log}
+use Rattle.h2_engines.proofs.Names.{◌≡◌, ◌<◌, ℕ, ◌^◌, List, ◌++◌, Result, Ok, Err, refl, ap}
+use Rattle.h2_engines.proofs.Names.{◌∙◌, Refusal, Values, PutOut, Count, Refused, Log}
 use Rattle.h2_engines.proofs.Names.{GivesOut, SentMessage, given_out, Conn, EndLog, end_with_log}
 use Rattle.h2_engines.proofs.Names.{EndAnswers, LinkError}
 use Rattle.h2_log.specs.Acts.{IsTypedAct}

@@ -1,4 +1,5 @@
 -- What is given back and sent before output is put out, and what that leaves.
+use Rattle.h2_engines.proofs.Names.{EndRepresents}
 use Rattle.h2_engines.proofs.Names.{◌≡◌, ◌≢◌, ◌≤◌, true, false, length, Option, Some, None, Result}
 use Rattle.h2_engines.proofs.Names.{Ok, Err, refl, sym, ◌∙◌, subst, arith, Code, Values, Log}
 use Rattle.h2_engines.proofs.Names.{given_out, End, EndRefusal, EndLog, LinkError}
@@ -44,17 +45,23 @@ pub none_failed : (failed : Option Code) → is_some failed ≡ false → failed
 none_failed None up = refl
 none_failed (Some code) up = cc
 
-pub is_up : (conn : Conn) (failed : Option Code) (values : Values) (log : Log)
+is_up : (conn : Conn) (failed : Option Code) (values : Values) (log : Log)
     → ReadsFailed conn failed → is_some failed ≡ false → ConnRepresents values conn log
     → log.failed ≡ None
 is_up conn failed values log reads up represents =
     sym (reads values log represents) ∙ none_failed failed up
 
-pub is_down : (conn : Conn) (failed : Option Code) (values : Values) (log : Log)
-    → ReadsFailed conn failed → is_some failed ≡ true → ConnRepresents values conn log
-    → log.failed ≢ None
-is_down conn failed values log reads some represents none =
-    some_failed failed some (reads values log represents ∙ none)
+pub end_up : (old : End) (failed : Option Code) → ReadsFailed old.conn failed
+    → is_some failed ≡ false → (course : Course) (end : EndLog)
+    → EndRepresents course.values old end → end.log.failed ≡ None
+end_up old failed reads none course end represents =
+    is_up old.conn failed course.values end.log reads none represents.streams.conn
+
+pub end_down : (old : End) (failed : Option Code) → ReadsFailed old.conn failed
+    → is_some failed ≡ true → (course : Course) (end : EndLog)
+    → EndRepresents course.values old end → end.log.failed ≢ None
+end_down old failed reads some course end represents none =
+    some_failed failed some (reads course.values end.log represents.streams.conn ∙ none)
 
 -- and while it is up, a release is refused only when out of memory.
 pub release_memory : (end : EndLog) (answer : Result (Unit {0}) EndRefusal) (after : EndLog)

@@ -1,19 +1,18 @@
 -- By the lemmas on what is sent before output is put out.
-use Rattle.h2_engines.proofs.Names.{◌≡◌, ◌≢◌, Ok, Err, rules, sym, ◌∙◌, subst}
+use Rattle.h2_engines.proofs.Names.{◌≡◌, ◌≢◌, Ok, Err, rules, sym, ◌∙◌}
 use Rattle.h2_log.specs.declared.refusal.Refusal.TheVariants as reasons
-use Rattle.h2_conn.specs.declared.conn.Conn.{Conn}
 use Rattle.h2_ends.specs.declared.refusal.EndRefusal.TheVariants as refusals
 use Rattle.h2_engines.specs.Failures.{error_after}
 use Rattle.h2_engines.specs.ServerSteps.{ReleasesSome}
 use Rattle.h2_engines.proofs.ResponderRefusals.{releases_some, releases_full, releases_err}
-use Rattle.h2_engines.proofs.WithoutLinkSends.{ReadsFailed, failed_sends, not_released, sends_so}
+use Rattle.h2_engines.proofs.WithoutLinkSends.{failed_sends, not_released, sends_so}
 use Rattle.h2_engines.proofs.machine.send_waiting.Goals as goal
 use Rattle.h2_engines.proofs.machine.send_waiting.Goals.{in-Ok-1, in-Err+in-Conn+in-OutputFull-1}
 
 pub returns-then-is_some-clause-sends : goal.returns-then-is_some-clause-sends
 returns-then-is_some-clause-sends g c =
     failed_sends (g.M.Machine.held c.args.machine.now).end c.failed.result tt
-    (subst (λ (conn : Conn). ReadsFailed conn c.failed.result) c.conn.ensures c.failed.ensures)
+    (rw c.conn.ensures at c.failed.ensures)
     (sym c.is_some.ensures ∙ c.if-is_some.true)
 
 pub returns-in-Err-clause-sends : goal.returns-in-Err-clause-sends
@@ -22,7 +21,7 @@ returns-in-Err-clause-sends g c =
     let ends : c.error_of_refusal.result ≡ error_after c.in-Err.refusal = search rules in
     not_released (g.M.Machine.held c.args.machine.now).end
     (g.M.Machine.held c.release_all.new.self).end c.failed.result c.error_of_refusal.result
-    (subst (λ (conn : Conn). ReadsFailed conn c.failed.result) c.conn.ensures c.failed.ensures)
+    (rw c.conn.ensures at c.failed.ensures)
     (sym c.is_some.ensures ∙ c.if-is_some.false)
     (releases_err (g.M.Machine.held c.args.machine.now).end
     (g.M.Machine.held c.release_all.new.self).end c.in-Err.refusal other ends
@@ -41,5 +40,5 @@ returns-in-Ok-clause-sends g c =
           releases_full old middle tt is c.release_all.ensures.releases
     ] in
     sends_so old middle (g.M.Machine.held c.pump.new.machine).end c.failed.result tt c.pump.result
-    (subst (λ (conn : Conn). ReadsFailed conn c.failed.result) c.conn.ensures c.failed.ensures)
+    (rw c.conn.ensures at c.failed.ensures)
     (sym c.is_some.ensures ∙ c.if-is_some.false) released c.pump.ensures.pumps

@@ -4,7 +4,7 @@ use Rattle.h2_engines.proofs.Names.{◌≡◌, ◌+◌, drop, refl, ◌∙◌, a
 use Rattle.h2_engines.specs.declared.request.Next.TheVariants as nexts
 use Rattle.h2_engines.specs.Linked.{traffic}
 use Rattle.h2_engines.proofs.MachineLaws.{is_due}
-use Rattle.h2_engines.proofs.MachineTakes.{TakesOn, takes_first, heard_rest, done_rest, next_as}
+use Rattle.h2_engines.proofs.MachineTakes.{TakesOn, takes_first, heard_rest, done_rest}
 use Rattle.h2_engines.proofs.MachineTakes.{whole_rest, due_rest, not_done_rest, last_rest}
 use Rattle.h2_engines.proofs.MachineTakes.{no_round_rest, within_rest, moved_to}
 use Rattle.h2_engines.proofs.machine.take_all.Goals as goal
@@ -29,9 +29,8 @@ returns-in-Whole-clause-takes g c =
     let old = g.M.Machine.held c.args.machine.now in
     let new = g.M.Machine.held c.take.new.self in
     let rest = drop (c.loop.used + c.in-Ok.heard.used) c.args.piece.now in
-    whole_rest c.args.writes (c.loop.counter + 1) _ _ old new c.args.piece.now rest (next_as
-    c.args.writes (c.loop.counter + 1) _ _ old new c.args.piece.now rest c.in-Whole.is
-    (heard_rest c.args.writes c.loop.counter _ _ old (g.M.Machine.held c.loop.machine) new
+    whole_rest c.args.writes (c.loop.counter + 1) _ _ old new c.args.piece.now rest (rw c.in-Whole.is
+    at (heard_rest c.args.writes c.loop.counter _ _ old (g.M.Machine.held c.loop.machine) new
     c.args.piece.now c.loop.used c.in-Ok.heard c.loop.invariant.takes c.in-Ok.ensures.hears))
 
 pub returns-in_err-do_due-in_default-clause-takes :
@@ -82,8 +81,7 @@ loop-preserved g c =
     (g.M.Machine.held self) piece rest nexts.Again in
     let taking : takes c.match-heard.machine c.match-heard.link =
     elim c.match-heard.branch [
-      | in-Again w ↦ moved_to takes w.machine-is w.link-is (next_as c.args.writes
-          (c.loop.counter + 1) before middle old new piece rest w.in-Again.is heard)
+      | in-Again w ↦ moved_to takes w.machine-is w.link-is (rw w.in-Again.is at heard)
       | in_default+in_ok-do_due-in_default w ↦
           moved_to takes w.machine-is w.link-is (due_rest c.args.writes (c.loop.counter + 1) before
           middle _ old new (g.M.Machine.held w.do_due.new.machine) piece rest
