@@ -7,14 +7,12 @@ use Rattle.h2_engines.proofs.Names.{IsReadable, place_after, End, EndEvent, EndT
 use Rattle.h2_engines.proofs.Names.{EndTook, EndFailed, Handed, Passed, asked_head, EndMayTake}
 use Rattle.h2_engines.proofs.Names.{event_handed, EndTakes, LinkError}
 use Rattle.std.proofs.Common.{◌⊎◌}
-use Rattle.h2_log.specs.Events.{UnprocessedEvent}
 use Rattle.h2_message.specs.declared.reading.Place.TheVariants as places
 use Rattle.h2_ends.specs.Ends.{handed_as, handed_at, message_for, part_on, parts_on, reads_on}
 use Rattle.h2_link.specs.declared.error.LinkError.TheVariants as errors
 use Rattle.h2_engines.specs.declared.fetcher.Coming.{Coming}
 use Rattle.h2_engines.specs.declared.request.Next.{Next}
 use Rattle.h2_engines.specs.declared.request.Next.TheVariants as goes
-use Rattle.h2_engines.specs.Fetches.{refused_stream}
 use Rattle.h2_engines.specs.ClientSteps.{ClientHears, FetchedSo, KeepsResponse, ErrsFetching}
 use Rattle.h2_engines.specs.ClientSteps.{NotesPart}
 use Rattle.h2_engines.specs.PartialMessages.{HasCome}
@@ -159,22 +157,10 @@ heard_fault old new id before coming piece fault is takes values end represents 
     let (after, may, now) = takes values end represents in
     (after, now, (EndFailed fault.code, may, is))
 
--- Why the stream is over.
-pub errs_memory : (count id : ℕ) (handed : Handed)
-    → ErrsFetching (EndTook count (Some handed)) id errors.Memory
-unfolding ErrsFetching
-errs_memory count id handed = inl refl
-
+-- Why the stream is over, where it was reset.
 pub errs_reset : (count : ℕ) {id stream : ℕ} (code : ℕ) (ours : Bool) {handed : Handed}
     → handed ≡ Passed (ResetEvent stream code ours) → stream ≡ id
     → ErrsFetching (EndTook count (Some handed)) id (errors.Reset code)
 unfolding ErrsFetching
 errs_reset count code ours is same =
     inr (inl (code, ours, is ∙ ap (λ (i : ℕ). Passed (ResetEvent i code ours)) same, refl))
-
-pub errs_unprocessed : (count : ℕ) {id stream : ℕ} {handed : Handed}
-    → handed ≡ Passed (UnprocessedEvent stream) → stream ≡ id
-    → ErrsFetching (EndTook count (Some handed)) id (errors.Reset refused_stream)
-unfolding ErrsFetching
-errs_unprocessed count is same =
-    inr (inr (is ∙ ap (λ (i : ℕ). Passed (UnprocessedEvent i)) same, refl))

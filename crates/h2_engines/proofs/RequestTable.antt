@@ -1,6 +1,6 @@
 -- What is kept of requests after one of the entries was changed.
-use Rattle.h2_engines.proofs.Names.{◌≡◌, ◌≢◌, ℕ, Bool, true, false, List, Option, Some, None, ◌<◌}
-use Rattle.h2_engines.proofs.Names.{◌≤◌, length, refl, sym, ap, ◌∙◌, inl, inr, ne_eqb, eq-eqb}
+use Rattle.h2_engines.proofs.Names.{◌≡◌, ◌≢◌, ℕ, Bool, true, false, List, Option, Some, None}
+use Rattle.h2_engines.proofs.Names.{◌≤◌, length, refl, sym, ap, ◌∙◌, inr, ne_eqb, eq-eqb}
 use Rattle.std.proofs.Common.{cond}
 use Rattle.std.specs.Map.{lookup}
 use Rattle.std.specs.Ordering.{nat_cmp, is_eq}
@@ -55,40 +55,6 @@ changes_none old new id none same =
       others = λ i other.
           ap (λ (entries : List (ℕ × Request)). lookup (is_at (nat_cmp i)) entries) same;
     }
-
--- A request that is kept is whole, or nothing is kept.
-pub ends_some : {old new : Requests} {id : ℕ} {kept : Option Request} (request : Request)
-    → kept ≡ Some request → ChangesAt old new id None
-    → EndsKept old new id kept (nexts.Answer id request)
-unfolding EndsKept EndsRequest
-ends_some request is changes = rw is (refl, changes)
-
-pub ends_none : {old new : Requests} {id : ℕ} {kept : Option Request} → kept ≡ None
-    → ChangesAt old new id None → EndsKept old new id kept nexts.Again
-unfolding EndsKept
-ends_none none changes = rw none (refl, changes)
-
--- Octets are added to nothing; they have no room; or the request has more of them.
-pub adds_none : {old new : Requests} {id : ℕ} (octets : List ℕ) (last : Bool)
-    {kept : Option Request} → kept ≡ None → ChangesAt old new id None
-    → AddsOctets old new id octets last kept nexts.Again
-unfolding AddsOctets
-adds_none octets last none changes = rw none (refl, changes)
-
-pub adds_no_more : {old new : Requests} {id : ℕ} (octets : List ℕ) (last : Bool)
-    {kept : Option Request} (request : Request) → kept ≡ Some request
-    → room_of request < length octets → ChangesAt old new id None
-    → AddsOctets old new id octets last kept (nexts.Reset id)
-unfolding AddsOctets
-adds_no_more octets last request is less changes = rw is (inl (less, refl, changes))
-
-pub adds_more : {old new : Requests} {id : ℕ} (octets : List ℕ) {kept : Option Request}
-    (request : Request) {longer : Request} → kept ≡ Some request → length octets ≤ room_of request
-    → IsLonger request octets longer → ChangesAt old new id (Some longer)
-    → AddsOctets old new id octets false kept nexts.Again
-unfolding AddsOctets EndsRequest
-adds_more octets request {longer} is enough more changes =
-    rw is (inr (enough, (longer, more, (refl, changes))))
 
 -- The last octets: the longer one is kept, and then taken out.
 pub adds_last : {old next : Requests} (new : Requests) {id : ℕ} (octets : List ℕ)

@@ -1,27 +1,12 @@
 -- What the calls of a server that answer, reset and end say of it, by what its end has answered.
-use Rattle.h2_engines.proofs.Names.{◌≡◌, ◌≢◌, ◌≤◌, ℕ, ◌-◌, ◌^◌, Ok, Err, refl, sym, subst, Refusal}
-use Rattle.h2_engines.proofs.Names.{TooManyResets, Memory, ResetStream, Done, Refused, LinkError}
+use Rattle.h2_engines.proofs.Names.{◌≡◌, ◌≢◌, ℕ, Ok, Err, refl, sym, subst, Refusal}
+use Rattle.h2_engines.proofs.Names.{TooManyResets, Memory, ResetStream, Refused, LinkError}
 use Rattle.h2_engines.proofs.Names.{Message, SentMessage, End, EndRefusal, Conn, EndAnswers}
-use Rattle.h2_link.specs.declared.error.LinkError.TheVariants as errors
 use Rattle.h2_ends.specs.Represents.{EndResponds}
 use Rattle.h2_engines.specs.Failures.{error_after}
 use Rattle.h2_engines.specs.ServerHistories.{calm}
 use Rattle.h2_engines.specs.ServerSteps.{ServerAnswers, AnsweredSo, ServerResets, ResetSo}
-use Rattle.h2_engines.specs.ServerSteps.{no_memory, counts_no_more, is_refused}
-
--- Nothing was called, since there was no memory.
-pub answers_none : (end : End) (id : ℕ) (message : SentMessage) (count : ℕ)
-    → ServerAnswers end end id message count (Err errors.Memory)
-unfolding AnsweredSo
-answers_none end id message count values happened represents =
-    (happened, represents, no_memory refl refl)
-
--- Nothing was called, since no more answers can be counted.
-pub answers_no_more : (end : End) (id : ℕ) (message : SentMessage) (count : ℕ)
-    → 2 ^ 32 - 1 ≤ count → ServerAnswers end end id message count (Err errors.NoProgress)
-unfolding AnsweredSo
-answers_no_more end id message count all values happened represents =
-    (happened, represents, counts_no_more all refl)
+use Rattle.h2_engines.specs.ServerSteps.{is_refused}
 
 -- The answer is taken.
 pub answers_done : (old new : End) (id : ℕ) {message is : SentMessage} (count : ℕ)
@@ -40,22 +25,6 @@ unfolding AnsweredSo
 answers_refused old new id count back same ends responds values end represents =
     let (after, may, now) = responds.1 values end represents in
     (after, now, is_refused back.1 (rw (sym same) may) ends)
-
--- A stream was reset.
-pub resets_done : (old new : End) (id : ℕ) (done : Unit {0})
-    → EndAnswers old (ResetStream id calm) Done new → ServerResets old new id (Ok done)
-unfolding ResetSo
-resets_done old new id done answers values end represents =
-    let (may, now) = answers values end represents in (Done, may, now, refl)
-
--- No stream can be reset any more.
-pub resets_no_more : (old new : End) (id : ℕ)
-    → EndAnswers old (ResetStream id calm) (Refused TooManyResets) new
-    → ServerResets old new id (Err (errors.Stream calm))
-unfolding ResetSo
-resets_no_more old new id answers values end represents =
-    let (may, now) = answers values end represents in
-    (Refused TooManyResets, may, now, (refl, refl))
 
 -- A reset that was refused otherwise ends as the refusal says.
 reset_after : (refusal : Refusal) → refusal ≢ TooManyResets

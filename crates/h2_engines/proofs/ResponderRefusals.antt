@@ -1,6 +1,6 @@
 -- What a call of an end that is refused makes of a connection over a link.
 use Rattle.h2_engines.proofs.Names.{◌≡◌, ◌≢◌, ℕ, Bool, true, false, if◌then◌else◌, length, Some}
-use Rattle.h2_engines.proofs.Names.{None, Result, Ok, Err, refl, ap, subst, inl, inr, arith}
+use Rattle.h2_engines.proofs.Names.{None, Err, refl, ap, subst, inl, inr, arith}
 use Rattle.h2_engines.proofs.Names.{length-take, SendFields, has_failed, is_no_stream, is_full}
 use Rattle.h2_engines.proofs.Names.{full_output, Log, log_view, SentMessage, is_head_alone}
 use Rattle.h2_engines.proofs.Names.{LinkError, End, EndRefusal, EndLog}
@@ -12,37 +12,11 @@ use Rattle.h2_log.specs.declared.refusal.Refusal.TheVariants as reasons
 use Rattle.h2_message.specs.Messages.{trailer_fields}
 use Rattle.h2_ends.specs.declared.refusal.EndRefusal.TheVariants as refusals
 use Rattle.h2_ends.specs.EndCalls.{MayRespond, RefusesMessage, refusal_of_message}
-use Rattle.h2_ends.specs.Represents.{EndPumps, EndReleases}
+use Rattle.h2_ends.specs.Represents.{EndReleases}
 use Rattle.h2_engines.specs.Failures.{error_after}
 use Rattle.h2_engines.specs.Linked.{Traffic}
-use Rattle.h2_engines.specs.ServerSteps.{EndsAfter, EndsRelease, IsWrittenOut, PumpsSome}
+use Rattle.h2_engines.specs.ServerSteps.{EndsAfter, EndsRelease, IsWrittenOut}
 use Rattle.h2_engines.specs.ServerSteps.{ReleasesSome}
-
--- The end has pumped,
-pub pumps_some : (old new : End) (count : ℕ) (done : Unit {0}) → EndPumps old (Ok count) new
-    → PumpsSome old new (Ok done)
-unfolding EndsAfter
-pumps_some old new count done pumps = (Ok count, pumps, tt)
-
--- or that was refused.
-pub pumps_err : (old new : End) (refusal : EndRefusal) {error : LinkError}
-    → error ≡ error_after refusal → EndPumps old (Err refusal) new → PumpsSome old new (Err error)
-unfolding EndsAfter
-pumps_err old new refusal is pumps = (Err refusal, pumps, is)
-
--- The end has released all,
-pub releases_some : (old new : End) {result : Result (Unit {0}) EndRefusal} (done : Unit {0})
-    → result ≡ Ok done → EndReleases old result new → ReleasesSome old new (Ok done)
-unfolding EndsRelease EndsAfter
-releases_some old new done is releases = (Ok done, rw is at releases, tt)
-
--- or as much as the output takes.
-pub releases_full : (old new : End) {result : Result (Unit {0}) EndRefusal} (done : Unit {0})
-    → result ≡ Err (refusals.Conn reasons.OutputFull) → EndReleases old result new
-    → ReleasesSome old new (Ok done)
-unfolding EndsRelease EndsAfter
-releases_full old new done is releases =
-    (Err (refusals.Conn reasons.OutputFull), rw is at releases, tt)
 
 -- A release that was refused otherwise ends as the refusal says.
 ends_release : (refusal : EndRefusal) {error : LinkError}

@@ -1,11 +1,13 @@
 -- By the lemmas on what a client hears.
 use Rattle.h2_engines.proofs.Names.{refl, ap, arith, false, true, inl, inr, event_handed}
 use Rattle.h2_engines.specs.declared.request.Next.TheVariants as goes
+use Rattle.h2_engines.specs.ClientSteps.{ErrsFetching}
 use Rattle.h2_engines.proofs.FetcherHears.{heard_nothing, heard_part, heard_error, heard_fault}
-use Rattle.h2_engines.proofs.FetcherHears.{errs_memory, errs_reset, errs_unprocessed}
+use Rattle.h2_engines.proofs.FetcherHears.{errs_reset}
 use Rattle.h2_engines.proofs.fetcher.hear.Goals as goal
 
 pub returns-in-Some-Reset-clause-hears : goal.returns-in-Some-Reset-clause-hears
+unfolding ErrsFetching
 returns-in-Some-Reset-clause-hears c =
     let is = rw c.in-Some-Reset.is at c.in-Some-Reset.field-0-is in
     heard_error c.args.client.now.end c.take.follows.lender-at-none.end c.args.stream c.args.coming.now
@@ -14,18 +16,20 @@ returns-in-Some-Reset-clause-hears c =
     (rw c.in-Ok.is at c.take.follows.holds-at-none)
 
 pub returns-in-Some-Unprocessed-clause-hears : goal.returns-in-Some-Unprocessed-clause-hears
+unfolding ErrsFetching
 returns-in-Some-Unprocessed-clause-hears c =
     let is = rw c.in-Some-Unprocessed.is at c.in-Some-Unprocessed.field-0-is in
     heard_error c.args.client.now.end c.take.follows.lender-at-none.end c.args.stream c.args.coming.now
     c.args.coming.now c.args.piece.now c.in-Ok.taken _ _ c.in-Some-Unprocessed.is
-    (errs_unprocessed c.in-Ok.taken.used (ap event_handed is) c.if-id-stream-2.true)
+    (inr (inr (rw (is, c.if-id-stream-2.true) refl, refl)))
     (rw c.in-Ok.is at c.take.follows.holds-at-none)
 
 pub returns-in-Err-note-clause-hears : goal.returns-in-Err-note-clause-hears
+unfolding ErrsFetching
 returns-in-Err-note-clause-hears c =
     heard_error c.args.client.now.end c.take.follows.lender-at-none.end c.args.stream
     c.args.coming.now c.note.new.self c.args.piece.now c.in-Ok.taken c.in-Some.event _ c.in-Some.is
-    (errs_memory c.in-Ok.taken.used c.args.stream (event_handed c.in-Some.event))
+    (inl refl)
     (rw c.in-Ok.is at c.take.follows.holds-at-none)
 
 pub returns-then-used-piece-clause-hears : goal.returns-then-used-piece-clause-hears

@@ -3,8 +3,8 @@ use Rattle.h2_engines.proofs.Names.{◌≡◌, ◌≢◌, Ok, Err, rules, sym, �
 use Rattle.h2_log.specs.declared.refusal.Refusal.TheVariants as reasons
 use Rattle.h2_ends.specs.declared.refusal.EndRefusal.TheVariants as refusals
 use Rattle.h2_engines.specs.Failures.{error_after}
-use Rattle.h2_engines.specs.ServerSteps.{ReleasesSome}
-use Rattle.h2_engines.proofs.ResponderRefusals.{releases_some, releases_full, releases_err}
+use Rattle.h2_engines.specs.ServerSteps.{ReleasesSome, EndsRelease, EndsAfter}
+use Rattle.h2_engines.proofs.ResponderRefusals.{releases_err}
 use Rattle.h2_engines.proofs.WithoutLinkSends.{failed_sends, not_released, sends_so}
 use Rattle.h2_engines.proofs.machine.send_waiting.Goals as goal
 use Rattle.h2_engines.proofs.machine.send_waiting.Goals.{in-Ok-1, in-Err+in-Conn+in-OutputFull-1}
@@ -28,16 +28,17 @@ returns-in-Err-clause-sends g c =
     c.in-Err.ensures.releases)
 
 pub returns-in-Ok-clause-sends : goal.returns-in-Ok-clause-sends
+unfolding EndsRelease EndsAfter
 returns-in-Ok-clause-sends g c =
     let old = (g.M.Machine.held c.args.machine.now).end in
     let middle = (g.M.Machine.held c.release_all.new.self).end in
     let released : ReleasesSome old middle (Ok tt) = elim c.in-Ok-1.branch [
       | in-Ok-1 w ↦
           let is : c.release_all.result ≡ Ok tt = search rules in
-          releases_some old middle tt is c.release_all.ensures.releases
+          (Ok tt, rw is at c.release_all.ensures.releases, tt)
       | in-Err+in-Conn+in-OutputFull-1 w ↦
           let is : c.release_all.result ≡ Err (refusals.Conn reasons.OutputFull) = search rules in
-          releases_full old middle tt is c.release_all.ensures.releases
+          (Err (refusals.Conn reasons.OutputFull), rw is at c.release_all.ensures.releases, tt)
     ] in
     sends_so old middle (g.M.Machine.held c.pump.new.machine).end c.failed.result tt c.pump.result
     (rw c.conn.ensures at c.failed.ensures)

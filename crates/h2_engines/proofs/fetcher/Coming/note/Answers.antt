@@ -1,67 +1,60 @@
 -- What was handed out is kept, where it is a part of the response.
-use Rattle.h2_engines.proofs.Names.{rules, ℕ, Vec, Global, ◌++◌, ◌∷◌, [], List, Some, refl, ap, ◌∙◌}
-use Rattle.h2_engines.proofs.Names.{map_push, Field, event_handed, InterimHanded, HeadHanded}
-use Rattle.h2_engines.proofs.Names.{BodyHanded, TrailersHanded}
+use Rattle.h2_engines.proofs.Names.{rules, Vec, Global, ◌++◌, ◌∷◌, [], List, Some, refl, ap, ◌∙◌}
+use Rattle.h2_engines.proofs.Names.{map_push, Field}
 use Rattle.std.proofs.Common.{map as each}
 use Rattle.h2_ends.specs.Ends.{part_on}
 use Rattle.h2_engines.specs.ClientSteps.{notes_interim, notes_head, notes_body, notes_trailers}
-use Rattle.h2_engines.proofs.NoteResponses.{noted_as, other_part, other_event}
+use Rattle.h2_engines.specs.ClientSteps.{notes_nothing}
+use Rattle.h2_engines.proofs.NoteResponses.{other_stream, other_event}
 use Rattle.h2_engines.proofs.fetcher.Coming.note.Goals as goal
 
 pub returns-in_ok-push-in-Interim : goal.returns-in_ok-push-in-Interim
 returns-in_ok-push-in-Interim c =
-    let list = c.in-Interim.list.now in
-    noted_as (λ (i : ℕ). InterimHanded i list) (ap event_handed c.in-Interim.is)
-    c.if-id-stream.true (notes_interim list (ap (each (λ (one : Vec Field Global). one.items))
-    c.in_ok-push-in-Interim.ensures.items ∙ map_push (λ (one : Vec Field Global). one.items)
-    c.args.self.now.interims.items c.in_ok-list-in-Interim.list ∙ ap (λ (list : List Field).
+    rw (c.in-Interim.is, c.if-id-stream.true) (notes_interim c.in-Interim.list.now
+    (ap (each (λ (one : Vec Field Global). one.items)) c.in_ok-push-in-Interim.ensures.items
+    ∙ map_push (λ (one : Vec Field Global). one.items) c.args.self.now.interims.items
+    c.in_ok-list-in-Interim.list ∙ ap (λ (list : List Field).
     each (λ (one : Vec Field Global). one.items) c.args.self.now.interims.items ++ list ∷ [])
     c.in_ok-list-in-Interim.ensures) refl refl refl)
 
 pub returns-in_ok-copy_list-in-Head : goal.returns-in_ok-copy_list-in-Head
 returns-in_ok-copy_list-in-Head c =
-    let list = c.in-Head.list.now in
-    noted_as (λ (i : ℕ). HeadHanded i list c.in-Head.end) (ap event_handed c.in-Head.is)
-    c.if-id-stream-2.true (notes_head list c.in-Head.end
+    rw (c.in-Head.is, c.if-id-stream-2.true) (notes_head c.in-Head.list.now c.in-Head.end
     (ap Some c.in_ok-copy_list-in-Head.ensures) refl c.clear.ensures.items refl)
 
 pub returns-in_ok-extend_from_slice-in-Body : goal.returns-in_ok-extend_from_slice-in-Body
 returns-in_ok-extend_from_slice-in-Body c =
-    let octets = c.in-Body.bytes.now in
-    noted_as (λ (i : ℕ). BodyHanded i octets c.in-Body.end) (ap event_handed c.in-Body.is)
-    c.if-id-stream-3.true (notes_body octets c.in-Body.end
+    rw (c.in-Body.is, c.if-id-stream-3.true) (notes_body c.in-Body.bytes.now c.in-Body.end
     c.in_ok-extend_from_slice-in-Body.ensures.items refl refl refl)
 
 pub returns-in_ok-copy_list-in-Trailers : goal.returns-in_ok-copy_list-in-Trailers
 returns-in_ok-copy_list-in-Trailers c =
-    let list = c.in-Trailers.list.now in
-    noted_as (λ (i : ℕ). TrailersHanded i list) (ap event_handed c.in-Trailers.is)
-    c.if-id-stream-4.true
-    (notes_trailers list (ap Some c.in_ok-copy_list-in-Trailers.ensures) refl refl refl)
+    rw (c.in-Trailers.is, c.if-id-stream-4.true) (notes_trailers c.in-Trailers.list.now
+    (ap Some c.in_ok-copy_list-in-Trailers.ensures) refl refl refl)
 
 pub returns-in_default : goal.returns-in_default
 unfolding part_on
 returns-in_default c =
-    other_part c.args.stream c.in-Interim.id c.args.self.now _ (ap event_handed c.in-Interim.is)
-    refl c.if-id-stream.false
+    rw c.in-Interim.is (notes_nothing _ (other_stream c.in-Interim.id c.args.stream _
+    c.if-id-stream.false) refl)
 
 pub returns-in_default-2 : goal.returns-in_default-2
 unfolding part_on
 returns-in_default-2 c =
-    other_part c.args.stream c.in-Head.id c.args.self.now _ (ap event_handed c.in-Head.is) refl
-    c.if-id-stream-2.false
+    rw c.in-Head.is (notes_nothing _ (other_stream c.in-Head.id c.args.stream _
+    c.if-id-stream-2.false) refl)
 
 pub returns-in_default-3 : goal.returns-in_default-3
 unfolding part_on
 returns-in_default-3 c =
-    other_part c.args.stream c.in-Body.id c.args.self.now _ (ap event_handed c.in-Body.is) refl
-    c.if-id-stream-3.false
+    rw c.in-Body.is (notes_nothing _ (other_stream c.in-Body.id c.args.stream _
+    c.if-id-stream-3.false) refl)
 
 pub returns-in_default-4 : goal.returns-in_default-4
 unfolding part_on
 returns-in_default-4 c =
-    other_part c.args.stream c.in-Trailers.id c.args.self.now _ (ap event_handed c.in-Trailers.is)
-    refl c.if-id-stream-4.false
+    rw c.in-Trailers.is (notes_nothing _ (other_stream c.in-Trailers.id c.args.stream _
+    c.if-id-stream-4.false) refl)
 
 pub returns-in_default-5 : goal.returns-in_default-5
 returns-in_default-5 c =
