@@ -114,7 +114,8 @@ kept_reset {end} {id} keeps large =
       too_large = large;
       reset = rw ((call_calls end.log (ResetStream id calm) Done))
           (first_in (ResetStream id calm, Done) end.log.calls);
-    })) keeps.unanswered) (λ i other. same_on end after i refl refl (keeps_by_call end.log (ResetStream id calm) Done))
+    })) keeps.unanswered)
+    (λ i other. same_on end after i refl refl (keeps_by_call end.log (ResetStream id calm) Done))
 
 -- Of no requests nothing is kept.
 none_at : (requests : Requests) (id : ℕ) → requests.kept.entries ≡ []

@@ -1,5 +1,5 @@
--- What each round of a machine that is driven over a link makes of it: what waits is written, octets
--- are read and taken, and credit is returned.
+-- What each round of a machine that is driven over a link makes of it: what waits is written,
+-- octets are read and taken, and credit is returned.
 use Rattle.h2_engines.proofs.Names.{◌≡◌, ◌≤◌, ℕ, ◌+◌, ◌-◌, ◌^◌, Bool, true, false, List, [], ◌++◌}
 use Rattle.h2_engines.proofs.Names.{length, take, Option, Result, Ok, Err, refl, sym, ap, ◌∙◌}
 use Rattle.h2_engines.proofs.Names.{subst, append-nil, inr, arith, Appends, Appends-trans, Log}
@@ -40,9 +40,10 @@ DrivesOn before now old new unused rounds =
     → IsGoing course now new unused rounds
 
 -- The same, where the link took the whole output.
-pub record IsSent (course : Course) (now : Traffic) (held : MachineState) (rounds : ℕ) : Type 0 where
-  pub going : IsGoing course now held [] rounds
-  pub all : HasTakenAll course.start now going.end.log
+pub record IsSent (course : Course) (now : Traffic) (held : MachineState) (rounds : ℕ) : Type 0
+  where
+    pub going : IsGoing course now held [] rounds
+    pub all : HasTakenAll course.start now going.end.log
 
 abbrev pub SentOn : (before now : Traffic) → (old new : MachineState) → (rounds : ℕ) → Type 0
 SentOn before now old new rounds =

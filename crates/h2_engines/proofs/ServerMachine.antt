@@ -72,11 +72,12 @@ server_hears old new piece (Ok heard) same hears course now end is =
     let says = now_is.2 in
     let taken = taken_says says.1 in (
       now_is.0,
-      hears_on (server_held new) heard says.0 is says.1 now_is.1 (takes is.happened piece _ says.1) (
-        kept_noted says.0 old.requests new.requests heard.next (kept_role is.happened) is.keeps.0
-            says.1 says.2,
-        same ∙ is.keeps.1 ∙ ap length (sym taken.accepted),
-      ) says.3,
+      hears_on (server_held new) heard says.0 is says.1 now_is.1
+          (takes is.happened piece _ says.1) (
+            kept_noted says.0 old.requests new.requests heard.next (kept_role is.happened) is.keeps.0
+                says.1 says.2,
+            same ∙ is.keeps.1 ∙ ap length (sym taken.accepted),
+          ) says.3,
     )
 server_hears old new piece (Err error) same hears course now end is =
     let now_is = hears course.values end is.represents in

@@ -135,8 +135,8 @@ pub data EndsFor (writes : Bool) (start now : Traffic) (kept : MessageState) (en
   stops_itself : StopsItself writes kept end error → EndsFor writes start now kept end error
 
 -- A machine that is driven has ended early. Without a link nothing is written.
-pub record HasEnded (writes : Bool) (course : Course) (now : Traffic) (held : MachineState) (end : EndLog)
-    (error : LinkError) : Type 0 where
+pub record HasEnded (writes : Bool) (course : Course) (now : Traffic) (held : MachineState)
+    (end : EndLog) (error : LinkError) : Type 0 where
   pub happened : Happens course held.kept end
   pub represents : EndRepresents course.values held.end end
   pub unused : List ℕ
@@ -148,8 +148,8 @@ pub record HasEnded (writes : Bool) (course : Course) (now : Traffic) (held : Ma
 
 -- Why a machine can't hear on: the connection has failed, before its response is whole; or it is up
 -- and memory was refused, or the machine ends by itself.
-pub data HearsNoMore (message : SentMessage) (kept : MessageState) (end : EndLog) (error : LinkError) :
-    Type 0 where
+pub data HearsNoMore (message : SentMessage) (kept : MessageState) (end : EndLog)
+    (error : LinkError) : Type 0 where
   fails : (code : Code) → end.log.failed ≡ Some code → error ≡ error_with code
       → ((other : LinkError) → Holds message kept end other) → HearsNoMore message kept end error
   gives_up : end.log.failed ≡ None → Holds message kept end error

@@ -7,10 +7,9 @@ ghost use Rattle.h2_conn.specs.Conn.{GivesOut, answer_by};
 ghost use Rattle.h2_ends.specs.Represents.{EndAnswers, EndPumps, EndReleases};
 ghost use Rattle.h2_engines.specs.Failures.{EndsWriting, IsOfCall, failures_at_end, failures_by};
 ghost use Rattle.h2_engines.specs.Linked.{traffic};
-ghost use Rattle.h2_engines.specs.Machines.{MachineState, Hears, Responds, IsOf, MayEnd, WritesAndResponds, EndsEarly};
-ghost use Rattle.h2_engines.specs.Machines.{TakesPiece};
-ghost use Rattle.h2_engines.specs.Machines.{Drives, MeetsEnd, WritesWaiting};
-ghost use Rattle.h2_engines.specs.Machines.{PutsWaiting};
+ghost use Rattle.h2_engines.specs.Machines.{MachineState, Hears, Responds, IsOf, MayEnd};
+ghost use Rattle.h2_engines.specs.Machines.{WritesAndResponds, EndsEarly, TakesPiece};
+ghost use Rattle.h2_engines.specs.Machines.{Drives, MeetsEnd, WritesWaiting, PutsWaiting};
 ghost use Rattle.h2_engines.specs.ServerSteps.{PumpsSome};
 ghost use Rattle.h2_engines.specs.WithoutLink.{SendsWaiting};
 

@@ -10,18 +10,18 @@ pub returns-in-Some-Reset-clause-hears : goal.returns-in-Some-Reset-clause-hears
 unfolding ErrsFetching
 returns-in-Some-Reset-clause-hears c =
     let is = rw c.in-Some-Reset.is at c.in-Some-Reset.field-0-is in
-    heard_error c.args.client.now.end c.take.follows.lender-at-none.end c.args.stream c.args.coming.now
-    c.args.coming.now c.args.piece.now c.in-Ok.taken _ _ c.in-Some-Reset.is (errs_reset
-    c.in-Ok.taken.used c.in-Some-Reset.code _ (ap event_handed is) c.if-id-stream.true)
-    (rw c.in-Ok.is at c.take.follows.holds-at-none)
+    heard_error c.args.client.now.end c.take.follows.lender-at-none.end c.args.stream
+    c.args.coming.now c.args.coming.now c.args.piece.now c.in-Ok.taken _ _ c.in-Some-Reset.is
+    (errs_reset c.in-Ok.taken.used c.in-Some-Reset.code _ (ap event_handed is)
+    c.if-id-stream.true) (rw c.in-Ok.is at c.take.follows.holds-at-none)
 
 pub returns-in-Some-Unprocessed-clause-hears : goal.returns-in-Some-Unprocessed-clause-hears
 unfolding ErrsFetching
 returns-in-Some-Unprocessed-clause-hears c =
     let is = rw c.in-Some-Unprocessed.is at c.in-Some-Unprocessed.field-0-is in
-    heard_error c.args.client.now.end c.take.follows.lender-at-none.end c.args.stream c.args.coming.now
-    c.args.coming.now c.args.piece.now c.in-Ok.taken _ _ c.in-Some-Unprocessed.is
-    (inr (inr (rw (is, c.if-id-stream-2.true) refl, refl)))
+    heard_error c.args.client.now.end c.take.follows.lender-at-none.end c.args.stream
+    c.args.coming.now c.args.coming.now c.args.piece.now c.in-Ok.taken _ _
+    c.in-Some-Unprocessed.is (inr (inr (rw (is, c.if-id-stream-2.true) refl, refl)))
     (rw c.in-Ok.is at c.take.follows.holds-at-none)
 
 pub returns-in-Err-note-clause-hears : goal.returns-in-Err-note-clause-hears
@@ -61,6 +61,6 @@ returns-in-Ok-false-clause-hears c =
 
 pub returns-in-Err-clause-hears : goal.returns-in-Err-clause-hears
 returns-in-Err-clause-hears c =
-    heard_fault c.args.client.now.end c.take.follows.lender-at-none.end c.args.stream c.args.coming.now
-    c.args.coming.now c.args.piece.now c.in-Err.fault c.error_of_code.ensures.error
-    (rw c.in-Err.is at c.take.follows.holds-at-none)
+    heard_fault c.args.client.now.end c.take.follows.lender-at-none.end c.args.stream
+    c.args.coming.now c.args.coming.now c.args.piece.now c.in-Err.fault
+    c.error_of_code.ensures.error (rw c.in-Err.is at c.take.follows.holds-at-none)

@@ -29,24 +29,24 @@ pub returns-in-Ok-eq0-clause-drives : goal.returns-in-Ok-eq0-clause-drives
 returns-in-Ok-eq0-clause-drives g c =
     let old = g.M.Machine.held c.args.machine.now in
     let sent = g.M.Machine.held c.write_out.new.machine in
-    read_ends _ _ _ old sent (c.loop.counter + 1)
-    (sent_on _ _ _ old (g.M.Machine.held c.loop.machine) sent c.loop.counter c.in_ok-write_out.field-0
+    read_ends _ _ _ old sent (c.loop.counter + 1) (sent_on _ _ _ old
+    (g.M.Machine.held c.loop.machine) sent c.loop.counter c.in_ok-write_out.field-0
     c.in_ok-write_out.ensures.kept c.loop.invariant.drives c.in_ok-write_out.ensures.writes)
     (gives_none _ _ c.read.new.buffer c.in-Ok-eq0.field-0 c.in-Ok-eq0.field-0-test
-    c.in-Ok-eq0.ensures.gives.1)
-    c.in-Ok-eq0.ensures.takes_none
+    c.in-Ok-eq0.ensures.gives.1) c.in-Ok-eq0.ensures.takes_none
 
 pub returns-in-Ok-eq0-clause-ended : goal.returns-in-Ok-eq0-clause-ended
 returns-in-Ok-eq0-clause-ended g c =
-    meets_end (g.L.Link.ended c.write_out.new.link) c.in-Ok-eq0.ensures.ended c.in-Ok-eq0.field-0-test
+    meets_end (g.L.Link.ended c.write_out.new.link) c.in-Ok-eq0.ensures.ended
+    c.in-Ok-eq0.field-0-test
     (c.deref_mut.ensures.len ∙ c.loop.input.ok.0 ∙ c.loop.invariant.room)
 
 pub returns-in-Err-clause-drives : goal.returns-in-Err-clause-drives
 returns-in-Err-clause-drives g c =
     let old = g.M.Machine.held c.args.machine.now in
     let sent = g.M.Machine.held c.write_out.new.machine in
-    read_fails _ _ _ old sent (c.loop.counter + 1)
-    (sent_on _ _ _ old (g.M.Machine.held c.loop.machine) sent c.loop.counter c.in_ok-write_out.field-0
+    read_fails _ _ _ old sent (c.loop.counter + 1) (sent_on _ _ _ old
+    (g.M.Machine.held c.loop.machine) sent c.loop.counter c.in_ok-write_out.field-0
     c.in_ok-write_out.ensures.kept c.loop.invariant.drives c.in_ok-write_out.ensures.writes)
     c.in-Err.ensures.gives c.in-Err.ensures.takes_none
 
@@ -74,8 +74,8 @@ returns-then-is_whole-clause-drives g c =
     taken_whole _ _ _ old sent (g.M.Machine.held c.take_all.new.machine) piece (c.loop.counter + 1)
     c.if-is_whole.true (read_on _ _ _ old sent (c.loop.counter + 1) (sent_on _ _ _ old
     (g.M.Machine.held c.loop.machine) sent c.loop.counter c.in_ok-write_out.field-0
-    c.in_ok-write_out.ensures.kept c.loop.invariant.drives c.in_ok-write_out.ensures.writes) (gives_piece
-    _ _ c.in-Ok.count c.loop.input.len c.read.new.buffer
+    c.in_ok-write_out.ensures.kept c.loop.invariant.drives c.in_ok-write_out.ensures.writes)
+    (gives_piece _ _ c.in-Ok.count c.loop.input.len c.read.new.buffer
     (drop (length c.read.new.buffer) c.loop.input.items) c.deref.result.now
     c.deref.ensures.value (c.in-Ok.ensures.length ∙ c.deref_mut.ensures.len)
     c.in-Ok.ensures.gives.1) c.in-Ok.ensures.takes_none) c.in_ok-is_whole-in-Ok.ensures.takes
@@ -129,12 +129,13 @@ loop-preserved g c =
           (c.loop.counter + 1) _ c.in_ok-send_waiting.ensures.kept (taken_on _ _ _ old sent taken
           piece (c.loop.counter + 1) c.if-is_whole.false (read_on _ _ _ old sent
           (c.loop.counter + 1) (sent_on _ _ _ old (g.M.Machine.held c.loop.machine) sent
-          c.loop.counter c.in_ok-write_out.field-0 c.in_ok-write_out.ensures.kept c.loop.invariant.drives
-          c.in_ok-write_out.ensures.writes) (gives_piece _ _ c.in-Ok.count c.loop.input.len
-          c.read.new.buffer (drop (length c.read.new.buffer) c.loop.input.items) c.deref.result.now
-          c.deref.ensures.value (c.in-Ok.ensures.length ∙ c.deref_mut.ensures.len)
-          c.in-Ok.ensures.gives.1) c.in-Ok.ensures.takes_none)
-          c.in_ok-is_whole-in-Ok.ensures.takes) c.in_ok-send_waiting.ensures.sends;
+          c.loop.counter c.in_ok-write_out.field-0 c.in_ok-write_out.ensures.kept
+          c.loop.invariant.drives c.in_ok-write_out.ensures.writes) (gives_piece _ _ c.in-Ok.count
+          c.loop.input.len c.read.new.buffer (drop (length c.read.new.buffer) c.loop.input.items)
+          c.deref.result.now c.deref.ensures.value
+          (c.in-Ok.ensures.length ∙ c.deref_mut.ensures.len) c.in-Ok.ensures.gives.1)
+          c.in-Ok.ensures.takes_none) c.in_ok-is_whole-in-Ok.ensures.takes)
+          c.in_ok-send_waiting.ensures.sends;
     }
 
 pub returns-in_err-pump-clause-drives : goal.returns-in_err-pump-clause-drives

@@ -29,9 +29,10 @@ returns-in-Whole-clause-takes g c =
     let old = g.M.Machine.held c.args.machine.now in
     let new = g.M.Machine.held c.take.new.self in
     let rest = drop (c.loop.used + c.in-Ok.heard.used) c.args.piece.now in
-    whole_rest c.args.writes (c.loop.counter + 1) _ _ old new c.args.piece.now rest (rw c.in-Whole.is
-    at (heard_rest c.args.writes c.loop.counter _ _ old (g.M.Machine.held c.loop.machine) new
-    c.args.piece.now c.loop.used c.in-Ok.heard c.loop.invariant.takes c.in-Ok.ensures.hears))
+    whole_rest c.args.writes (c.loop.counter + 1) _ _ old new c.args.piece.now rest (rw
+    c.in-Whole.is at (heard_rest c.args.writes c.loop.counter _ _ old
+    (g.M.Machine.held c.loop.machine) new c.args.piece.now c.loop.used c.in-Ok.heard
+    c.loop.invariant.takes c.in-Ok.ensures.hears))
 
 pub returns-in_err-do_due-in_default-clause-takes :
     goal.returns-in_err-do_due-in_default-clause-takes

@@ -3,7 +3,9 @@ use Rattle.h2_engines.proofs.Names.{sym, ◌∙◌}
 use Rattle.h2_engines.proofs.ResponderFinishes.{finishes_at_rest, finishes_held, finishes_active}
 use Rattle.h2_engines.proofs.responder.Responder.finish.Goals as goal
 use Rattle.h2_engines.proofs.responder.Responder.finish.Goals.{then-held-gt0-via-then-held-gt0}
-use Rattle.h2_engines.proofs.responder.Responder.finish.Goals.{then-held-gt0-via-else-held-gt0+then-is_some}
+use Rattle.h2_engines.proofs.responder.Responder.finish.Goals.{
+  then-held-gt0-via-else-held-gt0+then-is_some,
+}
 
 pub returns-then-held-gt0-clause-finishes : goal.returns-then-held-gt0-clause-finishes
 returns-then-held-gt0-clause-finishes c values end is =

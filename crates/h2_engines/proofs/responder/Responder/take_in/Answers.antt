@@ -13,5 +13,5 @@ returns-in_err-take_all-clause-takes c =
 
 pub returns-clause-takes : goal.returns-clause-takes
 returns-clause-takes c =
-    takes_in begun begun c.args.self.now c.take_all.new.machine c.args.piece.now c.in_ok-take_all.field-0
-    c.in_ok-take_all.ensures.takes
+    takes_in begun begun c.args.self.now c.take_all.new.machine c.args.piece.now
+    c.in_ok-take_all.field-0 c.in_ok-take_all.ensures.takes
