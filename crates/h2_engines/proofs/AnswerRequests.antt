@@ -1,42 +1,31 @@
 -- What is kept of requests once one of them was answered, or its stream was reset; and at first.
-use Rattle.std.proofs.Common.{◌≡◌, ◌≢◌, ℕ, Bool, true, false, if◌then◌else◌, List, [], ◌∷◌}
-use Rattle.std.proofs.Common.{Option, Some, None, Ok, refl, sym, ap, ◌∙◌, subst, inl, inr}
-use Rattle.std.proofs.lemmas.Bool.{ne_eqb, eq-eqb, cases_eq, both_ways}
-use Rattle.std.specs.Prelude.{◌⊎◌}
-use Rattle.std.specs.List.{Contains}
-use Rattle.h2_log.specs.declared.role.Role.TheVariants.{Server}
-use Rattle.h2_log.specs.Acts.{Values, Act, Answer, SendFields, ResetStream, Done}
+use Rattle.h2_engines.proofs.Names.{◌≡◌, ◌≢◌, ℕ, Bool, true, false, if◌then◌else◌, List, [], ◌∷◌}
+use Rattle.h2_engines.proofs.Names.{Option, Some, None, Ok, refl, sym, ap, ◌∙◌, subst, inl, inr}
+use Rattle.h2_engines.proofs.Names.{ne_eqb, eq-eqb, cases_eq, both_ways, ◌⊎◌, Server}
+use Rattle.h2_engines.proofs.Names.{Values, Act, SendFields, ResetStream, Done, SentMessage}
+use Rattle.h2_engines.proofs.Names.{Part, first_in, call_calls, is_head_alone, EndLog, end_with_log}
+use Rattle.h2_engines.proofs.Names.{new_end}
 use Rattle.h2_log.specs.LogCalls.{with_call}
-use Rattle.h2_message.specs.Messages.{SentMessage}
 use Rattle.h2_message.specs.Phases.{ends}
-use Rattle.h2_message.specs.Reading.{Part}
-use Rattle.h2_pair.proofs.FaultsInvariant.{first_in}
-use Rattle.h2_pair.proofs.HeardCalls.{call_calls}
-use Rattle.h2_pair.specs.Tokens.{is_head_alone}
-use Rattle.h2_ends.specs.Ends.{EndLog, message_for, parts_on}
-use Rattle.h2_ends.specs.EndTakes.{end_with_log}
+use Rattle.h2_ends.specs.Ends.{message_for, parts_on}
 use Rattle.h2_ends.specs.EndCalls.{MayRespond, end_with_message}
-use Rattle.h2_ends.specs.Represents.{new_end}
 use Rattle.h2_engines.specs.declared.request.Request.{Request}
 use Rattle.h2_engines.specs.declared.request.Requests.{Requests}
 use Rattle.h2_engines.specs.Answers.{answer_to, answer_with, body_of_parts, is_too_large_body}
 use Rattle.h2_engines.specs.PartialMessages.{RequestState, has_not_come, comes, was_answered}
-use Rattle.h2_engines.specs.PartialMessages.{was_given_up}
-use Rattle.h2_engines.specs.PartialMessages.{KeepsRequests, KeepsOthers, IsToAnswer, request_at}
+use Rattle.h2_engines.specs.PartialMessages.{was_given_up, KeepsRequests, KeepsOthers, IsToAnswer}
+use Rattle.h2_engines.specs.PartialMessages.{request_at}
 use Rattle.h2_engines.specs.ServerHistories.{IsResponding, WasReset, WasTooLarge, WasAnswered}
-use Rattle.h2_engines.specs.ServerHistories.{AreOnce}
-use Rattle.h2_engines.specs.ServerHistories.{AnswersAll, calm}
+use Rattle.h2_engines.specs.ServerHistories.{AreOnce, AnswersAll, calm}
 use Rattle.h2_engines.proofs.SameRequests.{SameOn, same_on, stands_as}
 use Rattle.h2_engines.proofs.ServerInvariant.{holds_responding}
 use Rattle.h2_engines.proofs.TakeMessages.{keeps_by_call, taken_says}
 
 -- A request that is to be answered is answered with what was kept of it.
-pub kept_to_answer : (end : EndLog) (id : ℕ) (request : Request) → IsToAnswer end id request
-    → answer_to (parts_on id end.handed)
-    ≡ Some (answer_with request.text.items request.to_head)
+pub kept_to_answer : {end : EndLog} {id : ℕ} {request : Request} → IsToAnswer end id request
+    → answer_to (parts_on id end.handed) ≡ Some (answer_with request.text.items request.to_head)
 unfolding answer_to
-kept_to_answer end id request is =
-    rw (is.came, is.request_is.text, is.request_is.to_head) refl
+kept_to_answer is = rw (is.came, is.request_is.text, is.request_is.to_head) refl
 
 -- The message for a stream is the one that was accepted last for it,
 message_here : (id : ℕ) (message : SentMessage) (accepted : List (ℕ × SentMessage))
@@ -54,14 +43,13 @@ message_other id i message accepted other =
     (ne_eqb id i (λ same. other (sym same)))
 
 -- What holds of the one and of all others holds of each.
-by_stream : (requests : Requests) (end after : EndLog) (id : ℕ) → KeepsOthers requests end id
+by_stream : {requests : Requests} {end after : EndLog} {id : ℕ} → KeepsOthers requests end id
     → RequestState after id None → ((i : ℕ) → i ≢ id → SameOn end after i)
     → KeepsRequests requests after
-by_stream requests end after id keeps one same i = elim (cases_eq i id) [
+by_stream {requests} {after} {id} keeps one same i = elim (cases_eq i id) [
   | inl here ↦ subst (λ (j : ℕ). RequestState after j (request_at j requests)) (sym here)
       (subst (λ (request : Option Request). RequestState after id request) (sym keeps.none) one)
-  | inr other ↦ stands_as end after i (request_at i requests) (same i other)
-      (keeps.others i other)
+  | inr other ↦ stands_as (same i other) (keeps.others i other)
 ]
 
 -- A message was accepted, and the call that sent its head was made.
@@ -92,43 +80,39 @@ answered_others end id message act i other =
     }
 
 -- The request was answered.
-answered_now : (end : EndLog) (id : ℕ) (request : Request) (act : Act) → IsToAnswer end id request
-    → WasAnswered (end_with_message end act Done id
-    (answer_with request.text.items request.to_head)) id
-answered_now end id request act is =
+answered_now : {end : EndLog} {id : ℕ} {request : Request} (act : Act) → IsToAnswer end id request
+    → WasAnswered
+    (end_with_message end act Done id (answer_with request.text.items request.to_head)) id
+answered_now {end} {id} {request} act is =
     let message = answer_with request.text.items request.to_head in
     record {
       whole = is.whole;
       fits = is.fits;
       message = message;
-      asked = kept_to_answer end id request is;
+      asked = kept_to_answer is;
       answered = message_here id message end.accepted;
     }
 
-pub kept_answered : (requests : Requests) (end after : EndLog) (id : ℕ) (request : Request)
-    (done : Unit {0}) → KeepsOthers requests end id → IsToAnswer end id request
+pub kept_answered : {requests : Requests} {end : EndLog} (after : EndLog) {id : ℕ}
+    {request : Request} (done : Unit {0}) → KeepsOthers requests end id → IsToAnswer end id request
     → MayRespond end id (answer_with request.text.items request.to_head) (Ok done) after
     → KeepsRequests requests after
-kept_answered requests end after id request done keeps is may =
+kept_answered {requests} {end} after {id} {request} done keeps is may =
     let message = answer_with request.text.items request.to_head in
     let accepted = accepts end after id message done may in
     let now = end_with_message end accepted.act Done id message in
-    subst (λ (one : EndLog). KeepsRequests requests one) (sym accepted.is)
-    (by_stream requests end now id keeps
-    (was_answered (answered_now end id request accepted.act is))
+    rw accepted.is (by_stream keeps (was_answered (answered_now accepted.act is))
     (λ i other. answered_others end id message accepted.act i other))
 
 -- The stream of a request that is too large was reset.
-pub kept_reset : (requests : Requests) (end : EndLog) (id : ℕ) → KeepsOthers requests end id
+pub kept_reset : {requests : Requests} {end : EndLog} {id : ℕ} → KeepsOthers requests end id
     → is_too_large_body (parts_on id end.handed) ≡ true
     → KeepsRequests requests (end_with_log end (with_call end.log (ResetStream id calm) Done))
-kept_reset requests end id keeps large =
+kept_reset {end} {id} keeps large =
     let after = end_with_log end (with_call end.log (ResetStream id calm) Done) in
-    by_stream requests end after id keeps
-    (was_given_up (inr (record {
+    by_stream keeps (was_given_up (inr (record {
       too_large = large;
-      reset = subst (λ (calls : List (Act × Answer)). Contains calls (ResetStream id calm, Done))
-          (sym (call_calls end.log (ResetStream id calm) Done))
+      reset = rw ((call_calls end.log (ResetStream id calm) Done))
           (first_in (ResetStream id calm, Done) end.log.calls);
     })) keeps.unanswered)
     (λ i other. same_on end after i refl refl (keeps_by_call end.log (ResetStream id calm) Done))
@@ -144,49 +128,43 @@ none_come values id = has_not_come refl refl
 
 pub kept_none : (requests : Requests) → requests.kept.entries ≡ [] → (values : Values)
     → KeepsRequests requests (new_end Server values)
-kept_none requests none values id =
-    subst (λ (request : Option Request). RequestState (new_end Server values) id request)
-    (sym (none_at requests id none)) (none_come values id)
+kept_none requests none values id = rw ((none_at requests id none)) (none_come values id)
 
 -- A stream of which all has come was answered or given up.
-no_end : (parts : List (Part × Bool)) → parts ≡ [] → ends parts ≡ true → ⊥
+no_end : {parts : List (Part × Bool)} → parts ≡ [] → ends parts ≡ true → ⊥
 unfolding ends
-no_end parts none whole =
+no_end none whole =
     let goes : false ≡ true = ap ends (sym none) ∙ whole in cc
 
-all_stand : (end : EndLog) (id : ℕ) (request : Option Request) → RequestState end id request
+all_stand : {end : EndLog} {id : ℕ} {request : Option Request} → RequestState end id request
     → ends (parts_on id end.handed) ≡ true
     → WasAnswered end id ⊎ (WasReset end id ⊎ WasTooLarge end id)
-all_stand end id request (has_not_come none unsaid) whole =
-    absurd (no_end (parts_on id end.handed) none whole)
-all_stand end id request (comes head parts kept are goes fits is unsaid) whole =
-    absurd (both_ways _ goes whole)
-all_stand end id request (was_answered was) whole = inl was
-all_stand end id request (was_given_up why unsaid) whole = inr why
+all_stand (has_not_come none unsaid) whole = absurd (no_end none whole)
+all_stand (comes head parts kept are goes fits is unsaid) whole = absurd (both_ways _ goes whole)
+all_stand (was_answered was) whole = inl was
+all_stand (was_given_up why unsaid) whole = inr why
 
 -- So it is with each that is too large.
-no_large : (parts : List (Part × Bool)) → parts ≡ [] → is_too_large_body parts ≡ true → ⊥
+no_large : {parts : List (Part × Bool)} → parts ≡ [] → is_too_large_body parts ≡ true → ⊥
 unfolding is_too_large_body body_of_parts
-no_large parts none large =
+no_large none large =
     let fits : false ≡ true = ap is_too_large_body (sym none) ∙ large in cc
 
-large_stands : (end : EndLog) (id : ℕ) (request : Option Request) → RequestState end id request
+large_stands : {end : EndLog} {id : ℕ} {request : Option Request} → RequestState end id request
     → is_too_large_body (parts_on id end.handed) ≡ true → WasReset end id ⊎ WasTooLarge end id
-large_stands end id request (has_not_come none unsaid) large =
-    absurd (no_large (parts_on id end.handed) none large)
-large_stands end id request (comes head parts kept are goes fits is unsaid) large =
+large_stands (has_not_come none unsaid) large = absurd (no_large none large)
+large_stands (comes head parts kept are goes fits is unsaid) large =
     absurd (both_ways _ fits large)
-large_stands end id request (was_answered was) large = absurd (both_ways _ was.fits large)
-large_stands end id request (was_given_up why unsaid) large = why
+large_stands (was_answered was) large = absurd (both_ways _ was.fits large)
+large_stands (was_given_up why unsaid) large = why
 
 -- What was answered was a whole request.
-none_else_stands : (end : EndLog) (id : ℕ) (request : Option Request) → RequestState end id request
+none_else_stands : {end : EndLog} {id : ℕ} {request : Option Request} → RequestState end id request
     → message_for id end.accepted ≢ None → WasAnswered end id
-none_else_stands end id request (has_not_come none unsaid) some = absurd (some unsaid)
-none_else_stands end id request (comes head parts kept are goes fits is unsaid) some =
-    absurd (some unsaid)
-none_else_stands end id request (was_answered was) some = was
-none_else_stands end id request (was_given_up why unsaid) some = absurd (some unsaid)
+none_else_stands (has_not_come none unsaid) some = absurd (some unsaid)
+none_else_stands (comes head parts kept are goes fits is unsaid) some = absurd (some unsaid)
+none_else_stands (was_answered was) some = was
+none_else_stands (was_given_up why unsaid) some = absurd (some unsaid)
 
 -- No stream is answered twice.
 once_more : (before : EndLog) (id : ℕ) (message : SentMessage) (done : Unit {0}) (after : EndLog)
@@ -195,28 +173,25 @@ once_more : (before : EndLog) (id : ℕ) (message : SentMessage) (done : Unit {0
 unfolding AreOnce
 once_more before id message done after may was =
     let accepted = accepts before after id message done may in
-    subst (λ (one : EndLog). AreOnce one.accepted) (sym accepted.is)
-    (accepted.unanswered, was)
+    rw accepted.is (accepted.unanswered, was)
 
 none_once : AreOnce []
 unfolding AreOnce
 none_once = tt
 
-responding_once : (values : Values) (end : EndLog) → IsResponding values end
-    → AreOnce end.accepted
-responding_once values end responding =
+responding_once : {values : Values} {end : EndLog} → IsResponding values end → AreOnce end.accepted
+responding_once responding =
     holds_responding (λ one. AreOnce one.accepted) (λ one act answer was. was) once_more
-    (λ before piece answer after may was.
-    subst AreOnce (sym (taken_says before piece answer after may).accepted) was)
-    values none_once end responding
+    (λ before piece answer after may was. subst AreOnce (sym (taken_says may).accepted) was)
+    none_once responding
 
 -- All whole requests were answered, but those that were given up.
-pub kept_all : (values : Values) (requests : Requests) (end : EndLog) → IsResponding values end
+pub kept_all : {values : Values} (requests : Requests) {end : EndLog} → IsResponding values end
     → KeepsRequests requests end → AnswersAll end
-kept_all values requests end responding keeps =
+kept_all requests responding keeps =
     record {
-      all = λ id whole. all_stand end id (request_at id requests) (keeps id) whole;
-      too_large = λ id large. large_stands end id (request_at id requests) (keeps id) large;
-      none_else = λ id some. none_else_stands end id (request_at id requests) (keeps id) some;
-      once = responding_once values end responding;
+      all = λ id whole. all_stand (keeps id) whole;
+      too_large = λ id large. large_stands (keeps id) large;
+      none_else = λ id some. none_else_stands (keeps id) some;
+      once = responding_once responding;
     }

@@ -1,16 +1,10 @@
 -- What a client that is driven makes of octets.
-use Rattle.std.proofs.Common.{◌≡◌, ◌≢◌, ℕ, Bool, true, false, List, ◌∷◌, Some}
-use Rattle.std.proofs.Common.{None, Result, Ok, Err, refl, sym, ap, ◌∙◌, subst, inl, inr, append-nil}
-use Rattle.std.specs.List.{Contains}
-use Rattle.h2_log.specs.Events.{Event}
-use Rattle.h2_message.specs.Messages.{SentMessage}
+use Rattle.h2_engines.proofs.Names.{◌≡◌, ◌≢◌, ℕ, Bool, true, false, List, ◌∷◌, Some, None, Result}
+use Rattle.h2_engines.proofs.Names.{Ok, Err, refl, sym, ap, ◌∙◌, subst, inl, inr, append-nil}
+use Rattle.h2_engines.proofs.Names.{Contains, Event, SentMessage, first_in, End, EndLog, Handed}
+use Rattle.h2_engines.proofs.Names.{EndAnswer, EndTook, EndFailed, Passed, EndMayTake, LinkError}
 use Rattle.h2_message.specs.Phases.{ends}
-use Rattle.h2_pair.proofs.FaultsInvariant.{first_in}
-use Rattle.h2_ends.specs.declared.end.End.{End}
-use Rattle.h2_ends.specs.Ends.{EndLog, Handed, EndAnswer, EndTook, EndFailed, Passed, message_for}
-use Rattle.h2_ends.specs.Ends.{part_on, parts_on}
-use Rattle.h2_ends.specs.EndTakes.{EndMayTake}
-use Rattle.h2_link.specs.declared.error.LinkError.{LinkError}
+use Rattle.h2_ends.specs.Ends.{message_for, part_on, parts_on}
 use Rattle.h2_engines.specs.declared.fetcher.Coming.{Coming}
 use Rattle.h2_engines.specs.declared.machine.Heard.{Heard}
 use Rattle.h2_engines.specs.declared.request.Next.{Next}
@@ -18,30 +12,30 @@ use Rattle.h2_engines.specs.declared.request.Next.TheVariants as nexts
 use Rattle.h2_engines.specs.Fetches.{EndsUnfinished, refused_stream}
 use Rattle.h2_engines.specs.ClientHistories.{takes}
 use Rattle.h2_engines.specs.ClientSteps.{ClientHears, FetchedSo, ErrsFetching, KeepsResponse}
-use Rattle.h2_engines.specs.Machines.{Fetching, Held, Keeps, HearsNoMore, fails}
-use Rattle.h2_engines.specs.Machines.{gives_up, HearsSo, Hears, IsDue, Acts}
+use Rattle.h2_engines.specs.Machines.{Fetching, MachineState, Keeps, HearsNoMore, fails, gives_up}
+use Rattle.h2_engines.specs.Machines.{Hears}
+use Rattle.h2_engines.specs.Machines.{IsDue, Responds}
 use Rattle.h2_engines.proofs.FetchLinkHolds.{fetching_role}
 use Rattle.h2_engines.proofs.FetchLinkParts.{come_not_whole}
+use Rattle.h2_engines.proofs.MachineHears.{hears_on, hears_last}
 use Rattle.h2_engines.proofs.MachineLaws.{unfinished}
-use Rattle.h2_engines.proofs.ResponderEnds.{given_within}
-use Rattle.h2_engines.proofs.ServeLinkTakes.{SaysUsed, takes_first, took_links, links_first}
+use Rattle.h2_engines.proofs.ServeLinkTakes.{SaysUsed}
 use Rattle.h2_engines.proofs.TakeMessages.{taken_says, kept_failed}
-use Rattle.h2_engines.proofs.TurnsPassed.{turns_of_take, turns_of_answer}
 
 -- a client, by its parts
-abbrev pub client_with : End → ℕ → Coming → Bool → Held
+abbrev pub client_with : End → ℕ → Coming → Bool → MachineState
 client_with end id coming whole = record { end = end; kept = Fetching id coming whole }
 
 -- What was handed out last is among what was.
-handed_last : (one : Handed) (handed all : List Handed) → all ≡ one ∷ handed → Contains all one
-handed_last one handed all same =
-    subst (λ (those : List Handed). Contains those one) (sym same) (first_in one handed)
+handed_last : (one : Handed) (handed : List Handed) {all : List Handed} → all ≡ one ∷ handed
+    → Contains all one
+handed_last one handed same = rw same (first_in one handed)
 
 -- What is no part of a message changes none.
-passed_parts : (id : ℕ) (event : Event) (handed all : List Handed) → all ≡ Passed event ∷ handed
-    → parts_on id all ≡ parts_on id handed
+passed_parts : (id : ℕ) (event : Event) (handed : List Handed) {all : List Handed}
+    → all ≡ Passed event ∷ handed → parts_on id all ≡ parts_on id handed
 unfolding parts_on part_on
-passed_parts id event handed all same = ap (parts_on id) same ∙ append-nil (parts_on id handed)
+passed_parts id event handed same = ap (parts_on id) same ∙ append-nil (parts_on id handed)
 
 -- What is kept of the response, by what is to be done.
 keeps_response : (message : SentMessage) (id : ℕ) (coming : Coming) (whole : Bool)
@@ -64,111 +58,80 @@ pub client_hears : (old new : End) (id : ℕ) (coming now_come : Coming) (was wh
     → (heard.next ≢ nexts.Whole → whole ≡ was)
     → ClientHears old new id coming now_come piece (Ok heard)
     → Hears (client_with old id coming was) (client_with new id now_come whole) piece (Ok heard)
-unfolding FetchedSo HearsSo Keeps
+unfolding FetchedSo Keeps
 client_hears old new id coming now_come was whole piece heard said unless hears course now end is =
-    let now_is = hears course.values end is.represents
-    (fetching_role course.values course.message end is.happened) is.keeps.1 in
+    let now_is = hears course.values end is.represents (fetching_role is.happened) is.keeps.1 in
     let says = now_is.2 in
-    let answer = EndTook heard.used says.0 in
-    let first = takes_first end piece answer now_is.0 says.1 in
-    let taken = taken_says end piece answer now_is.0 says.1 in (
+    let taken = taken_says says.1 in (
       now_is.0,
-      (
-        record {
-          happened = takes is.happened piece answer says.1;
-          represents = now_is.1;
-          linked = took_links course.start now end.log now_is.0.log piece heard.used
-              (given_within course.values old end is.represents) is.linked first.uses
-              first.says.0;
-          up = first.says.1;
-          keeps = keeps_response course.message id now_come whole now_is.0 heard.next
-              (ap (message_for id) taken.accepted ∙ is.keeps.0) says.2 said
-              (λ other. unless other ∙ is.keeps.2);
-        },
-        turns_of_take end now_is.0 piece heard.used says.0 says.1,
-        says.3,
-      ),
+      hears_on (client_with new id now_come whole) heard says.0 is says.1 now_is.1
+          (takes is.happened piece _ says.1) (keeps_response course.message id now_come whole
+          now_is.0 heard.next (ap (message_for id) taken.accepted ∙ is.keeps.0) says.2 said
+          (λ other. unless other ∙ is.keeps.2)) says.3,
     )
 
 -- or can't hear on.
-hears_why : (message : SentMessage) (id : ℕ) (coming : Coming) (whole : Bool) (end : EndLog)
-    (piece : List ℕ) (answer : EndAnswer) (after : EndLog) (error : LinkError) (octets : List ℕ)
+hears_why : (message : SentMessage) (id : ℕ) (coming : Coming) (whole : Bool) {end : EndLog}
+    {piece : List ℕ} (answer : EndAnswer) {after : EndLog} (error : LinkError) (octets : List ℕ)
     → EndMayTake end piece answer after → ErrsFetching answer id error
     → SaysUsed answer octets after.log → message_for id after.accepted ≡ Some message
     → ends (parts_on id end.handed) ≡ false
     → HearsNoMore message (Fetching id coming whole) after error
 unfolding ErrsFetching
-hears_why message id coming whole end piece (EndFailed code) after error octets may errs says
-    accepted not =
-    let taken = taken_says end piece (EndFailed code) after may in
-    fails code (kept_failed end piece code after may) errs
-    (λ other. (
+hears_why message id coming whole (EndFailed code) {after} error octets may errs says accepted not
+    =
+    let taken = taken_says may in
+    fails code (kept_failed may) errs (λ other. (
       accepted,
       unfinished after id other
           (ap (λ (handed : List Handed). ends (parts_on id handed)) taken.handed ∙ not),
     ))
-hears_why message id coming whole end piece (EndTook count None) after error octets may errs says
-    accepted not = absurd errs
-hears_why message id coming whole end piece (EndTook count (Some handed)) after error octets may
+hears_why message id coming whole (EndTook count None) error octets may errs says accepted not =
+    absurd errs
+hears_why message id coming whole (EndTook count (Some handed)) {after} error octets may
     (inl memory) says accepted not =
     gives_up says.1 (
       accepted,
       subst (λ (one : LinkError). EndsUnfinished after id (Err one)) (sym memory) tt,
     ) (inl memory)
-hears_why message id coming whole end piece (EndTook count (Some handed)) after error octets may
+hears_why message id coming whole {end} (EndTook count (Some handed)) {after} error octets may
     (inr (inl reset)) says accepted not =
-    let taken = taken_says end piece (EndTook count (Some handed)) after may in
+    let taken = taken_says may in
     let last = taken.handed ∙ ap (λ (one : Handed). one ∷ end.handed) reset.2 in
     gives_up says.1 (
       accepted,
-      unfinished after id error
-          (ap ends (passed_parts id _ end.handed after.handed last) ∙ not),
-    )
-    (inr (λ writes. (
+      unfinished after id error (ap ends (passed_parts id _ end.handed last) ∙ not),
+    ) (inr (λ writes. (
       reset.0,
       reset.3,
-      inl (reset.1, handed_last _ end.handed after.handed last),
+      inl (reset.1, handed_last _ end.handed last),
     )))
-hears_why message id coming whole end piece (EndTook count (Some handed)) after error octets may
+hears_why message id coming whole {end} (EndTook count (Some handed)) {after} error octets may
     (inr (inr left)) says accepted not =
-    let taken = taken_says end piece (EndTook count (Some handed)) after may in
+    let taken = taken_says may in
     let last = taken.handed ∙ ap (λ (one : Handed). one ∷ end.handed) left.0 in
     gives_up says.1 (
       accepted,
-      unfinished after id error
-          (ap ends (passed_parts id _ end.handed after.handed last) ∙ not),
-    )
-    (inr (λ writes. (
+      unfinished after id error (ap ends (passed_parts id _ end.handed last) ∙ not),
+    ) (inr (λ writes. (
       refused_stream,
       left.1,
-      inr (refl, handed_last _ end.handed after.handed last),
+      inr (refl, handed_last _ end.handed last),
     )))
 
 pub client_hears_last : (old new : End) (id : ℕ) (coming now_come : Coming) (whole : Bool)
     (piece : List ℕ) (error : LinkError) → ClientHears old new id coming now_come piece (Err error)
     → Hears (client_with old id coming whole) (client_with new id now_come whole) piece (Err error)
-unfolding FetchedSo HearsSo Keeps
+unfolding FetchedSo Keeps
 client_hears_last old new id coming now_come whole piece error hears course now end is =
-    let now_is = hears course.values end is.represents
-    (fetching_role course.values course.message end is.happened) is.keeps.1 in
+    let now_is = hears course.values end is.represents (fetching_role is.happened) is.keeps.1 in
     let says = now_is.2 in
-    let first = takes_first end piece says.0 now_is.0 says.1 in
-    let taken = taken_says end piece says.0 now_is.0 says.1 in (
+    let taken = taken_says says.1 in (
       now_is.0,
-      (
-        record {
-          happened = takes is.happened piece says.0 says.1;
-          represents = now_is.1;
-          unused = first.uses.unused;
-          linked = links_first course.start now end.log now_is.0.log piece
-              (given_within course.values old end is.represents) is.linked first.uses;
-          why = hears_why course.message id now_come whole end piece says.0 now_is.0 error
-              first.uses.octets says.1 says.2 first.says
-              (ap (message_for id) taken.accepted ∙ is.keeps.0)
-              (come_not_whole coming (parts_on id end.handed) is.keeps.1);
-        },
-        turns_of_answer end now_is.0 piece says.0 says.1,
-      ),
+      hears_last (client_with new id now_come whole) error is says.1 now_is.1
+          (takes is.happened piece says.0 says.1) (λ octets used. hears_why course.message id
+          now_come whole says.0 error octets says.1 says.2 used
+          (ap (message_for id) taken.accepted ∙ is.keeps.0) (come_not_whole is.keeps.1)),
     )
 
 -- Nothing is due at a client.
@@ -181,6 +144,6 @@ none_due message id coming whole end due is keeps = is
 
 pub client_acts : (end : End) (id : ℕ) (coming : Coming) (whole : Bool) (due : Next)
     (result : Result (Unit {0}) LinkError)
-    → Acts (client_with end id coming whole) (client_with end id coming whole) due result
+    → Responds (client_with end id coming whole) (client_with end id coming whole) due result
 client_acts end id coming whole due result writes course now log unused is none driven =
     absurd (none_due course.message id coming whole log due is driven.keeps)

@@ -1,28 +1,17 @@
 -- How a client ends its fetch, over a link and without one, by how it was driven.
-use Rattle.std.proofs.Common.{◌≡◌, ◌⊎◌, ℕ, Bool, true, false, List, [], ◌∷◌, ◌++◌}
-use Rattle.std.proofs.Common.{map as each, take, Option, Some, None, Result, Ok, Err, if◌then◌else◌}
-use Rattle.std.proofs.Common.{IfOk, refl, sym, ap, ◌∙◌, subst, inl, inr}
-use Rattle.std.specs.Prelude.{IfErr, OnErr}
-use Rattle.std.proofs.lemmas.Bool.{eq-eqb}
-use Rattle.std.proofs.KnownBytes.{Appends-nil}
-use Rattle.std.specs.Io.KnownBytes.{Appends}
-use Rattle.hpack.specs.declared.types.field.Field.{Field}
-use Rattle.h2_frame.specs.declared.code.Code.{Code}
-use Rattle.h2_frame.specs.declared.code.Code.TheVariants.{InternalError}
-use Rattle.h2_log.specs.declared.role.Role.TheVariants.{Client}
-use Rattle.h2_log.specs.Acts.{Values, AreInRange, Open, Number}
-use Rattle.h2_log.specs.Log.{Log}
+use Rattle.h2_engines.proofs.Names.{◌≡◌, ℕ, Bool, true, false, List, [], ◌∷◌, Option}
+use Rattle.h2_engines.proofs.Names.{Some, None, Result, Ok, Err, if◌then◌else◌, refl, sym, ap, ◌∙◌}
+use Rattle.h2_engines.proofs.Names.{subst, inl, inr, IfErr, eq-eqb, Appends-nil, Field}
+use Rattle.h2_engines.proofs.Names.{Code, InternalError, Client, Values, AreInRange, Log}
+use Rattle.h2_engines.proofs.Names.{Keeps-call, SentMessage, Part, call_given, is_head_alone}
+use Rattle.h2_engines.proofs.Names.{EndLog, new_end, LinkError}
+use Rattle.std.proofs.Common.{◌⊎◌, map as each, IfOk}
+use Rattle.std.specs.Prelude.{OnErr}
+use Rattle.h2_log.specs.Acts.{Open, Number}
 use Rattle.h2_log.specs.LogCalls.{opened, with_call}
 use Rattle.h2_log.specs.LogSteps.{with_sent}
-use Rattle.h2_log.proofs.StreamLemmas.{Keeps-call}
-use Rattle.h2_message.specs.Messages.{SentMessage}
-use Rattle.h2_message.specs.Reading.{Part}
-use Rattle.h2_pair.proofs.StepCalls.{call_given}
-use Rattle.h2_pair.specs.Tokens.{is_head_alone}
-use Rattle.h2_ends.specs.Ends.{EndLog, message_for, parts_on}
+use Rattle.h2_ends.specs.Ends.{message_for, parts_on}
 use Rattle.h2_ends.specs.EndCalls.{MayRequest}
-use Rattle.h2_ends.specs.Represents.{new_end}
-use Rattle.h2_link.specs.declared.error.LinkError.{LinkError}
 use Rattle.h2_link.specs.declared.error.LinkError.TheVariants as errors
 use Rattle.h2_engines.specs.declared.fetcher.Coming.{Coming}
 use Rattle.h2_engines.specs.declared.fetcher.Fetched.{Fetched}
@@ -33,14 +22,14 @@ use Rattle.h2_engines.specs.Fetches.{EndsFetchSo, Fetches, IsNotAccepted}
 use Rattle.h2_engines.specs.ClientHistories.{IsFetched, begins, requests}
 use Rattle.h2_engines.specs.ClientSteps.{HasRequested, IsFetchedOf}
 use Rattle.h2_engines.specs.Linked.{Traffic, IsLinked, HasTakenAll}
-use Rattle.h2_engines.specs.Machines.{Course, Keeps, IsDriven, EndsFor, lacks_memory}
-use Rattle.h2_engines.specs.Machines.{link_fails, has_failed, has_stalled, stops_itself, HasEnded}
-use Rattle.h2_engines.specs.Machines.{TakenSo, Takes, DrivenSo, Drives}
+use Rattle.h2_engines.specs.Machines.{Course, Keeps, IsDriven, EndsFor, lacks_memory, link_fails}
+use Rattle.h2_engines.specs.Machines.{has_failed, has_stalled, stops_itself, HasEnded, TakenSo}
+use Rattle.h2_engines.specs.Machines.{TakesPiece, DrivenSo, Drives}
 use Rattle.h2_engines.specs.PartialMessages.{AreHeads, HasCome, IsWhole, interims_alone}
 use Rattle.h2_engines.specs.PartialMessages.{interim_parts}
 use Rattle.h2_engines.specs.ServerSteps.{error_with}
-use Rattle.h2_engines.specs.WithoutLink.{IsFetchingAlone, StopsFetchAlone}
-use Rattle.h2_engines.specs.WithoutLink.{FetchesInSo, ClientTakesIn}
+use Rattle.h2_engines.specs.WithoutLink.{IsFetchingAlone, StopsFetchAlone, FetchesInSo}
+use Rattle.h2_engines.specs.WithoutLink.{ClientTakesIn}
 use Rattle.h2_engines.proofs.MachineLaws.{holds_again}
 use Rattle.h2_engines.proofs.MachineViews.{client_held, begun, carried, links_alone, uses_alone}
 use Rattle.h2_engines.proofs.MachineViews.{all_in_part, goes_for, not_cut}
@@ -51,10 +40,8 @@ nothing_linked : (start : Traffic) (log : Log) → log.input ≡ [] → log.give
     → IsLinked start start log []
 nothing_linked start log input given =
     record {
-      given = subst (λ (all : List ℕ). Appends start.given start.given (all ++ [])) (sym input)
-          (Appends-nil start.given);
-      taken = subst (λ (count : ℕ). Appends start.taken start.taken (take count log.written))
-          (sym given) (Appends-nil start.taken);
+      given = rw input (Appends-nil start.given);
+      taken = rw given (Appends-nil start.taken);
     }
 
 new_log : (values : Values)
@@ -64,14 +51,14 @@ unfolding opened with_sent
 new_log values = (refl, refl, refl)
 
 -- The message was not accepted.
-pub ends_at_once : (values : Values) (message : SentMessage) (start : Traffic) (error : LinkError)
+pub ends_at_once : {values : Values} (message : SentMessage) (start : Traffic) (error : LinkError)
     → AreInRange values → IsNotAccepted values message (Err error)
     → Fetches values message start start (Err error)
-ends_at_once values message start error range refused =
+ends_at_once {values} message start error range refused =
     record {
       end = new_end Client values;
       fetching = begins range;
-      linked = all_in_part start start (opened Client values) []
+      linked = all_in_part
           (nothing_linked start (opened Client values) (new_log values).0 (new_log values).1);
       so = inr refused;
     }
@@ -109,12 +96,12 @@ unfolding parts_on
 no_parts id = refl
 
 -- The message was accepted: the client is driven.
-new_driven : (values : Values) (message : SentMessage) (start : Traffic) (fetcher : Fetcher)
+new_driven : {values : Values} {message : SentMessage} (start : Traffic) {fetcher : Fetcher}
     → AreInRange values → fetcher.whole ≡ false → (has : HasRequested values message fetcher)
     → IsDriven (record { values = values; message = message; start = start }) start
     (client_held fetcher) has.end [] nexts.Again
 unfolding MayRequest Keeps
-new_driven values message start fetcher range not has =
+new_driven {values} {message} start {fetcher} range not has =
     let new = opened Client values in
     let act = Open message.head (is_head_alone message) in
     let now = has.requested.3 in
@@ -125,16 +112,15 @@ new_driven values message start fetcher range not has =
     record {
       happened = requests range (Ok fetcher.id) has.requested;
       represents = has.represents;
-      linked = nothing_linked start has.end.log
-          (ap (λ (one : Log). one.input) log ∙ (Keeps-call new act (Number fetcher.id)).input
-          ∙ (new_log values).0)
-          (ap (λ (one : Log). one.given) log
-          ∙ call_given new act (Number fetcher.id) (λ count same. cc) ∙ (new_log values).1);
-      up = ap (λ (one : Log). one.failed) log
-          ∙ open_failed new message.head (is_head_alone message) fetcher.id ∙ (new_log values).2;
+      linked = nothing_linked start has.end.log (ap (λ (one : Log). one.input) log
+          ∙ (Keeps-call new act (Number fetcher.id)).input ∙ (new_log values).0) (ap
+          (λ (one : Log). one.given) log ∙ call_given new act (Number fetcher.id)
+          (λ count same. cc) ∙ (new_log values).1);
+      up = ap (λ (one : Log). one.failed) log ∙ open_failed new message.head
+          (is_head_alone message) fetcher.id ∙ (new_log values).2;
       keeps = (
-        ap (λ (end : EndLog). message_for fetcher.id end.accepted) now
-            ∙ message_here fetcher.id message,
+        ap (λ (end : EndLog). message_for fetcher.id end.accepted) now ∙ message_here fetcher.id
+            message,
         subst (HasCome fetcher.coming) (sym parts)
             (come_none fetcher.coming has.none_come has.no_body has.no_interims has.no_trailers),
         not,
@@ -149,32 +135,21 @@ fails_so start now end id InternalError failed taken = tt
 fails_so start now end id code failed taken =
     record { code = code; failed = failed; other = λ same. cc; number_is = refl; taken = taken }
 
--- What is said of an end is said of the same error.
-so_as : (start now : Traffic) (end : EndLog) (id : ℕ) (error is : LinkError) → error ≡ is
-    → EndsFetchSo start now end id (Err is) → EndsFetchSo start now end id (Err error)
-so_as start now end id error is same so =
-    subst (λ (one : LinkError). EndsFetchSo start now end id (Err one)) (sym same) so
-
-ends_so : (start now : Traffic) (fetcher : Fetcher) (end : EndLog) (error : LinkError)
+ends_so : {start now : Traffic} (fetcher : Fetcher) {end : EndLog} {error : LinkError}
     → EndsFor true start now (client_held fetcher).kept end error
     → EndsFetchSo start now end fetcher.id (Err error)
-ends_so start now fetcher end error (lacks_memory is) =
-    so_as start now end fetcher.id error errors.Memory is tt
-ends_so start now fetcher end error (link_fails is said) =
-    so_as start now end fetcher.id error errors.Device is tt
-ends_so start now fetcher end error (has_failed code failed is taken) =
-    so_as start now end fetcher.id error (error_with code) is
-    (fails_so start now end fetcher.id code failed (taken refl))
-ends_so start now fetcher end error (has_stalled is stalled) =
-    so_as start now end fetcher.id error errors.NoProgress is stalled
-ends_so start now fetcher end error (stops_itself (number, is, dropped)) =
-    so_as start now end fetcher.id error (errors.Reset number) is dropped
+ends_so fetcher (lacks_memory is) = rw is tt
+ends_so fetcher (link_fails is said) = rw is tt
+ends_so {start} {now} fetcher {end} (has_failed code failed is taken) =
+    rw is (fails_so start now end fetcher.id code failed (taken refl))
+ends_so fetcher (has_stalled is stalled) = rw is stalled
+ends_so fetcher (stops_itself (number, is, dropped)) = rw is dropped
 
 -- So a fetch ends early,
-ended_fetches : (course : Course) (now : Traffic) (fetcher : Fetcher) (end : EndLog)
-    (error : LinkError) → HasEnded true course now (client_held fetcher) end error
+ended_fetches : {course : Course} {now : Traffic} (fetcher : Fetcher) {end : EndLog}
+    {error : LinkError} → HasEnded true course now (client_held fetcher) end error
     → Fetches course.values course.message course.start now (Err error)
-ended_fetches course now fetcher end error ended =
+ended_fetches fetcher {end} ended =
     record {
       end = end;
       fetching = ended.happened;
@@ -184,51 +159,47 @@ ended_fetches course now fetcher end error ended =
         accepted = ended.holds.0;
         sends = ended.represents.streams.sent;
         unfinished = ended.holds.1;
-        so = ends_so course.start now fetcher end error ended.why;
+        so = ends_so fetcher ended.why;
       });
     }
 
-pub drive_fetches : (values : Values) (message : SentMessage) (before now : Traffic)
-    (old new : Fetcher) (error : LinkError) → AreInRange values → old.whole ≡ false
+pub drive_fetches : {values : Values} {message : SentMessage} (before now : Traffic)
+    {old : Fetcher} (new : Fetcher) (error : LinkError) → AreInRange values → old.whole ≡ false
     → HasRequested values message old
     → Drives before now (client_held old) (client_held new) (Err error)
     → Fetches values message before now (Err error)
 unfolding DrivenSo
-drive_fetches values message before now old new error range not has drives =
-    let course : Course = record { values = values; message = message; start = before } in
-    let so = drives course has.end (new_driven values message before old range not has) in
-    ended_fetches course now new so.0 error so.1
+drive_fetches before now new error range not has drives =
+    let so = drives _ has.end (new_driven before range not has) in
+    ended_fetches new so.1
 
 -- never where its input has ended then;
-pub drive_not_cut : (values : Values) (message : SentMessage) (before now : Traffic)
-    (old new : Fetcher) (error : LinkError) (ended : Bool) → AreInRange values
+pub drive_not_cut : {values : Values} {message : SentMessage} (before now : Traffic)
+    {old : Fetcher} (new : Fetcher) (error : LinkError) (ended : Bool) → AreInRange values
     → old.whole ≡ false → HasRequested values message old
     → Drives before now (client_held old) (client_held new) (Err error)
     → CutsOffAtEnd {A = Fetched} (Err error) ended
 unfolding DrivenSo
-drive_not_cut values message before now old new error ended range not has drives =
-    let course : Course = record { values = values; message = message; start = before } in
-    let so = drives course has.end (new_driven values message before old range not has) in
-    not_cut Fetched error ended
-    (goes_for true before now (client_held new).kept so.0 error so.1.why)
+drive_not_cut before now new error ended range not has drives =
+    let so = drives _ has.end (new_driven before range not has) in
+    not_cut Fetched error ended (goes_for (client_held new).kept so.1.why)
 
 -- or where that has ended before the response was whole;
-pub drive_cut_off : (values : Values) (message : SentMessage) (before now : Traffic)
-    (old new : Fetcher) (whole : Bool) → whole ≡ false → AreInRange values → old.whole ≡ false
-    → HasRequested values message old
+pub drive_cut_off : {values : Values} {message : SentMessage} (before now : Traffic)
+    {old : Fetcher} (new : Fetcher) (whole : Bool) → whole ≡ false → AreInRange values
+    → old.whole ≡ false → HasRequested values message old
     → Drives before now (client_held old) (client_held new) (Ok whole)
     → Fetches values message before now (Err errors.CutOff)
 unfolding DrivenSo Keeps
-drive_cut_off values message before now old new true ends range not has drives = absurd (cc)
-drive_cut_off values message before now old new false ends range not has drives =
-    let course : Course = record { values = values; message = message; start = before } in
-    let so = drives course has.end (new_driven values message before old range not has) in
+drive_cut_off before now new true ends range not has drives = absurd (cc)
+drive_cut_off {message} before now new false ends range not has drives =
+    let so = drives _ has.end (new_driven before range not has) in
     let driven = so.1.0 in
     let holds = holds_again message (client_held new).kept so.0 errors.CutOff driven.keeps in
     record {
       end = so.0;
       fetching = driven.happened;
-      linked = all_in_part before now so.0.log [] driven.linked;
+      linked = all_in_part driven.linked;
       so = inl (record {
         id = new.id;
         accepted = holds.0;
@@ -243,9 +214,9 @@ abbrev content_of : {A : Type 0} → A → Option A → A
 content_of other None = other
 content_of other (Some one) = one
 
-fetched_as : (coming : Coming) (parts : List (Part × Bool)) (fetched : Fetched)
+fetched_as : {coming : Coming} (parts : List (Part × Bool)) {fetched : Fetched}
     → IsWhole coming parts → IsFetchedOf coming fetched → IsFetched parts fetched
-fetched_as coming parts fetched whole of =
+fetched_as parts whole of =
     let is = whole.5 in
     let interims = sym whole.2 ∙ of.interims in
     let head = ap (content_of whole.0.head) (sym whole.1 ∙ of.head) in
@@ -263,35 +234,32 @@ not_missing : (fetcher : Fetcher) (parts : List (Part × Bool)) → IsWhole fetc
 not_missing fetcher parts is whole (inl none) = cc
 not_missing fetcher parts is whole (inr none) = let head = is.1 in cc
 
-pub drive_whole : (values : Values) (message : SentMessage) (before now : Traffic)
-    (old new : Fetcher) (whole : Bool) (result : Result Fetched LinkError) → whole ≡ true
+pub drive_whole : {values : Values} {message : SentMessage} (before now : Traffic) {old : Fetcher}
+    (new : Fetcher) (whole : Bool) (result : Result Fetched LinkError) → whole ≡ true
     → AreInRange values → old.whole ≡ false → HasRequested values message old
     → Drives before now (client_held old) (client_held new) (Ok whole)
     → IfOk result (λ fetched. IsFetchedOf new.coming fetched)
     → OnErr result ((new.whole ≡ false) ⊎ (new.coming.head ≡ None))
     → Fetches values message before now result
 unfolding DrivenSo Keeps
-drive_whole values message before now old new false result said range not has drives of none =
-    absurd (cc)
-drive_whole values message before now old new true (Ok fetched) said range not has drives of none =
-    let course : Course = record { values = values; message = message; start = before } in
-    let so = drives course has.end (new_driven values message before old range not has) in
+drive_whole before now new false result said range not has drives of none = absurd (cc)
+drive_whole before now new true (Ok fetched) said range not has drives of none =
+    let so = drives _ has.end (new_driven before range not has) in
     let driven = so.1.1 in
     record {
       end = so.0;
       fetching = driven.happened;
-      linked = all_in_part before now so.0.log so.1.0 driven.linked;
+      linked = all_in_part driven.linked;
       so = inl (record {
         id = new.id;
         accepted = driven.keeps.0;
         sends = driven.represents.streams.sent;
         unfinished = tt;
-        so = fetched_as new.coming (parts_on new.id so.0.handed) fetched driven.keeps.1 of;
+        so = fetched_as (parts_on new.id so.0.handed) driven.keeps.1 of;
       });
     }
-drive_whole values message before now old new true (Err error) said range not has drives of none =
-    let course : Course = record { values = values; message = message; start = before } in
-    let so = drives course has.end (new_driven values message before old range not has) in
+drive_whole before now new true (Err error) said range not has drives of none =
+    let so = drives _ has.end (new_driven before range not has) in
     let keeps = so.1.1.keeps in
     absurd (not_missing new (parts_on new.id so.0.handed) keeps.1 keeps.2 none)
 
@@ -300,15 +268,15 @@ pub fetched_not_cut : (result : Result Fetched LinkError) (ended : Bool)
     → IfErr result (λ error. error ≡ errors.NoProgress) → CutsOffAtEnd result ended
 fetched_not_cut (Ok fetched) ended is = tt
 fetched_not_cut (Err error) ended is =
-    subst (λ (one : LinkError). CutsOffAtEnd {A = Fetched} (Err one) ended) (sym is) tt
+    rw is tt
 
 -- A client without a link is driven too,
-alone_driven : (values : Values) (message : SentMessage) (fetcher : Fetcher) (end : EndLog)
+alone_driven : {values : Values} {message : SentMessage} {fetcher : Fetcher} {end : EndLog}
     (piece : List ℕ) → IsFetchingAlone values message fetcher end
     → IsDriven (record { values = values; message = message; start = begun }) (carried end piece)
     (client_held fetcher) end piece nexts.Again
 unfolding Keeps
-alone_driven values message fetcher end piece is =
+alone_driven {end} piece is =
     record {
       happened = is.fetching;
       represents = is.represents;
@@ -325,34 +293,26 @@ code_stops end id InternalError failed = tt
 code_stops end id code failed =
     record { code = code; failed = failed; other = λ same. cc; number_is = refl }
 
-alone_as : (end : EndLog) (id : ℕ) (error is : LinkError) → error ≡ is
-    → StopsFetchAlone end id is → StopsFetchAlone end id error
-alone_as end id error is same stopped = subst (StopsFetchAlone end id) (sym same) stopped
-
-ends_alone : (start now : Traffic) (fetcher : Fetcher) (end : EndLog) (error : LinkError)
+ends_alone : {start now : Traffic} (fetcher : Fetcher) {end : EndLog} {error : LinkError}
     → now.stalled ≡ false → EndsFor false start now (client_held fetcher).kept end error
     → StopsFetchAlone end fetcher.id error
 unfolding StopsFetchAlone
-ends_alone start now fetcher end error none (lacks_memory is) =
-    alone_as end fetcher.id error errors.Memory is tt
-ends_alone start now fetcher end error none (link_fails is said) = absurd (cc)
-ends_alone start now fetcher end error none (has_failed code failed is taken) =
-    alone_as end fetcher.id error (error_with code) is (code_stops end fetcher.id code failed)
-ends_alone start now fetcher end error none (has_stalled is (inl stalled)) = absurd (cc)
-ends_alone start now fetcher end error none (has_stalled is (inr out)) =
-    alone_as end fetcher.id error errors.NoProgress is out
-ends_alone start now fetcher end error none (stops_itself (number, is, dropped)) =
-    alone_as end fetcher.id error (errors.Reset number) is dropped
+ends_alone fetcher none (lacks_memory is) = rw is tt
+ends_alone fetcher none (link_fails is said) = absurd (cc)
+ends_alone fetcher {end} none (has_failed code failed is taken) =
+    rw is (code_stops end fetcher.id code failed)
+ends_alone fetcher none (has_stalled is (inl stalled)) = absurd (cc)
+ends_alone fetcher none (has_stalled is (inr out)) = rw is out
+ends_alone fetcher none (stops_itself (number, is, dropped)) = rw is dropped
 
 -- So it takes octets in.
 pub takes_in : (real now : Traffic) (old new : Fetcher) (piece : List ℕ)
     (result : Result Bool LinkError)
-    → Takes false real now (client_held old) (client_held new) piece result
+    → TakesPiece false real now (client_held old) (client_held new) piece result
     → ClientTakesIn old new piece result
 unfolding TakenSo FetchesInSo Keeps
 takes_in real now old new piece (Ok true) takes values message end is =
-    let course : Course = record { values = values; message = message; start = begun } in
-    let so = takes course (carried end piece) end (alone_driven values message old end piece is) in
+    let so = takes _ (carried end piece) end (alone_driven piece is) in
     let driven = so.2.1 in (
       so.0,
       (
@@ -363,12 +323,11 @@ takes_in real now old new piece (Ok true) takes values message end is =
           response = driven.keeps.1;
           noted = driven.keeps.2;
         },
-        (so.2.0, uses_alone end so.0.log piece so.2.0 driven.linked),
+        (so.2.0, uses_alone end piece driven.linked),
       ),
     )
 takes_in real now old new piece (Ok false) takes values message end is =
-    let course : Course = record { values = values; message = message; start = begun } in
-    let so = takes course (carried end piece) end (alone_driven values message old end piece is) in
+    let so = takes _ (carried end piece) end (alone_driven piece is) in
     let driven = so.2 in (
       so.0,
       (
@@ -380,20 +339,19 @@ takes_in real now old new piece (Ok false) takes values message end is =
           come = driven.keeps.1;
           unfinished = driven.keeps.2;
         },
-        uses_alone end so.0.log piece [] driven.linked,
+        uses_alone end piece driven.linked,
       ),
     )
 takes_in real now old new piece (Err error) takes values message end is =
-    let course : Course = record { values = values; message = message; start = begun } in
-    let so = takes course (carried end piece) end (alone_driven values message old end piece is) in
+    let so = takes _ (carried end piece) end (alone_driven piece is) in
     let ended = so.2 in (
       so.0,
       (
         ended.happened,
         ended.represents,
         ended.holds.0,
-        (ended.unused, uses_alone end so.0.log piece ended.unused (ended.alone refl)),
-        ends_alone begun (carried end piece) new so.0 error refl ended.why,
+        (ended.unused, uses_alone end piece (ended.alone refl)),
+        ends_alone new refl ended.why,
       ),
     )
 

@@ -1,8 +1,8 @@
 -- A response of which so much is kept isn't whole.
-use Rattle.std.proofs.Common.{◌≡◌, ℕ, Bool, false, List, [], ◌∷◌, ◌++◌, map as each, refl}
-use Rattle.hpack.specs.declared.types.field.Field.{Field}
+use Rattle.h2_engines.proofs.Names.{◌≡◌, ℕ, Bool, false, List, [], ◌∷◌, ◌++◌, refl, Field, Part}
+use Rattle.h2_engines.proofs.Names.{FieldsPart}
+use Rattle.std.proofs.Common.{map as each}
 use Rattle.h2_message.specs.Phases.{ends}
-use Rattle.h2_message.specs.Reading.{Part, FieldsPart}
 use Rattle.h2_engines.specs.declared.fetcher.Coming.{Coming}
 use Rattle.h2_engines.specs.PartialMessages.{HasCome, interims_alone, head_and_body, interim_parts}
 use Rattle.h2_engines.specs.PartialMessages.{data_parts_of}
@@ -39,12 +39,10 @@ body_goes_on : (head : List Field) (data_parts : List (List ℕ))
 unfolding GoOn
 body_goes_on head data_parts = (refl, data_go_on data_parts)
 
-pub come_not_whole : (coming : Coming) (parts : List (Part × Bool)) → HasCome coming parts
+pub come_not_whole : {coming : Coming} {parts : List (Part × Bool)} → HasCome coming parts
     → ends parts ≡ false
-come_not_whole coming parts (interims_alone are no_head no_body no_trailers) =
+come_not_whole {coming} (interims_alone are no_head no_body no_trailers) =
     none_ends _ (interims_go_on (each (λ list. list.items) coming.interims.items))
-come_not_whole coming parts
-    (head_and_body are head data_parts head_is body_is no_trailers) =
-    none_ends _ (go_on_both _ _
-    (interims_go_on (each (λ list. list.items) coming.interims.items))
+come_not_whole {coming} (head_and_body are head data_parts head_is body_is no_trailers) =
+    none_ends _ (go_on_both _ _ (interims_go_on (each (λ list. list.items) coming.interims.items))
     (body_goes_on head data_parts))

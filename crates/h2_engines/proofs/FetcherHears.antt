@@ -1,44 +1,25 @@
 -- What a client's end hands out of its response, and what is kept of that.
-use Rattle.std.proofs.Common.{◌≡◌, ◌⊎◌, ℕ, Bool, true, false}
-use Rattle.std.proofs.Common.{if◌then◌else◌, List, [], ◌∷◌, ◌++◌, length, Option, Some, None}
-use Rattle.std.proofs.Common.{option_map, Ok, Err, refl, sym, ap, ◌∙◌, subst, inl, inr}
-use Rattle.hpack.specs.declared.types.field.Field.{Field}
-use Rattle.h2_frame.specs.declared.code.Code.{Code}
-use Rattle.h2_log.specs.declared.role.Role.TheVariants.{Client}
-use Rattle.h2_log.specs.Acts.{Refuse}
-use Rattle.h2_log.specs.Events.{ResetEvent, UnprocessedEvent}
-use Rattle.h2_log.specs.Log.{Log}
-use Rattle.h2_log.specs.LogCalls.{with_call}
-use Rattle.h2_log.specs.Settings.{is_server}
-use Rattle.h2_conn.specs.declared.event.ConnFault.{ConnFault}
-use Rattle.h2_message.specs.declared.reading.Reads.{Reads}
-use Rattle.h2_message.specs.declared.reading.Reads.TheVariants.{Requests, Responses}
-use Rattle.h2_message.specs.declared.reading.Place.{Place}
+use Rattle.h2_engines.proofs.Names.{◌≡◌, ℕ, Bool, true, false, if◌then◌else◌, List, [], ◌∷◌, ◌++◌}
+use Rattle.h2_engines.proofs.Names.{length, Some, None, Ok, Err, refl, sym, ap, ◌∙◌, subst, inl}
+use Rattle.h2_engines.proofs.Names.{inr, Field, Client, ResetEvent, is_server, ConnFault, Reads}
+use Rattle.h2_engines.proofs.Names.{Requests, Responses, Place, Part, FieldsPart, OctetsPart}
+use Rattle.h2_engines.proofs.Names.{IsReadable, place_after, End, EndEvent, EndTaken, EndLog}
+use Rattle.h2_engines.proofs.Names.{EndTook, EndFailed, Handed, Passed, asked_head, EndMayTake}
+use Rattle.h2_engines.proofs.Names.{event_handed, EndTakes, LinkError}
+use Rattle.std.proofs.Common.{◌⊎◌}
 use Rattle.h2_message.specs.declared.reading.Place.TheVariants as places
-use Rattle.h2_message.specs.Reading.{Part, FieldsPart, OctetsPart, IsReadable}
-use Rattle.h2_message.specs.Phases.{place_after}
-use Rattle.h2_ends.specs.declared.end.End.{End}
-use Rattle.h2_ends.specs.declared.event.EndEvent.{EndEvent}
-use Rattle.h2_ends.specs.declared.event.EndTaken.{EndTaken}
-use Rattle.h2_ends.specs.Ends.{EndLog, EndAnswer, EndTook, EndFailed, Handed, Passed, asked_head}
 use Rattle.h2_ends.specs.Ends.{handed_as, handed_at, message_for, part_on, parts_on, reads_on}
-use Rattle.h2_ends.specs.EndTakes.{EndMayTake, AnswersRefused, fails, hands_nothing, passes}
-use Rattle.h2_ends.specs.EndTakes.{hands_out, refuses, runs_out_of_memory}
-use Rattle.h2_ends.specs.Loans.{event_handed}
-use Rattle.h2_ends.specs.Represents.{EndTakes}
-use Rattle.h2_link.specs.declared.error.LinkError.{LinkError}
 use Rattle.h2_link.specs.declared.error.LinkError.TheVariants as errors
 use Rattle.h2_engines.specs.declared.fetcher.Coming.{Coming}
 use Rattle.h2_engines.specs.declared.request.Next.{Next}
 use Rattle.h2_engines.specs.declared.request.Next.TheVariants as goes
-use Rattle.h2_engines.specs.Fetches.{refused_stream}
 use Rattle.h2_engines.specs.ClientSteps.{ClientHears, FetchedSo, KeepsResponse, ErrsFetching}
 use Rattle.h2_engines.specs.ClientSteps.{NotesPart}
 use Rattle.h2_engines.specs.PartialMessages.{HasCome}
 use Rattle.h2_engines.specs.ServerSteps.{error_with}
 use Rattle.h2_engines.proofs.FetcherParts.{MayHand, KeepsSoFar, notes_on}
 use Rattle.h2_engines.proofs.FetcherPlaces.{SaysPlace, place_says, octets_say}
-use Rattle.h2_engines.proofs.TakeMessages.{taken_says}
+use Rattle.h2_engines.proofs.TakeMessages.{take_hands, taken_says}
 
 -- A part of the response is handed out as it was read.
 hands_at : (coming : Coming) (id i : ℕ) (list : List Field) (last : Bool) (place : Place)
@@ -48,16 +29,16 @@ hands_at coming id i list last places.Interim say = say
 hands_at coming id i list last places.Head say = say
 hands_at coming id i list last places.Trailers say = say
 
-hands_part : (to_head : Bool) (coming : Coming) (id i : ℕ) (parts : List (Part × Bool))
+hands_part : {to_head : Bool} (coming : Coming) (id i : ℕ) (parts : List (Part × Bool))
     (part : Part × Bool) → (i ≡ id → HasCome coming parts)
     → IsReadable (Responses to_head) (parts ++ part ∷ [])
     → MayHand coming id (handed_as (Responses to_head) parts i part)
 unfolding handed_as
-hands_part to_head coming id i parts (FieldsPart list, last) come readable =
+hands_part {to_head} coming id i parts (FieldsPart list, last) come readable =
     hands_at coming id i list last (place_after (Responses to_head) parts list)
-    (λ same. place_says to_head coming parts list last (come same) readable)
-hands_part to_head coming id i parts (OctetsPart octets, last) come readable =
-    λ same. octets_say to_head coming parts octets last (come same) readable
+    (λ same. place_says list last (come same) readable)
+hands_part coming id i parts (OctetsPart octets, last) come readable =
+    λ same. octets_say octets last (come same) readable
 
 -- A client reads responses.
 reads_responses : (end : EndLog) (i : ℕ) → end.log.role ≡ Client
@@ -67,123 +48,66 @@ reads_responses end i role =
     ap (λ (b : Bool). if b then Requests
     else Responses (asked_head (message_for i end.accepted))) (ap is_server role)
 
-hands_as_read : (coming : Coming) (end : EndLog) (id i : ℕ) (part : Part × Bool) (to_head : Bool)
-    (reads : Reads) → reads ≡ Responses to_head → HasCome coming (parts_on id end.handed)
+hands_as_read : {coming : Coming} (end : EndLog) (id i : ℕ) (part : Part × Bool) (to_head : Bool)
+    {reads : Reads} → reads ≡ Responses to_head → HasCome coming (parts_on id end.handed)
     → IsReadable reads (parts_on i end.handed ++ part ∷ [])
     → MayHand coming id (handed_as reads (parts_on i end.handed) i part)
-hands_as_read coming end id i part to_head reads same come readable =
-    subst (λ (one : Reads). MayHand coming id (handed_as one (parts_on i end.handed) i part))
-    (sym same) (hands_part to_head coming id i (parts_on i end.handed) part
-    (λ is. subst (λ (one : ℕ). HasCome coming (parts_on one end.handed)) (sym is) come)
-    (subst (λ (one : Reads). IsReadable one (parts_on i end.handed ++ part ∷ [])) same readable))
+hands_as_read {coming} end id i part to_head same come readable =
+    rw same (hands_part coming id i (parts_on i end.handed) part
+    (λ is. subst (λ (one : ℕ). HasCome coming (parts_on one end.handed)) (sym is) come) (subst
+    (λ (one : Reads). IsReadable one (parts_on i end.handed ++ part ∷ [])) same readable))
 
 -- So it is with what a call of `take` hands out.
-hands_refused : (coming : Coming) (end after : EndLog) (log : Log) (count n id i : ℕ)
-    (handed : Handed) (failed : Option Code)
-    → AnswersRefused end log n i (EndTook count (Some handed)) after failed
-    → MayHand coming id handed
-unfolding AnswersRefused
-hands_refused coming end after log count n id i handed None refused =
-    let said = refused.0 in
-    let is : handed ≡ Passed (ResetEvent i 1 true) = cc in
-    subst (MayHand coming id) (sym is) tt
-hands_refused coming end after log count n id i handed (Some code) refused =
-    let wrong = refused.0 in absurd (cc)
-
-hands_by : (coming : Coming) (end after : EndLog) (id : ℕ) (piece : List ℕ) (count : ℕ)
-    (handed : Handed) (answer : EndAnswer) → end.log.role ≡ Client
-    → HasCome coming (parts_on id end.handed) → EndTook count (Some handed) ≡ answer
-    → EndMayTake end piece answer after → MayHand coming id handed
-hands_by coming end after id piece count handed answer role come named
-    (fails code log takes same now) = absurd (cc)
-hands_by coming end after id piece count handed answer role come named
-    (hands_nothing n log takes same now) = absurd (cc)
-hands_by coming end after id piece count handed answer role come named
-    (passes n event log takes none same now) =
-    let is : handed ≡ Passed event = cc in
-    subst (MayHand coming id) (sym is) tt
-hands_by coming end after id piece count handed answer role come named
-    (hands_out n event log takes i part reported readable same now) =
-    let is : handed ≡ handed_as (reads_on end i) (parts_on i end.handed) i part = cc in
-    subst (MayHand coming id) (sym is)
-    (hands_as_read coming end id i part (asked_head (message_for i end.accepted))
-    (reads_on end i) (reads_responses end i role) come readable)
-hands_by coming end after id piece count handed answer role come named
-    (refuses n event log takes i part reported broken refused may answers) =
-    hands_refused coming end after (with_call log (Refuse i 1) refused) count n id i handed
-    (with_call log (Refuse i 1) refused).failed
-    (subst (λ (one : EndAnswer). AnswersRefused end (with_call log (Refuse i 1) refused) n i
-    one after (with_call log (Refuse i 1) refused).failed) (sym named) answers)
-hands_by coming end after id piece count handed answer role come named
-    (runs_out_of_memory n i list last log takes is_role none readable refused may same now) =
-    absurd (cc)
-
-pub client_hands : (coming : Coming) (end after : EndLog) (id : ℕ) (piece : List ℕ) (count : ℕ)
+pub client_hands : {coming : Coming} {end after : EndLog} (id : ℕ) {piece : List ℕ} (count : ℕ)
     (handed : Handed) → end.log.role ≡ Client → HasCome coming (parts_on id end.handed)
     → EndMayTake end piece (EndTook count (Some handed)) after → MayHand coming id handed
-client_hands coming end after id piece count handed role come may =
-    hands_by coming end after id piece count handed (EndTook count (Some handed)) role come refl
-    may
+client_hands {coming} {end} id count handed role come may =
+    take_hands (MayHand coming id) count handed (λ event. tt) (λ i part readable. hands_as_read end
+    id i part (asked_head (message_for i end.accepted)) (reads_responses end i role) come
+    readable) may
 
 -- What was handed out is on the stream after what was.
-handed_on : (id : ℕ) (handed now : List Handed) (one : Handed) → now ≡ one ∷ handed
+handed_on : (id : ℕ) (handed : List Handed) {now : List Handed} (one : Handed) → now ≡ one ∷ handed
     → parts_on id now ≡ parts_on id handed ++ part_on id one
 unfolding parts_on
-handed_on id handed now one is = ap (parts_on id) is
+handed_on id handed one is = ap (parts_on id) is
 
 -- So much is kept of the response, by how it goes on.
-keeps_by : (end : EndLog) (id : ℕ) (coming : Coming) (parts : List (Part × Bool)) (whole : Bool)
-    (next : Next) → parts_on id end.handed ≡ parts → KeepsSoFar coming parts whole
+keeps_by : (end : EndLog) (id : ℕ) (coming : Coming) {parts : List (Part × Bool)} (whole : Bool)
+    {next : Next} → parts_on id end.handed ≡ parts → KeepsSoFar coming parts whole
     → next ≡ (if whole then goes.Whole else goes.Again) → KeepsResponse end id coming next
 unfolding KeepsResponse
-keeps_by end id coming parts true next are keeps is =
-    rw is (subst (λ (parts : List (Part × Bool)). KeepsSoFar coming parts true) (sym are) keeps)
-keeps_by end id coming parts false next are keeps is =
-    rw is (subst (λ (parts : List (Part × Bool)). KeepsSoFar coming parts false) (sym are) keeps)
-
--- A call of `take` that handed out this, or nothing.
-took_event : (end after : EndLog) (piece : List ℕ) (taken : EndTaken) (event : EndEvent)
-    → taken.event ≡ Some event
-    → EndMayTake end piece (EndTook taken.used (option_map event_handed taken.event)) after
-    → EndMayTake end piece (EndTook taken.used (Some (event_handed event))) after
-took_event end after piece taken event some may =
-    subst (λ (handed : Option Handed). EndMayTake end piece (EndTook taken.used handed) after)
-    (ap (option_map event_handed) some) may
-
-took_none : (end after : EndLog) (piece : List ℕ) (taken : EndTaken) → taken.event ≡ None
-    → EndMayTake end piece (EndTook taken.used (option_map event_handed taken.event)) after
-    → EndMayTake end piece (EndTook taken.used None) after
-took_none end after piece taken none may =
-    subst (λ (handed : Option Handed). EndMayTake end piece (EndTook taken.used handed) after)
-    (ap (option_map event_handed) none) may
+keeps_by end id coming {parts} true are keeps is = rw is (rw are keeps)
+keeps_by end id coming {parts} false are keeps is = rw is (rw are keeps)
 
 -- Nothing was handed out: the fetch goes on, or is done with the piece.
-keeps_none : (end after : EndLog) (id : ℕ) (coming : Coming) (next : Next)
+keeps_none : (end after : EndLog) (id : ℕ) {coming : Coming} (next : Next)
     → after.handed ≡ end.handed → (next ≡ goes.Again) ⊎ (next ≡ goes.Done)
     → HasCome coming (parts_on id end.handed) → KeepsResponse after id coming next
 unfolding KeepsResponse
-keeps_none end after id coming next same (inl again) come =
-    rw again (subst (λ (handed : List Handed). HasCome coming (parts_on id handed)) (sym same) come)
-keeps_none end after id coming next same (inr done) come =
-    rw done (subst (λ (handed : List Handed). HasCome coming (parts_on id handed)) (sym same) come)
+keeps_none end after id {coming} next same (inl again) come =
+    rw again
+    (subst (λ (handed : List Handed). HasCome coming (parts_on id handed)) (sym same) come)
+keeps_none end after id {coming} next same (inr done) come = rw done (rw same come)
 
 pub heard_nothing : (old new : End) (id : ℕ) (coming : Coming) (piece : List ℕ)
     (taken : EndTaken) (next : Next) → taken.event ≡ None
-    → (next ≡ goes.Again) ⊎ (next ≡ goes.Done) → (next ≡ goes.Done → taken.used ≡ length piece) → EndTakes old piece (Ok taken) new
+    → (next ≡ goes.Again) ⊎ (next ≡ goes.Done) → (next ≡ goes.Done → taken.used ≡ length piece)
+    → EndTakes old piece (Ok taken) new
     → ClientHears old new id coming coming piece
     (Ok (record { used = taken.used; next = next }))
 unfolding FetchedSo
 heard_nothing old new id coming piece taken next none other all takes values end represents role
     come =
     let (after, may, now) = takes values end represents in
-    let took = took_none end after piece taken none may in
-    let says = taken_says end piece (EndTook taken.used None) after took in
-    (after, now, (None, took, keeps_none end after id coming next says.handed other come, all))
+    let took = rw none at may in
+    let says = taken_says took in
+    (after, now, (None, took, keeps_none end after id next says.handed other come, all))
 
-not_done : (whole : Bool) (next : Next) {A : Type 0}
+not_done : (whole : Bool) {next : Next} {A : Type 0}
     → next ≡ (if whole then goes.Whole else goes.Again) → next ≡ goes.Done → A
-not_done true next is done = cc
-not_done false next is done = cc
+not_done true is done = cc
+not_done false is done = cc
 
 -- A part was noted: the fetch goes on, or the response is whole.
 pub heard_part : (old new : End) (id : ℕ) (before coming : Coming) (piece : List ℕ)
@@ -197,19 +121,18 @@ heard_part old new id before coming piece taken event whole next some goes_on no
     end represents role come =
     let (after, may, now) = takes values end represents in
     let handed = event_handed event in
-    let took = took_event end after piece taken event some may in
-    let says = taken_says end piece (EndTook taken.used (Some handed)) after took in
-    let hands = client_hands before end after id piece taken.used handed role come took in
+    let took = rw some at may in
+    let says = taken_says took in
+    let hands = client_hands id taken.used handed role come took in
     let parts = parts_on id end.handed in
-    let keeps = notes_on id before coming parts handed whole come hands notes in (
+    let keeps = notes_on come hands notes in (
       after,
       now,
       (
         Some handed,
         took,
-        keeps_by after id coming _ whole next (handed_on id end.handed after.handed handed
-            says.handed) keeps goes_on,
-        λ done. not_done whole next goes_on done,
+        keeps_by after id coming whole (handed_on id end.handed handed says.handed) keeps goes_on,
+        λ done. not_done whole goes_on done,
       ),
     )
 
@@ -223,34 +146,21 @@ unfolding FetchedSo
 heard_error old new id before coming piece taken event error some errs takes values end represents
     role come =
     let (after, may, now) = takes values end represents in
-    let took = took_event end after piece taken event some may in
+    let took = rw some at may in
     (after, now, (EndTook taken.used (Some (event_handed event)), took, errs))
 
 pub heard_fault : (old new : End) (id : ℕ) (before coming : Coming) (piece : List ℕ)
-    (fault : ConnFault) (error : LinkError) → error ≡ error_with fault.code
-    → EndTakes old piece (Err fault) new
-    → ClientHears old new id before coming piece (Err error)
+    (fault : ConnFault) {error : LinkError} → error ≡ error_with fault.code
+    → EndTakes old piece (Err fault) new → ClientHears old new id before coming piece (Err error)
 unfolding FetchedSo ErrsFetching
-heard_fault old new id before coming piece fault error is takes values end represents role come =
+heard_fault old new id before coming piece fault is takes values end represents role come =
     let (after, may, now) = takes values end represents in
     (after, now, (EndFailed fault.code, may, is))
 
--- Why the stream is over.
-pub errs_memory : (count id : ℕ) (handed : Handed)
-    → ErrsFetching (EndTook count (Some handed)) id errors.Memory
-unfolding ErrsFetching
-errs_memory count id handed = inl refl
-
-pub errs_reset : (count id stream code : ℕ) (ours : Bool) (handed : Handed)
+-- Why the stream is over, where it was reset.
+pub errs_reset : (count : ℕ) {id stream : ℕ} (code : ℕ) (ours : Bool) {handed : Handed}
     → handed ≡ Passed (ResetEvent stream code ours) → stream ≡ id
     → ErrsFetching (EndTook count (Some handed)) id (errors.Reset code)
 unfolding ErrsFetching
-errs_reset count id stream code ours handed is same =
+errs_reset count code ours is same =
     inr (inl (code, ours, is ∙ ap (λ (i : ℕ). Passed (ResetEvent i code ours)) same, refl))
-
-pub errs_unprocessed : (count id stream : ℕ) (handed : Handed)
-    → handed ≡ Passed (UnprocessedEvent stream) → stream ≡ id
-    → ErrsFetching (EndTook count (Some handed)) id (errors.Reset refused_stream)
-unfolding ErrsFetching
-errs_unprocessed count id stream handed is same =
-    inr (inr (is ∙ ap (λ (i : ℕ). Passed (UnprocessedEvent i)) same, refl))

@@ -1,24 +1,20 @@
 -- What has come of a response, one part on.
-use Rattle.std.proofs.Common.{map as each, ◌≡◌, ◌≢◌, ℕ, Bool, true, false, if◌then◌else◌, Vec}
-use Rattle.std.proofs.Common.{Global, List, [], ◌∷◌, ◌++◌, Option, Some, None, option_map, refl}
-use Rattle.std.proofs.Common.{sym, ap, ◌∙◌, subst, append_assoc, append-nil}
-use Rattle.std.specs.Prelude.{◌==◌}
-use Rattle.std.specs.List.{AllByRecursion, concat}
-use Rattle.std.proofs.lemmas.Bool.{eq-eqb}
-use Rattle.std.proofs.lemmas.List.{map_push}
+use Rattle.h2_engines.proofs.Names.{◌≡◌, ◌≢◌, ℕ, Bool, true, false, if◌then◌else◌, Vec, Global}
+use Rattle.h2_engines.proofs.Names.{List, [], ◌∷◌, ◌++◌, Option, Some, None, option_map, refl, sym}
+use Rattle.h2_engines.proofs.Names.{ap, ◌∙◌, subst, append_assoc, append-nil, ◌==◌, AllByRecursion}
+use Rattle.h2_engines.proofs.Names.{eq-eqb, map_push, Field, first_broken, interim_rules, Part}
+use Rattle.h2_engines.proofs.Names.{FieldsPart, OctetsPart, BreakNone, Handed, InterimHanded}
+use Rattle.h2_engines.proofs.Names.{HeadHanded, BodyHanded, TrailersHanded, Passed}
+use Rattle.std.proofs.Common.{map as each}
+use Rattle.std.specs.List.{concat}
 use Rattle.std.proofs.lemmas.List.Folds.{concat-append}
-use Rattle.hpack.specs.declared.types.field.Field.{Field}
-use Rattle.h2_message.specs.Messages.{first_broken, interim_rules}
-use Rattle.h2_message.specs.Reading.{Part, FieldsPart, OctetsPart, BreakNone}
 use Rattle.h2_message.specs.Reading.{ended, message_parts, final_parts, trailers_parts}
-use Rattle.h2_ends.specs.Ends.{Handed, InterimHanded, HeadHanded, BodyHanded, TrailersHanded}
-use Rattle.h2_ends.specs.Ends.{Passed, part_on}
+use Rattle.h2_ends.specs.Ends.{part_on}
 use Rattle.h2_engines.specs.declared.fetcher.Coming.{Coming}
 use Rattle.h2_engines.specs.ClientSteps.{NotesPart, notes_interim, notes_head, notes_body}
 use Rattle.h2_engines.specs.ClientSteps.{notes_trailers, notes_nothing}
 use Rattle.h2_engines.specs.PartialMessages.{AreHeads, HasCome, interims_alone, head_and_body}
-use Rattle.h2_engines.specs.PartialMessages.{IsWhole}
-use Rattle.h2_engines.specs.PartialMessages.{interim_parts, data_parts_of}
+use Rattle.h2_engines.specs.PartialMessages.{IsWhole, interim_parts, data_parts_of}
 use Rattle.h2_engines.proofs.FetcherPlaces.{head_there}
 
 -- What may be handed out of the response: interim responses and its head, as long as no head has
@@ -47,33 +43,31 @@ all_and_one P [] list all one = (one, tt)
 all_and_one P (first ∷ lists) list all one = (all.0, all_and_one P lists list all.1 one)
 
 -- An interim response has come.
-on_interim : (old new : Coming) (parts : List (Part × Bool)) (list : List Field)
+on_interim : {old : Coming} (new : Coming) {parts : List (Part × Bool)} (list : List Field)
     → lists_of new.interims ≡ lists_of old.interims ++ list ∷ [] → new.head ≡ old.head
     → new.body ≡ old.body → new.trailers ≡ old.trailers → old.head ≡ None
     → BreakNone (interim_rules list) → HasCome old parts
     → HasCome new (parts ++ (FieldsPart list, false) ∷ [])
-on_interim old new parts list interims head body trailers none sound
+on_interim {old} new list interims head body trailers none sound
     (interims_alone heads nothing empty end) =
-    let all = all_and_one (λ fields. BreakNone (interim_rules fields)) (lists_of old.interims)
-    list heads.interims sound in
+    let all = all_and_one (λ fields. BreakNone (interim_rules fields)) (lists_of old.interims) list
+    heads.interims sound in
     let now : new.head ≡ None = head ∙ none in
     let come : HasCome new (interim_parts (lists_of new.interims)) =
     interims_alone (record {
-      interims = subst (λ (lists : List (List Field)).
-          AllByRecursion (λ fields. BreakNone (interim_rules fields)) lists) (sym interims) all;
-      head = λ one is. absurd (head_there (λ (list : Vec Field Global). list.items) new.head one
-          is now);
+      interims = rw interims all;
+      head = λ one is. absurd
+          (head_there (λ (list : Vec Field Global). list.items) new.head one is now);
     }) now (ap (λ (body : Vec ℕ Global). body.items) body ∙ empty) (trailers ∙ end) in
-    subst (HasCome new) (ap interim_parts interims
-    ∙ map_push (λ (fields : List Field). (FieldsPart fields, false)) (lists_of old.interims) list)
-    come
-on_interim old new parts list interims head body trailers none sound
+    subst (HasCome new) (ap interim_parts interims ∙ map_push
+    (λ (fields : List Field). (FieldsPart fields, false)) (lists_of old.interims) list) come
+on_interim {old} new list interims head body trailers none sound
     (head_and_body heads one data_parts came octets end) =
     absurd (head_there (λ (list : Vec Field Global). list.items) old.head one came none)
 
 -- The response is whole with this head.
-is_whole : (coming : Coming) (head : Vec Field Global) (parts : List (Part × Bool))
-    (data_parts : List (List ℕ)) (trailers : Option (List Field)) → coming.head ≡ Some head
+is_whole : (coming : Coming) (head : Vec Field Global) {parts : List (Part × Bool)}
+    (data_parts : List (List ℕ)) {trailers : Option (List Field)} → coming.head ≡ Some head
     → option_map (λ (list : Vec Field Global). list.items) coming.trailers ≡ trailers
     → parts ≡ message_parts (record {
       interims = lists_of coming.interims;
@@ -81,7 +75,7 @@ is_whole : (coming : Coming) (head : Vec Field Global) (parts : List (Part × Bo
       data_parts = data_parts;
       trailers = trailers;
     }) → coming.body.items ≡ concat data_parts → IsWhole coming parts
-is_whole coming head parts data_parts trailers there after are body = (
+is_whole coming head data_parts {trailers} there after are body = (
   record {
     interims = coming.interims;
     head = head;
@@ -174,47 +168,42 @@ read_trailers interims head data_parts list =
     (ended_with (FieldsPart head) data_parts (FieldsPart list))
 
 -- The head has come.
-on_head : (old new : Coming) (parts : List (Part × Bool)) (list : List Field) (end : Bool)
-    → option_map (λ (one : Vec Field Global). one.items) new.head ≡ Some list
+on_head : {old : Coming} (new : Coming) {parts : List (Part × Bool)} (list : List Field)
+    (end : Bool) → option_map (λ (one : Vec Field Global). one.items) new.head ≡ Some list
     → new.interims ≡ old.interims → new.body.items ≡ [] → new.trailers ≡ old.trailers
     → old.head ≡ None → first_broken (interim_rules list) ≢ None → HasCome old parts
     → KeepsSoFar new (parts ++ (FieldsPart list, end) ∷ []) end
-on_head old new parts list true head interims body trailers none final
+on_head new list true head interims body trailers none final
     (interims_alone heads nothing empty end) =
     let is = is_head new list head in
-    is_whole new is.head _ [] None is.there
-    (ap (option_map (λ (one : Vec Field Global). one.items)) (trailers ∙ end))
-    (ap (λ (all : Vec (Vec Field Global) Global).
-    interim_parts (lists_of all) ++ (FieldsPart list, true) ∷ []) (sym interims)
-    ∙ ap (λ (fields : List Field).
+    is_whole new is.head [] is.there
+    (ap (option_map (λ (one : Vec Field Global). one.items)) (trailers ∙ end)) (ap (λ
+    (all : Vec (Vec Field Global) Global). interim_parts (lists_of all)
+    ++ (FieldsPart list, true) ∷ []) (sym interims) ∙ ap (λ (fields : List Field).
     interim_parts (lists_of new.interims) ++ (FieldsPart fields, true) ∷ []) (sym is.fields)
     ∙ sym (read_head (lists_of new.interims) is.head.items)) body
-on_head old new parts list false head interims body trailers none final
+on_head new list false head interims body trailers none final
     (interims_alone heads nothing empty end) =
-    let come : HasCome new (interim_parts (lists_of new.interims)
-    ++ (FieldsPart list, false) ∷ []) =
+    let come : HasCome new (interim_parts (lists_of new.interims) ++ (FieldsPart list, false) ∷ [])
+    =
     head_and_body (record {
-      interims = subst (λ (all : Vec (Vec Field Global) Global).
-          AllByRecursion (λ fields. BreakNone (interim_rules fields)) (lists_of all))
-          (sym interims) heads.interims;
+      interims = rw interims heads.interims;
       head = λ one is.
           let same : list ≡ one = cc in
           subst (λ (fields : List Field). first_broken (interim_rules fields) ≢ None) same final;
     }) list [] head body (trailers ∙ end) in
-    subst (λ (all : Vec (Vec Field Global) Global).
-    HasCome new (interim_parts (lists_of all) ++ (FieldsPart list, false) ∷ [])) interims come
-on_head old new parts list end head interims body trailers none final
+    subst (λ (all : Vec (Vec Field Global) Global). HasCome new
+    (interim_parts (lists_of all) ++ (FieldsPart list, false) ∷ [])) interims come
+on_head {old} new list end head interims body trailers none final
     (head_and_body heads one data_parts came octets no_end) =
     absurd (head_there (λ (list : Vec Field Global). list.items) old.head one came none)
 
 -- The same heads are.
-same_heads : (old new : Coming) → new.interims ≡ old.interims → new.head ≡ old.head
+same_heads : {old : Coming} (new : Coming) → new.interims ≡ old.interims → new.head ≡ old.head
     → AreHeads old → AreHeads new
-same_heads old new interims head heads =
+same_heads new interims head heads =
     record {
-      interims = subst (λ (all : Vec (Vec Field Global) Global).
-          AllByRecursion (λ fields. BreakNone (interim_rules fields)) (lists_of all))
-          (sym interims) heads.interims;
+      interims = rw interims heads.interims;
       head = λ one is. heads.head one
           (ap (option_map (λ (one : Vec Field Global). one.items)) (sym head) ∙ is);
     }
@@ -236,95 +225,87 @@ joined_one data_parts octets =
     ∙ ap (λ (more : List ℕ). concat data_parts ++ more) (append-nil octets)
 
 -- Octets have come.
-on_octets : (old new : Coming) (parts : List (Part × Bool)) (octets : List ℕ) (end : Bool)
-    → new.body.items ≡ old.body.items ++ octets → new.interims ≡ old.interims
+on_octets : {old : Coming} (new : Coming) {parts : List (Part × Bool)} (octets : List ℕ)
+    (end : Bool) → new.body.items ≡ old.body.items ++ octets → new.interims ≡ old.interims
     → new.head ≡ old.head → new.trailers ≡ old.trailers → old.head ≢ None → HasCome old parts
     → KeepsSoFar new (parts ++ (OctetsPart octets, end) ∷ []) end
-on_octets old new parts octets end body interims head trailers some
+on_octets new octets end body interims head trailers some
     (interims_alone heads nothing empty no_end) = absurd (some nothing)
-on_octets old new parts octets true body interims head trailers some
+on_octets {old} new octets true body interims head trailers some
     (head_and_body heads one data_parts came before no_end) =
     let value = option_map (λ (one : Vec Field Global). one.items) in
     let is = is_head new one (ap value head ∙ came) in
-    is_whole new is.head _ (data_parts ++ octets ∷ []) None is.there (ap value (trailers ∙ no_end))
-    (after_parts (lists_of old.interims) one data_parts (OctetsPart octets, true)
-    ∙ ap (λ (all : Vec (Vec Field Global) Global). interim_parts (lists_of all)
+    is_whole new is.head (data_parts ++ octets ∷ []) is.there (ap value (trailers ∙ no_end))
+    (after_parts (lists_of old.interims) one data_parts (OctetsPart octets, true) ∙ ap (λ
+    (all : Vec (Vec Field Global) Global). interim_parts (lists_of all)
     ++ (FieldsPart one, false) ∷ (data_parts_of data_parts ++ (OctetsPart octets, true) ∷ []))
-    (sym interims)
-    ∙ ap (λ (fields : List Field). interim_parts (lists_of new.interims)
-    ++ (FieldsPart fields, false) ∷ (data_parts_of data_parts ++ (OctetsPart octets, true) ∷ []))
-    (sym is.fields)
-    ∙ sym (read_octets (lists_of new.interims) is.head.items data_parts octets))
+    (sym interims) ∙ ap (λ (fields : List Field). interim_parts (lists_of new.interims)
+    ++ (FieldsPart fields, false)
+    ∷ (data_parts_of data_parts ++ (OctetsPart octets, true) ∷ [])) (sym is.fields) ∙ sym
+    (read_octets (lists_of new.interims) is.head.items data_parts octets))
     (body ∙ ap (λ (all : List ℕ). all ++ octets) before ∙ sym (joined_one data_parts octets))
-on_octets old new parts octets false body interims head trailers some
+on_octets {old} new octets false body interims head trailers some
     (head_and_body heads one data_parts came before no_end) =
     let value = option_map (λ (one : Vec Field Global). one.items) in
-    let come : HasCome new (interim_parts (lists_of new.interims)
-    ++ (FieldsPart one, false) ∷ data_parts_of (data_parts ++ octets ∷ [])) =
-    head_and_body (same_heads old new interims head heads) one (data_parts ++ octets ∷ [])
+    let come : HasCome new (interim_parts (lists_of new.interims) ++ (FieldsPart one, false)
+    ∷ data_parts_of (data_parts ++ octets ∷ [])) =
+    head_and_body (same_heads new interims head heads) one (data_parts ++ octets ∷ [])
     (ap value head ∙ came)
     (body ∙ ap (λ (all : List ℕ). all ++ octets) before ∙ sym (joined_one data_parts octets))
     (trailers ∙ no_end) in
-    subst (HasCome new)
-    (ap (λ (all : Vec (Vec Field Global) Global). interim_parts (lists_of all)
-    ++ (FieldsPart one, false) ∷ data_parts_of (data_parts ++ octets ∷ [])) interims
-    ∙ ap (λ (more : List (Part × Bool)). interim_parts (lists_of old.interims)
+    subst (HasCome new) (ap (λ (all : Vec (Vec Field Global) Global). interim_parts (lists_of all)
+    ++ (FieldsPart one, false) ∷ data_parts_of (data_parts ++ octets ∷ [])) interims ∙ ap (λ
+    (more : List (Part × Bool)). interim_parts (lists_of old.interims)
     ++ (FieldsPart one, false) ∷ more)
-    (map_push (λ (octets : List ℕ). (OctetsPart octets, false)) data_parts octets)
-    ∙ sym (after_parts (lists_of old.interims) one data_parts (OctetsPart octets, false))) come
+    (map_push (λ (octets : List ℕ). (OctetsPart octets, false)) data_parts octets) ∙ sym
+    (after_parts (lists_of old.interims) one data_parts (OctetsPart octets, false))) come
 
 -- Trailers have come.
-on_trailers : (old new : Coming) (parts : List (Part × Bool)) (list : List Field)
+on_trailers : {old : Coming} (new : Coming) {parts : List (Part × Bool)} (list : List Field)
     → option_map (λ (one : Vec Field Global). one.items) new.trailers ≡ Some list
-    → new.interims ≡ old.interims → new.head ≡ old.head → new.body ≡ old.body
-    → old.head ≢ None → HasCome old parts
-    → IsWhole new (parts ++ (FieldsPart list, true) ∷ [])
-on_trailers old new parts list trailers interims head body some
-    (interims_alone heads nothing empty no_end) = absurd (some nothing)
-on_trailers old new parts list trailers interims head body some
+    → new.interims ≡ old.interims → new.head ≡ old.head → new.body ≡ old.body → old.head ≢ None
+    → HasCome old parts → IsWhole new (parts ++ (FieldsPart list, true) ∷ [])
+on_trailers new list trailers interims head body some (interims_alone heads nothing empty no_end) =
+    absurd (some nothing)
+on_trailers {old} new list trailers interims head body some
     (head_and_body heads one data_parts came before no_end) =
     let value = option_map (λ (one : Vec Field Global). one.items) in
     let is = is_head new one (ap value head ∙ came) in
-    is_whole new is.head _ data_parts (Some list) is.there trailers
-    (after_parts (lists_of old.interims) one data_parts (FieldsPart list, true)
-    ∙ ap (λ (all : Vec (Vec Field Global) Global). interim_parts (lists_of all)
-    ++ (FieldsPart one, false) ∷ (data_parts_of data_parts ++ (FieldsPart list, true) ∷ []))
-    (sym interims)
-    ∙ ap (λ (fields : List Field). interim_parts (lists_of new.interims)
-    ++ (FieldsPart fields, false) ∷ (data_parts_of data_parts ++ (FieldsPart list, true) ∷ []))
-    (sym is.fields)
-    ∙ sym (read_trailers (lists_of new.interims) is.head.items data_parts list))
+    is_whole new is.head data_parts is.there trailers (after_parts (lists_of old.interims) one
+    data_parts (FieldsPart list, true) ∙ ap (λ (all : Vec (Vec Field Global) Global).
+    interim_parts (lists_of all) ++ (FieldsPart one, false)
+    ∷ (data_parts_of data_parts ++ (FieldsPart list, true) ∷ [])) (sym interims) ∙ ap (λ
+    (fields : List Field). interim_parts (lists_of new.interims) ++ (FieldsPart fields, false)
+    ∷ (data_parts_of data_parts ++ (FieldsPart list, true) ∷ [])) (sym is.fields) ∙ sym
+    (read_trailers (lists_of new.interims) is.head.items data_parts list))
     (ap (λ (octets : Vec ℕ Global). octets.items) body ∙ before)
 
 -- What was handed out is on its stream.
 on_stream : (coming : Coming) (parts : List (Part × Bool)) (id : ℕ) (part : Part × Bool)
     (whole : Bool) → KeepsSoFar coming (parts ++ part ∷ []) whole
     → KeepsSoFar coming (parts ++ (if id == id then part ∷ [] else [])) whole
-on_stream coming parts id part whole keeps =
-    subst (λ (b : Bool). KeepsSoFar coming (parts ++ (if b then part ∷ [] else [])) whole)
-    (sym (eq-eqb id id refl)) keeps
+on_stream coming parts id part whole keeps = rw ((eq-eqb id id refl)) keeps
 
 -- So much is kept of the response after one part more.
-pub notes_on : (id : ℕ) (old new : Coming) (parts : List (Part × Bool)) (handed : Handed)
-    (whole : Bool) → HasCome old parts → MayHand old id handed → NotesPart id old new handed whole
+pub notes_on : {id : ℕ} {old new : Coming} {parts : List (Part × Bool)} {handed : Handed}
+    {whole : Bool} → HasCome old parts → MayHand old id handed → NotesPart id old new handed whole
     → KeepsSoFar new (parts ++ part_on id handed) whole
 unfolding part_on
-notes_on id old new parts handed whole come may (notes_interim list interims head body trailers) =
+notes_on {id} {new} {parts} come may (notes_interim list interims head body trailers) =
     let say = may refl in
     on_stream new parts id (FieldsPart list, false) false
-    (on_interim old new parts list interims head body trailers say.0 say.1 come)
-notes_on id old new parts handed whole come may (notes_head list end head interims body trailers) =
+    (on_interim new list interims head body trailers say.0 say.1 come)
+notes_on {id} {new} {parts} come may (notes_head list end head interims body trailers) =
     let say = may refl in
     on_stream new parts id (FieldsPart list, end) end
-    (on_head old new parts list end head interims body trailers say.0 say.1 come)
-notes_on id old new parts handed whole come may
-    (notes_body octets end body interims head trailers) =
+    (on_head new list end head interims body trailers say.0 say.1 come)
+notes_on {id} {new} {parts} come may (notes_body octets end body interims head trailers) =
     on_stream new parts id (OctetsPart octets, end) end
-    (on_octets old new parts octets end body interims head trailers (may refl) come)
-notes_on id old new parts handed whole come may (notes_trailers list trailers interims head body) =
+    (on_octets new octets end body interims head trailers (may refl) come)
+notes_on {id} {new} {parts} come may (notes_trailers list trailers interims head body) =
     on_stream new parts id (FieldsPart list, true) true
-    (on_trailers old new parts list trailers interims head body (may refl) come)
-notes_on id old new parts handed whole come may (notes_nothing one none same) =
-    subst (λ (coming : Coming). HasCome coming (parts ++ part_on id handed)) (sym same)
-    (subst (HasCome old) (sym (ap (λ (more : List (Part × Bool)). parts ++ more) none
-    ∙ append-nil parts)) come)
+    (on_trailers new list trailers interims head body (may refl) come)
+notes_on {id} {old} {parts} {handed} come may (notes_nothing one none same) =
+    subst (λ (coming : Coming). HasCome coming (parts ++ part_on id handed)) (sym same) (subst
+    (HasCome old)
+    (sym (ap (λ (more : List (Part × Bool)). parts ++ more) none ∙ append-nil parts)) come)

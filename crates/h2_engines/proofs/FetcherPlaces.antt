@@ -1,47 +1,20 @@
 -- Which part of a response may come next, after what has come.
-use Rattle.std.proofs.Common.{◌≡◌, ◌≢◌, ℕ, ◌-◌, Bool, true, false, if◌then◌else◌}
-use Rattle.std.proofs.Common.{List, [], ◌∷◌, ◌++◌, length, Option, Some, None, option_map, refl}
-use Rattle.std.proofs.Common.{sym, ap, ◌∙◌, subst}
-use Rattle.std.specs.Prelude.{nat_lt, is_some}
-use Rattle.std.specs.List.{AllByRecursion}
-use Rattle.hpack.specs.declared.types.field.Field.{Field}
-use Rattle.h2_message.specs.declared.malformed.Malformed.{Malformed}
-use Rattle.h2_message.specs.declared.reading.Reads.{Reads}
-use Rattle.h2_message.specs.declared.reading.Reads.TheVariants.{Responses}
-use Rattle.h2_message.specs.declared.reading.Phase.{Phase}
-use Rattle.h2_message.specs.declared.reading.Phase.TheVariants.{AtHead, InBody, AtEnd}
-use Rattle.h2_message.specs.declared.reading.Place.{Place}
+use Rattle.h2_engines.proofs.Names.{◌≡◌, ◌≢◌, ℕ, ◌-◌, Bool, true, false, if◌then◌else◌, List, []}
+use Rattle.h2_engines.proofs.Names.{◌∷◌, ◌++◌, length, Option, Some, None, option_map, refl}
+use Rattle.h2_engines.proofs.Names.{ap, ◌∙◌, nat_lt, is_some, AllByRecursion, Field}
+use Rattle.h2_engines.proofs.Names.{Malformed, Reads, Responses, Phase, AtHead, InBody, AtEnd}
+use Rattle.h2_engines.proofs.Names.{Place, first_broken, interim_rules, Part, FieldsPart}
+use Rattle.h2_engines.proofs.Names.{OctetsPart, BreakNone, IsReadable, final_rules, compared_length}
+use Rattle.h2_engines.proofs.Names.{place_after, not_readable}
 use Rattle.h2_message.specs.declared.reading.Place.TheVariants as places
-use Rattle.h2_message.specs.Messages.{first_broken, interim_rules}
-use Rattle.h2_message.specs.Reading.{Part, FieldsPart, OctetsPart, BreakNone, IsReadable}
-use Rattle.h2_message.specs.Reading.{final_rules, compared_length}
 use Rattle.h2_message.specs.Phases.{phase_in_body, phase_after_final, phase_after_head}
-use Rattle.h2_message.specs.Phases.{phase_after_data, phase_after, phase_after_all}
-use Rattle.h2_message.specs.Phases.{place_at_head, place_in, place_after}
-use Rattle.h2_message.proofs.PhaseWhole.{after_interim, not_readable}
+use Rattle.h2_message.specs.Phases.{phase_after_data, phase_after, phase_after_all, place_at_head}
+use Rattle.h2_message.specs.Phases.{place_in}
+use Rattle.h2_message.proofs.PhaseWhole.{after_interim}
 use Rattle.h2_engines.specs.declared.fetcher.Coming.{Coming}
-use Rattle.h2_engines.specs.PartialMessages.{HasCome, interims_alone, head_and_body}
-use Rattle.h2_engines.specs.PartialMessages.{interim_parts, data_parts_of}
-
--- After a part that is not taken nothing is.
-after_none : (reads : Reads) (parts : List (Part × Bool))
-    → phase_after_all reads None parts ≡ None
-unfolding phase_after_all
-after_none reads [] = refl
-after_none reads (part ∷ parts) = refl
-
--- The parts that follow are taken from the phase after those before.
-after_both : (reads : Reads) (phase : Option Phase) (parts more : List (Part × Bool))
-    → phase_after_all reads phase (parts ++ more)
-    ≡ phase_after_all reads (phase_after_all reads phase parts) more
-unfolding phase_after_all
-after_both reads None parts more =
-    after_none reads (parts ++ more) ∙ sym (after_none reads more)
-    ∙ ap (λ (phase : Option Phase). phase_after_all reads phase more)
-    (sym (after_none reads parts))
-after_both reads (Some phase) [] more = refl
-after_both reads (Some phase) (part ∷ parts) more =
-    after_both reads (phase_after reads phase part) parts more
+use Rattle.h2_engines.specs.PartialMessages.{HasCome, interims_alone, head_and_body, interim_parts}
+use Rattle.h2_engines.specs.PartialMessages.{data_parts_of}
+use Rattle.h2_engines.proofs.NextParts.{after_none, after_both}
 
 -- What is not nothing is something.
 some_not_none : {X : Type 0} (option : Option X) → (option ≡ None → ⊥) → is_some option ≡ true
@@ -116,13 +89,12 @@ after_head to_head interims head data_parts sound final =
     (head_stays to_head head final)
 
 -- What is read with one part more has a phase before it, that isn't the last.
-one_more : (reads : Reads) (parts : List (Part × Bool)) (part : Part × Bool)
-    (phase : Option Phase) → phase_after_all reads (Some AtHead) parts ≡ phase
-    → IsReadable reads (parts ++ part ∷ []) → phase_after_all reads phase (part ∷ []) ≢ None
-one_more reads parts part phase is readable none =
-    not_readable reads (parts ++ part ∷ [])
-    (after_both reads (Some AtHead) parts (part ∷ [])
-    ∙ ap (λ (now : Option Phase). phase_after_all reads now (part ∷ [])) is ∙ none) readable
+one_more : {reads : Reads} (parts : List (Part × Bool)) (part : Part × Bool) {phase : Option Phase}
+    → phase_after_all reads (Some AtHead) parts ≡ phase → IsReadable reads (parts ++ part ∷ [])
+    → phase_after_all reads phase (part ∷ []) ≢ None
+one_more {reads} parts part is readable none =
+    not_readable reads (parts ++ part ∷ []) (after_both reads (Some AtHead) parts (part ∷ []) ∙ ap
+    (λ (now : Option Phase). phase_after_all reads now (part ∷ [])) is ∙ none) readable
 
 -- What the place of a field block says of it, and of the head.
 abbrev pub SaysPlace : Coming → List Field → Place → Type 0
@@ -143,19 +115,18 @@ at_head_says to_head coming list none =
       | Some rule ↦ λ is. (none, λ wrong. absurd (cc))
     ] refl
 
-in_body_says : (to_head : Bool) (coming : Coming) (parts : List (Part × Bool)) (list : List Field)
+in_body_says : {to_head : Bool} (coming : Coming) (parts : List (Part × Bool)) (list : List Field)
     (last : Bool) (phase : Option Phase)
-    → phase_after_all (Responses to_head) (Some AtHead) parts ≡ phase
-    → is_in_body phase ≡ true → coming.head ≢ None
-    → IsReadable (Responses to_head) (parts ++ (FieldsPart list, last) ∷ [])
+    → phase_after_all (Responses to_head) (Some AtHead) parts ≡ phase → is_in_body phase ≡ true
+    → coming.head ≢ None → IsReadable (Responses to_head) (parts ++ (FieldsPart list, last) ∷ [])
     → SaysPlace coming list (place_in (Responses to_head) phase list)
 unfolding place_in
-in_body_says to_head coming parts list last None is going some readable =
-    absurd (one_more (Responses to_head) parts (FieldsPart list, last) None is readable
+in_body_says {to_head} coming parts list last None is going some readable =
+    absurd (one_more parts (FieldsPart list, last) is readable
     (after_none (Responses to_head) ((FieldsPart list, last) ∷ [])))
-in_body_says to_head coming parts list last (Some AtHead) is going some readable = cc
-in_body_says to_head coming parts list last (Some (InBody left)) is going some readable = some
-in_body_says to_head coming parts list last (Some AtEnd) is going some readable = cc
+in_body_says coming parts list last (Some AtHead) is going some readable = cc
+in_body_says coming parts list last (Some (InBody left)) is going some readable = some
+in_body_says coming parts list last (Some AtEnd) is going some readable = cc
 
 -- A head that came is there.
 pub head_there : {A B : Type 0} (value : A → B) (option : Option A) (head : B)
@@ -163,30 +134,26 @@ pub head_there : {A B : Type 0} (value : A → B) (option : Option A) (head : B)
 head_there value None head came none = absurd (cc)
 head_there value (Some one) head came none = absurd (cc)
 
-pub place_says : (to_head : Bool) (coming : Coming) (parts : List (Part × Bool))
+pub place_says : {to_head : Bool} {coming : Coming} {parts : List (Part × Bool)}
     (list : List Field) (last : Bool) → HasCome coming parts
     → IsReadable (Responses to_head) (parts ++ (FieldsPart list, last) ∷ [])
     → SaysPlace coming list (place_after (Responses to_head) parts list)
 unfolding place_in
-place_says to_head coming parts list last (interims_alone heads none empty end) readable =
-    subst (λ (phase : Option Phase). SaysPlace coming list
-    (place_in (Responses to_head) phase list))
-    (sym (after_interims to_head _ heads.interims)) (at_head_says to_head coming list none)
-place_says to_head coming parts list last (head_and_body heads head data_parts came body end)
+place_says {to_head} {coming} list last (interims_alone heads none empty end) readable =
+    rw ((after_interims to_head _ heads.interims)) (at_head_says to_head coming list none)
+place_says {to_head} {coming} {parts} list last (head_and_body heads head data_parts came body end)
     readable =
-    in_body_says to_head coming parts list last _ refl
+    in_body_says coming parts list last _ refl
     (after_head to_head _ head data_parts heads.interims (heads.head head came))
     (head_there (λ one. one.items) coming.head head came) readable
 
 -- Octets come after the head alone.
-pub octets_say : (to_head : Bool) (coming : Coming) (parts : List (Part × Bool))
-    (octets : List ℕ) (last : Bool) → HasCome coming parts
-    → IsReadable (Responses to_head) (parts ++ (OctetsPart octets, last) ∷ [])
-    → coming.head ≢ None
+pub octets_say : {to_head : Bool} {coming : Coming} {parts : List (Part × Bool)} (octets : List ℕ)
+    (last : Bool) → HasCome coming parts
+    → IsReadable (Responses to_head) (parts ++ (OctetsPart octets, last) ∷ []) → coming.head ≢ None
 unfolding phase_after_all phase_after
-octets_say to_head coming parts octets last (interims_alone heads none empty end) readable =
-    absurd (one_more (Responses to_head) parts (OctetsPart octets, last) (Some AtHead)
-    (after_interims to_head _ heads.interims) readable refl)
-octets_say to_head coming parts octets last (head_and_body heads head data_parts came body end)
-    readable =
+octets_say {to_head} {parts} octets last (interims_alone heads none empty end) readable =
+    absurd (one_more parts (OctetsPart octets, last) (after_interims to_head _ heads.interims)
+    readable refl)
+octets_say {coming} octets last (head_and_body heads head data_parts came body end) readable =
     head_there (λ one. one.items) coming.head head came

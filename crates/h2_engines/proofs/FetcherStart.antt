@@ -1,21 +1,12 @@
 -- How a new client has made its request.
-use Rattle.std.proofs.Common.{◌≡◌, ◌≢◌, [], Option, Some, None, Ok, Err}
-use Rattle.std.proofs.Common.{refl, sym, ap, ◌∙◌, subst, inl, inr}
-use Rattle.std.specs.Prelude.{◌⊎◌}
-use Rattle.h2_log.specs.declared.refusal.Refusal.{Refusal}
-use Rattle.h2_log.specs.declared.refusal.Refusal.TheVariants.{ListTooLarge, Memory}
-use Rattle.h2_log.specs.declared.role.Role.TheVariants.{Client}
-use Rattle.h2_log.specs.Acts.{Values}
-use Rattle.h2_message.specs.declared.malformed.Malformed.{Malformed}
-use Rattle.h2_message.specs.declared.message.Message.{Message}
-use Rattle.h2_message.specs.Messages.{SentMessage, broken_by_request}
-use Rattle.h2_link.specs.declared.error.LinkError.{LinkError}
-use Rattle.h2_ends.specs.declared.end.End.{End}
-use Rattle.h2_ends.specs.declared.refusal.EndRefusal.{EndRefusal}
+use Rattle.h2_engines.proofs.Names.{◌≡◌, ◌≢◌, [], Option, Some, None, Ok, Err, refl, ap, ◌∙◌}
+use Rattle.h2_engines.proofs.Names.{subst, inl, inr, ◌⊎◌, Refusal, Memory, Client, Values}
+use Rattle.h2_engines.proofs.Names.{Malformed, Message, SentMessage, LinkError, End, EndRefusal}
+use Rattle.h2_engines.proofs.Names.{EndLog, EndRepresents, new_end}
+use Rattle.h2_log.specs.declared.refusal.Refusal.TheVariants.{ListTooLarge}
 use Rattle.h2_ends.specs.declared.refusal.EndRefusal.TheVariants as refusals
-use Rattle.h2_ends.specs.Ends.{EndLog}
 use Rattle.h2_ends.specs.EndCalls.{MayRequest}
-use Rattle.h2_ends.specs.Represents.{EndRepresents, EndRequests, new_end}
+use Rattle.h2_ends.specs.Represents.{EndRequests}
 use Rattle.h2_engines.specs.declared.fetcher.Fetcher.{Fetcher}
 use Rattle.h2_engines.specs.Failures.{error_after}
 use Rattle.h2_engines.specs.Fetches.{IsRefusedMessage, IsRefusedOtherwise, IsNotAccepted}
@@ -23,13 +14,12 @@ use Rattle.h2_engines.specs.Fetches.{refusal_of_request}
 use Rattle.h2_engines.specs.ClientSteps.{HasRequested}
 
 -- It was accepted.
-pub has_requested : (values : Values) (message : SentMessage) (old : End) (fetcher : Fetcher)
+pub has_requested : {values : Values} (message : SentMessage) {old : End} (fetcher : Fetcher)
     → EndRepresents values old (new_end Client values)
-    → EndRequests old message (Ok fetcher.id) fetcher.client.end
-    → fetcher.coming.head ≡ None → fetcher.coming.body.items ≡ []
-    → fetcher.coming.interims.items ≡ [] → fetcher.coming.trailers ≡ None
-    → HasRequested values message fetcher
-has_requested values message old fetcher represents requests none empty no_interims no_trailers =
+    → EndRequests old message (Ok fetcher.id) fetcher.client.end → fetcher.coming.head ≡ None
+    → fetcher.coming.body.items ≡ [] → fetcher.coming.interims.items ≡ []
+    → fetcher.coming.trailers ≡ None → HasRequested values message fetcher
+has_requested {values} message fetcher represents requests none empty no_interims no_trailers =
     let (end, may, now) = requests.1 values (new_end Client values) represents in
     record {
       end = end;
@@ -42,25 +32,23 @@ has_requested values message old fetcher represents requests none empty no_inter
     }
 
 -- Or it breaks a rule,
-broken_some : (broken : Option Malformed) (rule : Malformed) → broken ≡ Some rule → broken ≢ None
-broken_some broken rule is none = absurd (cc)
+broken_some : {broken : Option Malformed} (rule : Malformed) → broken ≡ Some rule → broken ≢ None
+broken_some rule is none = absurd (cc)
 
 refused_rule : (values : Values) (message : SentMessage) (rule : Malformed) (after : EndLog)
     → MayRequest (new_end Client values) message (Err (refusals.BadMessage rule)) after
     → IsRefusedMessage values message
 unfolding MayRequest
-refused_rule values message rule after may =
-    inl (broken_some (broken_by_request message) rule may.0)
+refused_rule values message rule after may = inl (broken_some rule may.0)
 
-pub refused_as_broken : (values : Values) (message : SentMessage) (old new : End)
-    (back : Message) (refusal : EndRefusal) (rule : Malformed)
-    → EndRepresents values old (new_end Client values)
-    → refusal ≡ refusals.BadMessage rule → EndRequests old message (Err (back, refusal)) new
-    → IsRefusedMessage values message
-refused_as_broken values message old new back refusal rule represents is requests =
+pub refused_as_broken : {values : Values} (message : SentMessage) {old : End} (new : End)
+    (back : Message) {refusal : EndRefusal} (rule : Malformed)
+    → EndRepresents values old (new_end Client values) → refusal ≡ refusals.BadMessage rule
+    → EndRequests old message (Err (back, refusal)) new → IsRefusedMessage values message
+refused_as_broken {values} message new back rule represents is requests =
     let (end, may, now) = requests.1 values (new_end Client values) represents in
-    refused_rule values message rule end
-    (subst (λ (one : EndRefusal). MayRequest (new_end Client values) message (Err one) end) is may)
+    refused_rule values message rule end (subst
+    (λ (one : EndRefusal). MayRequest (new_end Client values) message (Err one) end) is may)
 
 -- or its fields are too many.
 too_many : (found : Option Refusal) → (found ≡ Some ListTooLarge)
@@ -74,17 +62,17 @@ refused_list : (values : Values) (message : SentMessage) (after : EndLog)
 unfolding MayRequest
 refused_list values message after may = inr (too_many _ may.1)
 
-pub refused_as_large : (values : Values) (message : SentMessage) (old new : End)
-    (back : Message) (refusal : EndRefusal) (reason : Refusal)
-    → EndRepresents values old (new_end Client values)
-    → refusal ≡ refusals.Conn reason → reason ≡ ListTooLarge
-    → EndRequests old message (Err (back, refusal)) new → IsRefusedMessage values message
-refused_as_large values message old new back refusal reason represents named same requests =
+pub refused_as_large : {values : Values} (message : SentMessage) {old : End} (new : End)
+    (back : Message) {refusal : EndRefusal} (reason : Refusal)
+    → EndRepresents values old (new_end Client values) → refusal ≡ refusals.Conn reason
+    → reason ≡ ListTooLarge → EndRequests old message (Err (back, refusal)) new
+    → IsRefusedMessage values message
+refused_as_large {values} message new back {refusal} reason represents named same requests =
     let is : refusal ≡ refusals.Conn ListTooLarge =
     named ∙ ap (λ (one : Refusal). refusals.Conn one) same in
     let (end, may, now) = requests.1 values (new_end Client values) represents in
-    refused_list values message end
-    (subst (λ (one : EndRefusal). MayRequest (new_end Client values) message (Err one) end) is may)
+    refused_list values message end (subst
+    (λ (one : EndRefusal). MayRequest (new_end Client values) message (Err one) end) is may)
 
 -- A request that was refused for something else was not refused as out of memory.
 otherwise : (values : Values) (message : SentMessage) (refusal : Refusal)
@@ -120,14 +108,12 @@ refused_so values message (refusals.Conn refusal) after kept small may =
 refused_so values message refusal after kept small may = absurd may
 
 -- So the fetch has ended.
-pub refused_otherwise : (values : Values) (message : SentMessage) (old new : End)
-    (back : Message) (refusal : EndRefusal) (error : LinkError)
+pub refused_otherwise : {values : Values} (message : SentMessage) {old : End} (new : End)
+    (back : Message) (refusal : EndRefusal) {error : LinkError}
     → EndRepresents values old (new_end Client values)
     → ((rule : Malformed) → refusal ≢ refusals.BadMessage rule)
     → refusal ≢ refusals.Conn ListTooLarge → error ≡ error_after refusal
-    → EndRequests old message (Err (back, refusal)) new
-    → IsNotAccepted values message (Err error)
-refused_otherwise values message old new back refusal error represents kept small is requests =
+    → EndRequests old message (Err (back, refusal)) new → IsNotAccepted values message (Err error)
+refused_otherwise {values} message new back refusal represents kept small is requests =
     let (end, may, now) = requests.1 values (new_end Client values) represents in
-    subst (λ (one : LinkError). IsNotAccepted values message (Err one)) (sym is)
-    (refused_so values message refusal end kept small may)
+    rw is (refused_so values message refusal end kept small may)

@@ -1,11 +1,8 @@
 -- The value of the first field with a name, field by field.
-use Rattle.std.proofs.Common.{◌≡◌, ℕ, ◌+◌, ◌≤◌, Bool, true, false, if◌then◌else◌, List, [], ◌∷◌}
-use Rattle.std.proofs.Common.{length, drop, Some, ap, ◌∙◌}
-use Rattle.std.specs.List.{slice_get}
-use Rattle.std.specs.Str.{bytes_eq}
-use Rattle.std.proofs.lemmas.List.{drop_more, drop_all}
-use Rattle.std.proofs.lemmas.Option.{slice_get_within, get_or_from_slice_get}
-use Rattle.hpack.specs.declared.types.field.Field.{Field}
+use Rattle.h2_engines.proofs.Names.{◌≡◌, ℕ, ◌+◌, ◌≤◌, Bool, true, false, if◌then◌else◌, List, []}
+use Rattle.h2_engines.proofs.Names.{◌∷◌, length, drop, Some, ap, ◌∙◌, slice_get, bytes_eq, drop_all}
+use Rattle.h2_engines.proofs.Names.{slice_get_within, get_or_from_slice_get, Field}
+use Rattle.std.proofs.lemmas.List.{drop_more}
 use Rattle.h2_message.specs.Fields.{is_named, value_of, or_nothing, value_or_nothing}
 
 -- The next field is the first of those that are left.
@@ -26,27 +23,26 @@ value_first name field fields true named =
 value_first name field fields false named =
     ap (λ (b : Bool). or_nothing (if b then Some field.value else value_of name fields)) named
 
-value_left : (name : List ℕ) (fields : List Field) (place : ℕ) (field : Field) (named : Bool)
+value_left : (name : List ℕ) (fields : List Field) (place : ℕ) (field : Field) {named : Bool}
     → slice_get fields place ≡ Some field → bytes_eq field.name name ≡ named
     → value_or_nothing name (drop place fields)
     ≡ (if named then field.value else value_or_nothing name (drop (place + 1) fields))
 unfolding is_named
-value_left name fields place field named there same =
-    ap (value_or_nothing name) (left_from fields place field there)
-    ∙ value_first name field (drop (place + 1) fields) named same
+value_left name fields place field {named} there same =
+    ap (value_or_nothing name) (left_from fields place field there) ∙ value_first name field
+    (drop (place + 1) fields) named same
 
 -- Where it has the name, its value is that of those that are left;
 pub value_here : (name : List ℕ) (fields : List Field) (place : ℕ) (field : Field)
     → slice_get fields place ≡ Some field → bytes_eq field.name name ≡ true
     → value_or_nothing name (drop place fields) ≡ field.value
-value_here name fields place field there same = value_left name fields place field true there same
+value_here name fields place field there same = value_left name fields place field there same
 
 -- where it hasn't, those after it have the same;
 pub value_later : (name : List ℕ) (fields : List Field) (place : ℕ) (field : Field)
     → slice_get fields place ≡ Some field → bytes_eq field.name name ≡ false
     → value_or_nothing name (drop place fields) ≡ value_or_nothing name (drop (place + 1) fields)
-value_later name fields place field there same =
-    value_left name fields place field false there same
+value_later name fields place field there same = value_left name fields place field there same
 
 -- and where none is left there is none.
 pub value_none : (name : List ℕ) (fields : List Field) (place : ℕ) → length fields ≤ place

@@ -9,10 +9,12 @@ pub mod FetcherPlaces
 pub mod FetcherStart
 pub mod FieldValues
 pub mod MachineDrives
+pub mod MachineHears
 pub mod MachineLaws
 pub mod MachineTakes
 pub mod MachineViews
 pub mod MachineWrites
+pub mod Names
 pub mod NextParts
 pub mod NoteBodies
 pub mod NoteHanded

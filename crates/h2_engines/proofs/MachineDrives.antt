@@ -1,70 +1,71 @@
--- What each round of a machine that is driven over a link makes of it: what waits is written, octets
--- are read and taken, and credit is returned.
-use Rattle.std.proofs.Common.{◌≡◌, ◌≤◌, ℕ, ◌+◌, ◌-◌, ◌^◌, Bool, true, false, List, [], ◌++◌}
-use Rattle.std.proofs.Common.{length, take, Option, Result, Ok, Err, refl, sym, ap, ◌∙◌, subst}
-use Rattle.std.proofs.Common.{append-nil, inr, arith}
+-- What each round of a machine that is driven over a link makes of it: what waits is written,
+-- octets are read and taken, and credit is returned.
+use Rattle.h2_engines.proofs.Names.{◌≡◌, ◌≤◌, ℕ, ◌+◌, ◌-◌, ◌^◌, Bool, true, false, List, [], ◌++◌}
+use Rattle.h2_engines.proofs.Names.{length, take, Option, Result, Ok, Err, refl, sym, ap, ◌∙◌}
+use Rattle.h2_engines.proofs.Names.{subst, append-nil, inr, arith, Appends, Appends-trans, Log}
+use Rattle.h2_engines.proofs.Names.{given_out, EndLog, LinkError}
 use Rattle.std.proofs.Math.Seq.{take-append_seam}
-use Rattle.std.specs.Io.KnownBytes.{Appends}
-use Rattle.std.proofs.KnownBytes.{Appends-trans}
-use Rattle.h2_log.specs.Log.{Log}
-use Rattle.h2_pair.specs.Pairs.{given_out}
-use Rattle.h2_ends.specs.Ends.{EndLog}
-use Rattle.h2_link.specs.declared.error.LinkError.{LinkError}
 use Rattle.h2_link.specs.declared.error.LinkError.TheVariants as errors
 use Rattle.h2_link.specs.Links.{ended_after}
 use Rattle.h2_engines.specs.declared.request.Next.TheVariants as nexts
 use Rattle.h2_engines.specs.Failures.{EndsWriting, failures_at_end}
 use Rattle.h2_engines.specs.Linked.{Traffic, IsLinked, HasTakenAll}
-use Rattle.h2_engines.specs.Machines.{Held, Course, Happens, IsDriven, lacks_memory}
-use Rattle.h2_engines.specs.Machines.{link_fails, has_stalled, WritesOut, SendsWhileUp, TakenSo}
-use Rattle.h2_engines.specs.Machines.{Takes, DrivenSo, Drives}
+use Rattle.h2_engines.specs.Machines.{MachineState, Course, Happens, IsDriven, lacks_memory}
+use Rattle.h2_engines.specs.Machines.{link_fails}
+use Rattle.h2_engines.specs.Machines.{has_stalled, WritesOut, WritesWaiting, TakenSo, TakesPiece}
+use Rattle.h2_engines.specs.Machines.{DrivenSo, Drives}
+use Rattle.h2_engines.specs.ServerSteps.{PumpsSome}
 use Rattle.h2_engines.specs.WithoutLink.{SendsWaiting}
-use Rattle.h2_engines.proofs.MachineLaws.{holds_again, stays_driven, ends_going}
+use Rattle.h2_engines.proofs.MachineLaws.{holds_again, stays_driven, ends_going, pumps_at}
 use Rattle.h2_engines.proofs.MachineTakes.{written_driven, ends_unwritten}
+use Rattle.h2_engines.proofs.ResponderStalls.{pump_ends}
+use Rattle.h2_engines.proofs.ServeLinkPumps.{pumped_stays}
+use Rattle.h2_engines.proofs.TurnsPassed.{turns_of_pump}
 use Rattle.h2_engines.proofs.WithoutLinkSends.{sends_at, sent_stays, sent_turns, sent_error}
 
 -- What the loop keeps: the machine is driven, these octets weren't used yet, and in each round a
 -- turn has passed at least. What more is to hold at each read and at the end, as that the output is
 -- full or nothing that waits could go, has its place here.
-pub record IsGoing (course : Course) (now : Traffic) (held : Held) (unused : List ℕ)
+pub record IsGoing (course : Course) (now : Traffic) (held : MachineState) (unused : List ℕ)
     (rounds : ℕ) : Type 0 where
   pub end : EndLog
   pub turns : rounds ≤ length end.log.turns
   pub driven : IsDriven course now held end unused nexts.Again
 
 -- Whatever had happened at first, it goes on now.
-abbrev pub DrivesOn : (before now : Traffic) → (old new : Held) → (unused : List ℕ)
+abbrev pub DrivesOn : (before now : Traffic) → (old new : MachineState) → (unused : List ℕ)
     → (rounds : ℕ) → Type 0
 DrivesOn before now old new unused rounds =
     (course : Course) (end : EndLog) → IsDriven course before old end [] nexts.Again
     → IsGoing course now new unused rounds
 
 -- The same, where the link took the whole output.
-pub record IsSent (course : Course) (now : Traffic) (held : Held) (rounds : ℕ) : Type 0 where
-  pub going : IsGoing course now held [] rounds
-  pub all : HasTakenAll course.start now going.end.log
+pub record IsSent (course : Course) (now : Traffic) (held : MachineState) (rounds : ℕ) : Type 0
+  where
+    pub going : IsGoing course now held [] rounds
+    pub all : HasTakenAll course.start now going.end.log
 
-abbrev pub SentOn : (before now : Traffic) → (old new : Held) → (rounds : ℕ) → Type 0
+abbrev pub SentOn : (before now : Traffic) → (old new : MachineState) → (rounds : ℕ) → Type 0
 SentOn before now old new rounds =
     (course : Course) (end : EndLog) → IsDriven course before old end [] nexts.Again
     → IsSent course now new rounds
 
 -- At first it is driven;
-pub drives_first : (now : Traffic) (held : Held) → DrivesOn now now held held [] 0
+pub drives_first : (now : Traffic) (held : MachineState) → DrivesOn now now held held [] 0
 drives_first now held course end is = record { end = end; turns = omega arith; driven = is }
 
 -- it ends early where it goes on,
-pub going_ends : (before now : Traffic) (old new : Held) (unused : List ℕ) (rounds : ℕ)
-    (error : LinkError) → error ≡ errors.Memory → DrivesOn before now old new unused rounds
+pub going_ends : (before now : Traffic) (old new : MachineState) (unused : List ℕ) (rounds : ℕ)
+    {error : LinkError} → error ≡ errors.Memory → DrivesOn before now old new unused rounds
     → Drives before now old new (Err error)
 unfolding DrivenSo
-going_ends before now old new unused rounds error memory on course end is =
+going_ends before now old new unused rounds memory on course end is =
     let go = on course end is in (
       go.end,
-      ends_going true course now new go.end unused error go.driven (lacks_memory memory),
+      ends_going go.driven (lacks_memory memory),
     )
 
-pub no_round : (before now : Traffic) (old new : Held) (unused : List ℕ) (rounds : ℕ)
+pub no_round : (before now : Traffic) (old new : MachineState) (unused : List ℕ) (rounds : ℕ)
     → 2 ^ 64 - 1 ≤ rounds → DrivesOn before now old new unused rounds
     → Drives before now old new (Err errors.NoProgress)
 unfolding DrivenSo
@@ -72,91 +73,115 @@ no_round before now old new unused rounds all on course end is =
     let go = on course end is in
     let out : 2 ^ 64 - 1 ≤ length go.end.log.turns = omega (arith, all, go.turns) in (
       go.end,
-      ends_going true course now new go.end unused errors.NoProgress go.driven
-          (has_stalled refl (inr out)),
+      ends_going go.driven (has_stalled refl (inr out)),
     )
 
 -- What waits is written,
-pub sent_on : (before middle now : Traffic) (old self new : Held) (rounds : ℕ) (done : Unit {0})
-    → new.kept ≡ self.kept → DrivesOn before middle old self [] rounds
-    → SendsWhileUp middle now self new (Ok done) → SentOn before now old new (rounds + 1)
+pub sent_on : (before middle now : Traffic) (old self new : MachineState) (rounds : ℕ)
+    (done : Unit {0}) → new.kept ≡ self.kept → DrivesOn before middle old self [] rounds
+    → WritesWaiting middle now self new (Ok done) → SentOn before now old new (rounds + 1)
 sent_on before middle now old self new rounds done kept on sends course end is =
     let go = on course end is in
-    let wrote : WritesOut (Happens course self.kept) course.values course.start now go.end new.end []
-    (Ok done) = sends course go.end [] go.driven.represents go.driven.happened go.driven.up
+    let wrote : WritesOut (Happens course self.kept) course.values course.start now go.end new.end
+    [] (Ok done) = sends course go.end [] go.driven.represents go.driven.happened
     go.driven.linked in
     record {
       going = record {
         end = wrote.after;
         turns = omega (arith, go.turns, wrote.turns);
-        driven = written_driven course middle now self new go.end [] nexts.Again done go.driven kept
-            wrote;
+        driven = written_driven new go.driven kept wrote;
       };
       all = wrote.taken.taken;
     }
 
 -- or can't be.
-pub sent_last : (before middle now : Traffic) (old self new : Held) (rounds : ℕ)
+pub sent_last : (before middle now : Traffic) (old self new : MachineState) (rounds : ℕ)
     (error : LinkError) → new.kept ≡ self.kept → DrivesOn before middle old self [] rounds
-    → SendsWhileUp middle now self new (Err error) → EndsWriting error
+    → WritesWaiting middle now self new (Err error) → EndsWriting error
     → Drives before now old new (Err error)
 unfolding DrivenSo
 sent_last before middle now old self new rounds error kept on sends writing course end is =
     let go = on course end is in
-    let wrote : WritesOut (Happens course self.kept) course.values course.start now go.end new.end []
-    (Err error) = sends course go.end [] go.driven.represents go.driven.happened go.driven.up
+    let wrote : WritesOut (Happens course self.kept) course.values course.start now go.end new.end
+    [] (Err error) = sends course go.end [] go.driven.represents go.driven.happened
     go.driven.linked in (
       wrote.after,
-      ends_unwritten course now self new go.end [] error kept wrote writing
+      ends_unwritten course self new kept wrote writing
           (holds_again course.message self.kept go.end error go.driven.keeps),
     )
+
+-- Where the output was full, what more can be sent is put into it,
+pub pumped_on : (before now : Traffic) (old self new : MachineState) (rounds : ℕ)
+    (result : Result (Unit {0}) LinkError) → new.kept ≡ self.kept
+    → SentOn before now old self rounds → PumpsSome self.end new.end result
+    → DrivesOn before now old new [] rounds
+pumped_on before now old self new rounds result kept sent (answer, pumps, ends) course end is =
+    let going = (sent course end is).going in
+    let driven = going.driven in
+    let (after, pumped, represents) = pumps course.values going.end driven.represents in
+    record {
+      end = after;
+      turns = omega (arith, going.turns, turns_of_pump going.end after answer pumped);
+      driven = stays_driven new driven kept (pumped_stays going.end answer after pumped)
+          (pumps_at course self.kept going.end after answer driven.happened pumped) represents;
+    }
+
+-- or there is no memory for that.
+pub pumped_last : (before now : Traffic) (old self new : MachineState) (rounds : ℕ)
+    (error : LinkError) → new.kept ≡ self.kept → SentOn before now old self rounds
+    → PumpsSome self.end new.end (Err error) → Drives before now old new (Err error)
+unfolding DrivenSo
+pumped_last before now old self new rounds error kept sent pumps course end is =
+    let going = (sent course end is).going in
+    let pumped = pumps.1 course.values going.end going.driven.represents in
+    let memory = pump_ends going.end pumped.0 pumps.0 error going.driven.up pumped.1 pumps.2 in
+    let then = pumped_on before now old self new rounds (Err error) kept sent pumps course end is in
+    (then.end, ends_going then.driven (lacks_memory memory))
 
 -- The link gives octets, and takes none.
 appends_as : (one two : Option (List ℕ)) (octets is : List ℕ) → octets ≡ is
     → Appends one two octets → Appends one two is
 appends_as one two octets is same appends = subst (Appends one two) same appends
 
-read_links : (start before now : Traffic) (log : Log) (octets : List ℕ)
+read_links : {start before : Traffic} (now : Traffic) {log : Log} {octets : List ℕ}
     → IsLinked start before log [] → Appends before.given now.given octets
     → Appends before.taken now.taken [] → IsLinked start now log octets
-read_links start before now log octets linked gives takes =
+read_links {start} {before} now {log} {octets} linked gives takes =
     record {
       given = appends_as start.given now.given ((log.input ++ []) ++ octets) (log.input ++ octets)
-          (ap (λ (input : List ℕ). input ++ octets) (append-nil log.input))
-          (Appends-trans start.given before.given now.given (log.input ++ []) octets
-          linked.given gives);
+          (ap (λ (input : List ℕ). input ++ octets) (append-nil log.input)) (Appends-trans
+          start.given before.given now.given (log.input ++ []) octets linked.given gives);
       taken = appends_as start.taken now.taken (given_out log ++ []) (given_out log)
           (append-nil (given_out log))
-          (Appends-trans start.taken before.taken now.taken (given_out log) [] linked.taken
-          takes);
+          (Appends-trans start.taken before.taken now.taken (given_out log) [] linked.taken takes);
     }
 
-read_driven : (course : Course) (before now : Traffic) (held : Held) (end : EndLog)
-    (octets : List ℕ) → IsDriven course before held end [] nexts.Again
+read_driven : {course : Course} {before : Traffic} (now : Traffic) {held : MachineState}
+    {end : EndLog} {octets : List ℕ} → IsDriven course before held end [] nexts.Again
     → Appends before.given now.given octets → Appends before.taken now.taken []
     → IsDriven course now held end octets nexts.Again
-read_driven course before now held end octets is gives takes =
+read_driven now is gives takes =
     record {
       happened = is.happened;
       represents = is.represents;
-      linked = read_links course.start before now end.log octets is.linked gives takes;
+      linked = read_links now is.linked gives takes;
       up = is.up;
       keeps = is.keeps;
     }
 
-pub read_on : (before middle now : Traffic) (old self : Held) (octets : List ℕ) (rounds : ℕ)
+pub read_on : (before middle now : Traffic) (old self : MachineState) {octets : List ℕ} (rounds : ℕ)
     → SentOn before middle old self rounds → Appends middle.given now.given octets
     → Appends middle.taken now.taken [] → DrivesOn before now old self octets rounds
-read_on before middle now old self octets rounds sent gives takes course end is =
+read_on before middle now old self rounds sent gives takes course end is =
     let so = sent course end is in
     record {
       end = so.going.end;
       turns = so.going.turns;
-      driven = read_driven course middle now self so.going.end octets so.going.driven gives takes;
+      driven = read_driven now so.going.driven gives takes;
     }
 
 -- It gives none, at the end of the input,
-pub read_ends : (before middle now : Traffic) (old self : Held) (rounds : ℕ)
+pub read_ends : (before middle now : Traffic) (old self : MachineState) (rounds : ℕ)
     → SentOn before middle old self rounds → Appends middle.given now.given []
     → Appends middle.taken now.taken [] → Drives before now old self (Ok false)
 unfolding DrivenSo
@@ -165,7 +190,7 @@ read_ends before middle now old self rounds sent gives takes course end is =
     let log = so.going.end.log in (
       so.going.end,
       (
-        read_driven course middle now self so.going.end [] so.going.driven gives takes,
+        read_driven now so.going.driven gives takes,
         appends_as course.start.taken now.taken (log.written ++ []) log.written
             (append-nil log.written)
             (Appends-trans course.start.taken middle.taken now.taken log.written [] so.all takes),
@@ -173,45 +198,43 @@ read_ends before middle now old self rounds sent gives takes course end is =
     )
 
 -- or where a read has failed.
-pub read_fails : (before middle now : Traffic) (old self : Held) (rounds : ℕ)
+pub read_fails : (before middle now : Traffic) (old self : MachineState) (rounds : ℕ)
     → SentOn before middle old self rounds → Appends middle.given now.given []
     → Appends middle.taken now.taken [] → Drives before now old self (Err errors.Device)
 unfolding DrivenSo
 read_fails before middle now old self rounds sent gives takes course end is =
     let so = sent course end is in (
       so.going.end,
-      ends_going true course now self so.going.end [] errors.Device
-          (read_driven course middle now self so.going.end [] so.going.driven gives takes)
-          (link_fails refl refl),
+      ends_going (read_driven now so.going.driven gives takes) (link_fails refl refl),
     )
 
 -- A piece is taken,
-pub taken_on : (before middle now : Traffic) (old self new : Held) (piece : List ℕ) (rounds : ℕ)
-    (whole : Bool) → whole ≡ false → DrivesOn before middle old self piece rounds
-    → Takes true middle now self new piece (Ok whole) → DrivesOn before now old new [] rounds
+pub taken_on : (before middle now : Traffic) (old self new : MachineState) (piece : List ℕ)
+    (rounds : ℕ) {whole : Bool} → whole ≡ false → DrivesOn before middle old self piece rounds
+    → TakesPiece true middle now self new piece (Ok whole) → DrivesOn before now old new [] rounds
 unfolding TakenSo
-taken_on before middle now old self new piece rounds whole not on takes course end is =
+taken_on before middle now old self new piece rounds not on takes course end is =
     let go = on course end is in
-    let so = subst (λ (one : Bool). Takes true middle now self new piece (Ok one)) not takes course
-    middle go.end go.driven in
+    let so = subst (λ (one : Bool). TakesPiece true middle now self new piece (Ok one)) not takes
+    course middle go.end go.driven in
     record { end = so.0; turns = omega (arith, go.turns, so.1); driven = so.2 }
 
 -- up to the end of a response that is whole,
-pub taken_whole : (before middle now : Traffic) (old self new : Held) (piece : List ℕ)
-    (rounds : ℕ) (whole : Bool) → whole ≡ true → DrivesOn before middle old self piece rounds
-    → Takes true middle now self new piece (Ok whole) → Drives before now old new (Ok true)
+pub taken_whole : (before middle now : Traffic) (old self new : MachineState) (piece : List ℕ)
+    (rounds : ℕ) {whole : Bool} → whole ≡ true → DrivesOn before middle old self piece rounds
+    → TakesPiece true middle now self new piece (Ok whole) → Drives before now old new (Ok true)
 unfolding TakenSo DrivenSo
-taken_whole before middle now old self new piece rounds whole said on takes course end is =
+taken_whole before middle now old self new piece rounds said on takes course end is =
     let go = on course end is in
-    let so = subst (λ (one : Bool). Takes true middle now self new piece (Ok one)) said takes course
-    middle go.end go.driven in
+    let so = subst (λ (one : Bool). TakesPiece true middle now self new piece (Ok one)) said takes
+    course middle go.end go.driven in
     let driven : (unused : List ℕ) × IsDriven course now new so.0 unused nexts.Whole = so.2 in
     (so.0, driven)
 
 -- or with it the machine ends.
-pub taken_last : (before middle now : Traffic) (old self new : Held) (piece : List ℕ)
+pub taken_last : (before middle now : Traffic) (old self new : MachineState) (piece : List ℕ)
     (rounds : ℕ) (error : LinkError) → DrivesOn before middle old self piece rounds
-    → Takes true middle now self new piece (Err error) → Drives before now old new (Err error)
+    → TakesPiece true middle now self new piece (Err error) → Drives before now old new (Err error)
 unfolding TakenSo DrivenSo
 taken_last before middle now old self new piece rounds error on takes course end is =
     let go = on course end is in
@@ -219,7 +242,7 @@ taken_last before middle now old self new piece rounds error on takes course end
     (so.0, so.2)
 
 -- Credit is returned, and what waits of messages is sent,
-pub waiting_on : (before now : Traffic) (old self new : Held) (unused : List ℕ) (rounds : ℕ)
+pub waiting_on : (before now : Traffic) (old self new : MachineState) (unused : List ℕ) (rounds : ℕ)
     (result : Result (Unit {0}) LinkError) → new.kept ≡ self.kept
     → DrivesOn before now old self unused rounds → SendsWaiting self.end new.end result
     → DrivesOn before now old new unused rounds
@@ -228,24 +251,24 @@ waiting_on before now old self new unused rounds result kept on sends course end
     let sent = sends course.values go.end go.driven.represents in
     record {
       end = sent.0;
-      turns = omega (arith, go.turns, sent_turns go.end sent.0 result sent.2);
-      driven = stays_driven course now self new go.end sent.0 unused nexts.Again go.driven kept
-          (sent_stays go.end sent.0 result sent.2)
-          (sends_at course self.kept go.end sent.0 result go.driven.happened sent.2) sent.1;
+      turns = omega (arith, go.turns, sent_turns sent.2);
+      driven = stays_driven new go.driven kept (sent_stays sent.2)
+          (sends_at course self.kept go.driven.happened sent.2) sent.1;
     }
 
 -- or there is no memory for that.
-pub waiting_last : (before now : Traffic) (old self new : Held) (unused : List ℕ) (rounds : ℕ)
-    (error : LinkError) → new.kept ≡ self.kept → DrivesOn before now old self unused rounds
-    → SendsWaiting self.end new.end (Err error) → Drives before now old new (Err error)
+pub waiting_last : (before now : Traffic) (old self new : MachineState) (unused : List ℕ)
+    (rounds : ℕ) (error : LinkError) → new.kept ≡ self.kept
+    → DrivesOn before now old self unused rounds → SendsWaiting self.end new.end (Err error)
+    → Drives before now old new (Err error)
 unfolding DrivenSo
 waiting_last before now old self new unused rounds error kept on sends course end is =
     let go = on course end is in
     let sent = sends course.values go.end go.driven.represents in
-    let memory = sent_error go.end sent.0 error sent.2 in
-    let then = waiting_on before now old self new unused rounds (Err error) kept on sends course end
-    is in
-    (then.end, ends_going true course now new then.end unused error then.driven (lacks_memory memory))
+    let memory = sent_error sent.2 in
+    let then = waiting_on before now old self new unused rounds (Err error) kept on sends course
+    end is in
+    (then.end, ends_going then.driven (lacks_memory memory))
 
 -- What the link gave of a buffer: nothing,
 pub gives_none : (one two : Option (List ℕ)) (buffer : List ℕ) (count : ℕ) → count ≡ 0
@@ -260,14 +283,14 @@ pub gives_piece : (one two : Option (List ℕ)) (count size : ℕ) (buffer other
 gives_piece one two count size buffer others octets is all gives =
     let same : octets ≡ buffer =
     is ∙ ap (λ (n : ℕ). take n (buffer ++ others)) (sym all) ∙ take-append_seam buffer others in
-    subst (λ (list : List ℕ). Appends one two (take count list)) (sym same) gives
+    rw same gives
 
 -- A read with room that gives nothing has met the end of the input.
-pub meets_end : (before now : Bool) (room count : ℕ) → now ≡ ended_after before room (Ok count)
-    → count ≡ 0 → room ≡ 16384 → now ≡ true
-meets_end before now room count is none all =
-    is ∙ ap (λ (n : ℕ). ended_after before n (Ok count)) all
-    ∙ ap (λ (n : ℕ). ended_after before 16384 (Ok n)) none
+pub meets_end : (before : Bool) {now : Bool} {room count : ℕ}
+    → now ≡ ended_after before room (Ok count) → count ≡ 0 → room ≡ 16384 → now ≡ true
+meets_end before {count} is none all =
+    is ∙ ap (λ (n : ℕ). ended_after before n (Ok count)) all ∙ ap
+    (λ (n : ℕ). ended_after before 16384 (Ok n)) none
 
 -- How often the link has failed doesn't depend on what else is answered.
 pub failures_same : (A B : Type 0) (failures : ℕ) (error : LinkError)

@@ -1,14 +1,11 @@
 -- What stays of a machine where nothing of messages has happened at its end, and what may happen
 -- there.
-use Rattle.std.proofs.Common.{◌≡◌, ◌≢◌, ℕ, Bool, true, false, List, length, Result}
-use Rattle.std.proofs.Common.{Err, refl, sym, ap, ◌∙◌, subst}
-use Rattle.h2_message.specs.Messages.{SentMessage}
+use Rattle.h2_engines.proofs.Names.{◌≡◌, ◌≢◌, ℕ, Bool, true, false, List, length, Result, Err, refl}
+use Rattle.h2_engines.proofs.Names.{sym, ap, ◌∙◌, subst, SentMessage, EndRefusal, EndLog, Handed}
+use Rattle.h2_engines.proofs.Names.{EndRepresents, LinkError}
 use Rattle.h2_message.specs.Phases.{ends}
-use Rattle.h2_ends.specs.declared.refusal.EndRefusal.{EndRefusal}
-use Rattle.h2_ends.specs.Ends.{EndLog, Handed, message_for, parts_on}
+use Rattle.h2_ends.specs.Ends.{message_for, parts_on}
 use Rattle.h2_ends.specs.EndCalls.{MayReleaseAll}
-use Rattle.h2_ends.specs.Represents.{EndRepresents}
-use Rattle.h2_link.specs.declared.error.LinkError.{LinkError}
 use Rattle.h2_link.specs.declared.error.LinkError.TheVariants as errors
 use Rattle.h2_engines.specs.declared.request.Next.{Next}
 use Rattle.h2_engines.specs.declared.request.Next.TheVariants as nexts
@@ -16,7 +13,8 @@ use Rattle.h2_engines.specs.ClientHistories as client
 use Rattle.h2_engines.specs.Failures.{EndsWriting, IsOfCall}
 use Rattle.h2_engines.specs.Fetches.{EndsUnfinished}
 use Rattle.h2_engines.specs.Linked.{Traffic, IsLinked, StallsWriting}
-use Rattle.h2_engines.specs.Machines.{Kept, Serving, Fetching, Held, Course, Happens, Keeps}
+use Rattle.h2_engines.specs.Machines.{MessageState, Serving, Fetching, MachineState, Course}
+use Rattle.h2_engines.specs.Machines.{Happens, Keeps}
 use Rattle.h2_engines.specs.Machines.{IsDriven, IsOf, MayEnd, Holds, IsDue, EndsFor, lacks_memory}
 use Rattle.h2_engines.specs.Machines.{link_fails, has_stalled, HasEnded}
 use Rattle.h2_engines.specs.PartialMessages.{HasCome, IsWhole}
@@ -27,23 +25,22 @@ use Rattle.h2_engines.proofs.ResponderEnds.{given_first, given_within}
 use Rattle.h2_engines.proofs.ResponderWrites.{MayPutOut}
 use Rattle.h2_engines.proofs.SameRequests.{kept_same_next}
 use Rattle.h2_engines.proofs.ServeLinkLogs.{goes_links}
-use Rattle.h2_engines.proofs.ServeLinkPumps.{StaysOn, stays_same}
-use Rattle.h2_engines.proofs.ServeLinkPumps.{MayPumpOn}
+use Rattle.h2_engines.proofs.ServeLinkPumps.{StaysOn, stays_same, MayPumpOn}
 
 -- Whatever has happened at a machine, output may be put out then, what waits sent, and what is owed
 -- given back.
-pub puts_at : (course : Course) (kept : Kept) → MayPutOut (Happens course kept)
+pub puts_at : (course : Course) (kept : MessageState) → MayPutOut (Happens course kept)
 puts_at course (Serving requests answered) end count answer was typed may =
     server.gives_out was count answer typed may
 puts_at course (Fetching id coming whole) end count answer was typed may =
     client.gives_out was count answer typed may
 
-pub pumps_at : (course : Course) (kept : Kept) → MayPumpOn (Happens course kept)
+pub pumps_at : (course : Course) (kept : MessageState) → MayPumpOn (Happens course kept)
 pumps_at course (Serving requests answered) end after result was may =
     server.pumps was result may
 pumps_at course (Fetching id coming whole) end after result was may = client.pumps was result may
 
-pub releases_at : (course : Course) (kept : Kept) (end after : EndLog)
+pub releases_at : (course : Course) (kept : MessageState) (end after : EndLog)
     (result : Result (Unit {0}) EndRefusal) → Happens course kept end
     → MayReleaseAll end result after → Happens course kept after
 releases_at course (Serving requests answered) end after result was may =
@@ -51,19 +48,13 @@ releases_at course (Serving requests answered) end after result was may =
 releases_at course (Fetching id coming whole) end after result was may =
     client.releases was result may
 
--- It has happened whatever is kept, where that is the same.
-pub happened_as : (course : Course) (old new : Kept) (end : EndLog) → new ≡ old
-    → Happens course old end → Happens course new end
-happened_as course old new end same was =
-    subst (λ (kept : Kept). Happens course kept end) (sym same) was
-
 -- What is kept holds still where nothing of messages has happened,
-pub keeps_same : (message : SentMessage) (kept : Kept) (before after : EndLog) (next : Next)
+pub keeps_same : (message : SentMessage) (kept : MessageState) (before after : EndLog) (next : Next)
     → IsSameOfMessages before after → Keeps message kept before next
     → Keeps message kept after next
 unfolding Keeps
 keeps_same message (Serving requests answered) before after next same keeps = (
-  kept_same_next requests before after next same keeps.0,
+  kept_same_next requests next same keeps.0,
   keeps.1 ∙ ap length (sym same.accepted),
 )
 keeps_same message (Fetching id coming whole) before after nexts.Whole same keeps = (
@@ -89,11 +80,11 @@ unfinished_same before after id errors.Memory same is = tt
 unfinished_same before after id error same is =
     ap (λ (handed : List Handed). ends (parts_on id handed)) same ∙ is
 
-pub holds_same : (message : SentMessage) (kept : Kept) (before after : EndLog) (error : LinkError)
-    → IsSameOfMessages before after → Holds message kept before error
+pub holds_same : (message : SentMessage) (kept : MessageState) {before after : EndLog}
+    (error : LinkError) → IsSameOfMessages before after → Holds message kept before error
     → Holds message kept after error
-holds_same message (Serving requests answered) before after error same holds = tt
-holds_same message (Fetching id coming whole) before after error same holds = (
+holds_same message (Serving requests answered) error same holds = tt
+holds_same message (Fetching id coming whole) {before} {after} error same holds = (
   ap (message_for id) same.accepted ∙ holds.0,
   unfinished_same before after id error same.handed holds.1,
 )
@@ -104,15 +95,15 @@ pub unfinished : (end : EndLog) (id : ℕ) (error : LinkError) → ends (parts_o
 unfinished end id errors.Memory is = tt
 unfinished end id error is = is
 
-pub holds_again : (message : SentMessage) (kept : Kept) (end : EndLog) (error : LinkError)
+pub holds_again : (message : SentMessage) (kept : MessageState) (end : EndLog) (error : LinkError)
     → Keeps message kept end nexts.Again → Holds message kept end error
 unfolding Keeps
 holds_again message (Serving requests answered) end error keeps = tt
 holds_again message (Fetching id coming whole) end error keeps =
-    (keeps.0, unfinished end id error (come_not_whole coming (parts_on id end.handed) keeps.1))
+    (keeps.0, unfinished end id error (come_not_whole keeps.1))
 
 -- or something is due.
-pub holds_due : (message : SentMessage) (kept : Kept) (end : EndLog) (due : Next)
+pub holds_due : (message : SentMessage) (kept : MessageState) (end : EndLog) (due : Next)
     (error : LinkError) → IsDue due → Keeps message kept end due → Holds message kept end error
 unfolding Keeps
 holds_due message (Serving requests answered) end due error is keeps = tt
@@ -131,29 +122,28 @@ is_due (nexts.Answer id request) again done whole = tt
 is_due (nexts.Reset id) again done whole = tt
 
 -- After a call at which nothing of messages has happened a machine is driven on.
-pub stays_driven : (course : Course) (now : Traffic) (old new : Held) (end after : EndLog)
-    (unused : List ℕ) (next : Next) → IsDriven course now old end unused next
+pub stays_driven : {course : Course} {now : Traffic} {old : MachineState} (new : MachineState)
+    {end after : EndLog} {unused : List ℕ} {next : Next} → IsDriven course now old end unused next
     → new.kept ≡ old.kept → StaysOn end after → Happens course old.kept after
     → EndRepresents course.values new.end after → IsDriven course now new after unused next
-stays_driven course now old new end after unused next is kept stays happened represents =
+stays_driven {course} {old} new {end} {after} {next} is kept stays happened represents =
     record {
-      happened = happened_as course old.kept new.kept after kept happened;
+      happened = rw kept happened;
       represents = represents;
-      linked = goes_links course.start now end.log after.log unused
-          (given_within course.values old.end end is.represents) stays.goes is.linked;
+      linked = goes_links (given_within is.represents) stays.goes is.linked;
       up = stays.goes.failed ∙ is.up;
-      keeps = subst (λ (one : Kept). Keeps course.message one after next) (sym kept)
-          (keeps_same course.message old.kept end after next (stays_same end after stays) is.keeps);
+      keeps = rw kept
+          (keeps_same course.message old.kept end after next (stays_same stays) is.keeps);
     }
 
 -- A machine ends early, and its link took all that was given out.
-pub ends_linked : (writes : Bool) (course : Course) (now : Traffic) (held : Held) (end : EndLog)
-    (unused : List ℕ) (error : LinkError) → Happens course held.kept end
+pub ends_linked : {writes : Bool} (course : Course) {now : Traffic} (held : MachineState)
+    {end : EndLog} {unused : List ℕ} {error : LinkError} → Happens course held.kept end
     → EndRepresents course.values held.end end → IsLinked course.start now end.log unused
     → Holds course.message held.kept end error
     → EndsFor writes course.start now held.kept end error
     → HasEnded writes course now held end error
-ends_linked writes course now held end unused error happened represents linked holds why =
+ends_linked course {now} held {end} {unused} happened represents linked holds why =
     record {
       happened = happened;
       represents = represents;
@@ -165,16 +155,17 @@ ends_linked writes course now held end unused error happened represents linked h
       why = why;
     }
 
-pub ends_going : (writes : Bool) (course : Course) (now : Traffic) (held : Held) (end : EndLog)
-    (unused : List ℕ) (error : LinkError) → IsDriven course now held end unused nexts.Again
+pub ends_going : {writes : Bool} {course : Course} {now : Traffic} {held : MachineState}
+    {end : EndLog} {unused : List ℕ} {error : LinkError}
+    → IsDriven course now held end unused nexts.Again
     → EndsFor writes course.start now held.kept end error
     → HasEnded writes course now held end error
-ends_going writes course now held end unused error is why =
-    ends_linked writes course now held end unused error is.happened is.represents is.linked
+ends_going {course} {held} {end} {error} is why =
+    ends_linked course held is.happened is.represents is.linked
     (holds_again course.message held.kept end error is.keeps) why
 
 -- What writes ends it so.
-pub writing_ends : (start now : Traffic) (kept : Kept) (end : EndLog) (error : LinkError)
+pub writing_ends : (start now : Traffic) (kept : MessageState) (end : EndLog) (error : LinkError)
     → EndsWriting error → StallsWriting {A = Unit {0}} now end (Err error)
     → EndsFor true start now kept end error
 writing_ends start now kept end errors.Device is stalls = link_fails refl refl

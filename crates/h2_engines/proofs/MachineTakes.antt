@@ -1,143 +1,128 @@
 -- What a machine makes of a piece, part by part, over a link or without one.
-use Rattle.std.proofs.Common.{◌≡◌, ◌≢◌, ◌≤◌, ℕ, ◌+◌, ◌-◌, ◌^◌, Bool, true, false, List}
-use Rattle.std.proofs.Common.{length, take, drop, Some, None, Result, Ok, Err, refl, sym, ◌∙◌}
-use Rattle.std.proofs.Common.{subst, inl, inr, arith}
-use Rattle.std.proofs.lemmas.List.{length-drop, length-take, take_all, drop_all, drop-drop}
-use Rattle.h2_frame.specs.declared.code.Code.{Code}
-use Rattle.h2_message.specs.Messages.{SentMessage}
-use Rattle.h2_ends.specs.Ends.{EndLog}
-use Rattle.h2_ends.specs.Represents.{EndRepresents}
-use Rattle.h2_link.specs.declared.error.LinkError.{LinkError}
+use Rattle.h2_engines.proofs.Names.{◌≡◌, ◌≢◌, ◌≤◌, ℕ, ◌+◌, ◌-◌, ◌^◌, Bool, true, false, List}
+use Rattle.h2_engines.proofs.Names.{length, take, drop, Some, None, Result, Ok, Err, refl, sym, ◌∙◌}
+use Rattle.h2_engines.proofs.Names.{subst, inl, inr, arith, length-drop, length-take, take_all}
+use Rattle.h2_engines.proofs.Names.{drop_all, Code, SentMessage, EndLog, EndRepresents, LinkError}
+use Rattle.std.proofs.lemmas.List.{drop-drop}
 use Rattle.h2_link.specs.declared.error.LinkError.TheVariants as errors
 use Rattle.h2_engines.specs.declared.machine.Heard.{Heard}
 use Rattle.h2_engines.specs.declared.request.Next.{Next}
 use Rattle.h2_engines.specs.declared.request.Next.TheVariants as nexts
 use Rattle.h2_engines.specs.Failures.{EndsWriting, failures_at_end, failures_by}
 use Rattle.h2_engines.specs.Linked.{Traffic, HasTakenAll}
-use Rattle.h2_engines.specs.Machines.{Kept, Serving, Fetching, Held, Course, Happens, Keeps}
-use Rattle.h2_engines.specs.Machines.{IsDriven, IsOf, Holds}
-use Rattle.h2_engines.specs.Machines.{EndsFor, lacks_memory, has_failed, has_stalled, stops_itself}
-use Rattle.h2_engines.specs.Machines.{HasEnded, HearsNoMore, fails, gives_up, HasHeardLast}
-use Rattle.h2_engines.specs.Machines.{HearsSo, Hears, IsDue, ActedSo, Acts, WritesOut}
-use Rattle.h2_engines.specs.Machines.{WritesWaiting, flow, Does, EndsEarly, TakenSo, Takes}
+use Rattle.h2_engines.specs.Machines.{MessageState, Serving, Fetching, MachineState, Course}
+use Rattle.h2_engines.specs.Machines.{Happens, Keeps}
+use Rattle.h2_engines.specs.Machines.{IsDriven, IsOf, Holds, EndsFor, lacks_memory, has_failed}
+use Rattle.h2_engines.specs.Machines.{has_stalled, stops_itself, HasEnded, HearsNoMore, fails}
+use Rattle.h2_engines.specs.Machines.{gives_up, HasHeardLast, HearsSo, Hears, IsDue, RespondedSo}
+use Rattle.h2_engines.specs.Machines.{Responds}
+use Rattle.h2_engines.specs.Machines.{WritesOut, WritesWaiting, flow, WritesAndResponds, EndsEarly}
+use Rattle.h2_engines.specs.Machines.{TakenSo}
+use Rattle.h2_engines.specs.Machines.{TakesPiece}
 use Rattle.h2_engines.specs.PartialMessages.{KeepsNext}
-use Rattle.h2_engines.proofs.MachineLaws.{happened_as, keeps_same, holds_same, holds_due}
+use Rattle.h2_engines.proofs.MachineLaws.{keeps_same, holds_same, holds_due}
 use Rattle.h2_engines.proofs.MachineLaws.{ends_linked, ends_going, writing_ends}
 use Rattle.h2_engines.proofs.MachineWrites.{written_links}
 use Rattle.h2_engines.proofs.ResponderRefusals.{waits_none}
 
 -- All that waits was written, and the machine is driven on.
-pub written_driven : (course : Course) (before now : Traffic) (old new : Held) (end : EndLog)
-    (unused : List ℕ) (next : Next) (done : Unit {0})
+pub written_driven : {course : Course} {before now : Traffic} {old : MachineState}
+    (new : MachineState) {end : EndLog} {unused : List ℕ} {next : Next} {done : Unit {0}}
     → IsDriven course before old end unused next → new.kept ≡ old.kept
-    → (wrote : WritesOut (Happens course old.kept) course.values course.start now end new.end unused
-    (Ok done))
-    → IsDriven course now new wrote.after unused next
-written_driven course before now old new end unused next done is kept wrote =
+    → (wrote : WritesOut (Happens course old.kept) course.values course.start now end new.end
+    unused (Ok done)) → IsDriven course now new wrote.after unused next
+written_driven {course} {old} new {end} {unused} {next} is kept wrote =
     record {
-      happened = happened_as course old.kept new.kept wrote.after kept wrote.happened;
+      happened = rw kept wrote.happened;
       represents = wrote.represents;
-      linked = written_links course.start now wrote.after.log unused wrote.given wrote.taken;
+      linked = written_links unused wrote.given wrote.taken;
       up = wrote.same.failed ∙ is.up;
-      keeps = subst (λ (one : Kept). Keeps course.message one wrote.after next) (sym kept)
+      keeps = rw kept
           (keeps_same course.message old.kept end wrote.after next wrote.same is.keeps);
     }
 
 -- It could not be written.
-pub ends_unwritten : (course : Course) (now : Traffic) (old new : Held) (end : EndLog)
-    (unused : List ℕ) (error : LinkError) → new.kept ≡ old.kept
-    → (wrote : WritesOut (Happens course old.kept) course.values course.start now end new.end unused
-    (Err error))
-    → EndsWriting error → Holds course.message old.kept end error
+pub ends_unwritten : (course : Course) {now : Traffic} (old new : MachineState) {end : EndLog}
+    {unused : List ℕ} {error : LinkError} → new.kept ≡ old.kept
+    → (wrote : WritesOut (Happens course old.kept) course.values course.start now end new.end
+    unused (Err error)) → EndsWriting error → Holds course.message old.kept end error
     → HasEnded true course now new wrote.after error
-ends_unwritten course now old new end unused error kept wrote writing holds =
+ends_unwritten course {now} old new {unused} {error} kept wrote writing holds =
     record {
-      happened = happened_as course old.kept new.kept wrote.after kept wrote.happened;
+      happened = rw kept wrote.happened;
       represents = wrote.represents;
       unused = unused;
       given = wrote.given;
       taken = wrote.taken;
       alone = λ none. absurd (cc);
-      holds = subst (λ (one : Kept). Holds course.message one wrote.after error) (sym kept)
-          (holds_same course.message old.kept end wrote.after error wrote.same holds);
+      holds = rw kept (holds_same course.message old.kept error wrote.same holds);
       why = writing_ends course.start now new.kept wrote.after error writing wrote.stalls;
     }
 
 -- What is due is done once all that waits was written,
-pub wrote_due : (before now : Traffic) (old mid new : Held) (due : Next) (done : Unit {0})
+pub wrote_due : (before now : Traffic) (old mid new : MachineState) (due : Next) (done : Unit {0})
     (result : Result (Unit {0}) LinkError) → mid.kept ≡ old.kept
-    → WritesWaiting before now old mid (Ok done) → Acts mid new due result
-    → Does true before now old new due result
-wrote_due before now old mid new due done result kept writes acts course base end unused is driven =
+    → WritesWaiting before now old mid (Ok done) → Responds mid new due result
+    → WritesAndResponds true before now old new due result
+wrote_due before now old mid new due done result kept writes acts course base end unused is driven
+    =
     let wrote = writes course end unused driven.represents driven.happened driven.linked in
-    let acted = acts true course now wrote.after unused is
-    (λ said. waits_none course.start now wrote.after.log wrote.taken)
-    (written_driven course before now old mid end unused due done driven kept wrote) in
+    let acted = acts true course now wrote.after unused is (λ said. waits_none wrote.taken)
+    (written_driven mid driven kept wrote) in
     (acted.0, omega (arith, wrote.turns, acted.1), acted.2)
 
 -- or not, where that can't be written;
-pub unwritten_due : (before now : Traffic) (old new : Held) (due : Next) (error : LinkError)
+pub unwritten_due : (before now : Traffic) (old new : MachineState) (due : Next) (error : LinkError)
     → new.kept ≡ old.kept → WritesWaiting before now old new (Err error) → EndsWriting error
-    → Does true before now old new due (Err error)
-unfolding ActedSo
+    → WritesAndResponds true before now old new due (Err error)
+unfolding RespondedSo
 unwritten_due before now old new due error kept writes writing course base end unused is driven =
     let wrote = writes course end unused driven.represents driven.happened driven.linked in (
       wrote.after,
       omega (arith, wrote.turns),
-      ends_unwritten course now old new end unused error kept wrote writing
+      ends_unwritten course old new kept wrote writing
           (holds_due course.message old.kept end due error is driven.keeps),
     )
 
 -- without a link it is done at once.
-pub plain_due : (before now : Traffic) (old new : Held) (due : Next)
-    (result : Result (Unit {0}) LinkError) → Acts old new due result
-    → Does false before now old new due result
+pub plain_due : (before now : Traffic) (old new : MachineState) (due : Next)
+    (result : Result (Unit {0}) LinkError) → Responds old new due result
+    → WritesAndResponds false before now old new due result
 plain_due before now old new due result acts course base end unused is driven =
     acts false course base end unused is (λ said. absurd (cc)) driven
 
-pub does_as : (writes is : Bool) (before now : Traffic) (old new : Held) (due : Next)
-    (result : Result (Unit {0}) LinkError) → writes ≡ is → Does is before now old new due result
-    → Does writes before now old new due result
-does_as writes is before now old new due result same does =
-    subst (λ (one : Bool). Does one before now old new due result) (sym same) does
-
 -- Why it can't hear on, and what holds then.
-holds_last : (message : SentMessage) (kept : Kept) (end : EndLog) (error : LinkError)
+holds_last : {message : SentMessage} {kept : MessageState} {end : EndLog} {error : LinkError}
     → HearsNoMore message kept end error → Holds message kept end error
-holds_last message kept end error (fails code failed is holds) = holds error
-holds_last message kept end error (gives_up up holds why) = holds
+holds_last {error} (fails code failed is holds) = holds error
+holds_last (gives_up up holds why) = holds
 
-why_last : (writes : Bool) (course : Course) (now : Traffic) (kept : Kept) (end : EndLog)
-    (error : LinkError)
-    → ((code : Code) → end.log.failed ≡ Some code → writes ≡ true
-    → HasTakenAll course.start now end.log)
-    → HearsNoMore course.message kept end error
+why_last : (writes : Bool) (course : Course) (now : Traffic) {kept : MessageState} {end : EndLog}
+    {error : LinkError}
+    → ((code : Code) → end.log.failed ≡ Some code → writes ≡ true → HasTakenAll course.start now
+    end.log) → HearsNoMore course.message kept end error
     → EndsFor writes course.start now kept end error
-why_last writes course now kept end error taken (fails code failed is holds) =
+why_last writes course now taken (fails code failed is holds) =
     has_failed code failed is (taken code failed)
-why_last writes course now kept end error taken (gives_up up holds (inl memory)) =
-    lacks_memory memory
-why_last writes course now kept end error taken (gives_up up holds (inr why)) =
-    stops_itself (why writes)
+why_last writes course now taken (gives_up up holds (inl memory)) = lacks_memory memory
+why_last writes course now taken (gives_up up holds (inr why)) = stops_itself (why writes)
 
-ends_last : (writes : Bool) (course : Course) (now : Traffic) (held : Held) (end : EndLog)
-    (error : LinkError)
-    → ((code : Code) → end.log.failed ≡ Some code → writes ≡ true
-    → HasTakenAll course.start now end.log)
-    → HasHeardLast course now held end error → HasEnded writes course now held end error
-ends_last writes course now held end error taken last =
-    ends_linked writes course now held end last.unused error last.happened last.represents
-    last.linked (holds_last course.message held.kept end error last.why)
-    (why_last writes course now held.kept end error taken last.why)
+ends_last : (writes : Bool) {course : Course} {now : Traffic} {held : MachineState} {end : EndLog}
+    {error : LinkError}
+    → ((code : Code) → end.log.failed ≡ Some code → writes ≡ true → HasTakenAll course.start now
+    end.log) → HasHeardLast course now held end error → HasEnded writes course now held end error
+ends_last writes {course} {now} {held} taken last =
+    ends_linked course held last.happened last.represents last.linked (holds_last last.why)
+    (why_last writes course now taken last.why)
 
 -- Without a link it has ended so,
-pub ends_alone : (before now : Traffic) (held : Held) (error : LinkError)
+pub ends_alone : (before now : Traffic) (held : MachineState) (error : LinkError)
     → EndsEarly false before now held held error error
 ends_alone before now held error course base end last =
-    (end, omega arith, ends_last false course base held end error (λ code failed said. absurd (cc)) last)
+    (end, omega arith, ends_last false (λ code failed said. absurd (cc)) last)
 
 -- over a link while the connection is up,
-pub ends_up : (now : Traffic) (held : Held) (error : LinkError)
+pub ends_up : (now : Traffic) (held : MachineState) (error : LinkError)
     → ((course : Course) (end : EndLog) → EndRepresents course.values held.end end
     → end.log.failed ≡ None)
     → EndsEarly true now now held held error error
@@ -145,48 +130,45 @@ ends_up now held error up course base end last =
     let none = up course end last.represents in (
       end,
       omega arith,
-      ends_last true course now held end error (λ code failed said. absurd (cc)) last,
+      ends_last true (λ code failed said. absurd (cc)) last,
     )
 
 -- and once it has failed where all was written,
-written_why : (course : Course) (now : Traffic) (kept : Kept) (before after : EndLog)
-    (error : LinkError) → before.log.failed ≢ None → after.log.failed ≡ before.log.failed
-    → HasTakenAll course.start now after.log → HearsNoMore course.message kept before error
-    → EndsFor true course.start now kept after error
-written_why course now kept before after error failed same taken (fails code is error_is holds) =
+written_why : (course : Course) (now : Traffic) {kept : MessageState} {before : EndLog}
+    (after : EndLog) {error : LinkError} → before.log.failed ≢ None
+    → after.log.failed ≡ before.log.failed → HasTakenAll course.start now after.log
+    → HearsNoMore course.message kept before error → EndsFor true course.start now kept after error
+written_why course now after failed same taken (fails code is error_is holds) =
     has_failed code (same ∙ is) error_is (λ said. taken)
-written_why course now kept before after error failed same taken (gives_up up holds why) =
-    absurd (failed up)
+written_why course now after failed same taken (gives_up up holds why) = absurd (failed up)
 
-pub ends_written : (before now : Traffic) (old new : Held) (error : LinkError) (done : Unit {0})
-    → ((course : Course) (end : EndLog) → EndRepresents course.values old.end end
-    → end.log.failed ≢ None)
-    → new.kept ≡ old.kept → WritesWaiting before now old new (Ok done)
+pub ends_written : (before now : Traffic) (old new : MachineState) (error : LinkError)
+    (done : Unit {0})
+    → ((course : Course) (end : EndLog) → EndRepresents course.values old.end end → end.log.failed
+    ≢ None) → new.kept ≡ old.kept → WritesWaiting before now old new (Ok done)
     → EndsEarly true before now old new error error
 ends_written before now old new error done failed kept writes course base end last =
     let wrote = writes course end last.unused last.represents last.happened last.linked in
-    let holds = holds_same course.message old.kept end wrote.after error wrote.same
-    (holds_last course.message old.kept end error last.why) in
-    let why = written_why course now old.kept end wrote.after error
-    (failed course end last.represents) wrote.same.failed wrote.taken.taken last.why in (
+    let holds = holds_same course.message old.kept error wrote.same (holds_last last.why) in
+    let why = written_why course now wrote.after (failed course end last.represents)
+    wrote.same.failed wrote.taken.taken last.why in (
       wrote.after,
       omega (arith, wrote.turns),
-      ends_linked true course now new wrote.after last.unused error
-          (happened_as course old.kept new.kept wrote.after kept wrote.happened) wrote.represents
-          (written_links course.start now wrote.after.log last.unused wrote.given wrote.taken)
-          (subst (λ (one : Kept). Holds course.message one wrote.after error) (sym kept) holds)
-          (subst (λ (one : Kept). EndsFor true course.start now one wrote.after error) (sym kept)
-          why),
+      ends_linked course new (rw kept wrote.happened) wrote.represents
+          (written_links last.unused wrote.given wrote.taken) (subst
+          (λ (one : MessageState). Holds course.message one wrote.after error) (sym kept) holds)
+          (subst (λ (one : MessageState). EndsFor true course.start now one wrote.after error)
+          (sym kept) why),
     )
 
 -- or could not be.
-holds_failed : (course : Course) (kept : Kept) (end : EndLog) (error other : LinkError)
-    → end.log.failed ≢ None → HearsNoMore course.message kept end error
+holds_failed : (course : Course) {kept : MessageState} {end : EndLog} {error : LinkError}
+    (other : LinkError) → end.log.failed ≢ None → HearsNoMore course.message kept end error
     → Holds course.message kept end other
-holds_failed course kept end error other failed (fails code is error_is holds) = holds other
-holds_failed course kept end error other failed (gives_up up holds why) = absurd (failed up)
+holds_failed course other failed (fails code is error_is holds) = holds other
+holds_failed course other failed (gives_up up holds why) = absurd (failed up)
 
-pub ends_not_written : (before now : Traffic) (old new : Held) (error other : LinkError)
+pub ends_not_written : (before now : Traffic) (old new : MachineState) (error other : LinkError)
     → ((course : Course) (end : EndLog) → EndRepresents course.values old.end end
     → end.log.failed ≢ None)
     → new.kept ≡ old.kept → WritesWaiting before now old new (Err other) → EndsWriting other
@@ -195,16 +177,9 @@ ends_not_written before now old new error other failed kept writes writing cours
     let wrote = writes course end last.unused last.represents last.happened last.linked in (
       wrote.after,
       omega (arith, wrote.turns),
-      ends_unwritten course now old new end last.unused other kept wrote writing
-          (holds_failed course old.kept end error other (failed course end last.represents)
-          last.why),
+      ends_unwritten course old new kept wrote writing
+          (holds_failed course other (failed course end last.represents) last.why),
     )
-
-pub early_as : (writes is : Bool) (before now : Traffic) (old new : Held)
-    (error result : LinkError) → writes ≡ is → EndsEarly is before now old new error result
-    → EndsEarly writes before now old new error result
-early_as writes is before now old new error result same ends =
-    subst (λ (one : Bool). EndsEarly one before now old new error result) (sym same) ends
 
 -- What ends a machine by itself is no failure of its link.
 pub failures_of : (serves : Bool) (failures : ℕ) (error : LinkError) → IsOf serves error
@@ -220,8 +195,8 @@ failures_err A failures error = refl
 
 -- Whatever had happened, a machine was driven on, so many octets weren't used, and this is to be
 -- done; a turn has passed at least in each round.
-abbrev pub TakesOn : (writes : Bool) → (rounds : ℕ) → (before now : Traffic) → (old new : Held)
-    → (piece unused : List ℕ) → Next → Type 0
+abbrev pub TakesOn : (writes : Bool) → (rounds : ℕ) → (before now : Traffic)
+    → (old new : MachineState) → (piece unused : List ℕ) → Next → Type 0
 TakesOn writes rounds before now old new piece unused next =
     (course : Course) (base : Traffic) (end : EndLog)
     → IsDriven course (flow writes before base) old end piece nexts.Again
@@ -229,7 +204,7 @@ TakesOn writes rounds before now old new piece unused next =
     × IsDriven course (flow writes now base) new after unused next
 
 -- Nothing was taken yet.
-pub takes_first : (writes : Bool) (now : Traffic) (held : Held) (piece : List ℕ)
+pub takes_first : (writes : Bool) (now : Traffic) (held : MachineState) (piece : List ℕ)
     → TakesOn writes 0 now now held held piece piece nexts.Again
 takes_first writes now held piece course base end is = (end, omega arith, is)
 
@@ -239,14 +214,14 @@ rest_is : (piece : List ℕ) (used : ℕ)
 rest_is piece used =
     take_all (length piece - used) (drop used piece) (omega (arith, length-drop used piece))
 
-hears_rest : (old new : Held) (piece : List ℕ) (used : ℕ) (result : Result Heard LinkError)
+hears_rest : (old new : MachineState) (piece : List ℕ) (used : ℕ) (result : Result Heard LinkError)
     → Hears old new (take (length piece - used) (drop used piece)) result
     → Hears old new (drop used piece) result
 hears_rest old new piece used result hears =
     subst (λ (octets : List ℕ). Hears old new octets result) (rest_is piece used) hears
 
 -- The rest of a piece was heard of;
-pub heard_rest : (writes : Bool) (rounds : ℕ) (before now : Traffic) (old self new : Held)
+pub heard_rest : (writes : Bool) (rounds : ℕ) (before now : Traffic) (old self new : MachineState)
     (piece : List ℕ) (used : ℕ) (heard : Heard)
     → TakesOn writes rounds before now old self piece (drop used piece) nexts.Again
     → Hears self new (take (length piece - used) (drop used piece)) (Ok heard)
@@ -265,17 +240,17 @@ heard_rest writes rounds before now old self new piece used heard takes hears co
     )
 
 -- all of it was used;
-again_of_done : (message : SentMessage) (kept : Kept) (end : EndLog)
+again_of_done : (message : SentMessage) (kept : MessageState) (end : EndLog)
     → Keeps message kept end nexts.Done → Keeps message kept end nexts.Again
 unfolding Keeps KeepsNext
 again_of_done message (Serving requests answered) end keeps = keeps
 again_of_done message (Fetching id coming whole) end keeps = keeps
 
-pub done_rest : (writes : Bool) (rounds : ℕ) (before now : Traffic) (old self new : Held)
+pub done_rest : (writes : Bool) (rounds : ℕ) (before now : Traffic) (old self new : MachineState)
     (piece : List ℕ) (used : ℕ) (heard : Heard)
     → TakesOn writes rounds before now old self piece (drop used piece) nexts.Again
     → Hears self new (take (length piece - used) (drop used piece)) (Ok heard)
-    → heard.next ≡ nexts.Done → Takes writes before now old new piece (Ok false)
+    → heard.next ≡ nexts.Done → TakesPiece writes before now old new piece (Ok false)
 unfolding HearsSo TakenSo
 done_rest writes rounds before now old self new piece used heard takes hears done course base end
     is =
@@ -284,8 +259,8 @@ done_rest writes rounds before now old self new piece used heard takes hears don
     let next = hears_rest self new piece used (Ok heard) hears course (flow writes now base) on.0
     on.2 in
     let all : length rest ≤ heard.used = omega (arith, next.1.2 done) in
-    let driven = subst (λ (unused : List ℕ).
-    IsDriven course (flow writes now base) new next.0 unused heard.next)
+    let driven = subst
+    (λ (unused : List ℕ). IsDriven course (flow writes now base) new next.0 unused heard.next)
     (drop_all heard.used rest all) next.1.0 in (
       next.0,
       omega (arith, on.1, next.1.1),
@@ -299,42 +274,34 @@ done_rest writes rounds before now old self new piece used heard takes hears don
       },
     )
 
--- the same is to be done;
-pub next_as : (writes : Bool) (rounds : ℕ) (before now : Traffic) (old new : Held)
-    (piece unused : List ℕ) (next is : Next) → next ≡ is
-    → TakesOn writes rounds before now old new piece unused next
-    → TakesOn writes rounds before now old new piece unused is
-next_as writes rounds before now old new piece unused next is same takes =
-    subst (λ (one : Next). TakesOn writes rounds before now old new piece unused one) same takes
-
 -- the response is whole;
-pub whole_rest : (writes : Bool) (rounds : ℕ) (before now : Traffic) (old new : Held)
+pub whole_rest : (writes : Bool) (rounds : ℕ) (before now : Traffic) (old new : MachineState)
     (piece unused : List ℕ) → TakesOn writes rounds before now old new piece unused nexts.Whole
-    → Takes writes before now old new piece (Ok true)
+    → TakesPiece writes before now old new piece (Ok true)
 unfolding TakenSo
 whole_rest writes rounds before now old new piece unused takes course base end is =
     let on = takes course base end is in (on.0, omega (arith, on.1), (unused, on.2))
 
 -- or something is due, which is done,
-pub due_rest : (writes : Bool) (rounds : ℕ) (before middle now : Traffic) (old self new : Held)
-    (piece unused : List ℕ) (due : Next) (done : Unit {0}) → IsDue due
-    → TakesOn writes rounds before middle old self piece unused due
-    → Does writes middle now self new due (Ok done)
+pub due_rest : (writes : Bool) (rounds : ℕ) (before middle now : Traffic)
+    (old self new : MachineState) (piece unused : List ℕ) (due : Next) (done : Unit {0})
+    → IsDue due → TakesOn writes rounds before middle old self piece unused due
+    → WritesAndResponds writes middle now self new due (Ok done)
     → TakesOn writes rounds before now old new piece unused nexts.Again
-unfolding ActedSo
-due_rest writes rounds before middle now old self new piece unused due done is_due takes does course
-    base end is =
+unfolding RespondedSo
+due_rest writes rounds before middle now old self new piece unused due done is_due takes does
+    course base end is =
     let on = takes course base end is in
     let now_is = does course base on.0 unused is_due on.2 in
     (now_is.0, omega (arith, on.1, now_is.1), now_is.2)
 
 -- or can't be;
 pub not_done_rest : (writes : Bool) (rounds : ℕ) (before middle now : Traffic)
-    (old self new : Held) (piece unused : List ℕ) (due : Next) (error : LinkError) → IsDue due
-    → TakesOn writes rounds before middle old self piece unused due
-    → Does writes middle now self new due (Err error)
-    → Takes writes before now old new piece (Err error)
-unfolding ActedSo TakenSo
+    (old self new : MachineState) (piece unused : List ℕ) (due : Next) (error : LinkError)
+    → IsDue due → TakesOn writes rounds before middle old self piece unused due
+    → WritesAndResponds writes middle now self new due (Err error)
+    → TakesPiece writes before now old new piece (Err error)
+unfolding RespondedSo TakenSo
 not_done_rest writes rounds before middle now old self new piece unused due error is_due takes does
     course base end is =
     let on = takes course base end is in
@@ -342,12 +309,12 @@ not_done_rest writes rounds before middle now old self new piece unused due erro
     (now_is.0, omega (arith, on.1, now_is.1), now_is.2)
 
 -- the machine can't hear on;
-pub last_rest : (writes : Bool) (rounds : ℕ) (before middle now : Traffic) (old self mid new : Held)
-    (piece : List ℕ) (used : ℕ) (error result : LinkError)
+pub last_rest : (writes : Bool) (rounds : ℕ) (before middle now : Traffic)
+    (old self mid new : MachineState) (piece : List ℕ) (used : ℕ) (error result : LinkError)
     → TakesOn writes rounds before middle old self piece (drop used piece) nexts.Again
     → Hears self mid (take (length piece - used) (drop used piece)) (Err error)
     → EndsEarly writes middle now mid new error result
-    → Takes writes before now old new piece (Err result)
+    → TakesPiece writes before now old new piece (Err result)
 unfolding HearsSo TakenSo
 last_rest writes rounds before middle now old self mid new piece used error result takes hears ends
     course base end is =
@@ -358,18 +325,17 @@ last_rest writes rounds before middle now old self mid new piece used error resu
     (ended.0, omega (arith, on.1, last.1.1, ended.1), ended.2)
 
 -- or no further round is made.
-pub no_round_rest : (writes : Bool) (rounds : ℕ) (before now : Traffic) (old new : Held)
+pub no_round_rest : (writes : Bool) (rounds : ℕ) (before now : Traffic) (old new : MachineState)
     (piece unused : List ℕ) → 2 ^ 64 - 1 ≤ rounds
     → TakesOn writes rounds before now old new piece unused nexts.Again
-    → Takes writes before now old new piece (Err errors.NoProgress)
+    → TakesPiece writes before now old new piece (Err errors.NoProgress)
 unfolding TakenSo
 no_round_rest writes rounds before now old new piece unused all takes course base end is =
     let on = takes course base end is in
     let out : 2 ^ 64 - 1 ≤ length on.0.log.turns = omega (arith, all, on.1) in (
       on.0,
       omega (arith, on.1),
-      ends_going writes course (flow writes now base) new on.0 unused errors.NoProgress on.2
-          (has_stalled refl (inr out)),
+      ends_going on.2 (has_stalled refl (inr out)),
     )
 
 -- Octets of a piece that were heard of, are within it.
@@ -379,8 +345,6 @@ within_rest piece used count within few =
     omega (arith, length-take (length piece - used) (drop used piece), length-drop used piece)
 
 -- Where branches of the code join, a machine and a link are those of a branch.
-pub moved_to : {M : Type 0} {L : Type 0} → (P : M → L → Type 0) → (self after : M)
-    → (link now : L) → after ≡ self → now ≡ link → P self link → P after now
-moved_to {M = M} {L = L} P self after link now same is holds =
-    subst (λ (one : L). P after one) (sym is)
-    (subst (λ (one : M). P one link) (sym same) holds)
+pub moved_to : {M : Type 0} {L : Type 0} → (P : M → L → Type 0) → {self after : M} → {link now : L}
+    → after ≡ self → now ≡ link → P self link → P after now
+moved_to {M = M} {L = L} P {after} {link} same is holds = rw is (rw same holds)

@@ -1,20 +1,14 @@
 -- A server and a client as machines, and what stands for a link where there is none.
-use Rattle.std.proofs.Common.{◌≡◌, ◌≢◌, List, ℕ, [], ◌++◌, Bool, true, false, Some, None}
-use Rattle.std.proofs.Common.{Result, Ok, Err, refl, sym, ap, ◌∙◌}
-use Rattle.std.specs.Prelude.{IfErr}
-use Rattle.h2_frame.specs.declared.code.Code.{Code}
-use Rattle.h2_frame.specs.declared.code.Code.TheVariants.{InternalError}
-use Rattle.h2_log.specs.Log.{Log}
-use Rattle.h2_message.specs.Messages.{SentMessage}
-use Rattle.h2_pair.specs.Pairs.{given_out}
-use Rattle.h2_ends.specs.Ends.{EndLog}
-use Rattle.h2_link.specs.declared.error.LinkError.{LinkError}
+use Rattle.h2_engines.proofs.Names.{◌≡◌, ◌≢◌, List, ℕ, [], ◌++◌, Bool, true, false, Some, None}
+use Rattle.h2_engines.proofs.Names.{Result, Ok, Err, refl, sym, ap, ◌∙◌, IfErr, Code, InternalError}
+use Rattle.h2_engines.proofs.Names.{Log, SentMessage, given_out, EndLog, LinkError}
 use Rattle.h2_link.specs.declared.error.LinkError.TheVariants as errors
 use Rattle.h2_engines.specs.declared.fetcher.Fetcher.{Fetcher}
 use Rattle.h2_engines.specs.declared.responder.Responder.{Responder}
 use Rattle.h2_engines.specs.Linked.{Traffic, traffic, IsLinked, IsLinkedInPart}
 use Rattle.h2_engines.specs.Failures.{CutsOffAtEnd, failures_at_end, failures_by}
-use Rattle.h2_engines.specs.Machines.{Held, Kept, Serving, Fetching, EndsFor, lacks_memory}
+use Rattle.h2_engines.specs.Machines.{MachineState, MessageState, Serving, Fetching, EndsFor}
+use Rattle.h2_engines.specs.Machines.{lacks_memory}
 use Rattle.h2_engines.specs.Machines.{link_fails, has_failed, has_stalled, stops_itself, MeetsEnd}
 use Rattle.h2_engines.specs.Machines.{cannot_reset, counts_no_more, answer_refused, reset_refused}
 use Rattle.h2_engines.specs.ServerSteps.{error_with}
@@ -23,13 +17,13 @@ use Rattle.h2_engines.proofs.MachineTakes.{failures_err}
 use Rattle.h2_engines.proofs.ResponderEnds.{given_first}
 
 -- the two machines
-abbrev pub server_held : Responder → Held
+abbrev pub server_held : Responder → MachineState
 server_held responder = record {
   end = responder.server.end;
   kept = Serving responder.requests responder.answered;
 }
 
-abbrev pub client_held : Fetcher → Held
+abbrev pub client_held : Fetcher → MachineState
 client_held fetcher = record {
   end = fetcher.client.end;
   kept = Fetching fetcher.id fetcher.coming fetcher.whole;
@@ -51,15 +45,15 @@ pub links_alone : (end : EndLog) (piece : List ℕ)
 links_alone end piece = record { given = refl; taken = refl }
 
 -- So much of the piece was used.
-pub uses_alone : (end : EndLog) (after : Log) (piece unused : List ℕ)
+pub uses_alone : (end : EndLog) {after : Log} (piece : List ℕ) {unused : List ℕ}
     → IsLinked begun (carried end piece) after unused → UsesPiece end.log after piece unused
-uses_alone end after piece unused linked =
+uses_alone end piece linked =
     record { input = linked.given; given = sym linked.taken }
 
 -- Where the link took all that was given out, it took the first octets of the output.
-pub all_in_part : (start now : Traffic) (log : Log) (unused : List ℕ)
+pub all_in_part : {start now : Traffic} {log : Log} {unused : List ℕ}
     → IsLinked start now log unused → IsLinkedInPart start now log
-all_in_part start now log unused linked =
+all_in_part {start} {now} {log} {unused} linked =
     record {
       unused = unused;
       given = linked.given;
@@ -71,24 +65,20 @@ code_goes : (code : Code) → error_with code ≢ errors.CutOff
 code_goes InternalError same = cc
 code_goes code same = cc
 
-pub goes_for : (writes : Bool) (start now : Traffic) (kept : Kept) (end : EndLog)
-    (error : LinkError) → EndsFor writes start now kept end error → error ≢ errors.CutOff
-goes_for writes start now kept end error (lacks_memory is) same = cc
-goes_for writes start now kept end error (link_fails is said) same = cc
-goes_for writes start now kept end error (has_failed code failed is taken) same =
-    code_goes code (sym is ∙ same)
-goes_for writes start now kept end error (has_stalled is stalled) same = cc
-goes_for writes start now (Serving requests answered) end error
-    (stops_itself (cannot_reset number is cannot)) same = cc
-goes_for writes start now (Serving requests answered) end error
-    (stops_itself (counts_no_more is most)) same = cc
-goes_for writes start now (Serving requests answered) end error
+pub goes_for : {writes : Bool} {start now : Traffic} (kept : MessageState) {end : EndLog}
+    {error : LinkError} → EndsFor writes start now kept end error → error ≢ errors.CutOff
+goes_for kept (lacks_memory is) same = cc
+goes_for kept (link_fails is said) same = cc
+goes_for kept (has_failed code failed is taken) same = code_goes code (sym is ∙ same)
+goes_for kept (has_stalled is stalled) same = cc
+goes_for (Serving requests answered) (stops_itself (cannot_reset number is cannot)) same = cc
+goes_for (Serving requests answered) (stops_itself (counts_no_more is most)) same = cc
+goes_for (Serving requests answered)
     (stops_itself (answer_refused is before id message refusal whole asked may other after)) same =
     cc
-goes_for writes start now (Serving requests answered) end error
+goes_for (Serving requests answered)
     (stops_itself (reset_refused is id refusal large refused other after)) same = cc
-goes_for writes start now (Fetching id coming whole) end error (stops_itself (number, is, dropped))
-    same = cc
+goes_for (Fetching id coming whole) (stops_itself (number, is, dropped)) same = cc
 
 pub not_cut : (A : Type 0) (error : LinkError) (ended : Bool) → error ≢ errors.CutOff
     → CutsOffAtEnd {A = A} (Err error) ended

@@ -1,22 +1,17 @@
 -- Which part of a request is read next: a head comes first, and nothing after the end.
-use Rattle.std.proofs.Common.{map as each, ◌≡◌, ◌≢◌, ℕ, ◌-◌, Bool, true, false, List, [], ◌∷◌}
-use Rattle.std.proofs.Common.{◌++◌, length, Option, Some, None, refl, sym, ap, ◌∙◌}
-use Rattle.std.proofs.Common.{append_assoc}
-use Rattle.std.specs.Prelude.{if◌then◌else◌, nat_lt, is_some, not, ◌||◌}
-use Rattle.hpack.specs.declared.types.field.Field.{Field}
-use Rattle.h2_message.specs.declared.reading.Reads.{Reads}
-use Rattle.h2_message.specs.declared.reading.Reads.TheVariants.{Requests}
-use Rattle.h2_message.specs.declared.reading.Phase.{Phase}
-use Rattle.h2_message.specs.declared.reading.Phase.TheVariants.{AtHead, InBody, AtEnd}
+use Rattle.h2_engines.proofs.Names.{◌≡◌, ◌≢◌, ℕ, ◌-◌, Bool, true, false, List, [], ◌∷◌, ◌++◌}
+use Rattle.h2_engines.proofs.Names.{length, Option, Some, None, refl, sym, ap, ◌∙◌, append_assoc}
+use Rattle.h2_engines.proofs.Names.{nat_lt, is_some, Field, Reads, Requests, Phase, AtHead, InBody}
+use Rattle.h2_engines.proofs.Names.{AtEnd, first_broken, Part, FieldsPart, OctetsPart, final_rules}
+use Rattle.h2_engines.proofs.Names.{compared_length, IsReadable, place_after, not_readable}
+use Rattle.std.proofs.Common.{map as each}
+use Rattle.std.specs.Prelude.{if◌then◌else◌, not, ◌||◌}
 use Rattle.h2_message.specs.declared.reading.Place.TheVariants as places
-use Rattle.h2_message.specs.Messages.{first_broken, trailer_rules}
-use Rattle.h2_message.specs.Reading.{Part, FieldsPart, OctetsPart, final_rules, compared_length}
-use Rattle.h2_message.specs.Reading.{IsReadable, AreSoundInterims, ended, message_parts}
-use Rattle.h2_message.specs.Reading.{final_parts, trailers_parts}
+use Rattle.h2_message.specs.Messages.{trailer_rules}
+use Rattle.h2_message.specs.Reading.{AreSoundInterims, ended, message_parts, final_parts}
 use Rattle.h2_message.specs.Phases.{is_short, phase_in_body, phase_after_final, phase_after_head}
 use Rattle.h2_message.specs.Phases.{phase_after_data, phase_after, phase_after_all, ends}
-use Rattle.h2_message.specs.Phases.{place_at_head, place_in, place_after}
-use Rattle.h2_message.proofs.PhaseWhole.{not_readable}
+use Rattle.h2_message.specs.Phases.{place_at_head, place_in}
 
 -- What is taken passes the test.
 passes : {X : Type 0} (test : Bool) (option : Option X) (value : X)
@@ -25,14 +20,14 @@ passes true option value taken = cc
 passes false option value taken = taken
 
 -- After a part that is not taken nothing is.
-after_none : (reads : Reads) (parts : List (Part × Bool))
+pub after_none : (reads : Reads) (parts : List (Part × Bool))
     → phase_after_all reads None parts ≡ None
 unfolding phase_after_all
 after_none reads [] = refl
 after_none reads (part ∷ parts) = refl
 
 -- The parts that follow are taken from the phase after those before.
-after_both : (reads : Reads) (phase : Option Phase) (parts more : List (Part × Bool))
+pub after_both : (reads : Reads) (phase : Option Phase) (parts more : List (Part × Bool))
     → phase_after_all reads phase (parts ++ more)
     ≡ phase_after_all reads (phase_after_all reads phase parts) more
 unfolding phase_after_all
@@ -120,13 +115,11 @@ not_at_head part parts taken =
     ] refl taken
 
 -- What is read with one part more has a phase before it, that isn't the last.
-one_more : (parts : List (Part × Bool)) (part : Part × Bool) (phase : Option Phase)
+one_more : (parts : List (Part × Bool)) (part : Part × Bool) {phase : Option Phase}
     → phase_after_all Requests (Some AtHead) parts ≡ phase
-    → IsReadable Requests (parts ++ part ∷ [])
-    → phase_after_all Requests phase (part ∷ []) ≢ None
-one_more parts part phase is readable none =
-    not_readable Requests (parts ++ part ∷ [])
-    (after_both Requests (Some AtHead) parts (part ∷ [])
+    → IsReadable Requests (parts ++ part ∷ []) → phase_after_all Requests phase (part ∷ []) ≢ None
+one_more parts part is readable none =
+    not_readable Requests (parts ++ part ∷ []) (after_both Requests (Some AtHead) parts (part ∷ [])
     ∙ ap (λ (now : Option Phase). phase_after_all Requests now (part ∷ [])) is ∙ none) readable
 
 ends_all : (part : Part × Bool) → phase_after_all Requests (Some AtEnd) (part ∷ []) ≡ None
@@ -145,12 +138,12 @@ place_by : (first : Part × Bool) (parts : List (Part × Bool)) (list : List Fie
     → place_in Requests phase list ≡ places.Trailers
 unfolding place_in
 place_by first parts list last None is readable =
-    absurd (one_more (first ∷ parts) (FieldsPart list, last) None is readable
+    absurd (one_more (first ∷ parts) (FieldsPart list, last) is readable
     (after_none Requests ((FieldsPart list, last) ∷ [])))
 place_by first parts list last (Some AtHead) is readable = absurd (not_at_head first parts is)
 place_by first parts list last (Some (InBody left)) is readable = refl
 place_by first parts list last (Some AtEnd) is readable =
-    absurd (one_more (first ∷ parts) (FieldsPart list, last) (Some AtEnd) is readable
+    absurd (one_more (first ∷ parts) (FieldsPart list, last) is readable
     (ends_all (FieldsPart list, last)))
 
 pub place_later : (first : Part × Bool) (parts : List (Part × Bool)) (list : List Field)
@@ -159,43 +152,27 @@ pub place_later : (first : Part × Bool) (parts : List (Part × Bool)) (list : L
     → place_after Requests (first ∷ parts) list ≡ places.Trailers
 place_later first parts list last readable = place_by first parts list last _ refl readable
 
--- What is read of a request begins its parts from the head on,
-request_parts : (parts : List (Part × Bool)) (readable : IsReadable Requests parts)
-    → ended (final_parts readable.message) ≡ parts ++ readable.more
-unfolding message_parts AreSoundInterims
-request_parts parts readable =
-    let same : message_parts readable.message ≡ ended (final_parts readable.message) =
-    ap (λ (interims : List (List Field)).
-    each (λ (fields : List Field). (FieldsPart fields, false)) interims
-    ++ ended (final_parts readable.message)) readable.well.interims in
-    sym same ∙ readable.begins
-
--- so the first one is a field block,
-is_fields : Part → Bool
-is_fields (FieldsPart list) = true
-is_fields (OctetsPart octets) = false
-
-first_fields : (head : List Field) (rest : List Part) (first : Part × Bool)
-    (more : List (Part × Bool)) → ended (FieldsPart head ∷ rest) ≡ first ∷ more
-    → is_fields first.0 ≡ true
-unfolding ended is_fields
-first_fields head [] first more is =
-    let same : (FieldsPart head, true) ≡ first = cc in
-    ap (λ (part : Part × Bool). is_fields part.0) (sym same)
-first_fields head (next ∷ rest) first more is =
-    let same : (FieldsPart head, false) ≡ first = cc in
-    ap (λ (part : Part × Bool). is_fields part.0) (sym same)
+-- A request doesn't begin with octets.
+octets_at_head : (octets : List ℕ) (last : Bool)
+    → phase_after_all Requests (Some AtHead) ((OctetsPart octets, last) ∷ []) ≡ None
+unfolding phase_after_all phase_after phase_after_head
+octets_at_head octets last = refl
 
 pub no_octets_first : (octets : List ℕ) (last : Bool)
     → IsReadable Requests ((OctetsPart octets, last) ∷ []) → ⊥
-unfolding final_parts is_fields
 no_octets_first octets last readable =
-    let head = readable.message.head in
-    let rest = each OctetsPart readable.message.data_parts
-    ++ trailers_parts readable.message.trailers in
-    let wrong : false ≡ true = first_fields head rest (OctetsPart octets, last) readable.more
-    (request_parts ((OctetsPart octets, last) ∷ []) readable) in
-    absurd (cc)
+    not_readable Requests _ (octets_at_head octets last) readable
+
+-- What is read of a request begins its parts from the head on,
+request_parts : {parts : List (Part × Bool)} (readable : IsReadable Requests parts)
+    → ended (final_parts readable.message) ≡ parts ++ readable.more
+unfolding message_parts AreSoundInterims
+request_parts readable =
+    let same : message_parts readable.message ≡ ended (final_parts readable.message) =
+    ap (λ (interims : List (List Field)). each
+    (λ (fields : List Field). (FieldsPart fields, false)) interims ++ ended
+    (final_parts readable.message)) readable.well.interims in
+    sym same ∙ readable.begins
 
 -- and what comes before another part doesn't end.
 goes_before : (line : List Part) (parts : List (Part × Bool)) (part : Part × Bool)
@@ -216,5 +193,4 @@ pub goes_with : (parts : List (Part × Bool)) (part : Part × Bool)
     → IsReadable Requests (parts ++ part ∷ []) → ends parts ≡ false
 goes_with parts part readable =
     goes_before (final_parts readable.message) parts part readable.more
-    (request_parts (parts ++ part ∷ []) readable
-    ∙ append_assoc parts (part ∷ []) readable.more)
+    (request_parts readable ∙ append_assoc parts (part ∷ []) readable.more)

@@ -1,13 +1,10 @@
 -- The octets of a request's body, as they come, and what is kept of it.
-use Rattle.std.proofs.Common.{◌≡◌, ℕ, ◌+◌, ◌<◌, ◌≤◌, Bool, true, false, List, [], ◌∷◌, ◌++◌}
-use Rattle.std.proofs.Common.{length, refl, sym, ap, ◌∙◌, append_assoc, append-nil, arith}
-use Rattle.std.specs.Prelude.{nat_lt}
+use Rattle.h2_engines.proofs.Names.{◌≡◌, ℕ, ◌+◌, ◌<◌, ◌≤◌, Bool, true, false, List, [], ◌∷◌, ◌++◌}
+use Rattle.h2_engines.proofs.Names.{length, refl, sym, ap, ◌∙◌, append_assoc, append-nil, arith}
+use Rattle.h2_engines.proofs.Names.{nat_lt, Field, method_of, path_of, Part, FieldsPart, OctetsPart}
 use Rattle.std.proofs.lemmas.Bool.{ltb-true, ltb-false, lt-ltb, le-ltb}
 use Rattle.std.proofs.lemmas.List.{length-append}
-use Rattle.hpack.specs.declared.types.field.Field.{Field}
-use Rattle.h2_message.specs.Fields.{method_of, path_of}
 use Rattle.h2_message.specs.Phases.{ends}
-use Rattle.h2_message.specs.Reading.{Part, FieldsPart, OctetsPart}
 use Rattle.h2_engines.specs.declared.request.Request.{Request}
 use Rattle.h2_engines.specs.Answers.{IsRequest, body_in, body_of_parts, is_too_large_body, text_of}
 use Rattle.h2_engines.specs.PartialMessages.{IsLonger, room_of}
@@ -44,26 +41,23 @@ body_same parts list last =
     body_both parts ((FieldsPart list, last) ∷ []) ∙ append-nil (body_in parts)
 
 -- Whether a body is too large, by its octets.
-pub is_large : (parts rest : List (Part × Bool)) (head : List Field) (last : Bool)
-    → parts ≡ (FieldsPart head, last) ∷ rest → 1048576 < length (body_in rest)
+pub is_large : {parts : List (Part × Bool)} (rest : List (Part × Bool)) (head : List Field)
+    (last : Bool) → parts ≡ (FieldsPart head, last) ∷ rest → 1048576 < length (body_in rest)
     → is_too_large_body parts ≡ true
 unfolding is_too_large_body body_of_parts
-is_large parts rest head last are more =
-    rw are (lt-ltb 1048576 (length (body_in rest)) more)
+is_large rest head last are more = rw are (lt-ltb 1048576 (length (body_in rest)) more)
 
-pub is_not_large : (parts rest : List (Part × Bool)) (head : List Field) (last : Bool)
-    → parts ≡ (FieldsPart head, last) ∷ rest → length (body_in rest) ≤ 1048576
+pub is_not_large : {parts : List (Part × Bool)} (rest : List (Part × Bool)) (head : List Field)
+    (last : Bool) → parts ≡ (FieldsPart head, last) ∷ rest → length (body_in rest) ≤ 1048576
     → is_too_large_body parts ≡ false
 unfolding is_too_large_body body_of_parts
-is_not_large parts rest head last are few =
-    rw are (le-ltb 1048576 (length (body_in rest)) few)
+is_not_large rest head last are few = rw are (le-ltb 1048576 (length (body_in rest)) few)
 
-pub not_large : (parts rest : List (Part × Bool)) (head : List Field) (last : Bool)
-    → parts ≡ (FieldsPart head, last) ∷ rest → is_too_large_body parts ≡ false
+pub not_large : {parts : List (Part × Bool)} (rest : List (Part × Bool)) (head : List Field)
+    (last : Bool) → parts ≡ (FieldsPart head, last) ∷ rest → is_too_large_body parts ≡ false
     → length (body_in rest) ≤ 1048576
 unfolding is_too_large_body body_of_parts
-not_large parts rest head last are fits =
-    ltb-false 1048576 (length (body_in rest)) (rw are at fits)
+not_large rest head last are fits = ltb-false 1048576 (length (body_in rest)) (rw are at fits)
 
 -- With more parts it is too large still.
 too_large_by : (rest more : List (Part × Bool)) → nat_lt 1048576 (length (body_in rest)) ≡ true
@@ -84,58 +78,57 @@ too_large_more ((FieldsPart head, last) ∷ rest) more large = too_large_by rest
 too_large_more ((OctetsPart octets, last) ∷ rest) more large = absurd (nothing_large large)
 
 -- Of a request so many octets of the body are kept.
-text_length : (pre body text : List ℕ) (start : ℕ) → text ≡ pre ++ body
+text_length : (pre body : List ℕ) {text : List ℕ} {start : ℕ} → text ≡ pre ++ body
     → start ≡ length (pre ++ []) → length text ≡ start + length body
-text_length pre body text start is begins =
+text_length pre body is begins =
     let all = ap length is ∙ length-append pre body in
     let first = begins ∙ ap length (append-nil pre) in
     omega (arith, all, first)
 
-pub kept_length : (head : List Field) (parts : List (Part × Bool)) (request : Request)
+pub kept_length : {head : List Field} {parts : List (Part × Bool)} {request : Request}
     → IsRequest head parts request
     → length request.text.items ≡ request.start + length (body_in parts)
-kept_length head parts request is =
-    text_length (method_of head ++ 32 ∷ path_of head ++ 10 ∷ []) (body_in parts)
-    request.text.items request.start is.text is.start
+kept_length {head} {parts} is =
+    text_length (method_of head ++ 32 ∷ path_of head ++ 10 ∷ []) (body_in parts) is.text is.start
 
 -- Octets that have no room make the body too large, and those that have don't.
-pub no_room : (head : List Field) (parts : List (Part × Bool)) (request : Request)
+pub no_room : {head : List Field} {parts : List (Part × Bool)} {request : Request}
     (octets : List ℕ) (last : Bool) → IsRequest head parts request
     → room_of request < length octets
     → 1048576 < length (body_in (parts ++ (OctetsPart octets, last) ∷ []))
-no_room head parts request octets last is less =
-    let kept = kept_length head parts request is in
+no_room {parts} octets last is less =
+    let kept = kept_length is in
     let sum = ap length (body_more parts octets last) ∙ length-append (body_in parts) octets in
     omega (arith, kept, sum, less)
 
-pub has_room : (head : List Field) (parts : List (Part × Bool)) (request : Request)
+pub has_room : {head : List Field} {parts : List (Part × Bool)} {request : Request}
     (octets : List ℕ) (last : Bool) → IsRequest head parts request
     → length (body_in parts) ≤ 1048576 → length octets ≤ room_of request
     → length (body_in (parts ++ (OctetsPart octets, last) ∷ [])) ≤ 1048576
-has_room head parts request octets last is few enough =
-    let kept = kept_length head parts request is in
+has_room {parts} octets last is few enough =
+    let kept = kept_length is in
     let sum = ap length (body_more parts octets last) ∙ length-append (body_in parts) octets in
     omega (arith, kept, sum, few, enough)
 
 -- What is kept with more octets is the request with them,
-pub longer_request : (head : List Field) (parts : List (Part × Bool)) (old new : Request)
-    (octets : List ℕ) (last : Bool) → IsRequest head parts old → IsLonger old octets new
+pub longer_request : {head : List Field} {parts : List (Part × Bool)} {old new : Request}
+    {octets : List ℕ} (last : Bool) → IsRequest head parts old → IsLonger old octets new
     → IsRequest head (parts ++ (OctetsPart octets, last) ∷ []) new
-longer_request head parts old new octets last is longer =
+longer_request {head} {parts} {octets} last is longer =
     let pre = method_of head ++ 32 ∷ path_of head ++ 10 ∷ [] in
     record {
-      text = longer.text ∙ ap (λ (text : List ℕ). text ++ octets) is.text
-          ∙ append_assoc pre (body_in parts) octets
-          ∙ ap (λ (body : List ℕ). text_of head body) (sym (body_more parts octets last));
+      text = longer.text ∙ ap (λ (text : List ℕ). text ++ octets) is.text ∙ append_assoc pre
+          (body_in parts) octets ∙ ap (λ (body : List ℕ). text_of head body)
+          (sym (body_more parts octets last));
       start = longer.start ∙ is.start;
       to_head = longer.to_head ∙ is.to_head;
     }
 
 -- and with trailers it is the same.
-pub same_request : (head : List Field) (parts : List (Part × Bool)) (request : Request)
+pub same_request : {head : List Field} {parts : List (Part × Bool)} {request : Request}
     (list : List Field) (last : Bool) → IsRequest head parts request
     → IsRequest head (parts ++ (FieldsPart list, last) ∷ []) request
-same_request head parts request list last is =
+same_request {head} {parts} list last is =
     record {
       text = is.text ∙ ap (λ (body : List ℕ). text_of head body) (sym (body_same parts list last));
       start = is.start;

@@ -1,10 +1,7 @@
 -- What is kept of a request of which the head has come.
-use Rattle.std.proofs.Common.{◌≡◌, List, [], ◌∷◌, ◌++◌, ℕ, length, sym, ap, ◌∙◌}
-use Rattle.std.proofs.Common.{append_assoc, append-nil}
+use Rattle.h2_engines.proofs.Names.{◌≡◌, List, [], ◌∷◌, ◌++◌, ℕ, length, sym, ap, ◌∙◌, append_assoc}
+use Rattle.h2_engines.proofs.Names.{append-nil, bytes_eq, Field, method_of, path_of}
 use Rattle.std.specs.Prelude.{codes}
-use Rattle.std.specs.Str.{bytes_eq}
-use Rattle.hpack.specs.declared.types.field.Field.{Field}
-use Rattle.h2_message.specs.Fields.{method_of, path_of}
 use Rattle.h2_engines.specs.declared.request.Request.{Request}
 use Rattle.h2_engines.specs.Answers.{IsRequest, body_in}
 
@@ -19,16 +16,15 @@ text_joined : (method path : List ℕ)
 text_joined method path =
     ap (λ (line : List ℕ). line ++ 10 ∷ []) (append_assoc method (32 ∷ []) path)
 
-pub is_begun : (head : List Field) (request : Request) (method path : List ℕ)
+pub is_begun : (head : List Field) (request : Request) {method path : List ℕ}
     → method ≡ method_of head → path ≡ path_of head
     → request.text.items ≡ ((method ++ 32 ∷ []) ++ path) ++ 10 ∷ []
-    → request.start ≡ length request.text.items
-    → request.to_head ≡ bytes_eq method (codes "HEAD") → IsRequest head [] request
-is_begun head request method path method_is path_is text start to_head =
+    → request.start ≡ length request.text.items → request.to_head ≡ bytes_eq method (codes "HEAD")
+    → IsRequest head [] request
+is_begun head request {method} {path} method_is path_is text start to_head =
     let pre = method_of head ++ 32 ∷ path_of head ++ 10 ∷ [] in
     let same : request.text.items ≡ pre =
-    text ∙ text_joined method path
-    ∙ ap (λ (one : List ℕ). one ++ 32 ∷ path ++ 10 ∷ []) method_is
+    text ∙ text_joined method path ∙ ap (λ (one : List ℕ). one ++ 32 ∷ path ++ 10 ∷ []) method_is
     ∙ ap (λ (one : List ℕ). method_of head ++ 32 ∷ one ++ 10 ∷ []) path_is in
     record {
       text = same ∙ nothing_in pre;

@@ -1,7 +1,7 @@
 -- What is kept of requests after one of the entries was changed.
-use Rattle.std.proofs.Common.{◌≡◌, ◌≢◌, ℕ, Bool, true, false, cond, List, Option, Some, None}
-use Rattle.std.proofs.Common.{◌<◌, ◌≤◌, length, refl, sym, ap, ◌∙◌, inl, inr}
-use Rattle.std.proofs.lemmas.Bool.{ne_eqb, eq-eqb}
+use Rattle.h2_engines.proofs.Names.{◌≡◌, ◌≢◌, ℕ, Bool, true, false, List, Option, Some, None}
+use Rattle.h2_engines.proofs.Names.{◌≤◌, length, refl, sym, ap, ◌∙◌, inr, ne_eqb, eq-eqb}
+use Rattle.std.proofs.Common.{cond}
 use Rattle.std.specs.Map.{lookup}
 use Rattle.std.specs.Ordering.{nat_cmp, is_eq}
 use Rattle.std.specs.BTreeMap.{is_at}
@@ -11,8 +11,7 @@ use Rattle.h2_engines.specs.declared.request.Requests.{Requests}
 use Rattle.h2_engines.specs.declared.request.Next.{Next}
 use Rattle.h2_engines.specs.declared.request.Next.TheVariants as nexts
 use Rattle.h2_engines.specs.PartialMessages.{ChangesAt, request_at, EndsKept, EndsRequest}
-use Rattle.h2_engines.specs.PartialMessages.{AddsOctets}
-use Rattle.h2_engines.specs.PartialMessages.{IsLonger, room_of}
+use Rattle.h2_engines.specs.PartialMessages.{AddsOctets, IsLonger, room_of}
 
 -- other entries, with another one at a number
 abbrev pub HasEntry : ℕ → Option Request → (old new : List (ℕ × Request)) → Type 0
@@ -39,9 +38,9 @@ changes_one old new id now changes =
     }
 
 -- What was changed twice at a number, was changed there.
-pub changes_twice : (old next new : Requests) (id : ℕ) (first now : Option Request)
+pub changes_twice : {old next new : Requests} {id : ℕ} {first now : Option Request}
     → ChangesAt old next id first → ChangesAt next new id now → ChangesAt old new id now
-changes_twice old next new id first now one two =
+changes_twice one two =
     record {
       at = two.at;
       others = λ i other. two.others i other ∙ one.others i other;
@@ -57,49 +56,14 @@ changes_none old new id none same =
           ap (λ (entries : List (ℕ × Request)). lookup (is_at (nat_cmp i)) entries) same;
     }
 
--- A request that is kept is whole, or nothing is kept.
-pub ends_some : (old new : Requests) (id : ℕ) (kept : Option Request) (request : Request)
-    → kept ≡ Some request → ChangesAt old new id None
-    → EndsKept old new id kept (nexts.Answer id request)
-unfolding EndsKept EndsRequest
-ends_some old new id kept request is changes = rw is (refl, changes)
-
-pub ends_none : (old new : Requests) (id : ℕ) (kept : Option Request) → kept ≡ None
-    → ChangesAt old new id None → EndsKept old new id kept nexts.Again
-unfolding EndsKept
-ends_none old new id kept none changes = rw none (refl, changes)
-
--- Octets are added to nothing; they have no room; or the request has more of them.
-pub adds_none : (old new : Requests) (id : ℕ) (octets : List ℕ) (last : Bool)
-    (kept : Option Request) → kept ≡ None → ChangesAt old new id None
-    → AddsOctets old new id octets last kept nexts.Again
-unfolding AddsOctets
-adds_none old new id octets last kept none changes = rw none (refl, changes)
-
-pub adds_no_more : (old new : Requests) (id : ℕ) (octets : List ℕ) (last : Bool)
-    (kept : Option Request) (request : Request) → kept ≡ Some request
-    → room_of request < length octets → ChangesAt old new id None
-    → AddsOctets old new id octets last kept (nexts.Reset id)
-unfolding AddsOctets
-adds_no_more old new id octets last kept request is less changes =
-    rw is (inl (less, refl, changes))
-
-pub adds_more : (old new : Requests) (id : ℕ) (octets : List ℕ) (kept : Option Request)
-    (request longer : Request) → kept ≡ Some request → length octets ≤ room_of request
-    → IsLonger request octets longer → ChangesAt old new id (Some longer)
-    → AddsOctets old new id octets false kept nexts.Again
-unfolding AddsOctets EndsRequest
-adds_more old new id octets kept request longer is enough more changes =
-    rw is (inr (enough, (longer, more, (refl, changes))))
-
 -- The last octets: the longer one is kept, and then taken out.
-pub adds_last : (old next new : Requests) (id : ℕ) (octets : List ℕ) (kept : Option Request)
-    (request longer : Request) (result : Next) → kept ≡ Some request
-    → length octets ≤ room_of request → IsLonger request octets longer
+pub adds_last : {old next : Requests} (new : Requests) {id : ℕ} (octets : List ℕ)
+    {kept : Option Request} (request : Request) {longer : Request} (result : Next)
+    → kept ≡ Some request → length octets ≤ room_of request → IsLonger request octets longer
     → ChangesAt old next id (Some longer) → EndsKept next new id (request_at id next) result
     → AddsOctets old new id octets true kept result
 unfolding AddsOctets EndsRequest EndsKept
-adds_last old next new id octets kept request longer result is enough more changes ends =
+adds_last {next} new {id} octets request {longer} result is enough more changes ends =
     let ended : (result ≡ nexts.Answer id longer) × ChangesAt next new id None =
     rw changes.at at ends in
     rw is (inr (
@@ -109,7 +73,7 @@ adds_last old next new id octets kept request longer result is enough more chang
         more,
         (
           ended.0,
-          changes_twice old next new id (Some longer) None changes ended.1,
+          changes_twice changes ended.1,
         ),
       ),
     ))

@@ -1,71 +1,30 @@
 -- What the calls of a server that answer, reset and end say of it, by what its end has answered.
-use Rattle.std.proofs.Common.{◌≡◌, ◌≢◌, ◌≤◌, ℕ, ◌-◌, ◌^◌}
-use Rattle.std.proofs.Common.{Ok, Err, refl, sym, subst}
-use Rattle.h2_log.specs.declared.refusal.Refusal.{Refusal}
-use Rattle.h2_log.specs.declared.refusal.Refusal.TheVariants.{TooManyResets, Memory}
-use Rattle.h2_log.specs.Acts.{ResetStream, Done, Refused}
-use Rattle.h2_link.specs.declared.error.LinkError.{LinkError}
-use Rattle.h2_link.specs.declared.error.LinkError.TheVariants as errors
-use Rattle.h2_message.specs.declared.message.Message.{Message}
-use Rattle.h2_message.specs.Messages.{SentMessage}
-use Rattle.h2_ends.specs.declared.end.End.{End}
-use Rattle.h2_ends.specs.declared.refusal.EndRefusal.{EndRefusal}
-use Rattle.h2_ends.specs.declared.refusal.EndRefusal.TheVariants.{Conn}
-use Rattle.h2_ends.specs.Represents.{EndResponds, EndAnswers}
+use Rattle.h2_engines.proofs.Names.{◌≡◌, ◌≢◌, ℕ, Ok, Err, refl, sym, subst, Refusal}
+use Rattle.h2_engines.proofs.Names.{TooManyResets, Memory, ResetStream, Refused, LinkError}
+use Rattle.h2_engines.proofs.Names.{Message, SentMessage, End, EndRefusal, Conn, EndAnswers}
+use Rattle.h2_ends.specs.Represents.{EndResponds}
 use Rattle.h2_engines.specs.Failures.{error_after}
 use Rattle.h2_engines.specs.ServerHistories.{calm}
 use Rattle.h2_engines.specs.ServerSteps.{ServerAnswers, AnsweredSo, ServerResets, ResetSo}
-use Rattle.h2_engines.specs.ServerSteps.{no_memory}
-use Rattle.h2_engines.specs.ServerSteps.{counts_no_more, is_refused}
-
--- Nothing was called, since there was no memory.
-pub answers_none : (end : End) (id : ℕ) (message : SentMessage) (count : ℕ)
-    → ServerAnswers end end id message count (Err errors.Memory)
-unfolding AnsweredSo
-answers_none end id message count values happened represents =
-    (happened, represents, no_memory refl refl)
-
--- Nothing was called, since no more answers can be counted.
-pub answers_no_more : (end : End) (id : ℕ) (message : SentMessage) (count : ℕ)
-    → 2 ^ 32 - 1 ≤ count → ServerAnswers end end id message count (Err errors.NoProgress)
-unfolding AnsweredSo
-answers_no_more end id message count all values happened represents =
-    (happened, represents, counts_no_more all refl)
+use Rattle.h2_engines.specs.ServerSteps.{is_refused}
 
 -- The answer is taken.
-pub answers_done : (old new : End) (id : ℕ) (message is : SentMessage) (count : ℕ)
+pub answers_done : (old new : End) (id : ℕ) {message is : SentMessage} (count : ℕ)
     (done : Unit {0}) → message ≡ is → EndResponds old id message (Ok done) new
     → ServerAnswers old new id is count (Ok done)
 unfolding AnsweredSo
-answers_done old new id message is count done same responds values end represents =
+answers_done old new id count done same responds values end represents =
     let (after, may, now) = responds.1 values end represents in
     (after, now, rw (sym same) may)
 
 -- The answer is refused.
-pub answers_refused : (old new : End) (id : ℕ) (message is : SentMessage) (count : ℕ)
-    (back : Message × EndRefusal) (error : LinkError) → message ≡ is
-    → error ≡ error_after back.1 → EndResponds old id message (Err back) new
-    → ServerAnswers old new id is count (Err error)
+pub answers_refused : (old new : End) (id : ℕ) {message is : SentMessage} (count : ℕ)
+    (back : Message × EndRefusal) {error : LinkError} → message ≡ is → error ≡ error_after back.1
+    → EndResponds old id message (Err back) new → ServerAnswers old new id is count (Err error)
 unfolding AnsweredSo
-answers_refused old new id message is count back error same ends responds values end represents =
+answers_refused old new id count back same ends responds values end represents =
     let (after, may, now) = responds.1 values end represents in
     (after, now, is_refused back.1 (rw (sym same) may) ends)
-
--- A stream was reset.
-pub resets_done : (old new : End) (id : ℕ) (done : Unit {0})
-    → EndAnswers old (ResetStream id calm) Done new → ServerResets old new id (Ok done)
-unfolding ResetSo
-resets_done old new id done answers values end represents =
-    let (may, now) = answers values end represents in (Done, may, now, refl)
-
--- No stream can be reset any more.
-pub resets_no_more : (old new : End) (id : ℕ)
-    → EndAnswers old (ResetStream id calm) (Refused TooManyResets) new
-    → ServerResets old new id (Err (errors.Stream calm))
-unfolding ResetSo
-resets_no_more old new id answers values end represents =
-    let (may, now) = answers values end represents in
-    (Refused TooManyResets, may, now, (refl, refl))
 
 -- A reset that was refused otherwise ends as the refusal says.
 reset_after : (refusal : Refusal) → refusal ≢ TooManyResets
@@ -75,11 +34,11 @@ reset_after Memory other = (Memory, refl)
 reset_after refusal other = (refusal, refl, other, refl)
 
 -- So the reset was refused otherwise.
-pub resets_refused : (old new : End) (id : ℕ) (refusal : Refusal) (error : LinkError)
+pub resets_refused : (old new : End) (id : ℕ) (refusal : Refusal) {error : LinkError}
     → refusal ≢ TooManyResets → error ≡ error_after (Conn refusal)
     → EndAnswers old (ResetStream id calm) (Refused refusal) new
     → ServerResets old new id (Err error)
-resets_refused old new id refusal error other is answers values end represents =
+resets_refused old new id refusal other is answers values end represents =
     let (may, now) = answers values end represents in
     let so = reset_after refusal other in (
       Refused refusal,

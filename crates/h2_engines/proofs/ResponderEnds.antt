@@ -1,20 +1,10 @@
 -- What a call that puts output out, and writing its octets to a link, make of an end and of what
 -- has gone over the link.
-use Rattle.std.proofs.Common.{◌≡◌, ◌≤◌, ℕ, List, [], ◌++◌, length, take, drop}
-use Rattle.std.proofs.Common.{refl, sym, ap, ◌∙◌, subst, append_assoc, append-nil}
-use Rattle.std.proofs.lemmas.List.{take-append-drop}
-use Rattle.std.specs.Io.KnownBytes.{Appends}
-use Rattle.std.proofs.KnownBytes.{Appends-trans}
-use Rattle.h2_log.specs.declared.refusal.Refusal.{Refusal}
-use Rattle.h2_log.specs.Acts.{Values, Act, Answer, Refused}
-use Rattle.h2_log.specs.Log.{Log}
+use Rattle.h2_engines.proofs.Names.{◌≡◌, ◌≤◌, ℕ, List, [], ◌++◌, length, take, drop, refl, sym, ap}
+use Rattle.h2_engines.proofs.Names.{◌∙◌, subst, append_assoc, append-nil, take-append-drop, Appends}
+use Rattle.h2_engines.proofs.Names.{Appends-trans, Refusal, Values, Act, Answer, Refused, Log}
+use Rattle.h2_engines.proofs.Names.{Keeps-call, given_out, End, EndLog, end_with_log, EndRepresents}
 use Rattle.h2_log.specs.LogCalls.{with_call}
-use Rattle.h2_log.proofs.StreamLemmas.{Keeps-call}
-use Rattle.h2_pair.specs.Pairs.{given_out}
-use Rattle.h2_ends.specs.declared.end.End.{End}
-use Rattle.h2_ends.specs.Ends.{EndLog}
-use Rattle.h2_ends.specs.EndTakes.{end_with_log}
-use Rattle.h2_ends.specs.Represents.{EndRepresents}
 use Rattle.h2_engines.specs.Linked.{Traffic, HasGiven, IsLinked, HasTakenFirst}
 use Rattle.h2_engines.specs.ServerSteps.{IsSameOfMessages}
 use Rattle.h2_engines.proofs.TakeMessages.{keeps_by_call}
@@ -30,9 +20,9 @@ same_itself end =
       used = refl;
     }
 
-pub same_twice : (one two three : EndLog) → IsSameOfMessages one two → IsSameOfMessages two three
+pub same_twice : {one two three : EndLog} → IsSameOfMessages one two → IsSameOfMessages two three
     → IsSameOfMessages one three
-same_twice one two three first then =
+same_twice first then =
     record {
       accepted = then.accepted ∙ first.accepted;
       handed = then.handed ∙ first.handed;
@@ -55,10 +45,9 @@ same_by_call end act answer failed =
     }
 
 -- No more was given out than was written.
-pub given_within : (values : Values) (end : End) (happened : EndLog)
-    → EndRepresents values end happened
-    → happened.log.given ≤ length happened.log.written
-given_within values end happened represents = represents.streams.conn.machine.output.given
+pub given_within : {values : Values} {end : End} {happened : EndLog}
+    → EndRepresents values end happened → happened.log.given ≤ length happened.log.written
+given_within represents = represents.streams.conn.machine.output.given
 
 -- The link gives nothing where octets are written to it.
 pub gives_as : (start before now : Traffic) (log after : Log) (unused : List ℕ)
@@ -72,14 +61,15 @@ gives_as start before now log after unused same none given =
     (Appends-trans start.given before.given now.given _ [] given none)
 
 -- It has taken all that was given out since.
-pub linked_by : (start before now : Traffic) (log after : Log) (octets unused : List ℕ)
-    → after.input ≡ log.input → given_out after ≡ given_out log ++ octets
-    → Appends before.given now.given [] → Appends before.taken now.taken octets
-    → IsLinked start before log unused → IsLinked start now after unused
-linked_by start before now log after octets unused same more none took linked =
+pub linked_by : {start before : Traffic} (now : Traffic) {log : Log} (after : Log)
+    (octets : List ℕ) {unused : List ℕ} → after.input ≡ log.input
+    → given_out after ≡ given_out log ++ octets → Appends before.given now.given []
+    → Appends before.taken now.taken octets → IsLinked start before log unused
+    → IsLinked start now after unused
+linked_by {start} {before} now {log} after octets {unused} same more none took linked =
     record {
       given = gives_as start before now log after unused same none linked.given;
-      taken = subst (Appends start.taken now.taken) (sym more)
+      taken = rw more
           (Appends-trans start.taken before.taken now.taken _ octets linked.taken took);
     }
 

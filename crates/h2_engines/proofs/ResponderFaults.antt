@@ -1,6 +1,5 @@
 -- How often a link has failed, and what it has taken, where writing to it has ended early.
-use Rattle.std.proofs.Common.{◌≡◌, ℕ, ◌+◌, List, Option, Err, refl, ap, ◌∙◌}
-use Rattle.h2_link.specs.declared.error.LinkError.{LinkError}
+use Rattle.h2_engines.proofs.Names.{◌≡◌, ℕ, ◌+◌, List, Option, Err, refl, ap, ◌∙◌, LinkError}
 use Rattle.h2_link.specs.declared.error.LinkError.TheVariants as errors
 use Rattle.h2_link.specs.Links.{WritesAll, TakesFirst}
 use Rattle.h2_engines.specs.Failures.{failures_at_end, IsOfCall, EndsWriting, IsOfServer}
@@ -17,15 +16,15 @@ written_some before after failures failures_now errors.NoProgress octets so = so
 written_some before after failures failures_now other octets so = absurd so
 
 -- has failed where that is said,
-pub written_failures : (A : Type 0) (before after : Option (List ℕ)) (first failures now : ℕ)
+pub written_failures : (A : Type 0) (before after : Option (List ℕ)) {first failures : ℕ} (now : ℕ)
     (error : LinkError) (octets : List ℕ) → failures ≡ first
     → WritesAll before after failures now (Err error) octets
     → now ≡ failures_at_end {A = A} first (Err error)
 unfolding WritesAll
-written_failures A before after first failures now errors.Device octets same so =
+written_failures A before after now errors.Device octets same so =
     so.1 ∙ ap (λ (n : ℕ). n + 1) same
-written_failures A before after first failures now errors.NoProgress octets same so = so.1 ∙ same
-written_failures A before after first failures now other octets same so = absurd so
+written_failures A before after now errors.NoProgress octets same so = so.1 ∙ same
+written_failures A before after now other octets same so = absurd so
 
 -- and nothing else ends it.
 pub written_ends : (before after : Option (List ℕ)) (failures failures_now : ℕ)

@@ -1,15 +1,13 @@
 -- What a server has left once the input has ended, by what its connection answers of itself.
-use Rattle.std.proofs.Common.{◌≡◌, ◌≢◌, inl, inr, ℕ, ◌<◌, ◌≤◌, ◌==◌, ◌||◌, Bool, true}
-use Rattle.std.proofs.Common.{false, if◌then◌else◌, List, [], ◌∷◌, length, Option, Some, None}
-use Rattle.std.proofs.Common.{is_some, zero, suc}
-use Rattle.std.proofs.Common.{Ok, Err, refl, sym, ap, ◌∙◌, arith}
-use Rattle.std.proofs.lemmas.Bool.{and_parts, or_parts, eqb-true, both_ways, false_from_ne_true}
-use Rattle.h2_frame.specs.declared.code.Code.{Code}
-use Rattle.h2_log.specs.Log.{Log, active, next_active, reader_next_live, reader_held}
+use Rattle.h2_engines.proofs.Names.{◌≡◌, ◌≢◌, inl, inr, ℕ, ◌<◌, ◌≤◌, Bool, true, false}
+use Rattle.h2_engines.proofs.Names.{if◌then◌else◌, List, [], ◌∷◌, length, Option, Some, None, Ok}
+use Rattle.h2_engines.proofs.Names.{Err, refl, sym, ap, ◌∙◌, arith, both_ways, Code, Log, EndLog}
+use Rattle.std.proofs.Common.{◌==◌, ◌||◌, is_some, zero, suc}
+use Rattle.std.proofs.lemmas.Bool.{and_parts, or_parts, eqb-true, false_from_ne_true}
+use Rattle.h2_log.specs.Log.{active, next_active, reader_next_live, reader_held}
 use Rattle.h2_log_laws.proofs.NextStreams.{next_passes, next_found}
 use Rattle.h2_log_laws.proofs.ReaderStates.{active_parts}
 use Rattle.h2_link.specs.declared.error.LinkError.TheVariants as errors
-use Rattle.h2_ends.specs.Ends.{EndLog}
 use Rattle.h2_engines.specs.ServerSteps.{FinishedSo}
 
 -- How many octets are held while the connection is up.
@@ -18,9 +16,9 @@ held_by : (failed : Option Code) (count : ℕ) → failed ≡ None
 held_by None count up = refl
 held_by (Some code) count up = cc
 
-held_up : (log : Log) (held : ℕ) → held ≡ reader_held log → log.failed ≡ None
+held_up : (log : Log) {held : ℕ} → held ≡ reader_held log → log.failed ≡ None
     → held ≡ length log.unparsed
-held_up log held is up = is ∙ held_by log.failed (length log.unparsed) up
+held_up log is up = is ∙ held_by log.failed (length log.unparsed) up
 
 none_held : (octets : List ℕ) → length octets ≤ 0 → octets ≡ []
 none_held [] few = refl
@@ -78,37 +76,37 @@ no_next None none = refl
 no_next (Some id) none = cc
 
 -- Nothing is held, and no stream is active.
-pub finishes_at_rest : (end : EndLog) (answered held : ℕ) (next : Option ℕ)
+pub finishes_at_rest : (end : EndLog) (answered : ℕ) {held : ℕ} {next : Option ℕ}
     → held ≡ reader_held end.log → next ≡ reader_next_live end.log 0 → held ≤ 0
     → is_some next ≡ false → FinishedSo end answered (Ok answered)
 unfolding FinishedSo
-finishes_at_rest end answered held next held_is next_is few none = (
+finishes_at_rest end answered {next} held_is next_is few none = (
   refl,
   λ up. record {
     up = up;
-    nothing_held = none_held end.log.unparsed (omega (arith, held_up end.log held held_is up));
+    nothing_held = none_held end.log.unparsed (omega (arith, held_up end.log held_is up));
     none_active = none_active end.log up (sym next_is ∙ no_next next none);
   },
 )
 
 -- A part of the preface or of a frame is held;
-pub finishes_held : (end : EndLog) (answered held : ℕ) → held ≡ reader_held end.log → 0 < held
-    → FinishedSo end answered (Err errors.CutOff)
+pub finishes_held : (end : EndLog) (answered : ℕ) {held : ℕ} → held ≡ reader_held end.log
+    → 0 < held → FinishedSo end answered (Err errors.CutOff)
 unfolding FinishedSo
-finishes_held end answered held held_is some = (
+finishes_held end answered held_is some = (
   refl,
   λ up. (
     up,
     inl (λ none. let same = ap (λ (octets : List ℕ). length octets) none in
-        omega (arith, held_up end.log held held_is up, same)),
+        omega (arith, held_up end.log held_is up, same)),
   ),
 )
 
 -- or a stream is active.
-pub finishes_active : (end : EndLog) (answered : ℕ) (next : Option ℕ)
+pub finishes_active : (end : EndLog) (answered : ℕ) {next : Option ℕ}
     → next ≡ reader_next_live end.log 0 → is_some next ≡ true
     → FinishedSo end answered (Err errors.CutOff)
 unfolding FinishedSo
-finishes_active end answered next next_is some =
+finishes_active end answered {next} next_is some =
     let found = some_next next some in
     (refl, λ up. (up, inr (found.0, is_next end.log 0 found.0 (sym next_is ∙ found.1))))

@@ -1,24 +1,16 @@
 -- What a call of `take` has made of a piece, and of what is kept of requests.
-use Rattle.std.proofs.Common.{◌≡◌, ◌≢◌, ◌⊎◌, ℕ, Bool, true, false, List, length, Option, Some, None}
-use Rattle.std.proofs.Common.{Ok, Err, option_map, refl, ap, subst, inl, inr}
-use Rattle.h2_log.specs.Events.{ResetEvent}
-use Rattle.h2_conn.specs.declared.event.ConnFault.{ConnFault}
+use Rattle.h2_engines.proofs.Names.{◌≡◌, ◌≢◌, ℕ, Bool, true, false, List, length, Option, Some}
+use Rattle.h2_engines.proofs.Names.{None, Ok, Err, refl, inl, inr, ResetEvent, ConnFault, End}
+use Rattle.h2_engines.proofs.Names.{EndEvent, EndTaken, Handed, HeadHanded, BodyHanded}
+use Rattle.h2_engines.proofs.Names.{TrailersHanded, Passed, event_handed, EndTakes}
+use Rattle.std.proofs.Common.{◌⊎◌}
 use Rattle.h2_link.specs.declared.error.LinkError.TheVariants as errors
-use Rattle.h2_ends.specs.declared.end.End.{End}
-use Rattle.h2_ends.specs.declared.event.EndEvent.{EndEvent}
-use Rattle.h2_ends.specs.declared.event.EndTaken.{EndTaken}
-use Rattle.h2_ends.specs.Ends.{Handed, EndTook, HeadHanded}
-use Rattle.h2_ends.specs.Ends.{BodyHanded, TrailersHanded, Passed}
-use Rattle.h2_ends.specs.EndTakes.{EndMayTake}
-use Rattle.h2_ends.specs.Loans.{event_handed}
-use Rattle.h2_ends.specs.Represents.{EndTakes}
 use Rattle.h2_engines.specs.declared.request.Next.{Next}
 use Rattle.h2_engines.specs.declared.request.Next.TheVariants as nexts
 use Rattle.h2_engines.specs.declared.request.Request.{Request}
 use Rattle.h2_engines.specs.declared.request.Requests.{Requests}
 use Rattle.h2_engines.specs.PartialMessages.{NotesHanded, NotesTaken, AddsOctets, EndsKept}
-use Rattle.h2_engines.specs.PartialMessages.{EndsRequest}
-use Rattle.h2_engines.specs.PartialMessages.{request_at}
+use Rattle.h2_engines.specs.PartialMessages.{EndsRequest, request_at}
 use Rattle.h2_engines.specs.ServerSteps.{ServerHears, HeardSo, ErrsServing, error_with}
 
 -- Where something was handed out, there may be more.
@@ -65,8 +57,7 @@ hears_nothing old new requests piece taken next none which done takes values end
       now,
       (
         None,
-        subst (λ (handed : Option Handed). EndMayTake end piece (EndTook taken.used handed) after)
-            (ap (option_map event_handed) none) may,
+        rw none at may,
         (which, refl),
         done,
       ),
@@ -84,8 +75,7 @@ hears_event old new requests kept piece taken event next some notes takes values
       now,
       (
         Some (event_handed event),
-        subst (λ (handed : Option Handed). EndMayTake end piece (EndTook taken.used handed) after)
-            (ap (option_map event_handed) some) may,
+        rw some at may,
         notes,
         λ is. absurd (notes_on requests kept (event_handed event) next notes is),
       ),

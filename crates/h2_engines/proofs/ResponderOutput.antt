@@ -1,20 +1,12 @@
 -- What a call that puts output out makes of a log: its octets are the next ones of the output; and
 -- where it puts none out, none waits.
-use Rattle.std.proofs.Common.{◌≡◌, ◌≤◌, ◌<◌, ℕ, ◌+◌, ◌-◌, min, Bool, true, false}
-use Rattle.std.proofs.Common.{if◌then◌else◌, List, ◌++◌, length, take, drop, refl, sym, ap, ◌∙◌}
-use Rattle.std.proofs.Common.{arith}
-use Rattle.std.proofs.lemmas.List.{take-append-drop, take-append-le, take-take, take_all}
-use Rattle.h2_log.specs.declared.refusal.Refusal.{Refusal}
-use Rattle.h2_log.specs.Acts.{Act, PutOut, Count, Refused}
-use Rattle.h2_log.specs.CallRules.{returns_before_put_out, update_size}
-use Rattle.h2_log.specs.Log.{Log, waiting, output}
-use Rattle.h2_log.specs.LogSteps.{with_credit_returned}
-use Rattle.h2_log.specs.LogCalls.{MayAnswer, accepts, refuses, lacks, fails, called, before_put_out}
-use Rattle.h2_log.specs.LogCalls.{with_call}
-use Rattle.h2_log.specs.LogView.{log_view}
-use Rattle.h2_end_laws.proofs.Failures.{sent_failed}
-use Rattle.h2_pair.specs.Pairs.{given_out}
-use Rattle.h2_pair.proofs.LogOutput.{gives_call}
+use Rattle.h2_engines.proofs.Names.{◌≡◌, ◌≤◌, ℕ, ◌+◌, Bool, true, false, if◌then◌else◌, List, ◌++◌}
+use Rattle.h2_engines.proofs.Names.{length, take, drop, refl, sym, ap, ◌∙◌, take-append-drop}
+use Rattle.h2_engines.proofs.Names.{take-append-le, Refusal, Act, PutOut, Count, Refused}
+use Rattle.h2_engines.proofs.Names.{returns_before_put_out, Log, with_credit_returned, called}
+use Rattle.h2_engines.proofs.Names.{log_view, sent_failed, given_out, gives_call}
+use Rattle.std.proofs.lemmas.List.{take-take}
+use Rattle.h2_log.specs.LogCalls.{before_put_out, with_call}
 
 -- The connection is as up as before, whether credit is returned first or not.
 ready_failed_by : (log : Log) (b : Bool)
@@ -56,41 +48,3 @@ given_more log count given within =
     ∙ take-append-le log.given log.written gives.octets within in
     sym (take-append-drop log.given (given_out new))
     ∙ ap (λ (octets : List ℕ). octets ++ put_out_octets log count given) first
-
--- how many octets are put out
-answered : (log : Log) (count given : ℕ) → MayAnswer log (PutOut count) (Count given)
-    → given ≡ min count (waiting log
-    + (if returns_before_put_out (log_view log) then update_size else 0))
-answered log count given (accepts none is) = cc
-answered log count given (refuses refusal some is) = cc
-answered log count given (lacks none may is) = cc
-answered log count given (fails none may is) = cc
-
--- None waited, and none waits: all of the output was given out.
-pub record PutsNone (log after : Log) : Type 0 where
-  pub all : given_out after ≡ after.written
-  pub same : after.written ≡ given_out log
-
-none_put_by : (log put : Log) (count : ℕ) (b : Bool) → put.written ≡ log.written → 0 < count
-    → log.given ≤ length log.written
-    → 0 ≡ min count ((length log.written - log.given) + (if b then update_size else 0))
-    → PutsNone log (record (if b then with_credit_returned put else put) {
-      given = log.given + 0;
-    })
-none_put_by log put count true written some within is = absurd (omega arith)
-none_put_by log put count false written some within is =
-    let first : length put.written ≤ log.given + 0 =
-    omega (arith, ap (λ (octets : List ℕ). length octets) written) in
-    let before : length log.written ≤ log.given = omega arith in
-    record {
-      all = take_all (log.given + 0) put.written first;
-      same = written ∙ sym (take_all log.given log.written before);
-    }
-
-pub none_put : (log : Log) (count : ℕ) → 0 < count → log.given ≤ length log.written
-    → MayAnswer log (PutOut count) (Count 0)
-    → PutsNone log (with_call log (PutOut count) (Count 0))
-unfolding with_call before_put_out waiting output
-none_put log count some within may =
-    none_put_by log (called log (PutOut count) (Count 0)) count _ refl some within
-    (answered log count 0 may)

@@ -1,78 +1,42 @@
 -- What a call of an end that is refused makes of a connection over a link.
-use Rattle.std.proofs.Common.{◌≡◌, ◌≢◌, ℕ, Bool, true, false, if◌then◌else◌, length, Some, None}
-use Rattle.std.proofs.Common.{Result, Ok, Err, refl, ap, subst, inl, inr, arith}
+use Rattle.h2_engines.proofs.Names.{◌≡◌, ◌≢◌, ℕ, Bool, true, false, if◌then◌else◌, length, Some}
+use Rattle.h2_engines.proofs.Names.{None, Err, refl, ap, subst, inl, inr, arith}
+use Rattle.h2_engines.proofs.Names.{length-take, SendFields, has_failed, is_no_stream, is_full}
+use Rattle.h2_engines.proofs.Names.{full_output, Log, log_view, SentMessage, is_head_alone}
+use Rattle.h2_engines.proofs.Names.{LinkError, End, EndRefusal, EndLog}
 use Rattle.std.specs.Prelude.{nat_le}
-use Rattle.std.proofs.lemmas.List.{length-take}
-use Rattle.h2_log.specs.Acts.{SendFields}
-use Rattle.h2_log.specs.CallRules.{conditions, first_of, has_failed, is_no_stream, is_full}
-use Rattle.h2_log.specs.CallRules.{is_too_large}
-use Rattle.h2_log.specs.Limits.{full_output}
-use Rattle.h2_log.specs.Log.{Log, output, waiting}
-use Rattle.h2_log.specs.LogView.{log_view}
+use Rattle.h2_log.specs.CallRules.{conditions, first_of, is_too_large}
+use Rattle.h2_log.specs.Log.{output, waiting}
 use Rattle.h2_log.specs.View.{ended_out}
 use Rattle.h2_log.specs.declared.refusal.Refusal.TheVariants as reasons
-use Rattle.h2_message.specs.Messages.{SentMessage, trailer_fields}
-use Rattle.h2_pair.specs.Tokens.{is_head_alone}
-use Rattle.h2_link.specs.declared.error.LinkError.{LinkError}
-use Rattle.h2_ends.specs.declared.end.End.{End}
-use Rattle.h2_ends.specs.declared.refusal.EndRefusal.{EndRefusal}
+use Rattle.h2_message.specs.Messages.{trailer_fields}
 use Rattle.h2_ends.specs.declared.refusal.EndRefusal.TheVariants as refusals
-use Rattle.h2_ends.specs.Ends.{EndLog}
 use Rattle.h2_ends.specs.EndCalls.{MayRespond, RefusesMessage, refusal_of_message}
-use Rattle.h2_ends.specs.Represents.{EndPumps, EndReleases}
+use Rattle.h2_ends.specs.Represents.{EndReleases}
 use Rattle.h2_engines.specs.Failures.{error_after}
 use Rattle.h2_engines.specs.Linked.{Traffic}
-use Rattle.h2_engines.specs.ServerSteps.{EndsAfter, EndsRelease, IsWrittenOut, PumpsSome}
+use Rattle.h2_engines.specs.ServerSteps.{EndsAfter, EndsRelease, IsWrittenOut}
 use Rattle.h2_engines.specs.ServerSteps.{ReleasesSome}
 
--- The end has pumped,
-pub pumps_some : (old new : End) (count : ℕ) (done : Unit {0}) → EndPumps old (Ok count) new
-    → PumpsSome old new (Ok done)
-unfolding EndsAfter
-pumps_some old new count done pumps = (Ok count, pumps, tt)
-
--- or that was refused.
-pub pumps_err : (old new : End) (refusal : EndRefusal) (error : LinkError)
-    → error ≡ error_after refusal → EndPumps old (Err refusal) new
-    → PumpsSome old new (Err error)
-unfolding EndsAfter
-pumps_err old new refusal error is pumps = (Err refusal, pumps, is)
-
--- The end has released all,
-pub releases_some : (old new : End) (result : Result (Unit {0}) EndRefusal) (done : Unit {0})
-    → result ≡ Ok done → EndReleases old result new → ReleasesSome old new (Ok done)
-unfolding EndsRelease EndsAfter
-releases_some old new result done is releases = (Ok done, rw is at releases, tt)
-
--- or as much as the output takes.
-pub releases_full : (old new : End) (result : Result (Unit {0}) EndRefusal) (done : Unit {0})
-    → result ≡ Err (refusals.Conn reasons.OutputFull) → EndReleases old result new
-    → ReleasesSome old new (Ok done)
-unfolding EndsRelease EndsAfter
-releases_full old new result done is releases =
-    (Err (refusals.Conn reasons.OutputFull), rw is at releases, tt)
-
 -- A release that was refused otherwise ends as the refusal says.
-ends_release : (refusal : EndRefusal) (error : LinkError)
+ends_release : (refusal : EndRefusal) {error : LinkError}
     → refusal ≢ refusals.Conn reasons.OutputFull → error ≡ error_after refusal
     → EndsRelease (Err refusal) (Err error)
 unfolding EndsRelease EndsAfter
-ends_release (refusals.Conn reasons.OutputFull) error other is = absurd (other refl)
-ends_release refusal error other is = is
+ends_release (refusals.Conn reasons.OutputFull) other is = absurd (other refl)
+ends_release refusal other is = is
 
 -- So the end has not released all.
-pub releases_err : (old new : End) (refusal : EndRefusal) (error : LinkError)
+pub releases_err : (old new : End) (refusal : EndRefusal) {error : LinkError}
     → refusal ≢ refusals.Conn reasons.OutputFull → error ≡ error_after refusal
     → EndReleases old (Err refusal) new → ReleasesSome old new (Err error)
-releases_err old new refusal error other is releases =
-    (Err refusal, releases, ends_release refusal error other is)
+releases_err old new refusal other is releases =
+    (Err refusal, releases, ends_release refusal other is)
 
 -- Once all output was written, none waits.
-pub waits_none : (start now : Traffic) (log : Log) → IsWrittenOut start now log
-    → waiting log ≡ 0
+pub waits_none : {start now : Traffic} {log : Log} → IsWrittenOut start now log → waiting log ≡ 0
 unfolding waiting output
-waits_none start now log written =
-    omega (arith, length-take log.given log.written, ap length written.all)
+waits_none {log} written = omega (arith, length-take log.given log.written, ap length written.all)
 
 -- Where the fourth of six conditions doesn't hold, no call is refused for it.
 fourth_of_six : (a b c d e f : Bool) → d ≡ false

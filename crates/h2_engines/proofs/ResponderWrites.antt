@@ -1,31 +1,24 @@
 -- What has happened at an end and over a link since its output began to be written.
-use Rattle.std.proofs.Common.{◌≡◌, ◌≤◌, ◌<◌, ℕ, ◌+◌, ◌-◌, ◌^◌, List, [], ◌++◌, length, take}
-use Rattle.std.proofs.Common.{Result, Ok, Err, sym, subst, inr, arith}
-use Rattle.std.specs.Io.KnownBytes.{Appends}
-use Rattle.h2_log.specs.declared.refusal.Refusal.{Refusal}
-use Rattle.h2_log.specs.Acts.{Values, Answer, PutOut, Count, Refused, IsTypedAct}
-use Rattle.h2_log.specs.LogCalls.{MayAnswer, with_call}
-use Rattle.h2_log.proofs.StreamLemmas.{Keeps-call}
-use Rattle.h2_conn.specs.Conn.{GivesOut}
-use Rattle.h2_link.specs.declared.error.LinkError.{LinkError}
+use Rattle.h2_engines.proofs.Names.{◌≡◌, ◌≤◌, ◌<◌, ℕ, ◌+◌, ◌-◌, ◌^◌, List, [], length, take}
+use Rattle.h2_engines.proofs.Names.{Ok, Err, subst, inr, arith, Appends, Refusal, Values}
+use Rattle.h2_engines.proofs.Names.{Answer, PutOut, Count, Refused, MayAnswer, Keeps-call, GivesOut}
+use Rattle.h2_engines.proofs.Names.{LinkError, StallsAtNoProgress, End, Conn, EndLog, end_with_log}
+use Rattle.h2_engines.proofs.Names.{EndRepresents, EndAnswers}
+use Rattle.h2_log.specs.Acts.{IsTypedAct}
+use Rattle.h2_log.specs.LogCalls.{with_call}
 use Rattle.h2_link.specs.declared.error.LinkError.TheVariants as errors
-use Rattle.h2_link.specs.Links.{StallsAtNoProgress}
-use Rattle.h2_ends.specs.declared.end.End.{End}
-use Rattle.h2_ends.specs.declared.refusal.EndRefusal.TheVariants.{Conn}
-use Rattle.h2_ends.specs.Ends.{EndLog}
-use Rattle.h2_ends.specs.EndTakes.{end_with_log}
-use Rattle.h2_ends.specs.Represents.{EndRepresents, EndAnswers}
 use Rattle.h2_engines.specs.Failures.{error_after}
 use Rattle.h2_engines.specs.Linked.{Traffic, IsLinked}
 use Rattle.h2_engines.specs.Machines.{WritesOut}
 use Rattle.h2_engines.specs.ServerSteps.{IsSameOfMessages}
 use Rattle.h2_engines.proofs.ResponderOutput.{put_out_failed, refused_failed, put_out_octets}
-use Rattle.h2_engines.proofs.ResponderOutput.{given_more, none_put}
+use Rattle.h2_engines.proofs.ResponderOutput.{given_more}
 use Rattle.h2_engines.proofs.ResponderEnds.{same_itself, same_twice, same_by_call, given_within}
 use Rattle.h2_engines.proofs.ResponderEnds.{gives_as, linked_by, takes_first, given_first}
 use Rattle.h2_engines.proofs.ResponderEnds.{refused_first}
 use Rattle.h2_engines.proofs.ResponderStalls.{stalls_by_link, stalls_no_more, put_out_ends}
 use Rattle.h2_engines.proofs.TurnsPassed.{turns_of_call}
+use Rattle.h2_engines.proofs.WithoutLinkOutput.{none_put}
 
 -- Where this may have happened at an end, it may also have put output out.
 abbrev pub MayPutOut : (EndLog → Type 0) → Type 0
@@ -46,10 +39,10 @@ pub record WritesOn (P : EndLog → Type 0) (values : Values) (start now : Traff
   pub turns : rounds + length before.log.turns ≤ length after.log.turns
 
 -- Nothing was written yet.
-pub writes_nothing : (P : EndLog → Type 0) (values : Values) (start now : Traffic)
-    (end : EndLog) (server : End) (unused : List ℕ) → EndRepresents values server end → P end
+pub writes_nothing : (P : EndLog → Type 0) {values : Values} {start now : Traffic} {end : EndLog}
+    {server : End} {unused : List ℕ} → EndRepresents values server end → P end
     → IsLinked start now end.log unused → WritesOn P values start now end server unused 0
-writes_nothing P values start now end server unused represents happened linked =
+writes_nothing P {end} represents happened linked =
     record {
       after = end;
       happened = happened;
@@ -60,60 +53,56 @@ writes_nothing P values start now end server unused represents happened linked =
     }
 
 -- The next octets are put out, and the link takes all of them.
-pub writes_more : (P : EndLog → Type 0) → MayPutOut P → (values : Values)
-    (start middle now : Traffic) (before : EndLog) (old new : End) (unused : List ℕ)
-    (rounds count given : ℕ) (octets : List ℕ) → count < 2 ^ 64
-    → EndAnswers old (PutOut count) (Count given) new
-    → GivesOut old.conn count given [] octets → Appends middle.given now.given []
-    → Appends middle.taken now.taken octets
+pub writes_more : (P : EndLog → Type 0) → MayPutOut P
+    → {values : Values} {start middle : Traffic} (now : Traffic) {before : EndLog} {old : End}
+    (new : End) {unused : List ℕ} {rounds : ℕ} (count given : ℕ) {octets : List ℕ} → count < 2 ^ 64
+    → EndAnswers old (PutOut count) (Count given) new → GivesOut old.conn count given [] octets
+    → Appends middle.given now.given [] → Appends middle.taken now.taken octets
     → WritesOn P values start middle before old unused rounds
     → WritesOn P values start now before new unused (rounds + 1)
 unfolding IsTypedAct
-writes_more P may values start middle now before old new unused rounds count given octets typed
-    answers gives none took so =
+writes_more P may {values} {middle} now new count given {octets} typed answers gives none took so =
     let end = so.after in
     let after = with_call end.log (PutOut count) (Count given) in
     let put = answers values end so.represents in
-    let within = given_within values old end so.represents in
+    let within = given_within so.represents in
     let same : octets ≡ put_out_octets end.log count given =
     gives values end.log so.represents.streams.conn in
     record {
       after = end_with_log end after;
       happened = may end count (Count given) so.happened typed put.0;
       represents = put.1;
-      same = same_twice before end _ so.same
-          (same_by_call end _ _ (put_out_failed end.log count given));
-      linked = linked_by start middle now end.log after (put_out_octets end.log count given) unused
+      same = same_twice so.same (same_by_call end _ _ (put_out_failed end.log count given));
+      linked = linked_by now after (put_out_octets end.log count given)
           (Keeps-call end.log _ _).input (given_more end.log count given within) none
           (subst (Appends middle.taken now.taken) same took) so.linked;
       turns = omega (arith, so.turns, turns_of_call end.log (PutOut count) (Count given));
     }
 
 -- Or only some of them.
-pub writes_first : (P : EndLog → Type 0) → MayPutOut P → (values : Values)
-    (start middle now : Traffic) (before : EndLog) (old new : End) (unused : List ℕ)
-    (rounds count given : ℕ) (octets : List ℕ) (some : ℕ) (error : LinkError) → count < 2 ^ 64
-    → EndAnswers old (PutOut count) (Count given) new
+pub writes_first : (P : EndLog → Type 0) → MayPutOut P
+    → {values : Values} {start middle : Traffic} (now : Traffic) {before : EndLog} {old : End}
+    (new : End) {unused : List ℕ} {rounds : ℕ} (count given : ℕ) (octets : List ℕ) (some : ℕ)
+    (error : LinkError) → count < 2 ^ 64 → EndAnswers old (PutOut count) (Count given) new
     → GivesOut old.conn count given [] octets → Appends middle.given now.given []
     → Appends middle.taken now.taken (take some octets)
     → StallsAtNoProgress {A = Unit {0}} (Err error) now.stalled
     → WritesOn P values start middle before old unused rounds
     → WritesOut P values start now before new unused (Err error)
 unfolding IsTypedAct
-writes_first P may values start middle now before old new unused rounds count given octets some
-    error typed answers gives none took stalled so =
+writes_first P may {values} {start} {middle} now new {unused} count given octets some error typed
+    answers gives none took stalled so =
     let end = so.after in
     let after = with_call end.log (PutOut count) (Count given) in
     let put = answers values end so.represents in
-    let within = given_within values old end so.represents in
+    let within = given_within so.represents in
     let same : octets ≡ put_out_octets end.log count given =
     gives values end.log so.represents.streams.conn in
     record {
       after = end_with_log end after;
       happened = may end count (Count given) so.happened typed put.0;
       represents = put.1;
-      same = same_twice before end _ so.same
-          (same_by_call end _ _ (put_out_failed end.log count given));
+      same = same_twice so.same (same_by_call end _ _ (put_out_failed end.log count given));
       given = gives_as start middle now end.log after unused (Keeps-call end.log _ _).input none
           so.linked.given;
       taken = takes_first start middle now end.log after (put_out_octets end.log count given) some
@@ -125,43 +114,42 @@ writes_first P may values start middle now before old new unused rounds count gi
     }
 
 -- Where no octets are put out, all of the output was written.
-pub writes_all : (P : EndLog → Type 0) → MayPutOut P → (values : Values) (start now : Traffic)
-    (before : EndLog) (old new : End) (unused : List ℕ) (rounds count : ℕ) (done : Unit {0})
-    → count < 2 ^ 64 → 0 < count → EndAnswers old (PutOut count) (Count 0) new
+pub writes_all : (P : EndLog → Type 0) → MayPutOut P
+    → {values : Values} {start now : Traffic} {before : EndLog} {old : End} (new : End)
+    {unused : List ℕ} {rounds : ℕ} (count : ℕ) (done : Unit {0}) → count < 2 ^ 64 → 0 < count
+    → EndAnswers old (PutOut count) (Count 0) new
     → WritesOn P values start now before old unused rounds
     → WritesOut P values start now before new unused (Ok done)
 unfolding IsTypedAct
-writes_all P may values start now before old new unused rounds count done typed some answers so =
+writes_all P may {values} {start} {now} new {unused} count done typed some answers so =
     let end = so.after in
     let after = with_call end.log (PutOut count) (Count 0) in
     let put = answers values end so.represents in
-    let within = given_within values old end so.represents in
-    let none = none_put end.log count some within put.0 in
+    let within = given_within so.represents in
+    let none = none_put some within put.0 in
     record {
       after = end_with_log end after;
       happened = may end count (Count 0) so.happened typed put.0;
       represents = put.1;
-      same = same_twice before end _ so.same
-          (same_by_call end _ _ (put_out_failed end.log count 0));
-      given = subst (λ (input : List ℕ). Appends start.given now.given (input ++ unused))
-          (sym (Keeps-call end.log _ _).input) so.linked.given;
+      same = same_twice so.same (same_by_call end _ _ (put_out_failed end.log count 0));
+      given = rw ((Keeps-call end.log _ _).input) so.linked.given;
       taken = record {
         all = none.all;
-        taken = subst (Appends start.taken now.taken) (sym none.same) so.linked.taken;
+        taken = rw none.same so.linked.taken;
       };
       turns = omega (arith, so.turns, turns_of_call end.log (PutOut count) (Count 0));
       stalls = tt;
     }
 
 -- Where that is refused, what was given out was written.
-pub writes_refused : (P : EndLog → Type 0) → MayPutOut P → (values : Values) (start now : Traffic)
-    (before : EndLog) (old new : End) (unused : List ℕ) (rounds count : ℕ) (refusal : Refusal)
-    (error : LinkError) → count < 2 ^ 64 → EndAnswers old (PutOut count) (Refused refusal) new
+pub writes_refused : (P : EndLog → Type 0) → MayPutOut P
+    → {values : Values} {start now : Traffic} {before : EndLog} {old : End} (new : End)
+    {unused : List ℕ} {rounds : ℕ} (count : ℕ) (refusal : Refusal) {error : LinkError}
+    → count < 2 ^ 64 → EndAnswers old (PutOut count) (Refused refusal) new
     → error ≡ error_after (Conn refusal) → WritesOn P values start now before old unused rounds
     → WritesOut P values start now before new unused (Err error)
 unfolding IsTypedAct
-writes_refused P may values start now before old new unused rounds count refusal error typed answers
-    is so =
+writes_refused P may {values} {start} {now} new {unused} count refusal typed answers is so =
     let end = so.after in
     let after = with_call end.log (PutOut count) (Refused refusal) in
     let put = answers values end so.represents in
@@ -169,22 +157,20 @@ writes_refused P may values start now before old new unused rounds count refusal
       after = end_with_log end after;
       happened = may end count (Refused refusal) so.happened typed put.0;
       represents = put.1;
-      same = same_twice before end _ so.same
+      same = same_twice so.same
           (same_by_call end _ _ (refused_failed end.log (PutOut count) refusal));
-      given = subst (λ (input : List ℕ). Appends start.given now.given (input ++ unused))
-          (sym (Keeps-call end.log _ _).input) so.linked.given;
+      given = rw ((Keeps-call end.log _ _).input) so.linked.given;
       taken = refused_first start now end.log (PutOut count) refusal so.linked.taken;
       turns = omega (arith, so.turns, turns_of_call end.log (PutOut count) (Refused refusal));
-      stalls = stalls_no_more now (end_with_log end after) error
-          (put_out_ends end.log count refusal error put.0 is);
+      stalls = stalls_no_more now (end_with_log end after) (put_out_ends put.0 is);
     }
 
 -- So it is where nothing more is tried, since there were as many rounds as may be.
-pub writes_no_more : (P : EndLog → Type 0) (values : Values) (start now : Traffic)
-    (before : EndLog) (new : End) (unused : List ℕ) (rounds : ℕ) → 2 ^ 64 - 1 ≤ rounds
+pub writes_no_more : (P : EndLog → Type 0) {values : Values} {start now : Traffic}
+    {before : EndLog} {new : End} {unused : List ℕ} {rounds : ℕ} → 2 ^ 64 - 1 ≤ rounds
     → WritesOn P values start now before new unused rounds
     → WritesOut P values start now before new unused (Err errors.NoProgress)
-writes_no_more P values start now before new unused rounds all so =
+writes_no_more P {start} {now} all so =
     record {
       after = so.after;
       happened = so.happened;
@@ -194,39 +180,4 @@ writes_no_more P values start now before new unused rounds all so =
       taken = given_first start now so.after.log so.linked.taken;
       turns = omega (arith, all, so.turns);
       stalls = inr (omega (arith, all, so.turns));
-    }
-
--- What is written then is written after the rounds before it.
-pub writes_after : (P : EndLog → Type 0) (values : Values) (start middle now : Traffic)
-    (before : EndLog) (old new : End) (unused : List ℕ) (rounds : ℕ)
-    (result : Result (Unit {0}) LinkError)
-    → (so : WritesOn P values start middle before old unused rounds)
-    → WritesOut P values start now so.after new unused result
-    → WritesOut P values start now before new unused result
-writes_after P values start middle now before old new unused rounds result so out =
-    record {
-      after = out.after;
-      happened = out.happened;
-      represents = out.represents;
-      same = same_twice before so.after out.after so.same out.same;
-      given = out.given;
-      taken = out.taken;
-      turns = omega (arith, so.turns, out.turns);
-      stalls = out.stalls;
-    }
-
--- Rounds may follow one another.
-pub writes_on_after : (P : EndLog → Type 0) (values : Values) (start middle now : Traffic)
-    (before : EndLog) (old new : End) (unused : List ℕ) (rounds more : ℕ)
-    → (so : WritesOn P values start middle before old unused rounds)
-    → WritesOn P values start now so.after new unused more
-    → WritesOn P values start now before new unused (rounds + more)
-writes_on_after P values start middle now before old new unused rounds more so then =
-    record {
-      after = then.after;
-      happened = then.happened;
-      represents = then.represents;
-      same = same_twice before so.after then.after so.same then.same;
-      linked = then.linked;
-      turns = omega (arith, so.turns, then.turns);
     }

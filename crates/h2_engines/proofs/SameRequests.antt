@@ -1,20 +1,16 @@
 -- What is kept of requests says the same of an end at which nothing of a request has happened.
-use Rattle.std.proofs.Common.{◌≡◌, ℕ, List, Option}
-use Rattle.std.proofs.Common.{sym, ap, ◌∙◌, subst, inl, inr}
-use Rattle.std.specs.Prelude.{◌⊎◌}
-use Rattle.std.specs.List.{Contains}
-use Rattle.h2_log.specs.Events.{ResetEvent}
+use Rattle.h2_engines.proofs.Names.{◌≡◌, ℕ, List, Option, sym, ap, ◌∙◌, subst, inl, inr, ◌⊎◌}
+use Rattle.h2_engines.proofs.Names.{Contains, ResetEvent, EndLog, Handed, Passed}
 use Rattle.h2_message.specs.Phases.{ends}
-use Rattle.h2_ends.specs.Ends.{EndLog, Handed, Passed, message_for, parts_on}
+use Rattle.h2_ends.specs.Ends.{message_for, parts_on}
 use Rattle.h2_engines.specs.declared.request.Next.{Next}
 use Rattle.h2_engines.specs.declared.request.Next.TheVariants as nexts
 use Rattle.h2_engines.specs.declared.request.Request.{Request}
 use Rattle.h2_engines.specs.declared.request.Requests.{Requests}
 use Rattle.h2_engines.specs.Answers.{answer_to, is_too_large_body}
 use Rattle.h2_engines.specs.PartialMessages.{RequestState, has_not_come, comes, was_answered}
-use Rattle.h2_engines.specs.PartialMessages.{was_given_up}
-use Rattle.h2_engines.specs.PartialMessages.{KeepsRequests, KeepsOthers, IsToAnswer, KeepsNext}
-use Rattle.h2_engines.specs.PartialMessages.{request_at}
+use Rattle.h2_engines.specs.PartialMessages.{was_given_up, KeepsRequests, KeepsOthers, IsToAnswer}
+use Rattle.h2_engines.specs.PartialMessages.{KeepsNext}
 use Rattle.h2_engines.specs.ServerHistories.{WasReset, WasTooLarge, WasAnswered}
 use Rattle.h2_engines.specs.ServerSteps.{IsSameOfMessages}
 use Rattle.h2_engines.proofs.TakeMessages.{KeepsCalls}
@@ -27,9 +23,9 @@ pub record SameOn (before after : EndLog) (id : ℕ) : Type 0 where
   pub calls : KeepsCalls before.log after.log
 
 -- A request that was answered still was;
-answered_as : (before after : EndLog) (id : ℕ) → SameOn before after id → WasAnswered before id
+answered_as : {before after : EndLog} {id : ℕ} → SameOn before after id → WasAnswered before id
     → WasAnswered after id
-answered_as before after id same was =
+answered_as same was =
     record {
       whole = ap ends same.parts ∙ was.whole;
       fits = ap is_too_large_body same.parts ∙ was.fits;
@@ -39,27 +35,26 @@ answered_as before after id same was =
     }
 
 -- and one that was given up.
-given_up_as : (before after : EndLog) (id : ℕ) → SameOn before after id
+given_up_as : {before after : EndLog} {id : ℕ} → SameOn before after id
     → WasReset before id ⊎ WasTooLarge before id → WasReset after id ⊎ WasTooLarge after id
-given_up_as before after id same (inl reset) = inl (same.resets reset)
-given_up_as before after id same (inr large) =
+given_up_as same (inl reset) = inl (same.resets reset)
+given_up_as same (inr large) =
     inr (record {
       too_large = ap is_too_large_body same.parts ∙ large.too_large;
       reset = same.calls _ _ large.reset;
     })
 
 -- The state of the request is as before.
-pub stands_as : (before after : EndLog) (id : ℕ) (request : Option Request)
+pub stands_as : {before after : EndLog} {id : ℕ} {request : Option Request}
     → SameOn before after id → RequestState before id request → RequestState after id request
-stands_as before after id request same (has_not_come none unsaid) =
+stands_as same (has_not_come none unsaid) =
     has_not_come (same.parts ∙ none) (same.message ∙ unsaid)
-stands_as before after id request same (comes head parts kept are goes fits is unsaid) =
+stands_as same (comes head parts kept are goes fits is unsaid) =
     comes head parts kept (same.parts ∙ are) (ap ends same.parts ∙ goes)
     (ap is_too_large_body same.parts ∙ fits) is (same.message ∙ unsaid)
-stands_as before after id request same (was_answered was) =
-    was_answered (answered_as before after id same was)
-stands_as before after id request same (was_given_up why unsaid) =
-    was_given_up (given_up_as before after id same why) (same.message ∙ unsaid)
+stands_as same (was_answered was) = was_answered (answered_as same was)
+stands_as same (was_given_up why unsaid) =
+    was_given_up (given_up_as same why) (same.message ∙ unsaid)
 
 -- So it is on each stream where nothing was accepted and handed out.
 pub same_on : (before after : EndLog) (id : ℕ) → after.accepted ≡ before.accepted
@@ -77,32 +72,30 @@ same_on before after id accepted handed calls =
       calls = calls;
     }
 
-same_of_messages : (before after : EndLog) (id : ℕ) → IsSameOfMessages before after
+same_of_messages : {before after : EndLog} (id : ℕ) → IsSameOfMessages before after
     → SameOn before after id
-same_of_messages before after id same =
+same_of_messages {before} {after} id same =
     same_on before after id same.accepted same.handed same.calls
 
-pub kept_same : (requests : Requests) (before after : EndLog) → IsSameOfMessages before after
+pub kept_same : (requests : Requests) {before after : EndLog} → IsSameOfMessages before after
     → KeepsRequests requests before → KeepsRequests requests after
-kept_same requests before after same keeps id =
-    stands_as before after id (request_at id requests) (same_of_messages before after id same)
-    (keeps id)
+kept_same requests same keeps id =
+    stands_as (same_of_messages id same) (keeps id)
 
 -- The same of all streams but one,
-others_as : (requests : Requests) (before after : EndLog) (id : ℕ) → IsSameOfMessages before after
+others_as : {requests : Requests} {before after : EndLog} {id : ℕ} → IsSameOfMessages before after
     → KeepsOthers requests before id → KeepsOthers requests after id
-others_as requests before after id same keeps =
+others_as {id} same keeps =
     record {
-      others = λ i other. stands_as before after i (request_at i requests)
-          (same_of_messages before after i same) (keeps.others i other);
+      others = λ i other. stands_as (same_of_messages i same) (keeps.others i other);
       none = keeps.none;
       unanswered = ap (message_for id) same.accepted ∙ keeps.unanswered;
     }
 
 -- of a request that is to be answered,
-to_answer_as : (before after : EndLog) (id : ℕ) (request : Request) → IsSameOfMessages before after
+to_answer_as : {before after : EndLog} {id : ℕ} {request : Request} → IsSameOfMessages before after
     → IsToAnswer before id request → IsToAnswer after id request
-to_answer_as before after id request same is =
+to_answer_as {id} same is =
     let parts = ap (parts_on id) same.handed in
     record {
       whole = ap ends parts ∙ is.whole;
@@ -115,20 +108,18 @@ to_answer_as before after id request same is =
     }
 
 -- and of what is kept by what is to be done.
-pub kept_same_next : (requests : Requests) (before after : EndLog) (next : Next)
+pub kept_same_next : (requests : Requests) {before after : EndLog} (next : Next)
     → IsSameOfMessages before after → KeepsNext requests before next
     → KeepsNext requests after next
 unfolding KeepsNext
-kept_same_next requests before after nexts.Again same keeps =
-    kept_same requests before after same keeps
-kept_same_next requests before after nexts.Done same keeps =
-    kept_same requests before after same keeps
-kept_same_next requests before after nexts.Whole same keeps = absurd keeps
-kept_same_next requests before after (nexts.Answer id request) same keeps = (
-  others_as requests before after id same keeps.0,
-  to_answer_as before after id request same keeps.1,
+kept_same_next requests nexts.Again same keeps = kept_same requests same keeps
+kept_same_next requests nexts.Done same keeps = kept_same requests same keeps
+kept_same_next requests nexts.Whole same keeps = absurd keeps
+kept_same_next requests (nexts.Answer id request) same keeps = (
+  others_as same keeps.0,
+  to_answer_as same keeps.1,
 )
-kept_same_next requests before after (nexts.Reset id) same keeps = (
-  others_as requests before after id same keeps.0,
+kept_same_next requests (nexts.Reset id) same keeps = (
+  others_as same keeps.0,
   ap (λ (handed : List Handed). is_too_large_body (parts_on id handed)) same.handed ∙ keeps.1,
 )

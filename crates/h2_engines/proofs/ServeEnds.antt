@@ -1,28 +1,22 @@
 -- How a server ends, over a link and without one, by how it was driven.
-use Rattle.std.proofs.Common.{◌≡◌, ℕ, Bool, true, false, List, [], ◌++◌}
-use Rattle.std.proofs.Common.{Some, None, Result, Ok, Err, refl, sym, ap, ◌∙◌, subst, inl}
-use Rattle.std.proofs.Common.{inr}
-use Rattle.std.specs.Prelude.{IfErr, OnOk}
-use Rattle.std.proofs.KnownBytes.{Appends-nil}
-use Rattle.h2_frame.specs.declared.code.Code.{Code}
-use Rattle.h2_frame.specs.declared.code.Code.TheVariants.{InternalError}
-use Rattle.h2_log.specs.declared.role.Role.TheVariants.{Server}
-use Rattle.h2_log.specs.Acts.{Values, AreInRange}
+use Rattle.h2_engines.proofs.Names.{◌≡◌, ℕ, Bool, true, false, List, [], ◌++◌, Some, None, Result}
+use Rattle.h2_engines.proofs.Names.{Ok, Err, refl, sym, ap, ◌∙◌, inl, inr, IfErr}
+use Rattle.h2_engines.proofs.Names.{Appends-nil, Code, InternalError, Server, Values, AreInRange}
+use Rattle.h2_engines.proofs.Names.{EndLog, new_end, LinkError}
+use Rattle.std.specs.Prelude.{OnOk}
 use Rattle.h2_log.specs.LogCalls.{opened}
 use Rattle.h2_log.specs.LogSteps.{with_sent}
 use Rattle.h2_pair.specs.Tokens.{Token, tokens_sent}
-use Rattle.h2_ends.specs.Ends.{EndLog, message_for, tokens_given}
-use Rattle.h2_ends.specs.Represents.{new_end}
-use Rattle.h2_link.specs.declared.error.LinkError.{LinkError}
+use Rattle.h2_ends.specs.Ends.{message_for, tokens_given}
 use Rattle.h2_link.specs.declared.error.LinkError.TheVariants as errors
 use Rattle.h2_engines.specs.declared.request.Next.TheVariants as nexts
 use Rattle.h2_engines.specs.declared.responder.Responder.{Responder}
 use Rattle.h2_engines.specs.Failures.{CutsOffAtEnd, EndsServing}
 use Rattle.h2_engines.specs.Linked.{Traffic, IsLinked, HasTakenAll}
-use Rattle.h2_engines.specs.Machines.{Course, Keeps, IsDriven, EndsFor, lacks_memory}
-use Rattle.h2_engines.specs.Machines.{link_fails, has_failed, has_stalled, stops_itself}
-use Rattle.h2_engines.specs.Machines.{cannot_reset, counts_no_more, answer_refused, reset_refused}
-use Rattle.h2_engines.specs.Machines.{ServerStops, TakenSo, Takes, DrivenSo, Drives, MayEnd}
+use Rattle.h2_engines.specs.Machines.{Course, Keeps, IsDriven, EndsFor, lacks_memory, link_fails}
+use Rattle.h2_engines.specs.Machines.{has_failed, has_stalled, stops_itself, cannot_reset}
+use Rattle.h2_engines.specs.Machines.{counts_no_more, answer_refused, reset_refused, ServerStops}
+use Rattle.h2_engines.specs.Machines.{TakenSo, TakesPiece, DrivenSo, Drives, MayEnd}
 use Rattle.h2_engines.specs.PartialMessages.{KeepsNext}
 use Rattle.h2_engines.specs.ServerHistories.{begins}
 use Rattle.h2_engines.specs.Serves.{Serves, SendsAll, EndsServingSo}
@@ -35,12 +29,12 @@ use Rattle.h2_engines.proofs.MachineViews.{server_held, no_message, begun, carri
 use Rattle.h2_engines.proofs.MachineViews.{uses_alone, all_in_part, goes_for, not_cut}
 
 -- A server that goes on is one that is driven.
-serving_driven : (values : Values) (start now : Traffic) (responder : Responder) (end : EndLog)
-    (unused : List ℕ) → IsServingAlone values responder end → IsLinked start now end.log unused
+serving_driven : {values : Values} {start now : Traffic} {responder : Responder} {end : EndLog}
+    {unused : List ℕ} → IsServingAlone values responder end → IsLinked start now end.log unused
     → IsDriven (record { values = values; message = no_message; start = start }) now
     (server_held responder) end unused nexts.Again
 unfolding Keeps KeepsNext
-serving_driven values start now responder end unused is linked =
+serving_driven is linked =
     record {
       happened = is.responding;
       represents = is.represents;
@@ -49,11 +43,11 @@ serving_driven values start now responder end unused is linked =
       keeps = (is.keeps, is.count);
     }
 
-driven_serving : (course : Course) (now : Traffic) (responder : Responder) (end : EndLog)
-    (unused : List ℕ) → IsDriven course now (server_held responder) end unused nexts.Again
+driven_serving : {course : Course} {now : Traffic} (responder : Responder) {end : EndLog}
+    {unused : List ℕ} → IsDriven course now (server_held responder) end unused nexts.Again
     → IsServingAlone course.values responder end
 unfolding Keeps KeepsNext
-driven_serving course now responder end unused is =
+driven_serving responder is =
     record {
       responding = is.happened;
       represents = is.represents;
@@ -63,10 +57,10 @@ driven_serving course now responder end unused is =
     }
 
 -- No response of it is whole.
-never_whole : (course : Course) (now : Traffic) (responder : Responder) (end : EndLog)
-    (unused : List ℕ) → IsDriven course now (server_held responder) end unused nexts.Whole → ⊥
+never_whole : {course : Course} {now : Traffic} (responder : Responder) {end : EndLog}
+    {unused : List ℕ} → IsDriven course now (server_held responder) end unused nexts.Whole → ⊥
 unfolding Keeps KeepsNext
-never_whole course now responder end unused is = is.keeps.0
+never_whole responder is = is.keeps.0
 
 -- A new one, over a link of which nothing has gone.
 new_links : (values : Values) (start : Traffic)
@@ -99,16 +93,15 @@ new_sends values i =
       begun = λ given. absurd (given (none_accepted i));
     }
 
-pub none_serves : (values : Values) (start : Traffic) (error : LinkError) → AreInRange values
+pub none_serves : {values : Values} (start : Traffic) {error : LinkError} → AreInRange values
     → error ≡ errors.Memory → Serves values start start (Err error)
-none_serves values start error range memory =
+none_serves {values} start range memory =
     record {
       end = new_end Server values;
       responding = begins range;
       sends = new_sends values;
-      linked = all_in_part start start (new_end Server values).log [] (new_links values start);
-      so = subst (λ (one : LinkError).
-          EndsServingSo start start (new_end Server values) (Err one)) (sym memory) tt;
+      linked = all_in_part (new_links values start);
+      so = rw memory tt;
     }
 
 -- It has failed with a code, and all is written.
@@ -124,132 +117,115 @@ ends_with start now end code failed taken =
       taken = taken;
     })
 
--- What is said of an end is said of the same error.
-so_as : (start now : Traffic) (end : EndLog) (error is : LinkError) → error ≡ is
-    → EndsServingSo start now end (Err is) → EndsServingSo start now end (Err error)
-so_as start now end error is same so =
-    subst (λ (one : LinkError). EndsServingSo start now end (Err one)) (sym same) so
-
-stops_so : (start now : Traffic) (end : EndLog) (error : LinkError) → ServerStops true end error
+stops_so : (start now : Traffic) {end : EndLog} {error : LinkError} → ServerStops true end error
     → EndsServingSo start now end (Err error)
-stops_so start now end error (cannot_reset number is cannot) =
-    so_as start now end error (errors.Stream number) is (inr cannot)
-stops_so start now end error (counts_no_more is most) =
-    so_as start now end error errors.NoProgress is (stops.counts_no_more most)
-stops_so start now end error
-    (answer_refused is before id message refusal whole asked may other after) =
-    so_as start now end error errors.NoProgress is
-    (stops.answer_refused before id message refusal whole asked may (other refl) after)
-stops_so start now end error (reset_refused is id refusal large refused other after) =
-    so_as start now end error errors.NoProgress is
-    (stops.reset_refused id refusal large refused other after)
+stops_so start now (cannot_reset number is cannot) = rw is (inr cannot)
+stops_so start now (counts_no_more is most) = rw is (stops.counts_no_more most)
+stops_so start now (answer_refused is before id message refusal whole asked may other after) =
+    rw is (stops.answer_refused before id message refusal whole asked may (other refl) after)
+stops_so start now (reset_refused is id refusal large refused other after) =
+    rw is (stops.reset_refused id refusal large refused other after)
 
-ends_so : (start now : Traffic) (responder : Responder) (end : EndLog) (error : LinkError)
+ends_so : {start now : Traffic} (responder : Responder) {end : EndLog} {error : LinkError}
     → EndsFor true start now (server_held responder).kept end error
     → EndsServingSo start now end (Err error)
-ends_so start now responder end error (lacks_memory is) =
-    so_as start now end error errors.Memory is tt
-ends_so start now responder end error (link_fails is said) =
-    so_as start now end error errors.Device is tt
-ends_so start now responder end error (has_failed code failed is taken) =
-    so_as start now end error (error_with code) is
-    (ends_with start now end code failed (taken refl))
-ends_so start now responder end error (has_stalled is stalled) =
-    so_as start now end error errors.NoProgress is (stops.stalls stalled)
-ends_so start now responder end error (stops_itself why) = stops_so start now end error why
+ends_so responder (lacks_memory is) = rw is tt
+ends_so responder (link_fails is said) = rw is tt
+ends_so {start} {now} responder {end} (has_failed code failed is taken) =
+    rw is (ends_with start now end code failed (taken refl))
+ends_so responder (has_stalled is stalled) = rw is (stops.stalls stalled)
+ends_so {start} {now} responder (stops_itself why) = stops_so start now why
 
--- So a connection is served that ends early,
-pub drive_serves : (values : Values) (before now : Traffic) (old new : Responder)
+-- So a connection is served: it is driven,
+abbrev course_of : Values → Traffic → Course
+course_of values start = record { values = values; message = no_message; start = start }
+
+drives_new : {values : Values} (before now : Traffic) {old : Responder} (new : Responder)
+    (result : Result Bool LinkError) → IsServingAlone values old (new_end Server values)
+    → Drives before now (server_held old) (server_held new) result
+    → (after : EndLog) × DrivenSo (course_of values before) now (server_held new) after result
+drives_new {values} before now new result is drives =
+    drives (course_of values before) (new_end Server values)
+    (serving_driven is (new_links values before))
+
+-- and ends early,
+pub drive_serves : {values : Values} (before now : Traffic) {old : Responder} (new : Responder)
     (error : LinkError) → IsServingAlone values old (new_end Server values)
     → Drives before now (server_held old) (server_held new) (Err error)
     → Serves values before now (Err error)
 unfolding DrivenSo
-drive_serves values before now old new error is drives =
-    let course : Course = record { values = values; message = no_message; start = before } in
-    let so = drives course (new_end Server values)
-    (serving_driven values before before old (new_end Server values) [] is (new_links values before))
-    in
+drive_serves before now new error is drives =
+    let so = drives_new before now new (Err error) is drives in
     record {
       end = so.0;
       responding = so.1.happened;
       sends = so.1.represents.streams.sent;
       linked = record { unused = so.1.unused; given = so.1.given; taken = so.1.taken };
-      so = ends_so before now new so.0 error so.1.why;
+      so = ends_so new so.1.why;
     }
 
 -- never where its input has ended then,
-pub drive_not_cut : (values : Values) (before now : Traffic) (old new : Responder)
+pub drive_not_cut : {values : Values} (before now : Traffic) {old : Responder} (new : Responder)
     (error : LinkError) (ended : Bool) → IsServingAlone values old (new_end Server values)
     → Drives before now (server_held old) (server_held new) (Err error)
     → CutsOffAtEnd {A = ℕ} (Err error) ended
 unfolding DrivenSo
-drive_not_cut values before now old new error ended is drives =
-    let course : Course = record { values = values; message = no_message; start = before } in
-    let so = drives course (new_end Server values)
-    (serving_driven values before before old (new_end Server values) [] is (new_links values before))
-    in
-    not_cut ℕ error ended (goes_for true before now (server_held new).kept so.0 error so.1.why)
+drive_not_cut before now new error ended is drives =
+    let so = drives_new before now new (Err error) is drives in
+    not_cut ℕ error ended (goes_for (server_held new).kept so.1.why)
 
 -- and one whose input has ended.
-finished_so : (start now : Traffic) (responder : Responder) (values : Values) (end : EndLog)
+finished_so : {start now : Traffic} {responder : Responder} {values : Values} {end : EndLog}
     (result : Result ℕ LinkError) → IsServingAlone values responder end
     → IsLinked start now end.log [] → HasTakenAll start now end.log
     → FinishedSo end responder.answered result → EndsServingSo start now end result
 unfolding FinishedSo
-finished_so start now responder values end (Ok count) is linked taken so =
+finished_so {responder} (Ok count) is linked taken so =
     record {
       rests = so.1 is.up;
       given = linked.given;
       taken = taken;
-      answers = kept_all values responder.requests end is.responding is.keeps;
+      answers = kept_all responder.requests is.responding is.keeps;
       counted = so.0 ∙ is.count;
     }
-finished_so start now responder values end (Err error) is linked taken so =
-    so_as start now end error errors.CutOff so.0 (
+finished_so {responder} (Err error) is linked taken so =
+    rw so.0 (
       so.1 is.up,
       linked.given,
       taken,
-      kept_all values responder.requests end is.responding is.keeps,
+      kept_all responder.requests is.responding is.keeps,
     )
 
-pub finish_serves : (values : Values) (before now : Traffic) (old new : Responder) (whole : Bool)
-    (result : Result ℕ LinkError) → IsServingAlone values old (new_end Server values)
+pub finish_serves : {values : Values} (before now : Traffic) {old : Responder} (new : Responder)
+    (whole : Bool) (result : Result ℕ LinkError)
+    → IsServingAlone values old (new_end Server values)
     → Drives before now (server_held old) (server_held new) (Ok whole)
     → ServerFinishes new.server.end new.answered result → Serves values before now result
 unfolding DrivenSo
-finish_serves values before now old new true result is drives finishes =
-    let course : Course = record { values = values; message = no_message; start = before } in
-    let so = drives course (new_end Server values)
-    (serving_driven values before before old (new_end Server values) [] is (new_links values before))
-    in
-    absurd (never_whole course now new so.0 so.1.0 so.1.1)
-finish_serves values before now old new false result is drives finishes =
-    let course : Course = record { values = values; message = no_message; start = before } in
-    let so = drives course (new_end Server values)
-    (serving_driven values before before old (new_end Server values) [] is (new_links values before))
-    in
+finish_serves before now new true result is drives finishes =
+    let so = drives_new before now new (Ok true) is drives in
+    absurd (never_whole new so.1.1)
+finish_serves {values} before now new false result is drives finishes =
+    let so = drives_new before now new (Ok false) is drives in
     let driven = so.1.0 in
     record {
       end = so.0;
       responding = driven.happened;
       sends = driven.represents.streams.sent;
-      linked = all_in_part before now so.0.log [] driven.linked;
-      so = finished_so before now new values so.0 result (driven_serving course now new so.0 [] driven)
-          driven.linked so.1.1 (finishes values so.0 driven.represents);
+      linked = all_in_part driven.linked;
+      so = finished_so result (driven_serving new driven) driven.linked so.1.1
+          (finishes values so.0 driven.represents);
     }
 
 -- The input has ended then, and no call of the link has failed.
-pub finish_ended : (values : Values) (before now : Traffic) (old new : Responder) (whole : Bool)
-    → IsServingAlone values old (new_end Server values)
+pub finish_ended : {values : Values} (before now : Traffic) {old : Responder} (new : Responder)
+    (whole : Bool) → IsServingAlone values old (new_end Server values)
     → Drives before now (server_held old) (server_held new) (Ok whole) → whole ≡ false
 unfolding DrivenSo
-finish_ended values before now old new true is drives =
-    let course : Course = record { values = values; message = no_message; start = before } in
-    let so = drives course (new_end Server values)
-    (serving_driven values before before old (new_end Server values) [] is (new_links values before))
-    in
-    absurd (never_whole course now new so.0 so.1.0 so.1.1)
-finish_ended values before now old new false is drives = refl
+finish_ended before now new true is drives =
+    let so = drives_new before now new (Ok true) is drives in
+    absurd (never_whole new so.1.1)
+finish_ended before now new false is drives = refl
 
 -- A server without a link ends so.
 code_stops : (end : EndLog) (code : Code) → end.log.failed ≡ Some code
@@ -259,75 +235,62 @@ code_stops end InternalError failed = tt
 code_stops end code failed =
     inl (record { code = code; failed = failed; other = λ same. cc; number_is = refl })
 
-alone_as : (end : EndLog) (error is : LinkError) → error ≡ is → StopsAlone end is
-    → StopsAlone end error
-alone_as end error is same stopped = subst (StopsAlone end) (sym same) stopped
-
-stops_alone : (end : EndLog) (error : LinkError) → ServerStops false end error
+stops_alone : {end : EndLog} {error : LinkError} → ServerStops false end error
     → StopsAlone end error
 unfolding StopsAlone
-stops_alone end error (cannot_reset number is cannot) =
-    alone_as end error (errors.Stream number) is (inr cannot)
-stops_alone end error (counts_no_more is most) =
-    alone_as end error errors.NoProgress is (alone.counts_no_more most)
-stops_alone end error (answer_refused is before id message refusal whole asked may other after) =
-    alone_as end error errors.NoProgress is
-    (alone.answer_refused before id message refusal whole asked may after)
-stops_alone end error (reset_refused is id refusal large refused other after) =
-    alone_as end error errors.NoProgress is
-    (alone.reset_refused id refusal large refused other after)
+stops_alone (cannot_reset number is cannot) = rw is (inr cannot)
+stops_alone (counts_no_more is most) = rw is (alone.counts_no_more most)
+stops_alone (answer_refused is before id message refusal whole asked may other after) =
+    rw is (alone.answer_refused before id message refusal whole asked may after)
+stops_alone (reset_refused is id refusal large refused other after) =
+    rw is (alone.reset_refused id refusal large refused other after)
 
-ends_alone : (start now : Traffic) (responder : Responder) (end : EndLog) (error : LinkError)
+ends_alone : {start now : Traffic} (responder : Responder) {end : EndLog} {error : LinkError}
     → now.stalled ≡ false → EndsFor false start now (server_held responder).kept end error
     → StopsAlone end error
 unfolding StopsAlone
-ends_alone start now responder end error none (lacks_memory is) =
-    alone_as end error errors.Memory is tt
-ends_alone start now responder end error none (link_fails is said) = absurd (cc)
-ends_alone start now responder end error none (has_failed code failed is taken) =
-    alone_as end error (error_with code) is (code_stops end code failed)
-ends_alone start now responder end error none (has_stalled is (inl stalled)) = absurd (cc)
-ends_alone start now responder end error none (has_stalled is (inr out)) =
-    alone_as end error errors.NoProgress is (alone.out_of_rounds out)
-ends_alone start now responder end error none (stops_itself why) = stops_alone end error why
+ends_alone responder none (lacks_memory is) = rw is tt
+ends_alone responder none (link_fails is said) = absurd (cc)
+ends_alone responder {end} none (has_failed code failed is taken) =
+    rw is (code_stops end code failed)
+ends_alone responder none (has_stalled is (inl stalled)) = absurd (cc)
+ends_alone responder none (has_stalled is (inr out)) = rw is (alone.out_of_rounds out)
+ends_alone responder none (stops_itself why) = stops_alone why
 
 -- So it takes octets in: all of them, or until it stops.
 pub takes_in : (real now : Traffic) (old new : Responder) (piece : List ℕ) (whole : Bool)
-    → Takes false real now (server_held old) (server_held new) piece (Ok whole)
+    → TakesPiece false real now (server_held old) (server_held new) piece (Ok whole)
     → ServerTakesIn old new piece (Ok tt)
 unfolding TakenSo TakesInSo
 takes_in real now old new piece true takes values end is =
-    let course : Course = record { values = values; message = no_message; start = begun } in
-    let so = takes course (carried end piece) end
-    (serving_driven values begun (carried end piece) old end piece is (links_alone end piece)) in
-    absurd (never_whole course (carried end piece) new so.0 so.2.0 so.2.1)
+    let so = takes (course_of values begun) (carried end piece) end
+    (serving_driven is (links_alone end piece)) in
+    absurd (never_whole new so.2.1)
 takes_in real now old new piece false takes values end is =
-    let course : Course = record { values = values; message = no_message; start = begun } in
-    let so = takes course (carried end piece) end
-    (serving_driven values begun (carried end piece) old end piece is (links_alone end piece)) in (
+    let so = takes (course_of values begun) (carried end piece) end
+    (serving_driven is (links_alone end piece)) in (
       so.0,
       (
-        driven_serving course (carried end piece) new so.0 [] so.2,
-        uses_alone end so.0.log piece [] so.2.linked,
+        driven_serving new so.2,
+        uses_alone end piece so.2.linked,
       ),
     )
 
 pub takes_in_part : (real now : Traffic) (old new : Responder) (piece : List ℕ)
     (error : LinkError)
-    → Takes false real now (server_held old) (server_held new) piece (Err error)
+    → TakesPiece false real now (server_held old) (server_held new) piece (Err error)
     → ServerTakesIn old new piece (Err error)
 unfolding TakenSo TakesInSo
 takes_in_part real now old new piece error takes values end is =
-    let course : Course = record { values = values; message = no_message; start = begun } in
-    let so = takes course (carried end piece) end
-    (serving_driven values begun (carried end piece) old end piece is (links_alone end piece)) in
+    let so = takes (course_of values begun) (carried end piece) end
+    (serving_driven is (links_alone end piece)) in
     let ended = so.2 in (
       so.0,
       (
         ended.happened,
         ended.represents,
-        (ended.unused, uses_alone end so.0.log piece ended.unused (ended.alone refl)),
-        ends_alone begun (carried end piece) new so.0 error refl ended.why,
+        (ended.unused, uses_alone end piece (ended.alone refl)),
+        ends_alone new refl ended.why,
       ),
     )
 
@@ -338,18 +301,18 @@ may_serve errors.Refused is = is
 may_serve error is = tt
 
 -- Where the input has ended, its end is met, and no call of the link has failed.
-pub ends_at_end : (result : Result ℕ LinkError) (ended : Bool) → ended ≡ true
+pub ends_at_end : (result : Result ℕ LinkError) {ended : Bool} → ended ≡ true
     → OnOk result (ended ≡ true)
-ends_at_end (Ok count) ended is = is
-ends_at_end (Err error) ended is = tt
+ends_at_end (Ok count) is = is
+ends_at_end (Err error) is = tt
 
-pub cuts_at_end : (result : Result ℕ LinkError) (ended : Bool) → ended ≡ true
+pub cuts_at_end : (result : Result ℕ LinkError) {ended : Bool} → ended ≡ true
     → CutsOffAtEnd result ended
-cuts_at_end (Ok count) ended is = tt
-cuts_at_end (Err errors.CutOff) ended is = is
-cuts_at_end (Err error) ended is = tt
+cuts_at_end (Ok count) is = tt
+cuts_at_end (Err errors.CutOff) is = is
+cuts_at_end (Err error) is = tt
 
 pub errs_cut : (result : Result ℕ LinkError) → IfErr result (λ error. error ≡ errors.CutOff)
     → IfErr result EndsServing
 errs_cut (Ok count) is = tt
-errs_cut (Err error) is = subst EndsServing (sym is) tt
+errs_cut (Err error) is = rw is tt

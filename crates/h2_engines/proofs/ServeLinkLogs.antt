@@ -1,21 +1,15 @@
 -- What calls and octets that were taken leave of the input and the output of a log.
-use Rattle.std.proofs.Common.{◌≡◌, ◌≢◌, ◌≤◌, ℕ, List, [], ◌++◌, length, take, refl, sym, ap, ◌∙◌}
-use Rattle.std.proofs.Common.{append_assoc, append-nil, subst}
-use Rattle.std.specs.Io.KnownBytes.{Appends}
-use Rattle.std.proofs.lemmas.List.{take-append-le}
-use Rattle.h2_log.specs.declared.refusal.Refusal.{Refusal}
-use Rattle.h2_log.specs.Acts.{Act, Answer, Refuse, PutOut, OutOfMemory, Refused}
-use Rattle.h2_log.specs.Log.{Log}
+use Rattle.h2_engines.proofs.Names.{◌≡◌, ◌≢◌, ◌≤◌, ℕ, List, [], ◌++◌, length, take, refl, sym, ap}
+use Rattle.h2_engines.proofs.Names.{◌∙◌, append_assoc, append-nil, take-append-le}
+use Rattle.h2_engines.proofs.Names.{Refusal, Act, Answer, Refuse, PutOut, OutOfMemory, Refused, Log}
+use Rattle.h2_engines.proofs.Names.{Keeps-call, TakeAnswer, MayTake, reports_unprocessed}
+use Rattle.h2_engines.proofs.Names.{ends_no_frame, ends_frame, meets_fault, sent_failed, given_out}
+use Rattle.h2_engines.proofs.Names.{gives_call, call_given}
 use Rattle.h2_log.specs.LogCalls.{with_items, with_call}
-use Rattle.h2_log.proofs.StreamLemmas.{Keeps-call}
-use Rattle.h2_end_laws.specs.Takes.{TakeAnswer, MayTake, has_failed, reports_unprocessed}
-use Rattle.h2_end_laws.specs.Takes.{ends_no_frame, ends_frame, meets_fault, runs_out_of_memory}
-use Rattle.h2_end_laws.proofs.Failures.{sent_failed, unreturned_failed}
+use Rattle.h2_end_laws.specs.Takes.{has_failed, runs_out_of_memory}
+use Rattle.h2_end_laws.proofs.Failures.{unreturned_failed}
 use Rattle.h2_machine_laws.specs.Machines as steps
 use Rattle.h2_machine_laws.specs.Machines.{Step, log_after}
-use Rattle.h2_pair.specs.Pairs.{given_out}
-use Rattle.h2_pair.proofs.LogOutput.{gives_call}
-use Rattle.h2_pair.proofs.StepCalls.{call_given}
 use Rattle.h2_pair.proofs.StepsOfLogs.{step_adds, IsNoCall}
 use Rattle.h2_engines.specs.Linked.{Traffic, IsLinked}
 
@@ -30,22 +24,22 @@ pub writes_none : (log : Log) → Writes log log
 writes_none log = record { octets = []; written = sym (append-nil log.written); given = refl }
 
 -- and one after another.
-pub writes_twice : (one two three : Log) → Writes one two → Writes two three → Writes one three
-writes_twice one two three a b =
+pub writes_twice : {one two three : Log} → Writes one two → Writes two three → Writes one three
+writes_twice {one} a b =
     record {
       octets = a.octets ++ b.octets;
-      written = b.written ∙ ap (λ (octets : List ℕ). octets ++ b.octets) a.written
-          ∙ append_assoc one.written a.octets b.octets;
+      written = b.written ∙ ap (λ (octets : List ℕ). octets ++ b.octets) a.written ∙ append_assoc
+          one.written a.octets b.octets;
       given = b.given ∙ a.given;
     }
 
 -- The same octets are given out.
-pub writes_given : (before after : Log) → before.given ≤ length before.written
+pub writes_given : {before after : Log} → before.given ≤ length before.written
     → Writes before after → given_out after ≡ given_out before
-writes_given before after within writes =
-    ap (λ (count : ℕ). take count after.written) writes.given
-    ∙ ap (λ (written : List ℕ). take before.given written) writes.written
-    ∙ take-append-le before.given before.written writes.octets within
+writes_given {before} {after} within writes =
+    ap (λ (count : ℕ). take count after.written) writes.given ∙ ap
+    (λ (written : List ℕ). take before.given written) writes.written ∙ take-append-le
+    before.given before.written writes.octets within
 
 -- A call that puts no output out.
 pub call_writes : (log : Log) (act : Act) (answer : Answer) → ((count : ℕ) → act ≢ PutOut count)
@@ -59,9 +53,9 @@ call_writes log act answer other =
     }
 
 -- Octets that were taken.
-step_writes : (log after : Log) (step : Step) → IsNoCall step → after ≡ log_after log step
+step_writes : (log : Log) {after : Log} (step : Step) → IsNoCall step → after ≡ log_after log step
     → Writes log after
-step_writes log after step none same =
+step_writes log step none same =
     let adds = step_adds log step none in
     record {
       octets = adds.octets;
@@ -69,29 +63,26 @@ step_writes log after step none same =
       given = ap (λ (new : Log). new.given) same ∙ adds.given;
     }
 
-pub take_writes : (log after : Log) (piece : List ℕ) (answer : TakeAnswer)
+pub take_writes : {log after : Log} {piece : List ℕ} {answer : TakeAnswer}
     → MayTake log piece answer after → Writes log after
 unfolding log_after
-take_writes log after piece answer (has_failed code failed answers same) =
+take_writes {log} (has_failed code failed answers same) =
     let none = writes_none log in
     record {
       octets = none.octets;
       written = ap (λ (new : Log). new.written) same ∙ none.written;
       given = ap (λ (new : Log). new.given) same;
     }
-take_writes log after piece answer (reports_unprocessed up some answers same) =
-    step_writes log after steps.reports_unprocessed (λ act said wrong. cc) same
-take_writes log after piece answer (ends_no_frame takes unparsed part answers same) =
-    step_writes log after (steps.uses_part piece unparsed) (λ act said wrong. cc) same
-take_writes log after piece answer
-    (ends_frame takes octets unused joined frame decoded framed sees same answers) =
-    step_writes log after (steps.ends_frame octets frame decoded) (λ act said wrong. cc) same
-take_writes log after piece answer
-    (meets_fault takes octets unused joined fault at answers same) =
-    step_writes log after (steps.meets_fault octets fault) (λ act said wrong. cc) same
-take_writes log after piece answer
-    (runs_out_of_memory up octets unused joined may answers same) =
-    step_writes log after (steps.runs_out_of_memory octets) (λ act said wrong. cc) same
+take_writes {log} (reports_unprocessed up some answers same) =
+    step_writes log steps.reports_unprocessed (λ act said wrong. cc) same
+take_writes {log} {piece} (ends_no_frame takes unparsed part answers same) =
+    step_writes log (steps.uses_part piece unparsed) (λ act said wrong. cc) same
+take_writes {log} (ends_frame takes octets unused joined frame decoded framed sees same answers) =
+    step_writes log (steps.ends_frame octets frame decoded) (λ act said wrong. cc) same
+take_writes {log} (meets_fault takes octets unused joined fault at answers same) =
+    step_writes log (steps.meets_fault octets fault) (λ act said wrong. cc) same
+take_writes {log} (runs_out_of_memory up octets unused joined may answers same) =
+    step_writes log (steps.runs_out_of_memory octets) (λ act said wrong. cc) same
 
 -- A call goes on: it has used no octets and given none out, and fails nothing.
 pub record GoesOn (before after : Log) : Type 0 where
@@ -102,10 +93,10 @@ pub record GoesOn (before after : Log) : Type 0 where
 pub goes_none : (log : Log) → GoesOn log log
 goes_none log = record { writes = writes_none log; input = refl; failed = refl }
 
-pub goes_twice : (one two three : Log) → GoesOn one two → GoesOn two three → GoesOn one three
-goes_twice one two three a b =
+pub goes_twice : {one two three : Log} → GoesOn one two → GoesOn two three → GoesOn one three
+goes_twice a b =
     record {
-      writes = writes_twice one two three a.writes b.writes;
+      writes = writes_twice a.writes b.writes;
       input = b.input ∙ a.input;
       failed = b.failed ∙ a.failed;
     }
@@ -149,13 +140,11 @@ refused_goes log act refusal =
     }
 
 -- The end goes on over the link.
-pub goes_links : (start now : Traffic) (before after : Log) (unused : List ℕ)
-    → before.given ≤ length before.written → GoesOn before after
-    → IsLinked start now before unused → IsLinked start now after unused
-goes_links start now before after unused within goes linked =
+pub goes_links : {start now : Traffic} {before after : Log} {unused : List ℕ}
+    → before.given ≤ length before.written → GoesOn before after → IsLinked start now before unused
+    → IsLinked start now after unused
+goes_links {start} {now} {unused} within goes linked =
     record {
-      given = subst (λ (input : List ℕ). Appends start.given now.given (input ++ unused))
-          (sym goes.input) linked.given;
-      taken = subst (Appends start.taken now.taken)
-          (sym (writes_given before after within goes.writes)) linked.taken;
+      given = rw goes.input linked.given;
+      taken = rw ((writes_given within goes.writes)) linked.taken;
     }

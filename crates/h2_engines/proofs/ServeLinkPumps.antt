@@ -1,18 +1,16 @@
 -- What a pump and a release leave of what has happened at a server.
-use Rattle.std.proofs.Common.{◌≡◌, ◌≢◌, ℕ, Option, Result, Ok, Err, refl, sym, ◌∙◌, subst, inl, inr}
-use Rattle.h2_log.specs.declared.refusal.Refusal.{Refusal}
+use Rattle.h2_engines.proofs.Names.{◌≡◌, ◌≢◌, ℕ, Option, Result, Ok, Err, refl, ◌∙◌}
+use Rattle.h2_engines.proofs.Names.{inl, inr, Refusal, Act, Answer, Refuse, PutOut, Count, Done}
+use Rattle.h2_engines.proofs.Names.{OutOfMemory, Refused, EndRefusal, EndLog, end_with_log, Pumps}
+use Rattle.h2_engines.proofs.Names.{pumps_no_more, pumps_data, pumps_trailers, data_refused}
+use Rattle.h2_engines.proofs.Names.{trailers_refused, Releases, releases_no_more, releases_one}
+use Rattle.h2_engines.proofs.Names.{releases_refused}
 use Rattle.h2_log.specs.declared.refusal.Refusal.TheVariants as reasons
-use Rattle.h2_log.specs.Acts.{Act, Answer, SendData, Release, Refuse, PutOut, Count, Done}
-use Rattle.h2_log.specs.Acts.{OutOfMemory, Refused}
+use Rattle.h2_log.specs.Acts.{SendData, Release}
 use Rattle.h2_log.specs.Log.{owed}
 use Rattle.h2_log.specs.LogCalls.{with_call}
-use Rattle.h2_ends.specs.declared.refusal.EndRefusal.{EndRefusal}
 use Rattle.h2_ends.specs.declared.refusal.EndRefusal.TheVariants as refusals
-use Rattle.h2_ends.specs.Ends.{EndLog}
-use Rattle.h2_ends.specs.EndTakes.{end_with_log}
-use Rattle.h2_ends.specs.EndCalls.{MayPump, MayReleaseAll, Pumps, pumps_no_more, pumps_data}
-use Rattle.h2_ends.specs.EndCalls.{pumps_trailers, data_refused, trailers_refused, Releases}
-use Rattle.h2_ends.specs.EndCalls.{releases_no_more, releases_one, releases_refused}
+use Rattle.h2_ends.specs.EndCalls.{MayPump, MayReleaseAll}
 use Rattle.h2_engines.specs.ServerSteps.{IsSameOfMessages}
 use Rattle.h2_engines.proofs.TakeMessages.{KeepsCalls, keeps_by_call}
 use Rattle.h2_engines.proofs.ServeLinkLogs.{GoesOn, goes_none, goes_twice, call_goes, refused_goes}
@@ -39,18 +37,18 @@ stays_none end =
       calls = λ act answer was. was;
     }
 
-pub stays_twice : (one two three : EndLog) → StaysOn one two → StaysOn two three → StaysOn one three
-stays_twice one two three a b =
+pub stays_twice : {one two three : EndLog} → StaysOn one two → StaysOn two three
+    → StaysOn one three
+stays_twice a b =
     record {
-      goes = goes_twice one.log two.log three.log a.goes b.goes;
+      goes = goes_twice a.goes b.goes;
       accepted = b.accepted ∙ a.accepted;
       handed = b.handed ∙ a.handed;
       calls = λ act answer was. b.calls act answer (a.calls act answer was);
     }
 
-pub stays_as : (before after : EndLog) → after ≡ before → StaysOn before after
-stays_as before after same = subst (λ (one : EndLog). StaysOn before one) (sym same)
-    (stays_none before)
+pub stays_as : {before after : EndLog} → after ≡ before → StaysOn before after
+stays_as {before} same = rw same (stays_none before)
 
 -- A call is made, or refused.
 called_stays : (end : EndLog) (act : Act) (answer : Answer) → ((count : ℕ) → act ≢ PutOut count)
@@ -75,62 +73,53 @@ refused_stays end act refusal =
     }
 
 -- A pump,
-pump_stays : (before : EndLog) (count : ℕ) (refused : Option Refusal) (after : EndLog)
+pump_stays : {before : EndLog} {count : ℕ} {refused : Option Refusal} {after : EndLog}
     → Pumps before count refused after → StaysOn before after
-pump_stays before count refused after (pumps_no_more end) = stays_none before
-pump_stays before count refused after (pumps_data end id sent more octets ends refusal last next
-    typed may rest) =
-    stays_twice before _ after
-    (called_stays before (SendData id octets ends) (Count sent) (λ n wrong. cc)
-    (λ i code wrong. cc) (λ wrong. cc)) (pump_stays _ more refusal last rest)
-pump_stays before count refused after (pumps_trailers end id more list refusal last next typed may
-    rest) =
-    stays_twice before _ after
-    (called_stays before _ Done (λ n wrong. cc) (λ i code wrong. cc) (λ wrong. cc))
-    (pump_stays _ more refusal last rest)
-pump_stays before count refused after (data_refused end id octets ends refusal next typed may) =
+pump_stays {before} (pumps_no_more end) = stays_none before
+pump_stays {before} (pumps_data end id sent more octets ends refusal last next typed may rest) =
+    stays_twice (called_stays before (SendData id octets ends) (Count sent) (λ n wrong. cc)
+    (λ i code wrong. cc) (λ wrong. cc)) (pump_stays rest)
+pump_stays {before} (pumps_trailers end id more list refusal last next typed may rest) =
+    stays_twice (called_stays before _ Done (λ n wrong. cc) (λ i code wrong. cc) (λ wrong. cc))
+    (pump_stays rest)
+pump_stays {before} (data_refused end id octets ends refusal next typed may) =
     refused_stays before (SendData id octets ends) refusal
-pump_stays before count refused after (trailers_refused end id list refusal next typed may) =
+pump_stays {before} (trailers_refused end id list refusal next typed may) =
     refused_stays before _ refusal
 
 pub pumped_stays : (before : EndLog) (result : Result ℕ EndRefusal) (after : EndLog)
     → MayPump before result after → StaysOn before after
 unfolding MayPump
 pumped_stays before (Ok count) after may = elim may.1 [
-  | inl all ↦ pump_stays before count _ after all.0
-  | inr all ↦ pump_stays before count _ after all.0
+  | inl all ↦ pump_stays all.0
+  | inr all ↦ pump_stays all.0
 ]
-pumped_stays before (Err (refusals.Conn reasons.Closed)) after may = stays_as before after may.1
-pumped_stays before (Err (refusals.Conn reasons.Memory)) after may =
-    pump_stays before may.1 _ after may.2
+pumped_stays before (Err (refusals.Conn reasons.Closed)) after may = stays_as may.1
+pumped_stays before (Err (refusals.Conn reasons.Memory)) after may = pump_stays may.2
 pumped_stays before (Err other) after may = absurd may
 
 -- and a release.
-release_stays : (before : EndLog) (refused : Option Refusal) (after : EndLog)
+release_stays : {before : EndLog} {refused : Option Refusal} {after : EndLog}
     → Releases before refused after → StaysOn before after
-release_stays before refused after (releases_no_more end) = stays_none before
-release_stays before refused after (releases_one end id refusal last next typed may rest) =
-    stays_twice before _ after
-    (called_stays before (Release id (owed before.log id)) Done (λ n wrong. cc)
-    (λ i code wrong. cc) (λ wrong. cc)) (release_stays _ refusal last rest)
-release_stays before refused after (releases_refused end id refusal next typed may) =
+release_stays {before} (releases_no_more end) = stays_none before
+release_stays {before} (releases_one end id refusal last next typed may rest) =
+    stays_twice (called_stays before (Release id (owed before.log id)) Done (λ n wrong. cc)
+    (λ i code wrong. cc) (λ wrong. cc)) (release_stays rest)
+release_stays {before} (releases_refused end id refusal next typed may) =
     refused_stays before _ refusal
 
 pub released_stays : (before : EndLog) (result : Result (Unit {0}) EndRefusal) (after : EndLog)
     → MayReleaseAll before result after → StaysOn before after
 unfolding MayReleaseAll
-released_stays before (Ok done) after may = release_stays before _ after may.1
-released_stays before (Err (refusals.Conn reasons.Closed)) after may =
-    stays_as before after may.1
-released_stays before (Err (refusals.Conn reasons.OutputFull)) after may =
-    release_stays before _ after may.1
-released_stays before (Err (refusals.Conn reasons.Memory)) after may =
-    release_stays before _ after may.1
+released_stays before (Ok done) after may = release_stays may.1
+released_stays before (Err (refusals.Conn reasons.Closed)) after may = stays_as may.1
+released_stays before (Err (refusals.Conn reasons.OutputFull)) after may = release_stays may.1
+released_stays before (Err (refusals.Conn reasons.Memory)) after may = release_stays may.1
 released_stays before (Err other) after may = absurd may
 
 -- Nothing of a message has happened.
-pub stays_same : (before after : EndLog) → StaysOn before after → IsSameOfMessages before after
-stays_same before after stays =
+pub stays_same : {before after : EndLog} → StaysOn before after → IsSameOfMessages before after
+stays_same stays =
     record {
       accepted = stays.accepted;
       handed = stays.handed;

@@ -1,20 +1,13 @@
 -- A call of `take` uses the first octets of a piece, and gives nothing out.
-use Rattle.std.proofs.Common.{◌≡◌, ◌≤◌, ℕ, List, ◌++◌, length, drop, Option, Some, None, refl, sym}
-use Rattle.std.proofs.Common.{ap, ◌∙◌, subst, append_assoc}
+use Rattle.h2_engines.proofs.Names.{◌≡◌, ◌≤◌, ℕ, List, ◌++◌, length, drop, Option, Some, None, refl}
+use Rattle.h2_engines.proofs.Names.{sym, ap, ◌∙◌, subst, append_assoc, Appends, Code, Answer}
+use Rattle.h2_engines.proofs.Names.{Refuse, Event, Log, Keeps-call, MayTake, Took, Failed}
+use Rattle.h2_engines.proofs.Names.{log_after_take, EndLog, EndAnswer, EndTook, EndFailed}
+use Rattle.h2_engines.proofs.Names.{EndMayTake, hands_nothing, passes, hands_out}
+use Rattle.h2_engines.proofs.Names.{runs_out_of_memory}
 use Rattle.std.proofs.Math.Seq.{drop-append_seam}
-use Rattle.std.specs.Io.KnownBytes.{Appends}
-use Rattle.h2_frame.specs.declared.code.Code.{Code}
-use Rattle.h2_frame.specs.declared.code.Code.TheVariants.{InternalError}
-use Rattle.h2_log.specs.Acts.{Answer, Refuse}
-use Rattle.h2_log.specs.Events.{Event}
-use Rattle.h2_log.specs.Log.{Log}
 use Rattle.h2_log.specs.LogCalls.{with_call}
-use Rattle.h2_log.proofs.StreamLemmas.{Keeps-call}
-use Rattle.h2_end_laws.specs.Takes.{MayTake, Took, Failed}
-use Rattle.h2_end_laws.proofs.TakeAnswers.{log_after_take}
-use Rattle.h2_ends.specs.Ends.{EndLog, EndAnswer, EndTook, EndFailed}
-use Rattle.h2_ends.specs.EndTakes.{EndMayTake, AnswersRefused, fails, hands_nothing, passes}
-use Rattle.h2_ends.specs.EndTakes.{hands_out, refuses, runs_out_of_memory}
+use Rattle.h2_ends.specs.EndTakes.{AnswersRefused, fails, refuses}
 use Rattle.h2_engines.specs.Linked.{Traffic, HasGiven, IsLinked}
 use Rattle.h2_engines.proofs.ServeLinkLogs.{Writes, writes_twice, writes_given, call_writes}
 use Rattle.h2_engines.proofs.ServeLinkLogs.{take_writes}
@@ -37,137 +30,124 @@ pub record TakesFirst (before after : Log) (piece : List ℕ) (answer : EndAnswe
   pub says : SaysUsed answer uses.octets after
 
 -- By its answer, and what has happened then.
-takes_as : (before log after : Log) (piece : List ℕ) (answer is : EndAnswer) → answer ≡ is
+takes_as : (before : Log) {log after : Log} (piece : List ℕ) {answer is : EndAnswer} → answer ≡ is
     → after ≡ log → TakesFirst before log piece is → TakesFirst before after piece answer
-takes_as before log after piece answer is same now takes =
-    subst (λ (new : Log). TakesFirst before new piece answer) (sym now)
-    (subst (λ (one : EndAnswer). TakesFirst before log piece one) (sym same) takes)
+takes_as before {log} piece {answer} same now takes = rw now (rw same takes)
 
 -- The octets of the connection,
-took_first : (before after : Log) (piece : List ℕ) (count : ℕ) (event : Option Event)
+took_first : {before after : Log} {piece : List ℕ} {count : ℕ} {event : Option Event}
     → MayTake before piece (Took count event) after
     → (uses : UsesFirst before after piece) × (length uses.octets ≡ count) × (after.failed ≡ None)
-took_first before after piece count event may =
+took_first {before} {after} {piece} {count} {event} may =
     let says = log_after_take before after piece (Took count event) may in (
       record {
         octets = says.0;
         unused = says.1;
         split = says.2;
         input = says.4;
-        writes = take_writes before after piece (Took count event) may;
+        writes = take_writes may;
       },
       says.3,
       says.6,
     )
 
-failed_first : (before after : Log) (piece : List ℕ) (code : Code)
+failed_first : {before after : Log} {piece : List ℕ} {code : Code}
     → MayTake before piece (Failed code) after → UsesFirst before after piece
-failed_first before after piece code may =
+failed_first {before} {after} {piece} {code} may =
     let says = log_after_take before after piece (Failed code) may in
     record {
       octets = says.0;
       unused = says.1;
       split = says.2;
       input = says.3;
-      writes = take_writes before after piece (Failed code) may;
+      writes = take_writes may;
     }
 
 -- and the same once a stream was refused.
-called_first : (before log : Log) (piece : List ℕ) (id code : ℕ) (answer : Answer)
+called_first : {before log : Log} {piece : List ℕ} (id code : ℕ) (answer : Answer)
     → UsesFirst before log piece → UsesFirst before (with_call log (Refuse id code) answer) piece
-called_first before log piece id code answer uses =
+called_first {log} id code answer uses =
     record {
       octets = uses.octets;
       unused = uses.unused;
       split = uses.split;
       input = (Keeps-call log (Refuse id code) answer).input ∙ uses.input;
-      writes = writes_twice before log (with_call log (Refuse id code) answer) uses.writes
+      writes = writes_twice uses.writes
           (call_writes log (Refuse id code) answer (λ count wrong. cc));
     }
 
-refused_first : (before : EndLog) (log : Log) (piece : List ℕ) (count id : ℕ)
+refused_first : (before : EndLog) {log : Log} {piece : List ℕ} {count : ℕ} (id : ℕ)
     (answer : EndAnswer) (after : EndLog) (failed : Option Code) → log.failed ≡ failed
     → (uses : UsesFirst before.log log piece) → length uses.octets ≡ count
     → AnswersRefused before log count id answer after failed
     → TakesFirst before.log after.log piece answer
 unfolding AnswersRefused
-refused_first before log piece count id answer after None up uses counted refused =
-    takes_as before.log log after.log piece answer _ refused.0
-    (ap (λ (end : EndLog). end.log) refused.1) (record { uses = uses; says = (counted, up) })
-refused_first before log piece count id answer after (Some code) is uses counted refused =
-    takes_as before.log log after.log piece answer _ refused.0
-    (ap (λ (end : EndLog). end.log) refused.1) (record { uses = uses; says = tt })
+refused_first before {piece} id answer after None up uses counted refused =
+    takes_as before.log piece refused.0 (ap (λ (end : EndLog). end.log) refused.1)
+    (record { uses = uses; says = (counted, up) })
+refused_first before {piece} id answer after (Some code) is uses counted refused =
+    takes_as before.log piece refused.0 (ap (λ (end : EndLog). end.log) refused.1)
+    (record { uses = uses; says = tt })
 
 -- Whatever a call of `take` answers, it has used the first octets.
-pub takes_first : (before : EndLog) (piece : List ℕ) (answer : EndAnswer) (after : EndLog)
+pub takes_first : {before : EndLog} {piece : List ℕ} {answer : EndAnswer} {after : EndLog}
     → EndMayTake before piece answer after → TakesFirst before.log after.log piece answer
 unfolding called_first took_first
-takes_first before piece answer after (fails code log takes same now) =
-    takes_as before.log log after.log piece answer (EndFailed code) same
-    (ap (λ (end : EndLog). end.log) now)
-    (record { uses = failed_first before.log log piece code takes; says = tt })
-takes_first before piece answer after (hands_nothing count log takes same now) =
-    let took = took_first before.log log piece count None takes in
-    takes_as before.log log after.log piece answer (EndTook count None) same
-    (ap (λ (end : EndLog). end.log) now)
+takes_first {before} {piece} (fails code log takes same now) =
+    takes_as before.log piece same (ap (λ (end : EndLog). end.log) now)
+    (record { uses = failed_first takes; says = tt })
+takes_first {before} {piece} (hands_nothing count log takes same now) =
+    let took = took_first takes in
+    takes_as before.log piece same (ap (λ (end : EndLog). end.log) now)
     (record { uses = took.0; says = (took.1, took.2) })
-takes_first before piece answer after (passes count event log takes none same now) =
-    let took = took_first before.log log piece count (Some event) takes in
-    takes_as before.log log after.log piece answer _ same
-    (ap (λ (end : EndLog). end.log) now)
+takes_first {before} {piece} (passes count event log takes none same now) =
+    let took = took_first takes in
+    takes_as before.log piece same (ap (λ (end : EndLog). end.log) now)
     (record { uses = took.0; says = (took.1, took.2) })
-takes_first before piece answer after (hands_out count event log takes id part is readable same
-    now) =
-    let took = took_first before.log log piece count (Some event) takes in
-    takes_as before.log log after.log piece answer _ same
-    (ap (λ (end : EndLog). end.log) now)
+takes_first {before} {piece} (hands_out count event log takes id part is readable same now) =
+    let took = took_first takes in
+    takes_as before.log piece same (ap (λ (end : EndLog). end.log) now)
     (record { uses = took.0; says = (took.1, took.2) })
-takes_first before piece answer after (refuses count event log takes id part is broken refused may
-    answers) =
-    let took = took_first before.log log piece count (Some event) takes in
-    refused_first before (with_call log (Refuse id 1) refused) piece count id answer after _ refl
-    (called_first before.log log piece id 1 refused took.0) took.1 answers
-takes_first before piece answer after (runs_out_of_memory count id list ends log takes role none
-    readable refused may same now) =
-    let took = took_first before.log log piece count (Some _) takes in
-    takes_as before.log (with_call log (Refuse id 2) refused) after.log piece answer
-    (EndFailed InternalError) same (ap (λ (end : EndLog). end.log) now)
-    (record { uses = called_first before.log log piece id 2 refused took.0; says = tt })
+takes_first {before} {answer} {after}
+    (refuses count event log takes id part is broken refused may answers) =
+    let took = took_first takes in
+    refused_first before id answer after _ refl (called_first id 1 refused took.0) took.1 answers
+takes_first {before} {piece}
+    (runs_out_of_memory count id list ends log takes role none readable refused may same now) =
+    let took = took_first takes in
+    takes_as before.log piece same (ap (λ (end : EndLog). end.log) now)
+    (record { uses = called_first id 2 refused took.0; says = tt })
 
 -- The octets that weren't used are those that are left of what the link gave.
-given_first : (start now : Traffic) (before after : Log) (piece : List ℕ)
+given_first : (start now : Traffic) {before after : Log} {piece : List ℕ}
     → HasGiven start now before piece → (uses : UsesFirst before after piece)
     → HasGiven start now after uses.unused
-given_first start now before after piece given uses =
-    subst (Appends start.given now.given)
-    (ap (λ (octets : List ℕ). before.input ++ octets) uses.split
-    ∙ sym (append_assoc before.input uses.octets uses.unused)
-    ∙ ap (λ (octets : List ℕ). octets ++ uses.unused) (sym uses.input)) given
+given_first start now {before} given uses =
+    subst (Appends start.given now.given) (ap (λ (octets : List ℕ). before.input ++ octets)
+    uses.split ∙ sym (append_assoc before.input uses.octets uses.unused) ∙ ap
+    (λ (octets : List ℕ). octets ++ uses.unused) (sym uses.input)) given
 
 -- An end over a link is over it once it has taken octets.
-pub links_first : (start now : Traffic) (before after : Log) (piece : List ℕ)
+pub links_first : {start now : Traffic} {before after : Log} {piece : List ℕ}
     → before.given ≤ length before.written → IsLinked start now before piece
     → (uses : UsesFirst before after piece) → IsLinked start now after uses.unused
-links_first start now before after piece within linked uses =
+links_first {start} {now} within linked uses =
     record {
-      given = given_first start now before after piece linked.given uses;
-      taken = subst (Appends start.taken now.taken)
-          (sym (writes_given before after within uses.writes)) linked.taken;
+      given = given_first start now linked.given uses;
+      taken = rw ((writes_given within uses.writes)) linked.taken;
     }
 
 -- So many octets are dropped.
-unused_is : (piece octets unused : List ℕ) (count : ℕ) → piece ≡ octets ++ unused
+unused_is : {piece : List ℕ} (octets unused : List ℕ) {count : ℕ} → piece ≡ octets ++ unused
     → length octets ≡ count → unused ≡ drop count piece
-unused_is piece octets unused count split counted =
-    sym (drop-append_seam octets unused)
-    ∙ ap (λ (all : List ℕ). drop (length octets) all) (sym split)
-    ∙ ap (λ (n : ℕ). drop n piece) counted
+unused_is {piece} octets unused split counted =
+    sym (drop-append_seam octets unused) ∙ ap (λ (all : List ℕ). drop (length octets) all)
+    (sym split) ∙ ap (λ (n : ℕ). drop n piece) counted
 
-pub took_links : (start now : Traffic) (before after : Log) (piece : List ℕ) (count : ℕ)
+pub took_links : {start now : Traffic} {before after : Log} {piece : List ℕ} {count : ℕ}
     → before.given ≤ length before.written → IsLinked start now before piece
     → (uses : UsesFirst before after piece) → length uses.octets ≡ count
     → IsLinked start now after (drop count piece)
-took_links start now before after piece count within linked uses counted =
+took_links {start} {now} {after} within linked uses counted =
     subst (λ (unused : List ℕ). IsLinked start now after unused)
-    (unused_is piece uses.octets uses.unused count uses.split counted)
-    (links_first start now before after piece within linked uses)
+    (unused_is uses.octets uses.unused uses.split counted) (links_first within linked uses)

@@ -1,30 +1,24 @@
 -- What a server that is driven makes of octets, and of what is due.
-use Rattle.std.proofs.Common.{◌≡◌, ◌≤◌, ◌<◌, ℕ, ◌+◌, ◌-◌, ◌^◌, Bool, true, false, List, ◌∷◌}
-use Rattle.std.proofs.Common.{length, Some, None, Result, Ok, Err, if◌then◌else◌, refl}
-use Rattle.std.proofs.Common.{sym, ap, ◌∙◌, subst, inl, inr, arith}
-use Rattle.std.specs.Prelude.{IfErr}
+use Rattle.h2_engines.proofs.Names.{◌≡◌, ◌≤◌, ◌<◌, ℕ, ◌+◌, ◌-◌, ◌^◌, Bool, true, false, List, ◌∷◌}
+use Rattle.h2_engines.proofs.Names.{length, Some, None, Result, Ok, Err, if◌then◌else◌, refl, sym}
+use Rattle.h2_engines.proofs.Names.{ap, ◌∙◌, subst, inl, inr, arith, IfErr, Refusal, Answer}
+use Rattle.h2_engines.proofs.Names.{SendFields, ResetStream, Done, Refused, has_failed}
+use Rattle.h2_engines.proofs.Names.{is_no_stream, is_full, Log, log_view, MayAnswer, accepts}
+use Rattle.h2_engines.proofs.Names.{refuses, lacks, fails, is_head_alone, first_in, SentMessage}
+use Rattle.h2_engines.proofs.Names.{EndRefusal, EndLog, EndAnswer, EndTook, EndFailed, EndMayTake}
+use Rattle.h2_engines.proofs.Names.{end_with_log, LinkError}
 use Rattle.std.proofs.lemmas.Bool.{leb-true}
-use Rattle.h2_log.specs.declared.refusal.Refusal.{Refusal}
 use Rattle.h2_log.specs.declared.refusal.Refusal.TheVariants as reasons
-use Rattle.h2_log.specs.Acts.{Answer, SendFields, ResetStream, Done, Refused, IsTypedAct}
-use Rattle.h2_log.specs.CallRules.{conditions, first_of, refusal_of, has_failed, is_no_stream}
-use Rattle.h2_log.specs.CallRules.{is_full, has_all_resets}
+use Rattle.h2_log.specs.Acts.{IsTypedAct}
+use Rattle.h2_log.specs.CallRules.{conditions, first_of, refusal_of, has_all_resets}
 use Rattle.h2_log.specs.Limits.{max_resets}
-use Rattle.h2_log.specs.Log.{Log, waiting, resets_written}
-use Rattle.h2_log.specs.LogView.{log_view}
-use Rattle.h2_log.specs.LogCalls.{MayAnswer, accepts, refuses, lacks, fails, with_call}
-use Rattle.h2_pair.specs.Tokens.{is_head_alone}
-use Rattle.h2_pair.proofs.FaultsInvariant.{first_in}
-use Rattle.h2_message.specs.Messages.{SentMessage}
-use Rattle.h2_ends.specs.declared.refusal.EndRefusal.{EndRefusal}
+use Rattle.h2_log.specs.Log.{waiting, resets_written}
+use Rattle.h2_log.specs.LogCalls.{with_call}
 use Rattle.h2_ends.specs.declared.refusal.EndRefusal.TheVariants as refusals
-use Rattle.h2_ends.specs.Ends.{EndLog, EndAnswer, EndTook, EndFailed, parts_on}
-use Rattle.h2_ends.specs.EndTakes.{EndMayTake, end_with_log}
+use Rattle.h2_ends.specs.Ends.{parts_on}
 use Rattle.h2_ends.specs.EndCalls.{MayRespond, IsUnchanged}
-use Rattle.h2_link.specs.declared.error.LinkError.{LinkError}
 use Rattle.h2_link.specs.declared.error.LinkError.TheVariants as errors
 use Rattle.h2_engines.specs.declared.machine.Heard.{Heard}
-use Rattle.h2_engines.specs.declared.request.Next.{Next}
 use Rattle.h2_engines.specs.declared.request.Next.TheVariants as nexts
 use Rattle.h2_engines.specs.declared.request.Request.{Request}
 use Rattle.h2_engines.specs.declared.request.Requests.{Requests}
@@ -33,8 +27,9 @@ use Rattle.h2_engines.specs.Answers.{answer_with, is_too_large_body}
 use Rattle.h2_engines.specs.Failures.{IsOfCall}
 use Rattle.h2_engines.specs.PartialMessages.{KeepsNext, KeepsRequests, IsToAnswer}
 use Rattle.h2_engines.specs.Linked.{Traffic}
-use Rattle.h2_engines.specs.Machines.{Serving, Held, Course, Keeps, IsDriven, EndsFor}
-use Rattle.h2_engines.specs.Machines.{HearsNoMore, gives_up, HearsSo, Hears, IsDue, ActedSo, Acts}
+use Rattle.h2_engines.specs.Machines.{Serving, MachineState, Course, Keeps, IsDriven, EndsFor}
+use Rattle.h2_engines.specs.Machines.{HearsNoMore}
+use Rattle.h2_engines.specs.Machines.{gives_up, Hears, IsDue, RespondedSo, Responds}
 use Rattle.h2_engines.specs.Machines as stops
 use Rattle.h2_engines.specs.ServerHistories.{IsResponding, takes, answers, resets, calm}
 use Rattle.h2_engines.specs.Serves.{CannotReset}
@@ -42,6 +37,7 @@ use Rattle.h2_engines.specs.ServerSteps.{ServerHears, HeardSo, ErrsServing, Serv
 use Rattle.h2_engines.specs.ServerSteps.{AnsweredSo, NotAnswered, no_memory, counts_no_more}
 use Rattle.h2_engines.specs.ServerSteps.{is_refused, ServerResets, ResetSo, counted_answer}
 use Rattle.h2_engines.proofs.AnswerRequests.{kept_to_answer, kept_answered, kept_reset}
+use Rattle.h2_engines.proofs.MachineHears.{hears_on, hears_last}
 use Rattle.h2_engines.proofs.MachineLaws.{ends_linked}
 use Rattle.h2_engines.proofs.MachineViews.{server_held}
 use Rattle.h2_engines.proofs.NoteHanded.{kept_noted}
@@ -50,71 +46,46 @@ use Rattle.h2_engines.proofs.ResponderRefusals.{answer_not_full}
 use Rattle.h2_engines.proofs.ServerRole.{kept_role}
 use Rattle.h2_engines.proofs.TakeMessages.{taken_says, kept_failed}
 use Rattle.h2_engines.proofs.ServeLinkLogs.{GoesOn, goes_none, call_goes, refused_goes, goes_links}
-use Rattle.h2_engines.proofs.ServeLinkTakes.{SaysUsed, takes_first, took_links, links_first}
-use Rattle.h2_engines.proofs.TurnsPassed.{turns_of_take, turns_of_answer, turns_of_response}
-use Rattle.h2_engines.proofs.TurnsPassed.{turns_of_call}
+use Rattle.h2_engines.proofs.ServeLinkTakes.{SaysUsed}
+use Rattle.h2_engines.proofs.TurnsPassed.{turns_of_response, turns_of_call}
 
 -- Why it can't hear on.
-hears_why : (message : SentMessage) (requests : Requests) (answered : ℕ) (end : EndLog)
-    (piece : List ℕ) (answer : EndAnswer) (after : EndLog) (error : LinkError) (octets : List ℕ)
+hears_why : (message : SentMessage) (requests : Requests) (answered : ℕ) {end : EndLog}
+    {piece : List ℕ} (answer : EndAnswer) {after : EndLog} (error : LinkError) (octets : List ℕ)
     → EndMayTake end piece answer after → ErrsServing answer error
     → SaysUsed answer octets after.log
     → HearsNoMore message (Serving requests answered) after error
 unfolding ErrsServing
-hears_why message requests answered end piece (EndTook count handed) after error octets may errs
-    says =
+hears_why message requests answered (EndTook count handed) error octets may errs says =
     gives_up says.1 tt (inl errs)
-hears_why message requests answered end piece (EndFailed code) after error octets may errs says =
-    stops.fails code (kept_failed end piece code after may) errs (λ other. tt)
+hears_why message requests answered (EndFailed code) error octets may errs says =
+    stops.fails code (kept_failed may) errs (λ other. tt)
 
 -- It hears of a piece.
 pub server_hears : (old new : Responder) (piece : List ℕ) (result : Result Heard LinkError)
     → new.answered ≡ old.answered
     → ServerHears old.server.end new.server.end old.requests new.requests piece result
     → Hears (server_held old) (server_held new) piece result
-unfolding HeardSo HearsSo Keeps KeepsNext
+unfolding HeardSo Keeps KeepsNext
 server_hears old new piece (Ok heard) same hears course now end is =
     let now_is = hears course.values end is.represents in
     let says = now_is.2 in
-    let answer = EndTook heard.used says.0 in
-    let first = takes_first end piece answer now_is.0 says.1 in
-    let taken = taken_says end piece answer now_is.0 says.1 in (
+    let taken = taken_says says.1 in (
       now_is.0,
-      (
-        record {
-          happened = takes is.happened piece answer says.1;
-          represents = now_is.1;
-          linked = took_links course.start now end.log now_is.0.log piece heard.used
-              (given_within course.values old.server.end end is.represents) is.linked first.uses
-              first.says.0;
-          up = first.says.1;
-          keeps = (
-            kept_noted end now_is.0 piece heard.used says.0 old.requests new.requests heard.next
-                (kept_role course.values end is.happened) is.keeps.0 says.1 says.2,
+      hears_on (server_held new) heard says.0 is says.1 now_is.1
+          (takes is.happened piece _ says.1) (
+            kept_noted says.0 old.requests new.requests heard.next (kept_role is.happened) is.keeps.0
+                says.1 says.2,
             same ∙ is.keeps.1 ∙ ap length (sym taken.accepted),
-          );
-        },
-        turns_of_take end now_is.0 piece heard.used says.0 says.1,
-        says.3,
-      ),
+          ) says.3,
     )
 server_hears old new piece (Err error) same hears course now end is =
     let now_is = hears course.values end is.represents in
-    let says = now_is.2 in
-    let first = takes_first end piece says.0 now_is.0 says.1 in (
+    let says = now_is.2 in (
       now_is.0,
-      (
-        record {
-          happened = takes is.happened piece says.0 says.1;
-          represents = now_is.1;
-          unused = first.uses.unused;
-          linked = links_first course.start now end.log now_is.0.log piece
-              (given_within course.values old.server.end end is.represents) is.linked first.uses;
-          why = hears_why course.message new.requests new.answered end piece says.0 now_is.0 error
-              first.uses.octets says.1 says.2 first.says;
-        },
-        turns_of_answer end now_is.0 piece says.0 says.1,
-      ),
+      hears_last (server_held new) error is says.1 now_is.1 (takes is.happened piece says.0 says.1)
+          (λ octets used. hears_why course.message new.requests new.answered says.0 error octets
+          says.1 says.2 used),
     )
 
 -- A request was answered: its head was sent.
@@ -122,8 +93,7 @@ responded_goes : (end : EndLog) (id : ℕ) (message : SentMessage) (done : Unit 
     (after : EndLog) → MayRespond end id message (Ok done) after → GoesOn end.log after.log
 unfolding MayRespond
 responded_goes end id message done after may =
-    subst (λ (one : EndLog). GoesOn end.log one.log) (sym may.5)
-    (call_goes end.log (SendFields id message.head (is_head_alone message)) Done
+    rw may.5 (call_goes end.log (SendFields id message.head (is_head_alone message)) Done
     (λ count same. cc) (λ i code same. cc) (λ same. cc))
 
 responded_counts : (end : EndLog) (id : ℕ) (message : SentMessage) (done : Unit {0})
@@ -144,22 +114,20 @@ unchanged_goes before after (inr called) =
     subst (λ (one : EndLog). GoesOn before.log one.log) (sym called.5)
     (refused_goes before.log called.0 called.1)
 
-same_goes : (before after : EndLog) → after ≡ before → GoesOn before.log after.log
-same_goes before after same =
-    subst (λ (one : EndLog). GoesOn before.log one.log) (sym same) (goes_none before.log)
+same_goes : {before after : EndLog} → after ≡ before → GoesOn before.log after.log
+same_goes {before} same = rw same (goes_none before.log)
 
 unanswered_goes : (end : EndLog) (id : ℕ) (message : SentMessage) (refusal : EndRefusal)
     (after : EndLog) → MayRespond end id message (Err refusal) after → GoesOn end.log after.log
 unfolding MayRespond
-unanswered_goes end id message refusals.NotAsked after may = same_goes end after may.1
-unanswered_goes end id message refusals.Answered after may = same_goes end after may.2
-unanswered_goes end id message (refusals.BadMessage rule) after may = same_goes end after may.3
+unanswered_goes end id message refusals.NotAsked after may = same_goes may.1
+unanswered_goes end id message refusals.Answered after may = same_goes may.2
+unanswered_goes end id message (refusals.BadMessage rule) after may = same_goes may.3
 unanswered_goes end id message (refusals.Conn refusal) after may =
     unchanged_goes end after may.4
 
-same_turns : (end after : EndLog) → after ≡ end
-    → length end.log.turns ≤ length after.log.turns
-same_turns end after same =
+same_turns : {end after : EndLog} → after ≡ end → length end.log.turns ≤ length after.log.turns
+same_turns same =
     let all = ap (λ (one : EndLog). length one.log.turns) same in omega arith
 
 -- The request was not answered: so it ends.
@@ -181,42 +149,42 @@ record HasNotAnswered (writes : Bool) (course : Course) (now : Traffic) (new : R
   why : EndsFor writes course.start now (Serving new.requests new.answered) after error
 
 not_answered : (writes : Bool) (course : Course) (now : Traffic) (new : Responder)
-    (end after : EndLog) (id : ℕ) (request : Request) (count : ℕ) (error : LinkError)
+    {end after : EndLog} {id : ℕ} {request : Request} {count : ℕ} {error : LinkError}
     → IsOfCall error → IsResponding course.values end → count ≡ length end.accepted
     → IsToAnswer end id request → (writes ≡ true → waiting end.log ≡ 0)
     → NotAnswered end id (answer_with request.text.items request.to_head) after count error
     → HasNotAnswered writes course now new end after error
-not_answered writes course now new end after id request count error of_call responding counted
-    to_answer none (no_memory memory same) =
+not_answered writes course now new of_call responding counted to_answer none
+    (no_memory memory same) =
     record {
-      turns = same_turns end after same;
-      responding = subst (λ (one : EndLog). IsResponding course.values one) (sym same) responding;
-      goes = same_goes end after same;
+      turns = same_turns same;
+      responding = rw same responding;
+      goes = same_goes same;
       why = stops.lacks_memory memory;
     }
-not_answered writes course now new end after id request count error of_call responding counted
-    to_answer none (counts_no_more most same) =
+not_answered writes course now new {end} {after} {error} of_call responding counted to_answer none
+    (counts_no_more most same) =
     let accepted : length after.accepted ≡ length end.accepted =
     ap (λ (one : EndLog). length one.accepted) same in
     let all : 2 ^ 32 - 1 ≤ length after.accepted = omega (arith, most, counted, accepted) in
     record {
-      turns = same_turns end after same;
-      responding = subst (λ (one : EndLog). IsResponding course.values one) (sym same) responding;
-      goes = same_goes end after same;
+      turns = same_turns same;
+      responding = rw same responding;
+      goes = same_goes same;
       why = calls_ends writes course.start now new.requests new.answered after error of_call
           (λ is. stops.counts_no_more is all);
     }
-not_answered writes course now new end after id request count error of_call responding counted
+not_answered writes course now new {end} {after} {id} {request} {error} of_call responding counted
     to_answer none (is_refused refusal may is) =
     let message = answer_with request.text.items request.to_head in
-    let asked = kept_to_answer end id request to_answer in
+    let asked = kept_to_answer to_answer in
     record {
       turns = turns_of_response end after id message (Err refusal) may;
       responding = answers responding id message (Err refusal) to_answer.whole to_answer.fits asked
           may;
       goes = unanswered_goes end id message refusal after may;
-      why = calls_ends writes course.start now new.requests new.answered after error of_call
-          (λ same. stops.answer_refused same end id message refusal to_answer.whole asked may
+      why = calls_ends writes course.start now new.requests new.answered after error of_call (λ
+          same. stops.answer_refused same end id message refusal to_answer.whole asked may
           (λ said. answer_not_full end id message refusal after (none said) may) (sym is ∙ same));
     }
 
@@ -226,8 +194,8 @@ pub server_answers : (old new : Responder) (id : ℕ) (request : Request)
     → new.requests ≡ old.requests → IfErr result IsOfCall
     → ServerAnswers old.server.end new.server.end id
     (answer_with request.text.items request.to_head) old.answered result
-    → Acts (server_held old) (server_held new) (nexts.Answer id request) result
-unfolding KeepsNext Keeps AnsweredSo counted_answer ActedSo
+    → Responds (server_held old) (server_held new) (nexts.Answer id request) result
+unfolding KeepsNext Keeps AnsweredSo counted_answer RespondedSo
 server_answers old new id request (Ok done) counted requests of_call answered writes course now end
     unused due none is =
     let message = answer_with request.text.items request.to_head in
@@ -239,30 +207,27 @@ server_answers old new id request (Ok done) counted requests of_call answered wr
       turns_of_response end now_is.0 id message (Ok done) may,
       record {
         happened = answers is.happened id message (Ok done) to_answer.whole to_answer.fits
-            (kept_to_answer end id request to_answer) may;
+            (kept_to_answer to_answer) may;
         represents = now_is.1;
-        linked = goes_links course.start now end.log now_is.0.log unused
-            (given_within course.values old.server.end end is.represents) goes is.linked;
+        linked = goes_links (given_within is.represents) goes is.linked;
         up = goes.failed ∙ is.up;
         keeps = (
           subst (λ (kept : Requests). KeepsRequests kept now_is.0) (sym requests)
-              (kept_answered old.requests end now_is.0 id request done is.keeps.0.0 to_answer may),
-          counted ∙ ap (λ (n : ℕ). n + 1) is.keeps.1
-              ∙ sym (responded_counts end id message done now_is.0 may),
+              (kept_answered now_is.0 done is.keeps.0.0 to_answer may),
+          counted ∙ ap (λ (n : ℕ). n + 1) is.keeps.1 ∙ sym
+              (responded_counts end id message done now_is.0 may),
         );
       },
     )
 server_answers old new id request (Err error) counted requests of_call answered writes course now
     end unused due none is =
     let now_is = answered course.values end is.represents in
-    let says = not_answered writes course now new end now_is.0 id request old.answered error of_call
-    is.happened is.keeps.1 is.keeps.0.1 none now_is.2 in (
+    let says = not_answered writes course now new of_call is.happened is.keeps.1 is.keeps.0.1 none
+    now_is.2 in (
       now_is.0,
       says.turns,
-      ends_linked writes course now (server_held new) now_is.0 unused error says.responding now_is.1
-          (goes_links course.start now end.log now_is.0.log unused
-          (given_within course.values old.server.end end is.represents) says.goes is.linked)
-          tt says.why,
+      ends_linked course (server_held new) says.responding now_is.1
+          (goes_links (given_within is.represents) says.goes is.linked) tt says.why,
     )
 
 -- The last of four conditions holds, where a call is refused for it.
@@ -302,12 +267,11 @@ none_left log id code answer said (fails none may is) = cc
 abbrev reset_with : EndLog → ℕ → Answer → EndLog
 reset_with end id answer = end_with_log end (with_call end.log (ResetStream id calm) answer)
 
-cannot_reset : (end : EndLog) (id number : ℕ)
-    → is_too_large_body (parts_on id end.handed) ≡ true
-    → max_resets ≤ resets_written end.log → number ≡ calm
-    → CannotReset (reset_with end id (Refused reasons.TooManyResets)) number
+cannot_reset : (end : EndLog) (id : ℕ) {number : ℕ}
+    → is_too_large_body (parts_on id end.handed) ≡ true → max_resets ≤ resets_written end.log
+    → number ≡ calm → CannotReset (reset_with end id (Refused reasons.TooManyResets)) number
 unfolding with_call
-cannot_reset end id number large left is =
+cannot_reset end id large left is =
     record {
       id = id;
       too_large = large;
@@ -318,24 +282,24 @@ cannot_reset end id number large left is =
 
 -- So the server ends.
 reset_ends : (writes : Bool) (start now : Traffic) (requests : Requests) (answered : ℕ)
-    (end : EndLog) (id : ℕ) (answer : Answer) (error : LinkError)
+    (end : EndLog) {id : ℕ} {answer : Answer} (error : LinkError)
     → is_too_large_body (parts_on id end.handed) ≡ true
     → MayAnswer end.log (ResetStream id calm) answer → ResetSo answer (Err error)
     → EndsFor writes start now (Serving requests answered) (reset_with end id answer) error
 unfolding ResetSo with_call
-reset_ends writes start now requests answered end id answer (errors.Stream number) large may so =
-    stops.stops_itself (stops.cannot_reset number refl
-    (subst (λ (one : Answer). CannotReset (reset_with end id one) number) (sym so.1)
-    (cannot_reset end id number large (none_left end.log id calm answer so.1 may) so.0)))
-reset_ends writes start now requests answered end id answer errors.Memory large may so =
+reset_ends writes start now requests answered end {id} {answer} (errors.Stream number) large may so
+    =
+    stops.stops_itself (stops.cannot_reset number refl (subst
+    (λ (one : Answer). CannotReset (reset_with end id one) number) (sym so.1)
+    (cannot_reset end id large (none_left end.log id calm answer so.1 may) so.0)))
+reset_ends writes start now requests answered end errors.Memory large may so =
     stops.lacks_memory refl
-reset_ends writes start now requests answered end id answer errors.NoProgress large may so =
+reset_ends writes start now requests answered end {id} errors.NoProgress large may so =
     stops.stops_itself (subst
     (λ (one : Answer). stops.ServerStops writes (reset_with end id one) errors.NoProgress)
-    (sym so.1)
-    (stops.reset_refused refl id so.0 large
+    (sym so.1) (stops.reset_refused refl id so.0 large
     (first_in (ResetStream id calm, Refused so.0) end.log.calls) so.2 so.3))
-reset_ends writes start now requests answered end id answer error large may so = absurd so
+reset_ends writes start now requests answered end error large may so = absurd so
 
 reset_refused : (answer : Answer) (error : LinkError) → ResetSo answer (Err error)
     → (refusal : Refusal) × (answer ≡ Refused refusal)
@@ -348,11 +312,9 @@ reset_refused answer errors.CutOff so = absurd so
 reset_refused answer (errors.Reset number) so = absurd so
 reset_refused answer errors.Refused so = absurd so
 
-reset_goes : (log : Log) (id : ℕ) (answer : Answer) (refusal : Refusal)
-    → answer ≡ Refused refusal → GoesOn log (with_call log (ResetStream id calm) answer)
-reset_goes log id answer refusal is =
-    subst (λ (one : Answer). GoesOn log (with_call log (ResetStream id calm) one)) (sym is)
-    (refused_goes log (ResetStream id calm) refusal)
+reset_goes : (log : Log) (id : ℕ) {answer : Answer} (refusal : Refusal) → answer ≡ Refused refusal
+    → GoesOn log (with_call log (ResetStream id calm) answer)
+reset_goes log id refusal is = rw is (refused_goes log (ResetStream id calm) refusal)
 
 -- A stream is reset.
 reset_typed : (id : ℕ) → id < 2 ^ 32 → IsTypedAct (ResetStream id calm)
@@ -362,8 +324,8 @@ reset_typed id fits = (fits, omega arith)
 pub server_resets : (old new : Responder) (id : ℕ) (result : Result (Unit {0}) LinkError)
     → id < 2 ^ 32 → new.answered ≡ old.answered → new.requests ≡ old.requests
     → ServerResets old.server.end new.server.end id result
-    → Acts (server_held old) (server_held new) (nexts.Reset id) result
-unfolding KeepsNext Keeps ResetSo ActedSo
+    → Responds (server_held old) (server_held new) (nexts.Reset id) result
+unfolding KeepsNext Keeps ResetSo RespondedSo
 server_resets old new id (Ok done) fits same requests reset writes course now end unused due none
     is =
     let now_is = reset course.values end is.represents in
@@ -378,14 +340,13 @@ server_resets old new id (Ok done) fits same requests reset writes course now en
       record {
         happened = resets is.happened id answer is.keeps.0.1 (reset_typed id fits) now_is.1;
         represents = now_is.2;
-        linked = goes_links course.start now end.log log unused
-            (given_within course.values old.server.end end is.represents) goes is.linked;
+        linked = goes_links (given_within is.represents) goes is.linked;
         up = goes.failed ∙ is.up;
         keeps = (
           subst (λ (kept : Requests). KeepsRequests kept (end_with_log end log)) (sym requests)
               (subst (λ (one : Answer). KeepsRequests old.requests
               (end_with_log end (with_call end.log (ResetStream id calm) one))) (sym was)
-              (kept_reset old.requests end id is.keeps.0.0 is.keeps.0.1)),
+              (kept_reset is.keeps.0.0 is.keeps.0.1)),
           same ∙ is.keeps.1,
         );
       },
@@ -395,21 +356,13 @@ server_resets old new id (Err error) fits same requests reset writes course now 
     let now_is = reset course.values end is.represents in
     let answer = now_is.0 in
     let refused = reset_refused answer error now_is.3 in
-    let goes = reset_goes end.log id answer refused.0 refused.1 in
+    let goes = reset_goes end.log id refused.0 refused.1 in
     let log = with_call end.log (ResetStream id calm) answer in
     let more = turns_of_call end.log (ResetStream id calm) answer in (
       end_with_log end log,
       omega (arith, more),
-      ends_linked writes course now (server_held new) (end_with_log end log) unused error
+      ends_linked course (server_held new)
           (resets is.happened id answer is.keeps.0.1 (reset_typed id fits) now_is.1) now_is.2
-          (goes_links course.start now end.log log unused
-          (given_within course.values old.server.end end is.represents) goes is.linked) tt
-          (reset_ends writes course.start now new.requests new.answered end id answer error
-          is.keeps.0.1 now_is.1 now_is.3),
+          (goes_links (given_within is.represents) goes is.linked) tt (reset_ends writes
+          course.start now new.requests new.answered end error is.keeps.0.1 now_is.1 now_is.3),
     )
-
--- The same is due.
-pub acts_as : (old new : Held) (due is : Next) (result : Result (Unit {0}) LinkError) → due ≡ is
-    → Acts old new is result → Acts old new due result
-acts_as old new due is result same acts =
-    subst (λ (one : Next). Acts old new one result) (sym same) acts

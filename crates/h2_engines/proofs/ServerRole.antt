@@ -1,25 +1,18 @@
 -- The end of a server over a link stays a server's.
-use Rattle.std.proofs.Common.{◌≡◌, ℕ, List, Option, Some, None, Ok, refl, ap, ◌∙◌}
-use Rattle.h2_frame.specs.declared.code.Code.{Code}
-use Rattle.h2_log.specs.declared.role.Role.TheVariants.{Server}
-use Rattle.h2_log.specs.Acts.{Values, Act, Answer, Refuse}
+use Rattle.h2_engines.proofs.Names.{◌≡◌, ℕ, List, Ok, refl, ap, ◌∙◌, Server, Values, Act, Answer}
+use Rattle.h2_engines.proofs.Names.{Log, log_view, Verdict, ConnectionFault, StreamFault, NoEvent}
+use Rattle.h2_engines.proofs.Names.{Reported, TakeAnswer, MayTake, SentMessage, EndLog, EndAnswer}
+use Rattle.h2_engines.proofs.Names.{EndMayTake}
 use Rattle.h2_log.specs.ItemRules.{verdict_by_rules}
-use Rattle.h2_log.specs.Log.{Log}
 use Rattle.h2_log.specs.LogCalls.{with_call, opened}
 use Rattle.h2_log.specs.LogSteps.{with_sent}
-use Rattle.h2_log.specs.LogView.{log_view}
-use Rattle.h2_log.specs.Verdicts.{Verdict, ConnectionFault, StreamFault, NoEvent, Reported}
 use Rattle.h2_log_laws.proofs.LogGrowth.{grows_call}
-use Rattle.h2_end_laws.specs.Takes.{TakeAnswer, MayTake}
 use Rattle.h2_end_laws.proofs.OverSteps.{take_keeps}
 use Rattle.h2_end_laws.proofs.ReadVerdicts.{Says}
-use Rattle.h2_message.specs.Messages.{SentMessage}
-use Rattle.h2_ends.specs.Ends.{EndLog, EndAnswer}
-use Rattle.h2_ends.specs.EndTakes.{EndMayTake, AnswersRefused, fails, hands_nothing, passes}
-use Rattle.h2_ends.specs.EndTakes.{hands_out, refuses, runs_out_of_memory}
 use Rattle.h2_ends.specs.EndCalls.{MayRespond}
 use Rattle.h2_engines.specs.ServerHistories.{IsResponding}
 use Rattle.h2_engines.proofs.ServerInvariant.{holds_responding}
+use Rattle.h2_engines.proofs.TakeMessages.{take_holds}
 
 -- What holds in any case, a verdict says.
 says_any : (A : Type 0) (verdict : Verdict) → A → Says A A A verdict
@@ -29,9 +22,9 @@ says_any A NoEvent is = is
 says_any A Reported is = is
 
 -- Taking octets keeps the role.
-role_by_take : (log after : Log) (piece : List ℕ) (answer : TakeAnswer)
+role_by_take : {log after : Log} {piece : List ℕ} {answer : TakeAnswer}
     → MayTake log piece answer after → after.role ≡ log.role
-role_by_take log after piece answer may =
+role_by_take {log} {after} {piece} {answer} may =
     take_keeps 0 (λ role received sent reported. role ≡ log.role)
     (λ role received sent reported items none same. same)
     (λ role received sent reported events same. same)
@@ -44,9 +37,9 @@ pub role_by_call : (log : Log) (act : Act) (answer : Answer)
 role_by_call log act answer = (grows_call log act answer).role
 
 -- and an end that is the same or has a log with the same role.
-pub role_as : (before after is : EndLog) → after ≡ is → is.log.role ≡ before.log.role
+pub role_as : (before : EndLog) {after is : EndLog} → after ≡ is → is.log.role ≡ before.log.role
     → after.log.role ≡ before.log.role
-role_as before after is same role = ap (λ (end : EndLog). end.log.role) same ∙ role
+role_as before same role = ap (λ (end : EndLog). end.log.role) same ∙ role
 
 -- So does a message that is accepted,
 responded_role : (before : EndLog) (id : ℕ) (message : SentMessage) (done : Unit {0})
@@ -54,37 +47,14 @@ responded_role : (before : EndLog) (id : ℕ) (message : SentMessage) (done : Un
     → after.log.role ≡ before.log.role
 unfolding MayRespond
 responded_role before id message done after may =
-    role_as before after _ may.5 (role_by_call before.log _ _)
+    role_as before may.5 (role_by_call before.log _ _)
 
 -- and a call of `take`.
-refused_role : (before : EndLog) (log : Log) (count id : ℕ) (answer : EndAnswer) (after : EndLog)
-    (failed : Option Code) → AnswersRefused before log count id answer after failed
-    → after.log.role ≡ log.role
-unfolding AnswersRefused
-refused_role before log count id answer after None refused =
-    ap (λ (end : EndLog). end.log.role) refused.1
-refused_role before log count id answer after (Some code) refused =
-    ap (λ (end : EndLog). end.log.role) refused.1
-
-pub taken_role : (before : EndLog) (piece : List ℕ) (answer : EndAnswer) (after : EndLog)
+pub taken_role : {before : EndLog} {piece : List ℕ} {answer : EndAnswer} {after : EndLog}
     → EndMayTake before piece answer after → after.log.role ≡ before.log.role
-taken_role before piece answer after (fails code log takes same now) =
-    role_as before after _ now (role_by_take before.log log piece _ takes)
-taken_role before piece answer after (hands_nothing count log takes same now) =
-    role_as before after _ now (role_by_take before.log log piece _ takes)
-taken_role before piece answer after (passes count event log takes none same now) =
-    role_as before after _ now (role_by_take before.log log piece _ takes)
-taken_role before piece answer after (hands_out count event log takes id part is readable same
-    now) =
-    role_as before after _ now (role_by_take before.log log piece _ takes)
-taken_role before piece answer after (refuses count event log takes id part is broken refused may
-    answers) =
-    refused_role before (with_call log (Refuse id 1) refused) count id answer after _ answers
-    ∙ role_by_call log _ _ ∙ role_by_take before.log log piece _ takes
-taken_role before piece answer after (runs_out_of_memory count id list ends log takes role none
-    readable refused may same now) =
-    role_as before after _ now
-    (role_by_call log _ _ ∙ role_by_take before.log log piece _ takes)
+taken_role {before} may =
+    take_holds (λ (log : Log). log.role ≡ before.log.role) (λ log took takes. role_by_take takes)
+    (λ log id code said same. role_by_call log _ _ ∙ same) may
 
 -- A new server's end is one.
 new_role : (values : Values) → (opened Server values).role ≡ Server
@@ -92,12 +62,9 @@ unfolding opened with_sent
 new_role values = refl
 
 -- Whatever has happened at a server over a link, it is a server's end.
-pub kept_role : (values : Values) (end : EndLog) → IsResponding values end
-    → end.log.role ≡ Server
-kept_role values end responding =
+pub kept_role : {values : Values} {end : EndLog} → IsResponding values end → end.log.role ≡ Server
+kept_role {values} responding =
     holds_responding (λ one. one.log.role ≡ Server)
-    (λ one act answer was. role_by_call one.log act answer ∙ was)
-    (λ before id message done after may was.
-    responded_role before id message done after may ∙ was)
-    (λ before piece answer after may was. taken_role before piece answer after may ∙ was)
-    values (new_role values) end responding
+    (λ one act answer was. role_by_call one.log act answer ∙ was) (λ before id message done
+    after may was. responded_role before id message done after may ∙ was)
+    (λ before piece answer after may was. taken_role may ∙ was) (new_role values) responding

@@ -1,32 +1,17 @@
 -- What a server's end hands out of a request, and where.
-use Rattle.std.proofs.Common.{◌≡◌, ◌≢◌, ℕ, Bool, true, false, if◌then◌else◌, List, [], ◌∷◌, ◌++◌}
-use Rattle.std.proofs.Common.{Option, Some, None, refl, sym, ap, ◌∙◌, subst, append-nil}
-use Rattle.std.proofs.lemmas.Bool.{ne_eqb, eq-eqb}
-use Rattle.std.specs.List.{Contains}
-use Rattle.std.specs.Prelude.{◌==◌}
-use Rattle.hpack.specs.declared.types.field.Field.{Field}
-use Rattle.h2_frame.specs.declared.code.Code.{Code}
-use Rattle.h2_log.specs.declared.role.Role.TheVariants.{Server}
-use Rattle.h2_log.specs.Acts.{Refuse}
-use Rattle.h2_log.specs.Events.{Event, ResetEvent}
-use Rattle.h2_log.specs.Log.{Log}
-use Rattle.h2_log.specs.LogCalls.{with_call}
-use Rattle.h2_log.specs.Settings.{is_server}
-use Rattle.h2_message.specs.declared.reading.Reads.{Reads}
-use Rattle.h2_message.specs.declared.reading.Reads.TheVariants.{Requests, Responses}
-use Rattle.h2_message.specs.declared.reading.Place.{Place}
+use Rattle.h2_engines.proofs.Names.{◌≡◌, ◌≢◌, ℕ, Bool, true, false, if◌then◌else◌, List, [], ◌∷◌}
+use Rattle.h2_engines.proofs.Names.{◌++◌, Some, refl, sym, ap, ◌∙◌, subst, append-nil, ne_eqb}
+use Rattle.h2_engines.proofs.Names.{eq-eqb, Contains, ◌==◌, Field, Server, Event, ResetEvent}
+use Rattle.h2_engines.proofs.Names.{is_server, Reads, Requests, Responses, Place, Part, FieldsPart}
+use Rattle.h2_engines.proofs.Names.{OctetsPart, IsReadable, first_in, later_in, EndLog, EndTook}
+use Rattle.h2_engines.proofs.Names.{Handed, HeadHanded, BodyHanded, TrailersHanded, Passed}
+use Rattle.h2_engines.proofs.Names.{asked_head, EndMayTake}
 use Rattle.h2_message.specs.Phases.{ends}
-use Rattle.h2_message.specs.Reading.{Part, FieldsPart, OctetsPart, IsReadable}
-use Rattle.h2_pair.proofs.FaultsInvariant.{first_in, later_in}
-use Rattle.h2_ends.specs.Ends.{EndLog, EndAnswer, EndTook, Handed, HeadHanded}
-use Rattle.h2_ends.specs.Ends.{BodyHanded, TrailersHanded, Passed, asked_head, handed_as}
-use Rattle.h2_ends.specs.Ends.{handed_at, message_for, part_on, parts_on, reads_on}
-use Rattle.h2_ends.specs.EndTakes.{EndMayTake, AnswersRefused, fails, hands_nothing, passes}
-use Rattle.h2_ends.specs.EndTakes.{hands_out, refuses, runs_out_of_memory}
+use Rattle.h2_ends.specs.Ends.{handed_as, handed_at, message_for, part_on, parts_on, reads_on}
 use Rattle.h2_engines.specs.ServerHistories.{WasReset}
 use Rattle.h2_engines.proofs.NextParts.{place_first, place_later, no_octets_first, goes_with}
 use Rattle.h2_engines.proofs.SameRequests.{SameOn}
-use Rattle.h2_engines.proofs.TakeMessages.{KeepsCalls}
+use Rattle.h2_engines.proofs.TakeMessages.{KeepsCalls, take_hands}
 
 -- What a server's end may hand out: the head of a request where nothing of it has come; octets and
 -- trailers after that, where it hasn't ended; or what is no part of a request.
@@ -59,24 +44,24 @@ as_body : (reads : Reads) (parts : List (Part × Bool)) (id : ℕ) (octets : Lis
 unfolding handed_as
 as_body reads parts id octets last = refl
 
-some_parts : (parts : List (Part × Bool)) (first : Part × Bool) (rest : List (Part × Bool))
+some_parts : {parts : List (Part × Bool)} (first : Part × Bool) (rest : List (Part × Bool))
     → parts ≡ first ∷ rest → parts ≢ []
-some_parts parts first rest are none = absurd (cc)
+some_parts first rest are none = absurd (cc)
 
 hands_part : (end : EndLog) (id : ℕ) (parts : List (Part × Bool)) (part : Part × Bool)
     → parts_on id end.handed ≡ parts → IsReadable Requests (parts ++ part ∷ [])
     → HandsOut end (handed_as Requests parts id part)
 hands_part end id [] (FieldsPart list, last) are readable =
-    subst (HandsOut end) (sym (as_head id list last)) (hands_head id list last are)
+    rw ((as_head id list last)) (hands_head id list last are)
 hands_part end id [] (OctetsPart octets, last) are readable =
     absurd (no_octets_first octets last readable)
 hands_part end id (first ∷ parts) (FieldsPart list, last) are readable =
-    subst (HandsOut end) (sym (as_trailers first parts id list last readable))
-    (hands_trailers id list (some_parts _ first parts are)
+    rw ((as_trailers first parts id list last readable)) (hands_trailers id list
+    (some_parts first parts are)
     (ap ends are ∙ goes_with (first ∷ parts) (FieldsPart list, last) readable))
 hands_part end id (first ∷ parts) (OctetsPart octets, last) are readable =
-    subst (HandsOut end) (as_body Requests (first ∷ parts) id octets last)
-    (hands_body id octets last (some_parts _ first parts are)
+    subst (HandsOut end) (as_body Requests (first ∷ parts) id octets last) (hands_body id octets
+    last (some_parts first parts are)
     (ap ends are ∙ goes_with (first ∷ parts) (OctetsPart octets, last) readable))
 
 -- A server reads requests.
@@ -86,58 +71,20 @@ reads_requests end id role =
     ap (λ (b : Bool). if b then Requests
     else Responses (asked_head (message_for id end.accepted))) (ap is_server role)
 
-hands_as_read : (end : EndLog) (id : ℕ) (part : Part × Bool) (reads : Reads) → reads ≡ Requests
+hands_as_read : (end : EndLog) (id : ℕ) (part : Part × Bool) {reads : Reads} → reads ≡ Requests
     → IsReadable reads (parts_on id end.handed ++ part ∷ [])
     → HandsOut end (handed_as reads (parts_on id end.handed) id part)
-hands_as_read end id part reads same readable =
-    subst (λ (one : Reads). HandsOut end (handed_as one (parts_on id end.handed) id part))
-    (sym same) (hands_part end id (parts_on id end.handed) part refl
-    (subst (λ (one : Reads). IsReadable one (parts_on id end.handed ++ part ∷ [])) same readable))
+hands_as_read end id part same readable =
+    rw same (hands_part end id (parts_on id end.handed) part refl (subst
+    (λ (one : Reads). IsReadable one (parts_on id end.handed ++ part ∷ [])) same readable))
 
 -- So it is with what a call of `take` hands out.
-hands_refused : (end after : EndLog) (log : Log) (count n id : ℕ) (handed : Handed)
-    (failed : Option Code)
-    → AnswersRefused end log n id (EndTook count (Some handed)) after failed
-    → HandsOut end handed
-unfolding AnswersRefused
-hands_refused end after log count n id handed None refused =
-    let said = refused.0 in
-    let is : handed ≡ Passed (ResetEvent id 1 true) = cc in
-    subst (HandsOut end) (sym is) (hands_event (ResetEvent id 1 true))
-hands_refused end after log count n id handed (Some code) refused =
-    let wrong = refused.0 in absurd (cc)
-
-hands_by : (end after : EndLog) (piece : List ℕ) (count : ℕ) (handed : Handed)
-    (answer : EndAnswer) → end.log.role ≡ Server → EndTook count (Some handed) ≡ answer
-    → EndMayTake end piece answer after → HandsOut end handed
-hands_by end after piece count handed answer role named (fails code log takes same now) =
-    absurd (cc)
-hands_by end after piece count handed answer role named (hands_nothing n log takes same now) =
-    absurd (cc)
-hands_by end after piece count handed answer role named
-    (passes n event log takes none same now) =
-    let is : handed ≡ Passed event = cc in
-    subst (HandsOut end) (sym is) (hands_event event)
-hands_by end after piece count handed answer role named
-    (hands_out n event log takes id part reported readable same now) =
-    let is : handed ≡ handed_as (reads_on end id) (parts_on id end.handed) id part = cc in
-    subst (HandsOut end) (sym is)
-    (hands_as_read end id part (reads_on end id) (reads_requests end id role) readable)
-hands_by end after piece count handed answer role named
-    (refuses n event log takes id part reported broken refused may answers) =
-    hands_refused end after (with_call log (Refuse id 1) refused) count n id handed
-    (with_call log (Refuse id 1) refused).failed
-    (subst (λ (one : EndAnswer). AnswersRefused end (with_call log (Refuse id 1) refused) n id
-    one after (with_call log (Refuse id 1) refused).failed) (sym named) answers)
-hands_by end after piece count handed answer role named
-    (runs_out_of_memory n id list last log takes is_role none readable refused may same now) =
-    absurd (cc)
-
-pub server_hands : (end after : EndLog) (piece : List ℕ) (count : ℕ) (handed : Handed)
+pub server_hands : {end after : EndLog} {piece : List ℕ} (count : ℕ) (handed : Handed)
     → end.log.role ≡ Server → EndMayTake end piece (EndTook count (Some handed)) after
     → HandsOut end handed
-server_hands end after piece count handed role may =
-    hands_by end after piece count handed (EndTook count (Some handed)) role refl may
+server_hands {end} count handed role may =
+    take_hands (HandsOut end) count handed hands_event
+    (λ id part readable. hands_as_read end id part (reads_requests end id role) readable) may
 
 -- One part of a request was handed out on a stream, and nothing on others.
 pub record Hands (end after : EndLog) (id : ℕ) (part : Part × Bool) : Type 0 where
@@ -153,43 +100,43 @@ pub record HandedOne (end after : EndLog) (one : Handed) : Type 0 where
   pub accepted : after.accepted ≡ end.accepted
   pub calls : KeepsCalls end.log after.log
 
-parts_with : (end after : EndLog) (one : Handed) (i : ℕ) (more : List (Part × Bool))
+parts_with : {end after : EndLog} {one : Handed} (i : ℕ) {more : List (Part × Bool)}
     → HandedOne end after one → part_on i one ≡ more
     → parts_on i after.handed ≡ parts_on i end.handed ++ more
 unfolding parts_on
-parts_with end after one i more hands is =
-    ap (parts_on i) hands.handed
-    ∙ ap (λ (part : List (Part × Bool)). parts_on i end.handed ++ part) is
+parts_with {end} i hands is =
+    ap (parts_on i) hands.handed ∙ ap
+    (λ (part : List (Part × Bool)). parts_on i end.handed ++ part) is
 
-resets_with : (end after : EndLog) (one : Handed) (i : ℕ) → HandedOne end after one
+resets_with : {end after : EndLog} {one : Handed} (i : ℕ) → HandedOne end after one
     → WasReset end i → WasReset after i
-resets_with end after one i hands reset = (
+resets_with {end} {one} i hands reset = (
   reset.0,
   reset.1,
   subst (λ (all : List Handed). Contains all (Passed (ResetEvent i reset.0 reset.1)))
       (sym hands.handed) (later_in one end.handed _ reset.2),
 )
 
-pub same_besides : (end after : EndLog) (one : Handed) (i : ℕ) → HandedOne end after one
+pub same_besides : {end after : EndLog} {one : Handed} (i : ℕ) → HandedOne end after one
     → part_on i one ≡ [] → SameOn end after i
-same_besides end after one i hands none =
+same_besides {end} i hands none =
     record {
-      parts = parts_with end after one i [] hands none ∙ append-nil (parts_on i end.handed);
+      parts = parts_with i hands none ∙ append-nil (parts_on i end.handed);
       message = ap (message_for i) hands.accepted;
-      resets = resets_with end after one i hands;
+      resets = resets_with i hands;
       calls = hands.calls;
     }
 
-hands_one : (end after : EndLog) (one : Handed) (id : ℕ) (part : Part × Bool)
+hands_one : {end after : EndLog} {one : Handed} (id : ℕ) (part : Part × Bool)
     → HandedOne end after one → part_on id one ≡ part ∷ []
     → ((i : ℕ) → i ≢ id → part_on i one ≡ []) → Hands end after id part
-hands_one end after one id part hands here there =
+hands_one id part hands here there =
     record {
-      parts = parts_with end after one id (part ∷ []) hands here;
+      parts = parts_with id hands here;
       message = ap (message_for id) hands.accepted;
-      resets = resets_with end after one id hands;
+      resets = resets_with id hands;
       calls = hands.calls;
-      others = λ i other. same_besides end after one i hands (there i other);
+      others = λ i other. same_besides i hands (there i other);
     }
 
 -- A stream is itself, and no other one.
@@ -203,43 +150,40 @@ there_is id i part other =
     ap (λ (b : Bool). if b then part ∷ [] else []) (ne_eqb id i (λ same. other (sym same)))
 
 -- So it is with a head, octets and trailers.
-pub head_hands : (end after : EndLog) (id : ℕ) (list : List Field) (last : Bool)
+pub head_hands : {end after : EndLog} {id : ℕ} {list : List Field} {last : Bool}
     → HandedOne end after (HeadHanded id list last) → Hands end after id (FieldsPart list, last)
 unfolding part_on
-head_hands end after id list last hands =
-    hands_one end after (HeadHanded id list last) id (FieldsPart list, last) hands
-    (here_is id (FieldsPart list, last))
+head_hands {id} {list} {last} hands =
+    hands_one id (FieldsPart list, last) hands (here_is id (FieldsPart list, last))
     (λ i other. there_is id i (FieldsPart list, last) other)
 
-pub body_hands : (end after : EndLog) (id : ℕ) (octets : List ℕ) (last : Bool)
+pub body_hands : {end after : EndLog} {id : ℕ} {octets : List ℕ} {last : Bool}
     → HandedOne end after (BodyHanded id octets last)
     → Hands end after id (OctetsPart octets, last)
 unfolding part_on
-body_hands end after id octets last hands =
-    hands_one end after (BodyHanded id octets last) id (OctetsPart octets, last) hands
-    (here_is id (OctetsPart octets, last))
+body_hands {id} {octets} {last} hands =
+    hands_one id (OctetsPart octets, last) hands (here_is id (OctetsPart octets, last))
     (λ i other. there_is id i (OctetsPart octets, last) other)
 
-pub trailers_hands : (end after : EndLog) (id : ℕ) (list : List Field)
+pub trailers_hands : {end after : EndLog} {id : ℕ} {list : List Field}
     → HandedOne end after (TrailersHanded id list) → Hands end after id (FieldsPart list, true)
 unfolding part_on
-trailers_hands end after id list hands =
-    hands_one end after (TrailersHanded id list) id (FieldsPart list, true) hands
-    (here_is id (FieldsPart list, true))
+trailers_hands {id} {list} hands =
+    hands_one id (FieldsPart list, true) hands (here_is id (FieldsPart list, true))
     (λ i other. there_is id i (FieldsPart list, true) other)
 
 -- An event is no part of a request.
-pub event_besides : (end after : EndLog) (event : Event) (i : ℕ)
+pub event_besides : {end after : EndLog} {event : Event} (i : ℕ)
     → HandedOne end after (Passed event) → SameOn end after i
 unfolding part_on
-event_besides end after event i hands = same_besides end after (Passed event) i hands refl
+event_besides i hands = same_besides i hands refl
 
 -- A reset that was handed out.
-pub reset_now : (end after : EndLog) (id code : ℕ) (ours : Bool)
+pub reset_now : {end after : EndLog} (id code : ℕ) (ours : Bool)
     → HandedOne end after (Passed (ResetEvent id code ours)) → WasReset after id
-reset_now end after id code ours hands = (
+reset_now {end} id code ours hands = (
   code,
   ours,
-  subst (λ (all : List Handed). Contains all (Passed (ResetEvent id code ours)))
-      (sym hands.handed) (first_in (Passed (ResetEvent id code ours)) end.handed),
+  subst (λ (all : List Handed). Contains all (Passed (ResetEvent id code ours))) (sym hands.handed)
+      (first_in (Passed (ResetEvent id code ours)) end.handed),
 )

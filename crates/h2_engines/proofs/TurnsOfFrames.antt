@@ -1,21 +1,17 @@
 -- A frame that is read undoes no turn.
-use Rattle.std.proofs.Common.{◌≤◌, ◌<◌, ℕ, ◌+◌, nat_lt, ◌&&◌, Bool, true, false, if◌then◌else◌}
-use Rattle.std.proofs.Common.{List, [], ◌∷◌, ◌++◌, map, length, length-append, Option, None}
-use Rattle.std.proofs.Common.{arith}
-use Rattle.h2_frame.specs.declared.code.Code.{Code}
+use Rattle.h2_engines.proofs.Names.{◌≤◌, ◌<◌, ℕ, ◌+◌, Bool, true, false, if◌then◌else◌, List, []}
+use Rattle.h2_engines.proofs.Names.{◌∷◌, ◌++◌, length, length-append, Option, None, arith, Code}
+use Rattle.h2_engines.proofs.Names.{Event, full_output, Log, with_credit_returned, log_view}
+use Rattle.h2_engines.proofs.Names.{Verdict, ConnectionFault, StreamFault, NoEvent, Reported}
+use Rattle.std.proofs.Common.{nat_lt, ◌&&◌, map}
 use Rattle.h2_frame.specs.Frames.{Frame}
 use Rattle.h2_block.specs.Grouping.{Item}
 use Rattle.h2_log.specs.Acts.{Happened}
-use Rattle.h2_log.specs.Events.{Event}
 use Rattle.h2_log.specs.ItemRules.{Decoded, FrameStep, fails_with, begins_block, completes}
 use Rattle.h2_log.specs.ItemRules.{frame_step}
-use Rattle.h2_log.specs.Limits.{full_output}
-use Rattle.h2_log.specs.Log.{Log, waiting}
-use Rattle.h2_log.specs.LogSteps.{read, with_sent, with_reported, with_unreturned}
-use Rattle.h2_log.specs.LogSteps.{with_credit_returned, with_failure, with_verdict, with_step}
-use Rattle.h2_log.specs.LogSteps.{with_frame}
-use Rattle.h2_log.specs.LogView.{log_view}
-use Rattle.h2_log.specs.Verdicts.{Verdict, ConnectionFault, StreamFault, NoEvent, Reported}
+use Rattle.h2_log.specs.Log.{waiting}
+use Rattle.h2_log.specs.LogSteps.{read, with_sent, with_reported, with_unreturned, with_failure}
+use Rattle.h2_log.specs.LogSteps.{with_verdict, with_step, with_frame}
 
 -- Items are written in a turn, or in none.
 turns_of_sent : (n : ℕ) (log : Log) (items : List Item) → n ≤ length log.turns

@@ -1,32 +1,31 @@
 -- How many octets a call puts out of the output of a log: as many as were asked for, or all.
-use Rattle.std.proofs.Common.{◌≡◌, ◌≤◌, ◌<◌, ℕ, ◌+◌, ◌-◌, min, Bool, true, false, if◌then◌else◌}
-use Rattle.std.proofs.Common.{List, [], ◌∷◌, ◌++◌, length, take, drop, refl, ap, ◌∙◌, arith}
-use Rattle.std.proofs.Common.{length-append}
-use Rattle.std.proofs.lemmas.List.{take_all, length-drop, length-take}
+use Rattle.h2_engines.proofs.Names.{◌≡◌, ◌≤◌, ◌<◌, ℕ, ◌+◌, ◌-◌, Bool, true, false, if◌then◌else◌}
+use Rattle.h2_engines.proofs.Names.{List, [], ◌∷◌, ◌++◌, length, take, drop, refl, sym, ap, ◌∙◌}
+use Rattle.h2_engines.proofs.Names.{arith, length-append, append-nil, take_all, length-drop}
+use Rattle.h2_engines.proofs.Names.{length-take, PutOut, Count, returns_before_put_out, Log}
+use Rattle.h2_engines.proofs.Names.{with_credit_returned, MayAnswer, accepts, refuses, lacks, fails}
+use Rattle.h2_engines.proofs.Names.{called, log_view, given_out}
+use Rattle.std.proofs.Common.{min}
 use Rattle.h2_frame.specs.Frames.{WindowUpdate}
 use Rattle.h2_block.specs.Grouping.{alone}
-use Rattle.h2_log.specs.Acts.{PutOut, Count}
-use Rattle.h2_log.specs.CallRules.{returns_before_put_out, update_size}
+use Rattle.h2_log.specs.CallRules.{update_size}
 use Rattle.h2_log.specs.Items.{encoding_of_items}
-use Rattle.h2_log.specs.Log.{Log, waiting, output, max_payload_sent}
-use Rattle.h2_log.specs.LogSteps.{with_sent, with_credit_returned}
-use Rattle.h2_log.specs.LogCalls.{MayAnswer, accepts, refuses, lacks, fails, called, before_put_out}
-use Rattle.h2_log.specs.LogCalls.{with_call}
-use Rattle.h2_log.specs.LogView.{log_view}
+use Rattle.h2_log.specs.Log.{waiting, output, max_payload_sent}
+use Rattle.h2_log.specs.LogSteps.{with_sent}
+use Rattle.h2_log.specs.LogCalls.{before_put_out, with_call}
 use Rattle.h2_log.proofs.SentPayloads.{most_is_limit}
 use Rattle.h2_log_laws.proofs.ItemSizes.{size-update}
-use Rattle.h2_pair.specs.Pairs.{given_out}
 use Rattle.h2_engines.specs.WithoutLink.{PutsOut}
 use Rattle.h2_engines.proofs.ResponderOutput.{given_more, put_out_octets}
 
 -- how many octets are put out
-answered : (log : Log) (count given : ℕ) → MayAnswer log (PutOut count) (Count given)
-    → given ≡ min count (waiting log
-    + (if returns_before_put_out (log_view log) then update_size else 0))
-answered log count given (accepts none is) = cc
-answered log count given (refuses refusal some is) = cc
-answered log count given (lacks none may is) = cc
-answered log count given (fails none may is) = cc
+answered : {log : Log} {count given : ℕ} → MayAnswer log (PutOut count) (Count given)
+    → given ≡ min count
+    (waiting log + (if returns_before_put_out (log_view log) then update_size else 0))
+answered (accepts none is) = cc
+answered (refuses refusal some is) = cc
+answered (lacks none may is) = cc
+answered (fails none may is) = cc
 
 -- Credit that is returned first makes the output longer.
 ready_size : (log : Log) (b : Bool)
@@ -46,13 +45,13 @@ record PutsCount (log after : Log) (count given : ℕ) : Type 0 where
   within : given ≤ count
   all : given < count → length after.written ≤ log.given + given
 
-puts_by : (log put : Log) (count given : ℕ) (b : Bool) → length put.written ≡ length log.written
-    → log.given ≤ length log.written
+puts_by : (log put : Log) (count : ℕ) {given : ℕ} (b : Bool)
+    → length put.written ≡ length log.written → log.given ≤ length log.written
     → given ≡ min count ((length log.written - log.given) + (if b then update_size else 0))
     → PutsCount log (record (if b then with_credit_returned put else put) {
       given = log.given + given;
     }) count given
-puts_by log put count given b written within is =
+puts_by log put count b written within is =
     let size = ready_size put b in
     record {
       fits = omega (arith, size, written, within, is);
@@ -60,13 +59,12 @@ puts_by log put count given b written within is =
       all = λ few. omega (arith, size, written, within, is, few);
     }
 
-puts_count : (log : Log) (count given : ℕ) → log.given ≤ length log.written
+puts_count : {log : Log} {count given : ℕ} → log.given ≤ length log.written
     → MayAnswer log (PutOut count) (Count given)
     → PutsCount log (with_call log (PutOut count) (Count given)) count given
 unfolding with_call before_put_out waiting output
-puts_count log count given within may =
-    puts_by log (called log (PutOut count) (Count given)) count given _ refl within
-    (answered log count given may)
+puts_count {log} {count} {given} within may =
+    puts_by log (called log (PutOut count) (Count given)) count _ refl within (answered may)
 
 -- What was given out then.
 call_given : (log : Log) (count given : ℕ)
@@ -84,22 +82,42 @@ octets_size octets before given fits =
       fits,
     )
 
-all_given : (log : Log) (given : ℕ) → log.given ≡ given → length log.written ≤ given
+all_given : (log : Log) {given : ℕ} → log.given ≡ given → length log.written ≤ given
     → given_out log ≡ log.written
-all_given log given is all = ap (λ (n : ℕ). take n log.written) is ∙ take_all given log.written all
+all_given log {given} is all = ap (λ (n : ℕ). take n log.written) is ∙ take_all given log.written
+    all
 
 -- So octets are put out, and appended to others.
-pub puts_out : (log : Log) (count given : ℕ) (old new : List ℕ) → log.given ≤ length log.written
+pub puts_out : {log : Log} {count given : ℕ} (old new : List ℕ) → log.given ≤ length log.written
     → MayAnswer log (PutOut count) (Count given) → new ≡ old ++ put_out_octets log count given
     → PutsOut log (with_call log (PutOut count) (Count given)) count given old new
-puts_out log count given old new within may appended =
+puts_out {log} {count} {given} old new within may appended =
     let after = with_call log (PutOut count) (Count given) in
-    let puts = puts_count log count given within may in
+    let puts = puts_count within may in
     record {
       octets = put_out_octets log count given;
       appended = appended;
       next = given_more log count given within;
       counted = octets_size after.written log.given given puts.fits;
       within = puts.within;
-      all = λ few. all_given after (log.given + given) (call_given log count given) (puts.all few);
+      all = λ few. all_given after (call_given log count given) (puts.all few);
+    }
+
+-- None waited, and none waits: all of the output was given out.
+pub record PutsNone (log after : Log) : Type 0 where
+  pub all : given_out after ≡ after.written
+  pub same : after.written ≡ given_out log
+
+no_more : (octets none : List ℕ) → 0 ≡ length none → octets ++ none ≡ octets
+no_more octets [] is = append-nil octets
+no_more octets (one ∷ none) is = absurd (omega arith)
+
+pub none_put : {log : Log} {count : ℕ} → 0 < count → log.given ≤ length log.written
+    → MayAnswer log (PutOut count) (Count 0)
+    → PutsNone log (with_call log (PutOut count) (Count 0))
+none_put {log} {count} some within may =
+    let puts = puts_out [] (put_out_octets log count 0) within may refl in
+    record {
+      all = puts.all some;
+      same = sym (puts.all some) ∙ puts.next ∙ no_more (given_out log) puts.octets puts.counted;
     }

@@ -1,50 +1,34 @@
 -- What an end without a link puts out, and that a server and a client go on then.
-use Rattle.std.proofs.Common.{◌≡◌, ◌<◌, ℕ, ◌^◌, List, ◌++◌, Result, Ok, Err, refl}
-use Rattle.std.proofs.Common.{sym, ap, ◌∙◌, subst}
-use Rattle.h2_log.specs.declared.refusal.Refusal.{Refusal}
-use Rattle.h2_log.specs.Acts.{Values, PutOut, Count, Refused, IsTypedAct}
-use Rattle.h2_log.specs.Log.{Log}
+use Rattle.h2_engines.proofs.Names.{◌≡◌, ◌<◌, ℕ, ◌^◌, List, ◌++◌, Result, Ok, Err, refl, ap}
+use Rattle.h2_engines.proofs.Names.{◌∙◌, Refusal, Values, PutOut, Count, Refused, Log}
+use Rattle.h2_engines.proofs.Names.{GivesOut, SentMessage, given_out, Conn, EndLog, end_with_log}
+use Rattle.h2_engines.proofs.Names.{EndAnswers, LinkError}
+use Rattle.h2_log.specs.Acts.{IsTypedAct}
 use Rattle.h2_log.specs.LogCalls.{with_call}
-use Rattle.h2_conn.specs.Conn.{GivesOut}
-use Rattle.h2_message.specs.Messages.{SentMessage}
-use Rattle.h2_pair.specs.Pairs.{given_out}
-use Rattle.h2_ends.specs.declared.end.End.{End}
-use Rattle.h2_ends.specs.declared.refusal.EndRefusal.TheVariants.{Conn}
-use Rattle.h2_ends.specs.Ends.{EndLog}
-use Rattle.h2_ends.specs.EndTakes.{end_with_log}
-use Rattle.h2_ends.specs.Represents.{EndRepresents, EndAnswers}
-use Rattle.h2_link.specs.declared.error.LinkError.{LinkError}
 use Rattle.h2_engines.specs.declared.fetcher.Fetcher.{Fetcher}
 use Rattle.h2_engines.specs.declared.request.Next.{Next}
 use Rattle.h2_engines.specs.declared.request.Next.TheVariants as nexts
 use Rattle.h2_engines.specs.declared.responder.Responder.{Responder}
 use Rattle.h2_engines.specs.Failures.{error_after}
-use Rattle.h2_engines.specs.Machines.{Kept, Serving, Fetching, Held, Course, Happens, Keeps}
-use Rattle.h2_engines.specs.Machines.{HasPutOut, PutsWaiting}
+use Rattle.h2_engines.specs.Machines.{MessageState, Serving, Fetching, MachineState, Course, Keeps}
+use Rattle.h2_engines.specs.Machines.{PutsWaiting}
 use Rattle.h2_engines.specs.PartialMessages.{KeepsNext}
 use Rattle.h2_engines.specs.ServerSteps.{IsSameOfMessages}
-use Rattle.h2_engines.specs.WithoutLink.{HasSent, SendsWaiting, PutsOut, PutOutSo}
-use Rattle.h2_engines.specs.WithoutLink.{ServerPutsOut, ClientPutsOut}
+use Rattle.h2_engines.specs.WithoutLink.{SendsWaiting, PutsOut, PutOutSo, ServerPutsOut}
+use Rattle.h2_engines.specs.WithoutLink.{ClientPutsOut}
 use Rattle.h2_engines.proofs.MachineLaws.{puts_at, keeps_same}
 use Rattle.h2_engines.proofs.MachineViews.{server_held, client_held, no_message, begun}
 use Rattle.h2_engines.proofs.ResponderEnds.{same_twice, same_by_call, given_within}
 use Rattle.h2_engines.proofs.ResponderOutput.{put_out_failed, refused_failed}
 use Rattle.h2_engines.proofs.ResponderStalls.{put_out_ends}
-use Rattle.h2_engines.proofs.ResponderWrites.{MayPutOut}
 use Rattle.h2_engines.proofs.WithoutLinkOutput.{puts_out}
 use Rattle.h2_engines.proofs.WithoutLinkSends.{sent_same, sent_given, sent_error, sends_at}
 
--- Where this may have happened at an end, it may also have sent what waits.
-abbrev MaySend : (EndLog → Type 0) → Type 0
-MaySend P =
-    (before after : EndLog) (result : Result (Unit {0}) LinkError) → P before
-    → HasSent before after result → P after
-
 -- The same octets had been given out before.
-puts_after : (one two three : Log) (count given : ℕ) (before now : List ℕ)
+puts_after : (one : Log) {two three : Log} {count given : ℕ} {before now : List ℕ}
     → given_out two ≡ given_out one → PutsOut two three count given before now
     → PutsOut one three count given before now
-puts_after one two three count given before now same puts =
+puts_after one same puts =
     record {
       octets = puts.octets;
       appended = puts.appended;
@@ -54,32 +38,30 @@ puts_after one two three count given before now same puts =
       all = puts.all;
     }
 
--- Octets are put out,
-ends_put : (P : EndLog → Type 0) → MaySend P → MayPutOut P → (values : Values)
-    (old middle new : End) (end : EndLog) (count given : ℕ) (before now : List ℕ) (done : Unit {0})
-    → count < 2 ^ 64 → SendsWaiting old middle (Ok done)
-    → EndAnswers middle (PutOut count) (Count given) new
-    → GivesOut middle.conn count given before now → EndRepresents values old end → P end
-    → HasPutOut P values new end count before now (Ok given)
+-- A machine has put octets out;
+pub machine_put : (old middle new : MachineState) (count given : ℕ) (before now : List ℕ)
+    (done : Unit {0}) → count < 2 ^ 64 → SendsWaiting old.end middle.end (Ok done)
+    → EndAnswers middle.end (PutOut count) (Count given) new.end
+    → GivesOut middle.end.conn count given before now
+    → PutsWaiting old new count before now (Ok given)
 unfolding IsTypedAct PutOutSo
-ends_put P send put values old middle new end count given before now done typed sends answers gives
-    is was =
-    let sent = sends values end is in
-    let call = answers values sent.0 sent.1 in
+machine_put old middle new count given before now done typed sends answers gives course end is was
+    =
+    let sent = sends course.values end is in
+    let call = answers course.values sent.0 sent.1 in
     let after = end_with_log sent.0 (with_call sent.0.log (PutOut count) (Count given)) in
     let same = same_by_call sent.0 (PutOut count) (Count given)
     (put_out_failed sent.0.log count given) in
     record {
       after = after;
-      happened = put sent.0 count (Count given) (send end sent.0 (Ok done) was sent.2) typed call.0;
+      happened = puts_at course old.kept sent.0 count (Count given)
+          (sends_at course old.kept was sent.2) typed call.0;
       represents = call.1;
-      same = same_twice end sent.0 after (sent_same end sent.0 (Ok done) sent.2) same;
+      same = same_twice (sent_same sent.2) same;
       so = (
         (sent.0, sent.2, same),
-        puts_after end.log sent.0.log after.log count given before now
-            (sent_given end sent.0 (Ok done) (given_within values old end is) sent.2)
-            (puts_out sent.0.log count given before now (given_within values middle sent.0 sent.1)
-            call.0 (gives values sent.0.log sent.1.streams.conn)),
+        puts_after end.log (sent_given (given_within is) sent.2) (puts_out before now
+            (given_within sent.1) call.0 (gives course.values sent.0.log sent.1.streams.conn)),
       );
     }
 
@@ -89,91 +71,57 @@ refused_given : (log : Log) (count : ℕ) (refusal : Refusal)
 unfolding with_call
 refused_given log count refusal = refl
 
-ends_refused : (P : EndLog → Type 0) → MaySend P → MayPutOut P → (values : Values)
-    (old middle new : End) (end : EndLog) (count : ℕ) (refusal : Refusal) (before now : List ℕ)
-    (done : Unit {0}) (error : LinkError) → count < 2 ^ 64 → SendsWaiting old middle (Ok done)
-    → EndAnswers middle (PutOut count) (Refused refusal) new
-    → error ≡ error_after (Conn refusal) → now ≡ before → EndRepresents values old end → P end
-    → HasPutOut P values new end count before now (Err error)
-unfolding IsTypedAct PutOutSo
-ends_refused P send put values old middle new end count refusal before now done error typed sends
-    answers why nothing is was =
-    let sent = sends values end is in
-    let call = answers values sent.0 sent.1 in
-    let after = end_with_log sent.0 (with_call sent.0.log (PutOut count) (Refused refusal)) in
-    record {
-      after = after;
-      happened = put sent.0 count (Refused refusal) (send end sent.0 (Ok done) was sent.2) typed
-          call.0;
-      represents = call.1;
-      same = same_twice end sent.0 after (sent_same end sent.0 (Ok done) sent.2)
-          (same_by_call sent.0 (PutOut count) (Refused refusal)
-          (refused_failed sent.0.log (PutOut count) refusal));
-      so = (
-        put_out_ends sent.0.log count refusal error call.0 why,
-        nothing,
-        refused_given sent.0.log count refusal
-            ∙ sent_given end sent.0 (Ok done) (given_within values old end is) sent.2,
-      );
-    }
-
--- or what waits can't be sent.
-ends_unsent : (P : EndLog → Type 0) → MaySend P → (values : Values) (old new : End) (end : EndLog)
-    (count : ℕ) (before now : List ℕ) (error : LinkError) → SendsWaiting old new (Err error)
-    → now ≡ before → EndRepresents values old end → P end
-    → HasPutOut P values new end count before now (Err error)
-unfolding PutOutSo
-ends_unsent P send values old new end count before now error sends nothing is was =
-    let sent = sends values end is in
-    record {
-      after = sent.0;
-      happened = send end sent.0 (Err error) was sent.2;
-      represents = sent.1;
-      same = sent_same end sent.0 (Err error) sent.2;
-      so = (
-        sent_error end sent.0 error sent.2,
-        nothing,
-        sent_given end sent.0 (Err error) (given_within values old end is) sent.2,
-      );
-    }
-
--- A machine has put octets out, or can't.
-pub machine_put : (old middle new : Held) (count given : ℕ) (before now : List ℕ)
-    (done : Unit {0}) → count < 2 ^ 64 → SendsWaiting old.end middle.end (Ok done)
-    → EndAnswers middle.end (PutOut count) (Count given) new.end
-    → GivesOut middle.end.conn count given before now
-    → PutsWaiting old new count before now (Ok given)
-machine_put old middle new count given before now done typed sends answers gives course end is was =
-    ends_put (Happens course old.kept) (sends_at course old.kept) (puts_at course old.kept)
-    course.values old.end middle.end new.end end count given before now done typed sends answers
-    gives is was
-
-pub machine_refused : (old middle new : Held) (count : ℕ) (refusal : Refusal)
-    (before now : List ℕ) (done : Unit {0}) (error : LinkError) → count < 2 ^ 64
+pub machine_refused : (old middle new : MachineState) (count : ℕ) (refusal : Refusal)
+    {before now : List ℕ} (done : Unit {0}) {error : LinkError} → count < 2 ^ 64
     → SendsWaiting old.end middle.end (Ok done)
     → EndAnswers middle.end (PutOut count) (Refused refusal) new.end
     → error ≡ error_after (Conn refusal) → now ≡ before
     → PutsWaiting old new count before now (Err error)
-machine_refused old middle new count refusal before now done error typed sends answers why nothing
-    course end is was =
-    ends_refused (Happens course old.kept) (sends_at course old.kept) (puts_at course old.kept)
-    course.values old.end middle.end new.end end count refusal before now done error typed sends
-    answers why nothing is was
+unfolding IsTypedAct PutOutSo
+machine_refused old middle new count refusal done typed sends answers why nothing course end is was
+    =
+    let sent = sends course.values end is in
+    let call = answers course.values sent.0 sent.1 in
+    let after = end_with_log sent.0 (with_call sent.0.log (PutOut count) (Refused refusal)) in
+    record {
+      after = after;
+      happened = puts_at course old.kept sent.0 count (Refused refusal)
+          (sends_at course old.kept was sent.2) typed call.0;
+      represents = call.1;
+      same = same_twice (sent_same sent.2) (same_by_call sent.0 (PutOut count) (Refused refusal)
+          (refused_failed sent.0.log (PutOut count) refusal));
+      so = (
+        put_out_ends call.0 why,
+        nothing,
+        refused_given sent.0.log count refusal ∙ sent_given (given_within is) sent.2,
+      );
+    }
 
-pub machine_unsent : (old new : Held) (count : ℕ) (before now : List ℕ) (error : LinkError)
+-- or what waits can't be sent.
+pub machine_unsent : (old new : MachineState) (count : ℕ) (before now : List ℕ) (error : LinkError)
     → SendsWaiting old.end new.end (Err error) → now ≡ before
     → PutsWaiting old new count before now (Err error)
+unfolding PutOutSo
 machine_unsent old new count before now error sends nothing course end is was =
-    ends_unsent (Happens course old.kept) (sends_at course old.kept) course.values old.end new.end
-    end count before now error sends nothing is was
+    let sent = sends course.values end is in
+    record {
+      after = sent.0;
+      happened = sends_at course old.kept was sent.2;
+      represents = sent.1;
+      same = sent_same sent.2;
+      so = (
+        sent_error sent.2,
+        nothing,
+        sent_given (given_within is) sent.2,
+      );
+    }
 
 -- It goes on then.
-goes_as : (course : Course) (old new : Kept) (before after : EndLog) (next : Next) → new ≡ old
-    → IsSameOfMessages before after → Keeps course.message old before next
+goes_as : (course : Course) {old new : MessageState} {before after : EndLog} (next : Next)
+    → new ≡ old → IsSameOfMessages before after → Keeps course.message old before next
     → Keeps course.message new after next
-goes_as course old new before after next kept same keeps =
-    subst (λ (one : Kept). Keeps course.message one after next) (sym kept)
-    (keeps_same course.message old before after next same keeps)
+goes_as course {old} {before} {after} next kept same keeps =
+    rw kept (keeps_same course.message old before after next same keeps)
 
 -- what is driven without a link
 abbrev pub unlinked : Values → SentMessage → Course
@@ -196,9 +144,7 @@ server_has old new count before now result kept puts values end is was =
       same = put.same;
       so = put.so;
       goes_on = λ serving.
-          let keeps = goes_as course (Serving old.requests old.answered)
-          (Serving new.requests new.answered) end put.after nexts.Again kept put.same
-          (serving.keeps, serving.count) in
+          let keeps = goes_as course nexts.Again kept put.same (serving.keeps, serving.count) in
           record {
             responding = put.happened;
             represents = put.represents;
@@ -217,8 +163,7 @@ unfolding Keeps
 client_has old new count before now result kept puts values message end is was =
     let course = unlinked values message in
     let put = puts course end is was in
-    let goes = λ (next : Next). goes_as course (Fetching old.id old.coming old.whole)
-    (Fetching new.id new.coming new.whole) end put.after next kept put.same in
+    let goes = λ (next : Next). goes_as course next kept put.same in
     record {
       after = put.after;
       fetching = put.happened;

@@ -1,21 +1,16 @@
 -- What is given back and sent before output is put out, and what that leaves.
-use Rattle.std.proofs.Common.{◌≡◌, ◌≢◌, ◌≤◌, true, false, length, Option, Some, None, is_some}
-use Rattle.std.proofs.Common.{Result, Ok, Err, refl, sym, ap, ◌∙◌, subst, arith}
-use Rattle.h2_frame.specs.declared.code.Code.{Code}
+use Rattle.h2_engines.proofs.Names.{EndRepresents}
+use Rattle.h2_engines.proofs.Names.{◌≡◌, ◌≢◌, ◌≤◌, true, false, length, Option, Some, None, Result}
+use Rattle.h2_engines.proofs.Names.{Ok, Err, refl, sym, ◌∙◌, subst, arith, Code, Values, Log}
+use Rattle.h2_engines.proofs.Names.{given_out, End, EndRefusal, EndLog, LinkError}
+use Rattle.std.proofs.Common.{is_some}
 use Rattle.h2_log.specs.declared.refusal.Refusal.TheVariants as reasons
-use Rattle.h2_log.specs.Acts.{Values}
-use Rattle.h2_log.specs.Log.{Log}
 use Rattle.h2_conn.specs.declared.conn.Conn.{Conn}
 use Rattle.h2_conn.specs.Conn.{ConnRepresents}
-use Rattle.h2_pair.specs.Pairs.{given_out}
-use Rattle.h2_ends.specs.declared.end.End.{End}
-use Rattle.h2_ends.specs.declared.refusal.EndRefusal.{EndRefusal}
 use Rattle.h2_ends.specs.declared.refusal.EndRefusal.TheVariants as refusals
-use Rattle.h2_ends.specs.Ends.{EndLog}
 use Rattle.h2_ends.specs.EndCalls.{MayReleaseAll}
-use Rattle.h2_link.specs.declared.error.LinkError.{LinkError}
 use Rattle.h2_link.specs.declared.error.LinkError.TheVariants as errors
-use Rattle.h2_engines.specs.Machines.{Kept, Course, Happens}
+use Rattle.h2_engines.specs.Machines.{MessageState, Course, Happens}
 use Rattle.h2_engines.specs.ServerSteps.{IsSameOfMessages, ReleasesSome, PumpsSome, EndsAfter}
 use Rattle.h2_engines.specs.ServerSteps.{EndsRelease}
 use Rattle.h2_engines.specs.WithoutLink.{HasSent, has_failed, sends, releases_no_more}
@@ -24,7 +19,7 @@ use Rattle.h2_engines.proofs.MachineLaws.{pumps_at, releases_at}
 use Rattle.h2_engines.proofs.ResponderStalls.{pump_ends}
 use Rattle.h2_engines.proofs.ServeLinkLogs.{writes_given}
 use Rattle.h2_engines.proofs.ServeLinkPumps.{StaysOn, released_stays, pumped_stays, stays_same}
-use Rattle.h2_engines.proofs.ServeLinkPumps.{stays_as, stays_twice}
+use Rattle.h2_engines.proofs.ServeLinkPumps.{MayPumpOn, stays_as, stays_twice}
 use Rattle.h2_engines.proofs.TurnsPassed.{turns_of_pump, turns_of_release}
 
 -- What `failed` answers of any log that the connection represents.
@@ -50,17 +45,23 @@ pub none_failed : (failed : Option Code) → is_some failed ≡ false → failed
 none_failed None up = refl
 none_failed (Some code) up = cc
 
-pub is_up : (conn : Conn) (failed : Option Code) (values : Values) (log : Log)
+is_up : (conn : Conn) (failed : Option Code) (values : Values) (log : Log)
     → ReadsFailed conn failed → is_some failed ≡ false → ConnRepresents values conn log
     → log.failed ≡ None
 is_up conn failed values log reads up represents =
     sym (reads values log represents) ∙ none_failed failed up
 
-pub is_down : (conn : Conn) (failed : Option Code) (values : Values) (log : Log)
-    → ReadsFailed conn failed → is_some failed ≡ true → ConnRepresents values conn log
-    → log.failed ≢ None
-is_down conn failed values log reads some represents none =
-    some_failed failed some (reads values log represents ∙ none)
+pub end_up : (old : End) (failed : Option Code) → ReadsFailed old.conn failed
+    → is_some failed ≡ false → (course : Course) (end : EndLog)
+    → EndRepresents course.values old end → end.log.failed ≡ None
+end_up old failed reads none course end represents =
+    is_up old.conn failed course.values end.log reads none represents.streams.conn
+
+pub end_down : (old : End) (failed : Option Code) → ReadsFailed old.conn failed
+    → is_some failed ≡ true → (course : Course) (end : EndLog)
+    → EndRepresents course.values old end → end.log.failed ≢ None
+end_down old failed reads some course end represents none =
+    some_failed failed some (reads course.values end.log represents.streams.conn ∙ none)
 
 -- and while it is up, a release is refused only when out of memory.
 pub release_memory : (end : EndLog) (answer : Result (Unit {0}) EndRefusal) (after : EndLog)
@@ -87,19 +88,16 @@ not_released old new failed error reads none released values end represents =
     )
 
 -- Then what waits is sent, as far as it goes.
-pub sends_then : (old middle new : End) (failed : Option Code) (done also : Unit {0})
-    → ReadsFailed old.conn failed → is_some failed ≡ false → ReleasesSome old middle (Ok done)
-    → PumpsSome middle new (Ok also) → SendsWaiting old new (Ok also)
-sends_then old middle new failed done also reads none released pumped values end represents =
+pub sends_so : (old middle new : End) (failed : Option Code) (done : Unit {0})
+    (result : Result (Unit {0}) LinkError) → ReadsFailed old.conn failed
+    → is_some failed ≡ false → ReleasesSome old middle (Ok done) → PumpsSome middle new result
+    → SendsWaiting old new result
+sends_so old middle new failed done (Ok also) reads none released pumped values end represents =
     let up = is_up old.conn failed values end.log reads none represents.streams.conn in
     let first = released.1 values end represents in
     let second = pumped.1 values first.0 first.2 in
     (second.0, second.2, sends first.0 released.0 pumped.0 up first.1 second.1)
-
-pub not_sent : (old middle new : End) (failed : Option Code) (done : Unit {0}) (error : LinkError)
-    → ReadsFailed old.conn failed → is_some failed ≡ false → ReleasesSome old middle (Ok done)
-    → PumpsSome middle new (Err error) → SendsWaiting old new (Err error)
-not_sent old middle new failed done error reads none released pumped values end represents =
+sends_so old middle new failed done (Err error) reads none released pumped values end represents =
     let up = is_up old.conn failed values end.log reads none represents.streams.conn in
     let first = released.1 values end represents in
     let second = pumped.1 values first.0 first.2 in
@@ -111,68 +109,56 @@ not_sent old middle new failed done error reads none released pumped values end 
           first.1 second.1,
     )
 
--- Whatever was answered.
-pub sends_so : (old middle new : End) (failed : Option Code) (done : Unit {0})
-    (result : Result (Unit {0}) LinkError) → ReadsFailed old.conn failed
-    → is_some failed ≡ false → ReleasesSome old middle (Ok done) → PumpsSome middle new result
-    → SendsWaiting old new result
-sends_so old middle new failed done (Ok also) reads none released pumped =
-    sends_then old middle new failed done also reads none released pumped
-sends_so old middle new failed done (Err error) reads none released pumped =
-    not_sent old middle new failed done error reads none released pumped
+-- What holds of an end, and still does after a release and a pump, holds after both.
+sent_holds : (P : EndLog → Type 0)
+    → ((before after : EndLog) (result : Result (Unit {0}) EndRefusal) → P before → MayReleaseAll
+    before result after → P after) → MayPumpOn P
+    → {before after : EndLog} {result : Result (Unit {0}) LinkError} → P before
+    → HasSent before after result → P after
+sent_holds P release pump was (has_failed failed same) = subst P (sym same) was
+sent_holds P release pump {before} {after} was (sends middle released sent up may then) =
+    pump middle after sent (release before middle released was may) then
+sent_holds P release pump {before} {after} was (releases_no_more released error is up may) =
+    release before after released was may
+sent_holds P release pump {before} {after} was
+    (sends_no_more middle released sent error is up may then) =
+    pump middle after sent (release before middle released was may) then
 
 -- The connection goes on, and nothing of a message has happened.
-pub sent_stays : (before after : EndLog) (result : Result (Unit {0}) LinkError)
+pub sent_stays : {before after : EndLog} {result : Result (Unit {0}) LinkError}
     → HasSent before after result → StaysOn before after
-sent_stays before after result (has_failed failed same) = stays_as before after same
-sent_stays before after result (sends middle released sent up may then) =
-    stays_twice before middle after (released_stays before released middle may)
-    (pumped_stays middle sent after then)
-sent_stays before after result (releases_no_more released error is up may) =
-    released_stays before released after may
-sent_stays before after result (sends_no_more middle released sent error is up may then) =
-    stays_twice before middle after (released_stays before released middle may)
-    (pumped_stays middle sent after then)
+sent_stays {before} sent =
+    sent_holds (StaysOn before)
+    (λ one two said was may. stays_twice was (released_stays one said two may))
+    (λ one two said was may. stays_twice was (pumped_stays one said two may))
+    (stays_as {before = before} {after = before} refl) sent
 
-pub sent_same : (before after : EndLog) (result : Result (Unit {0}) LinkError)
+pub sent_same : {before after : EndLog} {result : Result (Unit {0}) LinkError}
     → HasSent before after result → IsSameOfMessages before after
-sent_same before after result sent = stays_same before after (sent_stays before after result sent)
+sent_same sent = stays_same (sent_stays sent)
 
-pub sent_given : (before after : EndLog) (result : Result (Unit {0}) LinkError)
+pub sent_given : {before after : EndLog} {result : Result (Unit {0}) LinkError}
     → before.log.given ≤ length before.log.written → HasSent before after result
     → given_out after.log ≡ given_out before.log
-sent_given before after result within sent =
-    writes_given before.log after.log within (sent_stays before after result sent).goes.writes
+sent_given within sent = writes_given within (sent_stays sent).goes.writes
 
 -- No turn is undone.
-pub sent_turns : (before after : EndLog) (result : Result (Unit {0}) LinkError)
+pub sent_turns : {before after : EndLog} {result : Result (Unit {0}) LinkError}
     → HasSent before after result → length before.log.turns ≤ length after.log.turns
-sent_turns before after result (has_failed failed same) =
-    let all = ap (λ (one : EndLog). length one.log.turns) same in omega (arith, all)
-sent_turns before after result (sends middle released sent up may then) =
-    omega (arith, turns_of_release before middle released may, turns_of_pump middle after sent then)
-sent_turns before after result (releases_no_more released error is up may) =
-    turns_of_release before after released may
-sent_turns before after result (sends_no_more middle released sent error is up may then) =
-    omega (arith, turns_of_release before middle released may, turns_of_pump middle after sent then)
+sent_turns {before} sent =
+    sent_holds (λ one. length before.log.turns ≤ length one.log.turns)
+    (λ one two said was may. omega (arith, was, turns_of_release one two said may))
+    (λ one two said was may. omega (arith, was, turns_of_pump one two said may)) (omega arith)
+    sent
 
-pub sent_error : (before after : EndLog) (error : LinkError) → HasSent before after (Err error)
+pub sent_error : {before after : EndLog} {error : LinkError} → HasSent before after (Err error)
     → error ≡ errors.Memory
-sent_error before after error (releases_no_more released is same up may) = same
-sent_error before after error (sends_no_more middle released sent is same up may then) = same
+sent_error (releases_no_more released is same up may) = same
+sent_error (sends_no_more middle released sent is same up may then) = same
 
 -- It may have happened at a machine.
-pub sends_at : (course : Course) (kept : Kept) (before after : EndLog)
-    (result : Result (Unit {0}) LinkError) → Happens course kept before
+pub sends_at : (course : Course) (kept : MessageState) {before after : EndLog}
+    {result : Result (Unit {0}) LinkError} → Happens course kept before
     → HasSent before after result → Happens course kept after
-sends_at course kept before after result was (has_failed failed same) =
-    subst (Happens course kept) (sym same) was
-sends_at course kept before after result was (sends middle released sent up may then) =
-    pumps_at course kept middle after sent (releases_at course kept before middle released was may)
-    then
-sends_at course kept before after result was (releases_no_more released error is up may) =
-    releases_at course kept before after released was may
-sends_at course kept before after result was
-    (sends_no_more middle released sent error is up may then) =
-    pumps_at course kept middle after sent (releases_at course kept before middle released was may)
-    then
+sends_at course kept was sent =
+    sent_holds (Happens course kept) (releases_at course kept) (pumps_at course kept) was sent

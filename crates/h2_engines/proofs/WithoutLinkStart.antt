@@ -1,10 +1,8 @@
 -- A new server without a link.
-use Rattle.std.proofs.Common.{◌≡◌, [], None, refl}
-use Rattle.h2_log.specs.declared.role.Role.TheVariants.{Server}
-use Rattle.h2_log.specs.Acts.{Values, AreInRange}
+use Rattle.h2_engines.proofs.Names.{◌≡◌, [], None, refl, Server, Values, AreInRange, EndRepresents}
+use Rattle.h2_engines.proofs.Names.{new_end}
 use Rattle.h2_log.specs.LogCalls.{opened}
 use Rattle.h2_log.specs.LogSteps.{with_sent}
-use Rattle.h2_ends.specs.Represents.{EndRepresents, new_end}
 use Rattle.h2_engines.specs.declared.responder.Responder.{Responder}
 use Rattle.h2_engines.specs.ServerHistories.{begins}
 use Rattle.h2_engines.specs.WithoutLink.{IsServingAlone}
@@ -15,11 +13,11 @@ new_up : (values : Values) → (opened Server values).failed ≡ None
 unfolding opened with_sent
 new_up values = refl
 
-pub new_serves : (values : Values) (responder : Responder) → AreInRange values
+pub new_serves : {values : Values} (responder : Responder) → AreInRange values
     → EndRepresents values responder.server.end (new_end Server values)
     → responder.requests.kept.entries ≡ [] → responder.answered ≡ 0
     → IsServingAlone values responder (new_end Server values)
-new_serves values responder range represents none zero =
+new_serves {values} responder range represents none zero =
     record {
       responding = begins range;
       represents = represents;

@@ -37,14 +37,14 @@ use Rattle.h2_engines.specs.WithoutLink.{PutOutSo}
 -- what a machine keeps beside its end: a server the requests that aren't whole, and how many it has
 -- answered; a client the stream of its request, what has come of the response, and whether it is
 -- whole
-pub data Kept : Type 0 where
-  Serving : (requests : Requests) → (answered : ℕ) → Kept
-  Fetching : (id : ℕ) → (coming : Coming) → (whole : Bool) → Kept
+pub data MessageState : Type 0 where
+  Serving : (requests : Requests) → (answered : ℕ) → MessageState
+  Fetching : (id : ℕ) → (coming : Coming) → (whole : Bool) → MessageState
 
 -- a machine
-pub record Held : Type 0 where
+pub record MachineState : Type 0 where
   pub end : End
-  pub kept : Kept
+  pub kept : MessageState
 
 -- what is driven: an end with these values, a client with this message; and what its link had given
 -- and taken at the start
@@ -54,12 +54,12 @@ pub record Course : Type 0 where
   pub start : Traffic
 
 -- What may have happened at the end of a machine.
-abbrev pub Happens : Course → Kept → EndLog → Type 0
+abbrev pub Happens : Course → MessageState → EndLog → Type 0
 Happens course (Serving requests answered) end = IsResponding course.values end
 Happens course (Fetching id coming whole) end = IsFetching course.values course.message end
 
 -- What a machine keeps of what has happened while the connection is up, by what is to be done.
-unfoldable pub Keeps : SentMessage → Kept → EndLog → Next → Type 0
+unfoldable pub Keeps : SentMessage → MessageState → EndLog → Next → Type 0
 Keeps message (Serving requests answered) end next =
     KeepsNext requests end next × (answered ≡ length end.accepted)
 Keeps message (Fetching id coming whole) end nexts.Whole =
@@ -73,7 +73,7 @@ Keeps message (Fetching id coming whole) end next =
 
 -- A machine that is driven, at which this has happened and that is to be done: the connection is
 -- up, and these octets that the link gave were not used yet.
-pub record IsDriven (course : Course) (now : Traffic) (held : Held) (end : EndLog)
+pub record IsDriven (course : Course) (now : Traffic) (held : MachineState) (end : EndLog)
     (unused : List ℕ) (next : Next) : Type 0 where
   pub happened : Happens course held.kept end
   pub represents : EndRepresents course.values held.end end
@@ -93,7 +93,7 @@ MayEnd writes serves error = IsOf serves error
 
 -- what holds of a client that ends early: its message was accepted, and its response isn't whole,
 -- unless memory was refused
-abbrev pub Holds : SentMessage → Kept → EndLog → LinkError → Type 0
+abbrev pub Holds : SentMessage → MessageState → EndLog → LinkError → Type 0
 Holds message (Serving requests answered) end error = Unit {0}
 Holds message (Fetching id coming whole) end error =
     (message_for id end.accepted ≡ Some message) × EndsUnfinished end id (Err error)
@@ -118,13 +118,13 @@ pub data ServerStops (writes : Bool) (end : EndLog) (error : LinkError) : Type 0
       → error_after (Conn refusal) ≡ errors.NoProgress → ServerStops writes end error
 
 -- Why a machine ends by itself; a client since the stream of its request was dropped.
-abbrev pub StopsItself : (writes : Bool) → Kept → EndLog → LinkError → Type 0
+abbrev pub StopsItself : (writes : Bool) → MessageState → EndLog → LinkError → Type 0
 StopsItself writes (Serving requests answered) end error = ServerStops writes end error
 StopsItself writes (Fetching id coming whole) end error =
     (number : ℕ) × (error ≡ errors.Reset number) × WasDropped end id number
 
 -- Why a machine that is driven ends early.
-pub data EndsFor (writes : Bool) (start now : Traffic) (kept : Kept) (end : EndLog)
+pub data EndsFor (writes : Bool) (start now : Traffic) (kept : MessageState) (end : EndLog)
     (error : LinkError) : Type 0 where
   lacks_memory : error ≡ errors.Memory → EndsFor writes start now kept end error
   link_fails : error ≡ errors.Device → writes ≡ true → EndsFor writes start now kept end error
@@ -135,8 +135,8 @@ pub data EndsFor (writes : Bool) (start now : Traffic) (kept : Kept) (end : EndL
   stops_itself : StopsItself writes kept end error → EndsFor writes start now kept end error
 
 -- A machine that is driven has ended early. Without a link nothing is written.
-pub record HasEnded (writes : Bool) (course : Course) (now : Traffic) (held : Held) (end : EndLog)
-    (error : LinkError) : Type 0 where
+pub record HasEnded (writes : Bool) (course : Course) (now : Traffic) (held : MachineState)
+    (end : EndLog) (error : LinkError) : Type 0 where
   pub happened : Happens course held.kept end
   pub represents : EndRepresents course.values held.end end
   pub unused : List ℕ
@@ -148,15 +148,15 @@ pub record HasEnded (writes : Bool) (course : Course) (now : Traffic) (held : He
 
 -- Why a machine can't hear on: the connection has failed, before its response is whole; or it is up
 -- and memory was refused, or the machine ends by itself.
-pub data HearsNoMore (message : SentMessage) (kept : Kept) (end : EndLog) (error : LinkError) :
-    Type 0 where
+pub data HearsNoMore (message : SentMessage) (kept : MessageState) (end : EndLog)
+    (error : LinkError) : Type 0 where
   fails : (code : Code) → end.log.failed ≡ Some code → error ≡ error_with code
       → ((other : LinkError) → Holds message kept end other) → HearsNoMore message kept end error
   gives_up : end.log.failed ≡ None → Holds message kept end error
       → (error ≡ errors.Memory) ⊎ ((writes : Bool) → StopsItself writes kept end error)
       → HearsNoMore message kept end error
 
-pub record HasHeardLast (course : Course) (now : Traffic) (held : Held) (end : EndLog)
+pub record HasHeardLast (course : Course) (now : Traffic) (held : MachineState) (end : EndLog)
     (error : LinkError) : Type 0 where
   pub happened : Happens course held.kept end
   pub represents : EndRepresents course.values held.end end
@@ -165,8 +165,8 @@ pub record HasHeardLast (course : Course) (now : Traffic) (held : Held) (end : E
   pub why : HearsNoMore course.message held.kept end error
 
 -- what was made of octets that were handed to a call of `take`
-unfoldable pub HearsSo : Course → (now : Traffic) → (before : EndLog) → (piece : List ℕ) → Held
-    → EndLog → Result Heard LinkError → Type 0
+unfoldable pub HearsSo : Course → (now : Traffic) → (before : EndLog) → (piece : List ℕ)
+    → MachineState → EndLog → Result Heard LinkError → Type 0
 HearsSo course now before piece held after (Ok heard) =
     IsDriven course now held after (drop heard.used piece) heard.next
     × (length before.log.turns < length after.log.turns)
@@ -174,7 +174,7 @@ HearsSo course now before piece held after (Ok heard) =
 HearsSo course now before piece held after (Err error) =
     HasHeardLast course now held after error × (length before.log.turns ≤ length after.log.turns)
 
-abbrev pub Hears : (old new : Held) → List ℕ → Result Heard LinkError → Type 0
+abbrev pub Hears : (old new : MachineState) → List ℕ → Result Heard LinkError → Type 0
 Hears old new piece result =
     (course : Course) (now : Traffic) (end : EndLog)
     → IsDriven course now old end piece nexts.Again
@@ -187,20 +187,20 @@ IsDue (nexts.Reset id) = Unit {0}
 IsDue next = ⊥
 
 -- what was made of it, where all output was written before if that is said
-unfoldable pub ActedSo : (writes : Bool) → Course → (now : Traffic) → Held → EndLog
+unfoldable pub RespondedSo : (writes : Bool) → Course → (now : Traffic) → MachineState → EndLog
     → (unused : List ℕ) → Result (Unit {0}) LinkError → Type 0
-ActedSo writes course now held after unused (Ok done) =
+RespondedSo writes course now held after unused (Ok done) =
     IsDriven course now held after unused nexts.Again
-ActedSo writes course now held after unused (Err error) =
+RespondedSo writes course now held after unused (Err error) =
     HasEnded writes course now held after error
 
-abbrev pub Acts : (old new : Held) → Next → Result (Unit {0}) LinkError → Type 0
-Acts old new due result =
+abbrev pub Responds : (old new : MachineState) → Next → Result (Unit {0}) LinkError → Type 0
+Responds old new due result =
     (writes : Bool) (course : Course) (now : Traffic) (end : EndLog) (unused : List ℕ)
     → IsDue due → (writes ≡ true → waiting end.log ≡ 0)
     → IsDriven course now old end unused due
     → (after : EndLog) × (length end.log.turns ≤ length after.log.turns)
-    × ActedSo writes course now new after unused result
+    × RespondedSo writes course now new after unused result
 
 -- The end was written out, or as far as it went, in a turn at least.
 pub record WritesOut (P : EndLog → Type 0) (values : Values) (start now : Traffic)
@@ -216,20 +216,11 @@ pub record WritesOut (P : EndLog → Type 0) (values : Values) (start now : Traf
     pub stalls : StallsWriting now after result
 
 -- Whatever has happened at the end of a machine and over the link, what waits is written.
-abbrev pub WritesWaiting : (before now : Traffic) → (old new : Held) → Result (Unit {0}) LinkError
-    → Type 0
+abbrev pub WritesWaiting : (before now : Traffic) → (old new : MachineState)
+    → Result (Unit {0}) LinkError → Type 0
 WritesWaiting before now old new result =
     (course : Course) (end : EndLog) (unused : List ℕ) → EndRepresents course.values old.end end
     → Happens course old.kept end → IsLinked course.start before end.log unused
-    → WritesOut (Happens course old.kept) course.values course.start now end new.end unused result
-
--- The same while the connection is up.
-abbrev pub SendsWhileUp : (before now : Traffic) → (old new : Held) → Result (Unit {0}) LinkError
-    → Type 0
-SendsWhileUp before now old new result =
-    (course : Course) (end : EndLog) (unused : List ℕ) → EndRepresents course.values old.end end
-    → Happens course old.kept end → end.log.failed ≡ None
-    → IsLinked course.start before end.log unused
     → WritesOut (Happens course old.kept) course.values course.start now end new.end unused result
 
 -- what the link has given and taken; without one, that is whatever it was
@@ -238,16 +229,16 @@ flow true real base = real
 flow false real base = base
 
 -- What is due is done, over a link once all that waits is written.
-abbrev pub Does : (writes : Bool) → (before now : Traffic) → (old new : Held) → Next
-    → Result (Unit {0}) LinkError → Type 0
-Does writes before now old new due result =
+abbrev pub WritesAndResponds : (writes : Bool) → (before now : Traffic) → (old new : MachineState)
+    → Next → Result (Unit {0}) LinkError → Type 0
+WritesAndResponds writes before now old new due result =
     (course : Course) (base : Traffic) (end : EndLog) (unused : List ℕ) → IsDue due
     → IsDriven course (flow writes before base) old end unused due
     → (after : EndLog) × (length end.log.turns ≤ length after.log.turns)
-    × ActedSo writes course (flow writes now base) new after unused result
+    × RespondedSo writes course (flow writes now base) new after unused result
 
 -- What can't hear on ends so.
-abbrev pub EndsEarly : (writes : Bool) → (before now : Traffic) → (old new : Held)
+abbrev pub EndsEarly : (writes : Bool) → (before now : Traffic) → (old new : MachineState)
     → (error result : LinkError) → Type 0
 EndsEarly writes before now old new error result =
     (course : Course) (base : Traffic) (end : EndLog)
@@ -256,23 +247,24 @@ EndsEarly writes before now old new error result =
     × HasEnded writes course (flow writes now base) new after result
 
 -- how the taking of a piece ends: with nothing left of it, with a response that is whole, or early
-unfoldable pub TakenSo : (writes : Bool) → Course → (now : Traffic) → Held → EndLog
+unfoldable pub TakenSo : (writes : Bool) → Course → (now : Traffic) → MachineState → EndLog
     → Result Bool LinkError → Type 0
 TakenSo writes course now held after (Ok false) = IsDriven course now held after [] nexts.Again
 TakenSo writes course now held after (Ok true) =
     (unused : List ℕ) × IsDriven course now held after unused nexts.Whole
 TakenSo writes course now held after (Err error) = HasEnded writes course now held after error
 
-abbrev pub Takes : (writes : Bool) → (before now : Traffic) → (old new : Held) → (piece : List ℕ)
-    → Result Bool LinkError → Type 0
-Takes writes before now old new piece result =
+abbrev pub TakesPiece : (writes : Bool) → (before now : Traffic) → (old new : MachineState)
+    → (piece : List ℕ) → Result Bool LinkError → Type 0
+TakesPiece writes before now old new piece result =
     (course : Course) (base : Traffic) (end : EndLog)
     → IsDriven course (flow writes before base) old end piece nexts.Again
     → (after : EndLog) × (length end.log.turns ≤ length after.log.turns)
     × TakenSo writes course (flow writes now base) new after result
 
 -- how the driving over a link ends: where its input has ended, all was used and all is written
-unfoldable pub DrivenSo : Course → (now : Traffic) → Held → EndLog → Result Bool LinkError → Type 0
+unfoldable pub DrivenSo : Course → (now : Traffic) → MachineState → EndLog → Result Bool LinkError
+    → Type 0
 DrivenSo course now held after (Ok false) =
     IsDriven course now held after [] nexts.Again × HasTakenAll course.start now after.log
 DrivenSo course now held after (Ok true) =
@@ -284,7 +276,8 @@ abbrev pub MeetsEnd : Result Bool LinkError → (ended : Bool) → Type 0
 MeetsEnd (Ok false) ended = ended ≡ true
 MeetsEnd result ended = Unit {0}
 
-abbrev pub Drives : (before now : Traffic) → (old new : Held) → Result Bool LinkError → Type 0
+abbrev pub Drives : (before now : Traffic) → (old new : MachineState) → Result Bool LinkError
+    → Type 0
 Drives before now old new result =
     (course : Course) (end : EndLog) → IsDriven course before old end [] nexts.Again
     → (after : EndLog) × DrivenSo course now new after result
@@ -298,7 +291,7 @@ pub record HasPutOut (P : EndLog → Type 0) (values : Values) (new : End) (end 
   pub same : IsSameOfMessages end after
   pub so : PutOutSo end after count before now result
 
-abbrev pub PutsWaiting : (old new : Held) → ℕ → (before now : List ℕ) → Result ℕ LinkError
+abbrev pub PutsWaiting : (old new : MachineState) → ℕ → (before now : List ℕ) → Result ℕ LinkError
     → Type 0
 PutsWaiting old new count before now result =
     (course : Course) (end : EndLog) → EndRepresents course.values old.end end

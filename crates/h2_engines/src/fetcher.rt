@@ -61,34 +61,26 @@ pub struct Fetcher {
 impl Coming {
     // rule: engines (own) A response that is fetched is the message handed out, whole
     /// Keeps what was handed out of the response on a stream, and says whether that is whole.
-    fn note(&mut self, alloc: Global, id: u32, event: EndEvent<'_>) -> Result<bool, AllocError>
-        ensures { IfOk result (λ whole. NotesPart id self.old self.new (event_handed event.entry)
-            whole) }
+    fn note(&mut self, alloc: Global, stream: u32, event: EndEvent<'_>) -> Result<bool, AllocError>
+        ensures { IfOk result (λ whole. NotesPart stream self.old self.new
+            (event_handed event.entry) whole) }
     {
         match event {
-            EndEvent::Interim { id: stream, list } if stream == id => {
+            EndEvent::Interim { id, list } if id == stream => {
                 let list = copy_list(alloc, list)?;
                 self.interims.push(list)?;
                 Ok(false)
             }
-            EndEvent::Head {
-                id: stream,
-                list,
-                end,
-            } if stream == id => {
+            EndEvent::Head { id, list, end } if id == stream => {
                 self.head = Some(copy_list(alloc, list)?);
                 self.body.clear();
                 Ok(end)
             }
-            EndEvent::Body {
-                id: stream,
-                bytes,
-                end,
-            } if stream == id => {
+            EndEvent::Body { id, bytes, end } if id == stream => {
                 self.body.extend_from_slice(bytes)?;
                 Ok(end)
             }
-            EndEvent::Trailers { id: stream, list } if stream == id => {
+            EndEvent::Trailers { id, list } if id == stream => {
                 self.trailers = Some(copy_list(alloc, list)?);
                 Ok(true)
             }
@@ -259,12 +251,12 @@ impl Machine for Fetcher {
 pub(crate) fn hear(
     alloc: Global,
     client: &mut Client,
-    id: u32,
+    stream: u32,
     coming: &mut Coming,
     piece: &[u8],
 ) -> Result<Heard, LinkError>
-    ensures hears { ClientHears client.old.end client.new.end id coming.old coming.new piece.now
-        result }
+    ensures hears { ClientHears client.old.end client.new.end stream coming.old coming.new
+        piece.now result }
     ensures within { IfOk result (λ heard. heard.used ≤ length piece.now) }
     ensures err { IfErr result IsOfClient }
 {
@@ -280,17 +272,13 @@ pub(crate) fn hear(
                     used,
                     next: Next::Done,
                 }),
-                Some(
-                    EndEvent::Reset {
-                        id: stream,
-                        code,
-                        ..
-                    },
-                ) if stream == id => Err(LinkError::Reset(code)),
-                Some(EndEvent::Unprocessed { id: stream }) if stream == id => {
+                Some(EndEvent::Reset { id, code, .. }) if id == stream => {
+                    Err(LinkError::Reset(code))
+                }
+                Some(EndEvent::Unprocessed { id }) if id == stream => {
                     Err(LinkError::Reset(REFUSED_STREAM))
                 }
-                Some(event) => match coming.note(alloc, id, event) {
+                Some(event) => match coming.note(alloc, stream, event) {
                     Ok(true) => Ok(Heard {
                         used,
                         next: Next::Whole,

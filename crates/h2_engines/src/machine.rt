@@ -7,11 +7,10 @@ ghost use Rattle.h2_conn.specs.Conn.{GivesOut, answer_by};
 ghost use Rattle.h2_ends.specs.Represents.{EndAnswers, EndPumps, EndReleases};
 ghost use Rattle.h2_engines.specs.Failures.{EndsWriting, IsOfCall, failures_at_end, failures_by};
 ghost use Rattle.h2_engines.specs.Linked.{traffic};
-ghost use Rattle.h2_engines.specs.Machines.{Held, Hears, Acts, IsOf, MayEnd, Does, EndsEarly};
-ghost use Rattle.h2_engines.specs.Machines.{Takes};
-ghost use Rattle.h2_engines.specs.Machines.{Drives, MeetsEnd, WritesWaiting, SendsWhileUp};
-ghost use Rattle.h2_engines.specs.Machines.{PutsWaiting};
-ghost use Rattle.h2_engines.specs.ServerSteps.{PumpsSome, ReleasesSome};
+ghost use Rattle.h2_engines.specs.Machines.{MachineState, Hears, Responds, IsOf, MayEnd};
+ghost use Rattle.h2_engines.specs.Machines.{WritesAndResponds, EndsEarly, TakesPiece};
+ghost use Rattle.h2_engines.specs.Machines.{Drives, MeetsEnd, WritesWaiting, PutsWaiting};
+ghost use Rattle.h2_engines.specs.ServerSteps.{PumpsSome};
 ghost use Rattle.h2_engines.specs.WithoutLink.{SendsWaiting};
 
 use crate::copies::room_for_input;
@@ -38,7 +37,7 @@ pub(crate) struct Heard {
 /// out.
 pub(crate) trait Machine {
     /// Its end, and what it keeps beside that.
-    ghost held: { Self → Held };
+    ghost held: { Self → MachineState };
 
     /// Whether it is a server.
     ghost serves: { Bool };
@@ -58,7 +57,7 @@ pub(crate) trait Machine {
 
     /// Makes an answer or a reset that is due.
     fn act(&mut self, due: Next) -> Result<(), LinkError>
-        ensures acts { Acts (held self.old) (held self.new) due result }
+        ensures acts { Responds (held self.old) (held self.new) due result }
         ensures err { IfErr result (IsOf serves) };
 
     /// Sends what waits of messages, as windows allow.
@@ -79,18 +78,6 @@ pub(crate) trait Machine {
             out.old.items out.new.items) }
         ensures err { OnErr result (out.new.items ≡ out.old.items) }
         ensures kept { (held self.new).kept ≡ (held self.old).kept };
-}
-
-/// Gives back all that is owed. What a full output holds back is given back later.
-fn release<M: Machine>(machine: &mut M) -> Result<(), LinkError>
-    ensures releases { ReleasesSome (M.held machine.old).end (M.held machine.new).end result }
-    ensures kept { (M.held machine.new).kept ≡ (M.held machine.old).kept }
-    ensures err { IfErr result IsOfCall }
-{
-    match machine.release_all() {
-        Ok(()) | Err(EndRefusal::Conn(Refusal::OutputFull)) => Ok(()),
-        Err(refusal) => Err(error_of_refusal(refusal)),
-    }
 }
 
 /// Sends what waits of messages, as windows allow.
@@ -128,31 +115,6 @@ fn write_out<M: Machine, L: Link>(machine: &mut M, link: &mut L) -> Result<(), L
     Err(LinkError::NoProgress)
 }
 
-// rule: engines (own) Over a link input is used in order and all output is written
-// rule (tested): engines (own) Where the output was full it pumps and writes before it reads
-// rule: engines (own) N5 comes only where a write has taken nothing
-/// Writes all that waits, and what more can be sent where the output was full.
-fn send<M: Machine, L: Link>(machine: &mut M, link: &mut L) -> Result<(), LinkError>
-    requires { L.faults link.old < 2 ^ 64 - 1 }
-    ensures sends { SendsWhileUp
-        (traffic (L.given link.old) (L.taken link.old) (L.stalled link.old))
-        (traffic (L.given link.new) (L.taken link.new) (L.stalled link.new))
-        (M.held machine.old) (M.held machine.new) result }
-    ensures kept { (M.held machine.new).kept ≡ (M.held machine.old).kept }
-    ensures failures { L.faults link.new ≡ failures_at_end (L.faults link.old) result }
-    ensures err { IfErr result EndsWriting }
-{
-    for _ in 0..u64::MAX {
-        let is_full = machine.conn().waiting() >= FULL_OUTPUT;
-        write_out(machine, link)?;
-        if !is_full {
-            return Ok(());
-        }
-        pump(machine)?;
-    }
-    Err(LinkError::NoProgress)
-}
-
 /// Does what is due, once all that waits is written, where it is written to a link.
 fn do_due<M: Machine, L: Link>(
     machine: &mut M,
@@ -161,7 +123,7 @@ fn do_due<M: Machine, L: Link>(
     due: Next,
 ) -> Result<(), LinkError>
     requires { L.faults link.old < 2 ^ 64 - 1 }
-    ensures does { Does writes
+    ensures does { WritesAndResponds writes
         (traffic (L.given link.old) (L.taken link.old) (L.stalled link.old))
         (traffic (L.given link.new) (L.taken link.new) (L.stalled link.new))
         (M.held machine.old) (M.held machine.new) due result }
@@ -215,7 +177,7 @@ pub(crate) fn take_all<M: Machine, L: Link>(
     piece: &[u8],
 ) -> Result<bool, LinkError>
     requires { L.faults link.old < 2 ^ 64 - 1 }
-    ensures takes { Takes writes
+    ensures takes { TakesPiece writes
         (traffic (L.given link.old) (L.taken link.old) (L.stalled link.old))
         (traffic (L.given link.new) (L.taken link.new) (L.stalled link.new))
         (M.held machine.old) (M.held machine.new) piece.now result }
@@ -240,8 +202,11 @@ pub(crate) fn take_all<M: Machine, L: Link>(
     Err(LinkError::NoProgress)
 }
 
+// rule: engines (own) Over a link input is used in order and all output is written
+// rule (tested): engines (own) Where the output was full it pumps and writes before it reads
+// rule: engines (own) N5 comes only where a write has taken nothing
 /// Drives a machine over a link until its response is whole, or the input has ended: answers
-/// whether it is whole.
+/// whether it is whole. Where the output was full, what more can be sent is written before a read.
 pub(crate) fn drive<M: Machine, L: Link>(machine: &mut M, link: &mut L) -> Result<bool, LinkError>
     requires { L.faults link.old < 2 ^ 64 - 1 }
     ensures drives { Drives
@@ -254,7 +219,12 @@ pub(crate) fn drive<M: Machine, L: Link>(machine: &mut M, link: &mut L) -> Resul
 {
     let mut input = room_for_input(machine.alloc())?;
     for _ in 0..u64::MAX {
-        send(machine, link)?;
+        let is_full = machine.conn().waiting() >= FULL_OUTPUT;
+        write_out(machine, link)?;
+        if is_full {
+            pump(machine)?;
+            continue;
+        }
         let is_whole = match link.read(&mut input) {
             Ok(0) => return Ok(false),
             Ok(count) => take_all(machine, link, true, &input[..count])?,
@@ -268,7 +238,8 @@ pub(crate) fn drive<M: Machine, L: Link>(machine: &mut M, link: &mut L) -> Resul
     Err(LinkError::NoProgress)
 }
 
-/// Gives back all that is owed and sends what waits of messages, while the connection is up.
+/// Gives back all that is owed and sends what waits of messages, while the connection is up. What a
+/// full output holds back is given back later.
 fn send_waiting<M: Machine>(machine: &mut M) -> Result<(), LinkError>
     ensures sends { SendsWaiting (M.held machine.old).end (M.held machine.new).end result }
     ensures kept { (M.held machine.new).kept ≡ (M.held machine.old).kept }
@@ -277,8 +248,10 @@ fn send_waiting<M: Machine>(machine: &mut M) -> Result<(), LinkError>
     if machine.conn().failed().is_some() {
         return Ok(());
     }
-    release(machine)?;
-    pump(machine)
+    match machine.release_all() {
+        Ok(()) | Err(EndRefusal::Conn(Refusal::OutputFull)) => pump(machine),
+        Err(refusal) => Err(error_of_refusal(refusal)),
+    }
 }
 
 /// Sends what waits, and appends at most so many octets of the output.

@@ -1,9 +1,7 @@
 -- The next field is copied.
-use Rattle.std.proofs.Common.{◌≡◌, Some}
-use Rattle.hpack.specs.declared.types.field.Field.{Field}
-use Rattle.std.specs.List.{slice_get}
+use Rattle.h2_engines.proofs.Names.{◌≡◌, Some, Field, slice_get, slice_get_within}
+use Rattle.h2_engines.proofs.Names.{get_or_from_slice_get}
 use Rattle.std.proofs.lemmas.List.{take_more}
-use Rattle.std.proofs.lemmas.Option.{slice_get_within, get_or_from_slice_get}
 use Rattle.h2_engines.proofs.copies.copy_list.Goals as goal
 
 pub loop-place-preserved : goal.loop-place-preserved

@@ -1,5 +1,5 @@
 -- The fields so far are copied.
-use Rattle.std.proofs.Common.{◌≡◌, take}
+use Rattle.h2_engines.proofs.Names.{◌≡◌, take}
 use Rattle.h2_engines.proofs.copies.copy_list.Given as goal
 
 abbrev pub invariant-loop-place : goal.invariant-loop-place

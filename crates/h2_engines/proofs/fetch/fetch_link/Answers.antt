@@ -1,8 +1,5 @@
 -- Each return, by how the client was driven.
-use Rattle.std.proofs.Common.{Bool, refl, ◌∙◌}
-use Rattle.std.proofs.lemmas.Result.{err_from_is_err_and}
-use Rattle.h2_config.specs.ConfigValues.{values_of}
-use Rattle.h2_message.specs.Values.{message_value}
+use Rattle.h2_engines.proofs.Names.{Bool, refl, ◌∙◌, err_from_is_err_and, message_value}
 use Rattle.h2_engines.specs.declared.fetcher.Fetched.{Fetched}
 use Rattle.h2_engines.proofs.FetchEnds.{ends_at_once, drive_fetches, drive_not_cut, drive_cut_off}
 use Rattle.h2_engines.proofs.FetchEnds.{drive_whole, fetched_not_cut}
@@ -14,27 +11,24 @@ use Rattle.h2_engines.proofs.fetch.fetch_link.Goals as goal
 pub returns-in_err-fetcher-clause-fetches : goal.returns-in_err-fetcher-clause-fetches
 returns-in_err-fetcher-clause-fetches g c =
     let answer = err_from_is_err_and c.from_residual.result c.from_residual.ensures.1 in
-    rw (answer.1, answer.2)
-    (ends_at_once (values_of c.args.config) (message_value c.args.message) _
+    rw (answer.1, answer.2) (ends_at_once (message_value c.args.message) _
     c.in_err-fetcher.field-0.0 c.args.config.in_range c.in_err-fetcher.ensures.refused)
 
 pub returns-in_err-is_whole-clause-fetches : goal.returns-in_err-is_whole-clause-fetches
 returns-in_err-is_whole-clause-fetches g c =
     let answer = err_from_is_err_and c.from_residual-in_err-is_whole.result
     c.from_residual-in_err-is_whole.ensures.1 in
-    rw (answer.1, answer.2)
-    (drive_fetches (values_of c.args.config) (message_value c.args.message) _ _
-    c.in_ok-fetcher.fetcher c.drive.new.machine c.in_err-is_whole.field-0.0 c.args.config.in_range
-    c.in_ok-fetcher.ensures.unfinished c.in_ok-fetcher.ensures.ok c.in_err-is_whole.ensures.drives)
+    rw (answer.1, answer.2) (drive_fetches _ _ c.drive.new.machine c.in_err-is_whole.field-0.0
+    c.args.config.in_range c.in_ok-fetcher.ensures.unfinished c.in_ok-fetcher.ensures.ok
+    c.in_err-is_whole.ensures.drives)
 
 pub returns-in_err-is_whole-clause-cut_off : goal.returns-in_err-is_whole-clause-cut_off
 returns-in_err-is_whole-clause-cut_off g c =
     let answer = err_from_is_err_and c.from_residual-in_err-is_whole.result
     c.from_residual-in_err-is_whole.ensures.1 in
-    rw (answer.1, answer.2)
-    (drive_not_cut (values_of c.args.config) (message_value c.args.message) _ _
-    c.in_ok-fetcher.fetcher c.drive.new.machine c.in_err-is_whole.field-0.0 _ c.args.config.in_range
-    c.in_ok-fetcher.ensures.unfinished c.in_ok-fetcher.ensures.ok c.in_err-is_whole.ensures.drives)
+    rw (answer.1, answer.2) (drive_not_cut _ _ c.drive.new.machine c.in_err-is_whole.field-0.0 _
+    c.args.config.in_range c.in_ok-fetcher.ensures.unfinished c.in_ok-fetcher.ensures.ok
+    c.in_err-is_whole.ensures.drives)
 
 pub returns-in_err-is_whole-clause-failures : goal.returns-in_err-is_whole-clause-failures
 returns-in_err-is_whole-clause-failures g c =
@@ -45,8 +39,7 @@ returns-in_err-is_whole-clause-failures g c =
 
 pub returns-then-is_whole-clause-fetches : goal.returns-then-is_whole-clause-fetches
 returns-then-is_whole-clause-fetches g c =
-    drive_whole (values_of c.args.config) (message_value c.args.message) _ _
-    c.in_ok-fetcher.fetcher c.drive.new.machine c.in_ok-is_whole.is_whole c.into_fetched.result
+    drive_whole _ _ c.drive.new.machine c.in_ok-is_whole.is_whole c.into_fetched.result
     c.if-is_whole.true c.args.config.in_range c.in_ok-fetcher.ensures.unfinished
     c.in_ok-fetcher.ensures.ok c.in_ok-is_whole.ensures.drives c.into_fetched.ensures.ok
     c.into_fetched.ensures.none
@@ -62,8 +55,7 @@ returns-then-is_whole-clause-failures g c =
 
 pub returns-clause-fetches : goal.returns-clause-fetches
 returns-clause-fetches g c =
-    drive_cut_off (values_of c.args.config) (message_value c.args.message) _ _
-    c.in_ok-fetcher.fetcher c.drive.new.machine c.in_ok-is_whole.is_whole c.if-is_whole.false
+    drive_cut_off _ _ c.drive.new.machine c.in_ok-is_whole.is_whole c.if-is_whole.false
     c.args.config.in_range c.in_ok-fetcher.ensures.unfinished c.in_ok-fetcher.ensures.ok
     c.in_ok-is_whole.ensures.drives
 

@@ -1,34 +1,25 @@
 -- What is due is done once all that waits was written, or at once.
-use Rattle.std.proofs.Common.{true, false}
-use Rattle.std.proofs.lemmas.Result.{err_from_is_err_and}
-use Rattle.h2_engines.specs.Linked.{traffic}
-use Rattle.h2_engines.proofs.MachineTakes.{wrote_due, unwritten_due, plain_due, does_as}
+use Rattle.h2_engines.proofs.Names.{err_from_is_err_and}
+use Rattle.h2_engines.proofs.MachineTakes.{wrote_due, unwritten_due, plain_due}
+use Rattle.h2_engines.proofs.MachineViews.{begun}
 use Rattle.h2_engines.proofs.machine.do_due.Goals as goal
 
 pub returns-in_err-write_out-clause-does : goal.returns-in_err-write_out-clause-does
 returns-in_err-write_out-clause-does g c =
     let answer = err_from_is_err_and c.from_residual.result c.from_residual.ensures.1 in
-    rw (answer.1, answer.2)
-    (does_as c.args.writes true _ _ (g.M.Machine.held c.args.machine.now)
-    (g.M.Machine.held c.write_out.new.machine) c.args.due _ c.if-writes.true
-    (unwritten_due _ _ (g.M.Machine.held c.args.machine.now)
-    (g.M.Machine.held c.write_out.new.machine) c.args.due c.in_err-write_out.field-0.0
-    c.in_err-write_out.ensures.kept c.in_err-write_out.ensures.writes
-    c.in_err-write_out.ensures.err))
+    rw (answer.1, answer.2, c.if-writes.true) (unwritten_due _ _
+    (g.M.Machine.held c.args.machine.now) (g.M.Machine.held c.write_out.new.machine) c.args.due
+    c.in_err-write_out.field-0.0 c.in_err-write_out.ensures.kept
+    c.in_err-write_out.ensures.writes c.in_err-write_out.ensures.err)
 
 pub returns-then-writes-clause-does : goal.returns-then-writes-clause-does
 returns-then-writes-clause-does g c =
-    does_as c.args.writes true _ _ (g.M.Machine.held c.args.machine.now)
-    (g.M.Machine.held c.act.new.self) c.args.due c.act.result c.if-writes.true
-    (wrote_due _ _ (g.M.Machine.held c.args.machine.now) (g.M.Machine.held c.write_out.new.machine)
-    (g.M.Machine.held c.act.new.self) c.args.due c.in_ok-write_out.field-0 c.act.result
-    c.in_ok-write_out.ensures.kept c.in_ok-write_out.ensures.writes c.act.ensures.acts)
+    rw c.if-writes.true (wrote_due _ _ (g.M.Machine.held c.args.machine.now)
+    (g.M.Machine.held c.write_out.new.machine) (g.M.Machine.held c.act.new.self) c.args.due
+    c.in_ok-write_out.field-0 c.act.result c.in_ok-write_out.ensures.kept
+    c.in_ok-write_out.ensures.writes c.act.ensures.acts)
 
 pub returns-clause-does : goal.returns-clause-does
 returns-clause-does g c =
-    let now = traffic (g.L.Link.given c.args.link.now) (g.L.Link.taken c.args.link.now)
-    (g.L.Link.stalled c.args.link.now) in
-    does_as c.args.writes false now now (g.M.Machine.held c.args.machine.now)
-    (g.M.Machine.held c.act-2.new.self) c.args.due c.act-2.result c.if-writes.false
-    (plain_due now now (g.M.Machine.held c.args.machine.now) (g.M.Machine.held c.act-2.new.self)
-    c.args.due c.act-2.result c.act-2.ensures.acts)
+    rw c.if-writes.false (plain_due begun begun (g.M.Machine.held c.args.machine.now)
+    (g.M.Machine.held c.act-2.new.self) c.args.due c.act-2.result c.act-2.ensures.acts)

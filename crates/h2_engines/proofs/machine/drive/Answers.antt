@@ -1,11 +1,11 @@
 -- Each return, by what the rounds before it and the last one have made of the machine and the link.
-use Rattle.std.proofs.Common.{◌+◌, [], refl, sym, ◌∙◌, take, drop, length, arith}
-use Rattle.std.proofs.lemmas.Result.{err_from_is_err_and}
+use Rattle.h2_engines.proofs.Names.{◌+◌, [], refl, sym, ◌∙◌, take, drop, length, arith}
+use Rattle.h2_engines.proofs.Names.{err_from_is_err_and}
 use Rattle.std.specs.List.{length_refill}
 use Rattle.h2_engines.proofs.MachineDrives.{drives_first, going_ends, no_round, sent_on, sent_last}
 use Rattle.h2_engines.proofs.MachineDrives.{read_on, read_ends, read_fails, taken_on, taken_whole}
 use Rattle.h2_engines.proofs.MachineDrives.{taken_last, waiting_on, waiting_last, gives_none}
-use Rattle.h2_engines.proofs.MachineDrives.{gives_piece, meets_end}
+use Rattle.h2_engines.proofs.MachineDrives.{gives_piece, meets_end, pumped_on, pumped_last}
 use Rattle.h2_engines.proofs.machine.drive.Goals as goal
 
 pub returns-in_err-input-clause-drives : goal.returns-in_err-input-clause-drives
@@ -13,43 +13,41 @@ returns-in_err-input-clause-drives g c =
     let answer = err_from_is_err_and c.from_residual.result c.from_residual.ensures.1 in
     let old = g.M.Machine.held c.args.machine.now in
     rw (answer.1, answer.2)
-    (going_ends _ _ old old [] 0 c.in_err-input.field-0.0 c.in_err-input.ensures.err
-    (drives_first _ old))
+    (going_ends _ _ old old [] 0 c.in_err-input.ensures.err (drives_first _ old))
 
-pub returns-in_err-send-clause-drives : goal.returns-in_err-send-clause-drives
-returns-in_err-send-clause-drives g c =
-    let answer = err_from_is_err_and c.from_residual-in_err-send.result
-    c.from_residual-in_err-send.ensures.1 in
+pub returns-in_err-write_out-clause-drives : goal.returns-in_err-write_out-clause-drives
+returns-in_err-write_out-clause-drives g c =
+    let answer = err_from_is_err_and c.from_residual-in_err-write_out.result
+    c.from_residual-in_err-write_out.ensures.1 in
     rw (answer.1, answer.2)
     (sent_last _ _ _ (g.M.Machine.held c.args.machine.now) (g.M.Machine.held c.loop.machine)
-    (g.M.Machine.held c.send.new.machine) c.loop.counter c.in_err-send.field-0.0
-    c.in_err-send.ensures.kept c.loop.invariant.drives c.in_err-send.ensures.sends
-    c.in_err-send.ensures.err)
+    (g.M.Machine.held c.write_out.new.machine) c.loop.counter c.in_err-write_out.field-0.0
+    c.in_err-write_out.ensures.kept c.loop.invariant.drives c.in_err-write_out.ensures.writes
+    c.in_err-write_out.ensures.err)
 
 pub returns-in-Ok-eq0-clause-drives : goal.returns-in-Ok-eq0-clause-drives
 returns-in-Ok-eq0-clause-drives g c =
     let old = g.M.Machine.held c.args.machine.now in
-    let sent = g.M.Machine.held c.send.new.machine in
-    read_ends _ _ _ old sent (c.loop.counter + 1)
-    (sent_on _ _ _ old (g.M.Machine.held c.loop.machine) sent c.loop.counter c.in_ok-send.field-0
-    c.in_ok-send.ensures.kept c.loop.invariant.drives c.in_ok-send.ensures.sends)
+    let sent = g.M.Machine.held c.write_out.new.machine in
+    read_ends _ _ _ old sent (c.loop.counter + 1) (sent_on _ _ _ old
+    (g.M.Machine.held c.loop.machine) sent c.loop.counter c.in_ok-write_out.field-0
+    c.in_ok-write_out.ensures.kept c.loop.invariant.drives c.in_ok-write_out.ensures.writes)
     (gives_none _ _ c.read.new.buffer c.in-Ok-eq0.field-0 c.in-Ok-eq0.field-0-test
-    c.in-Ok-eq0.ensures.gives.1)
-    c.in-Ok-eq0.ensures.takes_none
+    c.in-Ok-eq0.ensures.gives.1) c.in-Ok-eq0.ensures.takes_none
 
 pub returns-in-Ok-eq0-clause-ended : goal.returns-in-Ok-eq0-clause-ended
 returns-in-Ok-eq0-clause-ended g c =
-    meets_end (g.L.Link.ended c.send.new.link) (g.L.Link.ended c.read.new.self)
-    (length c.deref_mut.result.now) c.in-Ok-eq0.field-0 c.in-Ok-eq0.ensures.ended
-    c.in-Ok-eq0.field-0-test (c.deref_mut.ensures.len ∙ c.loop.input.ok.0 ∙ c.loop.invariant.room)
+    meets_end (g.L.Link.ended c.write_out.new.link) c.in-Ok-eq0.ensures.ended
+    c.in-Ok-eq0.field-0-test
+    (c.deref_mut.ensures.len ∙ c.loop.input.ok.0 ∙ c.loop.invariant.room)
 
 pub returns-in-Err-clause-drives : goal.returns-in-Err-clause-drives
 returns-in-Err-clause-drives g c =
     let old = g.M.Machine.held c.args.machine.now in
-    let sent = g.M.Machine.held c.send.new.machine in
-    read_fails _ _ _ old sent (c.loop.counter + 1)
-    (sent_on _ _ _ old (g.M.Machine.held c.loop.machine) sent c.loop.counter c.in_ok-send.field-0
-    c.in_ok-send.ensures.kept c.loop.invariant.drives c.in_ok-send.ensures.sends)
+    let sent = g.M.Machine.held c.write_out.new.machine in
+    read_fails _ _ _ old sent (c.loop.counter + 1) (sent_on _ _ _ old
+    (g.M.Machine.held c.loop.machine) sent c.loop.counter c.in_ok-write_out.field-0
+    c.in_ok-write_out.ensures.kept c.loop.invariant.drives c.in_ok-write_out.ensures.writes)
     c.in-Err.ensures.gives c.in-Err.ensures.takes_none
 
 pub returns-in_err-is_whole-in-Ok-clause-drives : goal.returns-in_err-is_whole-in-Ok-clause-drives
@@ -57,57 +55,49 @@ returns-in_err-is_whole-in-Ok-clause-drives g c =
     let answer = err_from_is_err_and c.from_residual-in_err-is_whole-in-Ok.result
     c.from_residual-in_err-is_whole-in-Ok.ensures.1 in
     let old = g.M.Machine.held c.args.machine.now in
-    let sent = g.M.Machine.held c.send.new.machine in
+    let sent = g.M.Machine.held c.write_out.new.machine in
     let piece = take c.in-Ok.count c.deref.result.now in
-    rw (answer.1, answer.2)
-    (taken_last _ _ _ old sent (g.M.Machine.held c.take_all.new.machine) piece (c.loop.counter + 1)
-    c.in_err-is_whole-in-Ok.field-0.0
-    (read_on _ _ _ old sent piece (c.loop.counter + 1)
-    (sent_on _ _ _ old (g.M.Machine.held c.loop.machine) sent c.loop.counter c.in_ok-send.field-0
-    c.in_ok-send.ensures.kept c.loop.invariant.drives c.in_ok-send.ensures.sends)
-    (gives_piece _ _ c.in-Ok.count c.loop.input.len c.read.new.buffer
-    (drop (length c.read.new.buffer) c.loop.input.items) c.deref.result.now c.deref.ensures.value
-    (c.in-Ok.ensures.length ∙ c.deref_mut.ensures.len) c.in-Ok.ensures.gives.1)
-    c.in-Ok.ensures.takes_none)
-    c.in_err-is_whole-in-Ok.ensures.takes)
+    rw (answer.1, answer.2) (taken_last _ _ _ old sent (g.M.Machine.held c.take_all.new.machine)
+    piece (c.loop.counter + 1) c.in_err-is_whole-in-Ok.field-0.0 (read_on _ _ _ old sent
+    (c.loop.counter + 1) (sent_on _ _ _ old (g.M.Machine.held c.loop.machine) sent
+    c.loop.counter c.in_ok-write_out.field-0 c.in_ok-write_out.ensures.kept c.loop.invariant.drives
+    c.in_ok-write_out.ensures.writes) (gives_piece _ _ c.in-Ok.count c.loop.input.len
+    c.read.new.buffer (drop (length c.read.new.buffer) c.loop.input.items) c.deref.result.now
+    c.deref.ensures.value (c.in-Ok.ensures.length ∙ c.deref_mut.ensures.len)
+    c.in-Ok.ensures.gives.1) c.in-Ok.ensures.takes_none) c.in_err-is_whole-in-Ok.ensures.takes)
 
 pub returns-then-is_whole-clause-drives : goal.returns-then-is_whole-clause-drives
 returns-then-is_whole-clause-drives g c =
     let old = g.M.Machine.held c.args.machine.now in
-    let sent = g.M.Machine.held c.send.new.machine in
+    let sent = g.M.Machine.held c.write_out.new.machine in
     let piece = take c.in-Ok.count c.deref.result.now in
     taken_whole _ _ _ old sent (g.M.Machine.held c.take_all.new.machine) piece (c.loop.counter + 1)
-    c.in_ok-is_whole-in-Ok.is_whole c.if-is_whole.true
-    (read_on _ _ _ old sent piece (c.loop.counter + 1)
-    (sent_on _ _ _ old (g.M.Machine.held c.loop.machine) sent c.loop.counter c.in_ok-send.field-0
-    c.in_ok-send.ensures.kept c.loop.invariant.drives c.in_ok-send.ensures.sends)
+    c.if-is_whole.true (read_on _ _ _ old sent (c.loop.counter + 1) (sent_on _ _ _ old
+    (g.M.Machine.held c.loop.machine) sent c.loop.counter c.in_ok-write_out.field-0
+    c.in_ok-write_out.ensures.kept c.loop.invariant.drives c.in_ok-write_out.ensures.writes)
     (gives_piece _ _ c.in-Ok.count c.loop.input.len c.read.new.buffer
-    (drop (length c.read.new.buffer) c.loop.input.items) c.deref.result.now c.deref.ensures.value
-    (c.in-Ok.ensures.length ∙ c.deref_mut.ensures.len) c.in-Ok.ensures.gives.1)
-    c.in-Ok.ensures.takes_none)
-    c.in_ok-is_whole-in-Ok.ensures.takes
+    (drop (length c.read.new.buffer) c.loop.input.items) c.deref.result.now
+    c.deref.ensures.value (c.in-Ok.ensures.length ∙ c.deref_mut.ensures.len)
+    c.in-Ok.ensures.gives.1) c.in-Ok.ensures.takes_none) c.in_ok-is_whole-in-Ok.ensures.takes
 
 pub returns-in_err-send_waiting-clause-drives : goal.returns-in_err-send_waiting-clause-drives
 returns-in_err-send_waiting-clause-drives g c =
     let answer = err_from_is_err_and c.from_residual-in_err-send_waiting.result
     c.from_residual-in_err-send_waiting.ensures.1 in
     let old = g.M.Machine.held c.args.machine.now in
-    let sent = g.M.Machine.held c.send.new.machine in
+    let sent = g.M.Machine.held c.write_out.new.machine in
     let taken = g.M.Machine.held c.take_all.new.machine in
     let piece = take c.in-Ok.count c.deref.result.now in
-    rw (answer.1, answer.2)
-    (waiting_last _ _ old taken (g.M.Machine.held c.send_waiting.new.machine) []
-    (c.loop.counter + 1) c.in_err-send_waiting.field-0.0 c.in_err-send_waiting.ensures.kept
-    (taken_on _ _ _ old sent taken piece (c.loop.counter + 1) c.in_ok-is_whole-in-Ok.is_whole
-    c.if-is_whole.false
-    (read_on _ _ _ old sent piece (c.loop.counter + 1)
-    (sent_on _ _ _ old (g.M.Machine.held c.loop.machine) sent c.loop.counter c.in_ok-send.field-0
-    c.in_ok-send.ensures.kept c.loop.invariant.drives c.in_ok-send.ensures.sends)
-    (gives_piece _ _ c.in-Ok.count c.loop.input.len c.read.new.buffer
-    (drop (length c.read.new.buffer) c.loop.input.items) c.deref.result.now c.deref.ensures.value
-    (c.in-Ok.ensures.length ∙ c.deref_mut.ensures.len) c.in-Ok.ensures.gives.1)
-    c.in-Ok.ensures.takes_none)
-    c.in_ok-is_whole-in-Ok.ensures.takes)
+    rw (answer.1, answer.2) (waiting_last _ _ old taken
+    (g.M.Machine.held c.send_waiting.new.machine) [] (c.loop.counter + 1)
+    c.in_err-send_waiting.field-0.0 c.in_err-send_waiting.ensures.kept (taken_on _ _ _ old sent
+    taken piece (c.loop.counter + 1) c.if-is_whole.false (read_on _ _ _ old sent
+    (c.loop.counter + 1) (sent_on _ _ _ old (g.M.Machine.held c.loop.machine) sent
+    c.loop.counter c.in_ok-write_out.field-0 c.in_ok-write_out.ensures.kept c.loop.invariant.drives
+    c.in_ok-write_out.ensures.writes) (gives_piece _ _ c.in-Ok.count c.loop.input.len
+    c.read.new.buffer (drop (length c.read.new.buffer) c.loop.input.items) c.deref.result.now
+    c.deref.ensures.value (c.in-Ok.ensures.length ∙ c.deref_mut.ensures.len)
+    c.in-Ok.ensures.gives.1) c.in-Ok.ensures.takes_none) c.in_ok-is_whole-in-Ok.ensures.takes)
     c.in_err-send_waiting.ensures.sends)
 
 pub returns-clause-drives : goal.returns-clause-drives
@@ -126,28 +116,51 @@ loop-init g c =
 pub loop-preserved : goal.loop-preserved
 loop-preserved g c =
     let old = g.M.Machine.held c.args.machine.now in
-    let sent = g.M.Machine.held c.send.new.machine in
+    let sent = g.M.Machine.held c.write_out.new.machine in
     let taken = g.M.Machine.held c.take_all.new.machine in
     let piece = take c.in-Ok.count c.deref.result.now in
     record {
       failures = c.in_ok-is_whole-in-Ok.ensures.failures ∙ c.in-Ok.ensures.failures
-          ∙ c.in_ok-send.ensures.failures ∙ c.loop.invariant.failures;
-      room = sym (length_refill c.loop.input.len c.loop.input.items c.read.new.buffer
-          c.loop.input.ok.0)
+          ∙ c.in_ok-write_out.ensures.failures ∙ c.loop.invariant.failures;
+      room = sym
+          (length_refill c.loop.input.len c.loop.input.items c.read.new.buffer c.loop.input.ok.0)
           ∙ c.loop.input.ok.0 ∙ c.loop.invariant.room;
       drives = waiting_on _ _ old taken (g.M.Machine.held c.send_waiting.new.machine) []
-          (c.loop.counter + 1) _ c.in_ok-send_waiting.ensures.kept
-          (taken_on _ _ _ old sent taken piece (c.loop.counter + 1) c.in_ok-is_whole-in-Ok.is_whole
-          c.if-is_whole.false
-          (read_on _ _ _ old sent piece (c.loop.counter + 1)
-          (sent_on _ _ _ old (g.M.Machine.held c.loop.machine) sent c.loop.counter
-          c.in_ok-send.field-0 c.in_ok-send.ensures.kept c.loop.invariant.drives
-          c.in_ok-send.ensures.sends)
-          (gives_piece _ _ c.in-Ok.count c.loop.input.len c.read.new.buffer
-          (drop (length c.read.new.buffer) c.loop.input.items) c.deref.result.now
-          c.deref.ensures.value (c.in-Ok.ensures.length ∙ c.deref_mut.ensures.len)
-          c.in-Ok.ensures.gives.1)
-          c.in-Ok.ensures.takes_none)
-          c.in_ok-is_whole-in-Ok.ensures.takes)
+          (c.loop.counter + 1) _ c.in_ok-send_waiting.ensures.kept (taken_on _ _ _ old sent taken
+          piece (c.loop.counter + 1) c.if-is_whole.false (read_on _ _ _ old sent
+          (c.loop.counter + 1) (sent_on _ _ _ old (g.M.Machine.held c.loop.machine) sent
+          c.loop.counter c.in_ok-write_out.field-0 c.in_ok-write_out.ensures.kept
+          c.loop.invariant.drives c.in_ok-write_out.ensures.writes) (gives_piece _ _ c.in-Ok.count
+          c.loop.input.len c.read.new.buffer (drop (length c.read.new.buffer) c.loop.input.items)
+          c.deref.result.now c.deref.ensures.value
+          (c.in-Ok.ensures.length ∙ c.deref_mut.ensures.len) c.in-Ok.ensures.gives.1)
+          c.in-Ok.ensures.takes_none) c.in_ok-is_whole-in-Ok.ensures.takes)
           c.in_ok-send_waiting.ensures.sends;
+    }
+
+pub returns-in_err-pump-clause-drives : goal.returns-in_err-pump-clause-drives
+returns-in_err-pump-clause-drives g c =
+    let answer = err_from_is_err_and c.from_residual-in_err-pump.result
+    c.from_residual-in_err-pump.ensures.1 in
+    let old = g.M.Machine.held c.args.machine.now in
+    let sent = g.M.Machine.held c.write_out.new.machine in
+    rw (answer.1, answer.2)
+    (pumped_last _ _ old sent (g.M.Machine.held c.pump.new.machine) (c.loop.counter + 1)
+    c.in_err-pump.field-0.0 c.in_err-pump.ensures.kept
+    (sent_on _ _ _ old (g.M.Machine.held c.loop.machine) sent c.loop.counter
+    c.in_ok-write_out.field-0 c.in_ok-write_out.ensures.kept c.loop.invariant.drives
+    c.in_ok-write_out.ensures.writes) c.in_err-pump.ensures.pumps)
+
+pub loop-preserved-then-is_full : goal.loop-preserved-then-is_full
+loop-preserved-then-is_full g c =
+    let old = g.M.Machine.held c.args.machine.now in
+    let sent = g.M.Machine.held c.write_out.new.machine in
+    record {
+      failures = c.in_ok-write_out.ensures.failures ∙ c.loop.invariant.failures;
+      room = c.loop.invariant.room;
+      drives = pumped_on _ _ old sent (g.M.Machine.held c.pump.new.machine) (c.loop.counter + 1) _
+          c.in_ok-pump.ensures.kept
+          (sent_on _ _ _ old (g.M.Machine.held c.loop.machine) sent c.loop.counter
+          c.in_ok-write_out.field-0 c.in_ok-write_out.ensures.kept c.loop.invariant.drives
+          c.in_ok-write_out.ensures.writes) c.in_ok-pump.ensures.pumps;
     }

@@ -1,13 +1,13 @@
--- By the lemmas on a pump.
-use Rattle.h2_engines.proofs.ResponderRefusals.{pumps_some, pumps_err}
+-- By what the end's pump has answered.
+use Rattle.h2_engines.proofs.Names.{Ok, Err}
+use Rattle.h2_engines.specs.ServerSteps.{EndsAfter}
 use Rattle.h2_engines.proofs.machine.pump.Goals as goal
 
 pub returns-in-Ok-clause-pumps : goal.returns-in-Ok-clause-pumps
-returns-in-Ok-clause-pumps g c =
-    pumps_some (g.M.Machine.held c.args.machine.now).end (g.M.Machine.held c.pump.new.self).end _ _
-    c.in-Ok.ensures.pumps
+unfolding EndsAfter
+returns-in-Ok-clause-pumps g c = (Ok _, c.in-Ok.ensures.pumps, tt)
 
 pub returns-in-Err-clause-pumps : goal.returns-in-Err-clause-pumps
+unfolding EndsAfter
 returns-in-Err-clause-pumps g c =
-    pumps_err (g.M.Machine.held c.args.machine.now).end (g.M.Machine.held c.pump.new.self).end
-    c.in-Err.refusal _ c.error_of_refusal.ensures.error c.in-Err.ensures.pumps
+    (Err c.in-Err.refusal, c.in-Err.ensures.pumps, c.error_of_refusal.ensures.error)

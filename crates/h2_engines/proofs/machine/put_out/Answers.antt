@@ -1,6 +1,5 @@
 -- By the lemmas on output that is put out.
-use Rattle.std.proofs.Common.{refl, arith}
-use Rattle.std.proofs.lemmas.Result.{err_from_is_err_and}
+use Rattle.h2_engines.proofs.Names.{refl, arith, err_from_is_err_and}
 use Rattle.h2_engines.proofs.WithoutLinkPutOut.{machine_put, machine_refused, machine_unsent}
 use Rattle.h2_engines.proofs.machine.put_out.Goals as goal
 
@@ -23,7 +22,6 @@ pub returns-in-Err-clause-puts : goal.returns-in-Err-clause-puts
 returns-in-Err-clause-puts g c =
     machine_refused (g.M.Machine.held c.args.machine.now)
     (g.M.Machine.held c.send_waiting.new.machine) (g.M.Machine.held c.give_out.new.self)
-    c.args.count c.in-Err.refusal c.args.out.now.items c.give_out.new.out.items
-    c.in_ok-send_waiting.field-0 c.error_of_refusal.result (omega arith)
-    c.in_ok-send_waiting.ensures.sends c.in-Err.ensures.answers c.error_of_refusal.ensures.error
-    c.in-Err.ensures.err
+    c.args.count c.in-Err.refusal c.in_ok-send_waiting.field-0 (omega arith)
+    c.in_ok-send_waiting.ensures.sends c.in-Err.ensures.answers
+    c.error_of_refusal.ensures.error c.in-Err.ensures.err

@@ -1,16 +1,14 @@
 -- Each part of the piece is heard of, and what is due is done, until nothing is left or the machine
 -- ends.
-use Rattle.std.proofs.Common.{◌≡◌, ◌+◌, drop, refl, ◌∙◌, arith}
-use Rattle.std.proofs.lemmas.Result.{err_from_is_err_and}
+use Rattle.h2_engines.proofs.Names.{◌≡◌, ◌+◌, drop, refl, ◌∙◌, arith, err_from_is_err_and}
 use Rattle.h2_engines.specs.declared.request.Next.TheVariants as nexts
 use Rattle.h2_engines.specs.Linked.{traffic}
 use Rattle.h2_engines.proofs.MachineLaws.{is_due}
-use Rattle.h2_engines.proofs.MachineTakes.{TakesOn, takes_first, heard_rest, done_rest, next_as}
+use Rattle.h2_engines.proofs.MachineTakes.{TakesOn, takes_first, heard_rest, done_rest}
 use Rattle.h2_engines.proofs.MachineTakes.{whole_rest, due_rest, not_done_rest, last_rest}
 use Rattle.h2_engines.proofs.MachineTakes.{no_round_rest, within_rest, moved_to}
 use Rattle.h2_engines.proofs.machine.take_all.Goals as goal
-use Rattle.h2_engines.proofs.machine.take_all.Goals.{in-Again}
-use Rattle.h2_engines.proofs.machine.take_all.Goals.{in_default+in_ok-do_due-in_default}
+use Rattle.h2_engines.proofs.machine.take_all.Goals.{in-Again, in_default+in_ok-do_due-in_default}
 
 pub loop-init : goal.loop-init
 loop-init g c =
@@ -31,11 +29,10 @@ returns-in-Whole-clause-takes g c =
     let old = g.M.Machine.held c.args.machine.now in
     let new = g.M.Machine.held c.take.new.self in
     let rest = drop (c.loop.used + c.in-Ok.heard.used) c.args.piece.now in
-    whole_rest c.args.writes (c.loop.counter + 1) _ _ old new c.args.piece.now rest
-    (next_as c.args.writes (c.loop.counter + 1) _ _ old new c.args.piece.now rest c.in-Ok.heard.next
-    nexts.Whole c.in-Whole.is
-    (heard_rest c.args.writes c.loop.counter _ _ old (g.M.Machine.held c.loop.machine) new
-    c.args.piece.now c.loop.used c.in-Ok.heard c.loop.invariant.takes c.in-Ok.ensures.hears))
+    whole_rest c.args.writes (c.loop.counter + 1) _ _ old new c.args.piece.now rest (rw
+    c.in-Whole.is at (heard_rest c.args.writes c.loop.counter _ _ old
+    (g.M.Machine.held c.loop.machine) new c.args.piece.now c.loop.used c.in-Ok.heard
+    c.loop.invariant.takes c.in-Ok.ensures.hears))
 
 pub returns-in_err-do_due-in_default-clause-takes :
     goal.returns-in_err-do_due-in_default-clause-takes
@@ -85,23 +82,20 @@ loop-preserved g c =
     (g.M.Machine.held self) piece rest nexts.Again in
     let taking : takes c.match-heard.machine c.match-heard.link =
     elim c.match-heard.branch [
-      | in-Again w ↦ moved_to takes _ _ _ _ w.machine-is w.link-is
-          (next_as c.args.writes (c.loop.counter + 1) before middle old new piece rest
-          c.in-Ok.heard.next nexts.Again w.in-Again.is heard)
+      | in-Again w ↦ moved_to takes w.machine-is w.link-is (rw w.in-Again.is at heard)
       | in_default+in_ok-do_due-in_default w ↦
-          moved_to takes _ _ _ _ w.machine-is w.link-is
-          (due_rest c.args.writes (c.loop.counter + 1) before middle _ old new
-          (g.M.Machine.held w.do_due.new.machine) piece rest c.in-Ok.heard.next
-          w.in_ok-do_due-in_default.field-0
-          (is_due c.in-Ok.heard.next w.in_default.not-Again w.in_default.not-Done
-          w.in_default.not-Whole) heard w.in_ok-do_due-in_default.ensures.does)
+          moved_to takes w.machine-is w.link-is (due_rest c.args.writes (c.loop.counter + 1) before
+          middle _ old new (g.M.Machine.held w.do_due.new.machine) piece rest
+          c.in-Ok.heard.next w.in_ok-do_due-in_default.field-0 (is_due c.in-Ok.heard.next
+          w.in_default.not-Again w.in_default.not-Done w.in_default.not-Whole) heard
+          w.in_ok-do_due-in_default.ensures.does)
     ] in
-    let fails = λ (self : g.row.M.Denot) (link : g.row.L.Denot).
-    g.L.Link.faults link ≡ g.L.Link.faults c.args.link.now in
+    let fails = λ (self : g.row.M.Denot) (link : g.row.L.Denot). g.L.Link.faults link
+    ≡ g.L.Link.faults c.args.link.now in
     let failures : g.L.Link.faults c.match-heard.link ≡ g.L.Link.faults c.args.link.now =
     elim c.match-heard.branch [
-      | in-Again w ↦ moved_to fails _ _ _ _ w.machine-is w.link-is c.loop.invariant.failures
-      | in_default+in_ok-do_due-in_default w ↦ moved_to fails _ _ _ _ w.machine-is w.link-is
+      | in-Again w ↦ moved_to fails w.machine-is w.link-is c.loop.invariant.failures
+      | in_default+in_ok-do_due-in_default w ↦ moved_to fails w.machine-is w.link-is
           (w.in_ok-do_due-in_default.ensures.failures ∙ c.loop.invariant.failures)
     ] in
     record {

@@ -1,9 +1,7 @@
 -- By the lemmas on output that is written.
-use Rattle.std.proofs.Common.{ℕ, refl, ◌∙◌, subst, arith}
-use Rattle.std.proofs.lemmas.Result.{err_from_is_err_and}
-use Rattle.h2_log.specs.Acts.{PutOut, Count}
+use Rattle.h2_engines.proofs.Names.{ℕ, refl, ◌∙◌, subst, arith, err_from_is_err_and, PutOut, Count}
+use Rattle.h2_engines.proofs.Names.{EndAnswers}
 use Rattle.h2_link.specs.Links.{WritesAll}
-use Rattle.h2_ends.specs.Represents.{EndAnswers}
 use Rattle.h2_engines.specs.Machines.{Happens}
 use Rattle.h2_engines.proofs.MachineLaws.{puts_at}
 use Rattle.h2_engines.proofs.ResponderFaults.{written_some, written_failures, written_ends}
@@ -15,9 +13,8 @@ pub loop-init : goal.loop-init
 loop-init g c = record {
   failures = refl;
   kept = refl;
-  writes = λ course end unused is was linked.
-      writes_nothing (Happens course (g.M.Machine.held c.args.machine.now).kept) course.values
-      course.start _ end _ unused is was linked;
+  writes = λ course end unused is was linked. writes_nothing
+      (Happens course (g.M.Machine.held c.args.machine.now).kept) is was linked;
 }
 
 pub returns-in-Ok-eq0-clause-writes : goal.returns-in-Ok-eq0-clause-writes
@@ -27,9 +24,8 @@ returns-in-Ok-eq0-clause-writes g c course end unused is was linked =
     let new = (g.M.Machine.held c.give_out.new.self).end in
     let none = subst (λ (n : ℕ). EndAnswers old (PutOut 18446744073709551615) (Count n) new)
     c.in-Ok-eq0.field-0-test c.in-Ok-eq0.ensures.answers in
-    writes_all (Happens course kept) (puts_at course kept) course.values course.start _ end old new
-    unused c.loop.counter 18446744073709551615 tt (omega arith) (omega arith) none
-    (c.loop.invariant.writes course end unused is was linked)
+    writes_all (Happens course kept) (puts_at course kept) new 18446744073709551615 tt
+    (omega arith) (omega arith) none (c.loop.invariant.writes course end unused is was linked)
 
 pub returns-in_err-write_all-in-Ok-clause-writes :
     goal.returns-in_err-write_all-in-Ok-clause-writes
@@ -41,18 +37,17 @@ returns-in_err-write_all-in-Ok-clause-writes g c course end unused is was linked
     let written = rw c.deref.ensures.value at c.in_err-write_all-in-Ok.ensures.writes in
     let some = written_some _ _ _ _ _ _ written in
     let gives = rw c.new-output.ensures.items at c.in-Ok.ensures.ok in
-    rw (answer.1, answer.2)
-    (writes_first (Happens course kept) (puts_at course kept) course.values course.start _ _ end old
-    new unused c.loop.counter 18446744073709551615 c.in-Ok.field-0 c.give_out.new.out.items some.0 _
-    (omega arith) c.in-Ok.ensures.answers gives c.in_err-write_all-in-Ok.ensures.gives_none
-    some.1.took c.in_err-write_all-in-Ok.ensures.stalled
+    rw (answer.1, answer.2) (writes_first (Happens course kept) (puts_at course kept) _ new
+    18446744073709551615 c.in-Ok.field-0 c.give_out.new.out.items some.0 _ (omega arith)
+    c.in-Ok.ensures.answers gives c.in_err-write_all-in-Ok.ensures.gives_none some.1.took
+    c.in_err-write_all-in-Ok.ensures.stalled
     (c.loop.invariant.writes course end unused is was linked))
 
 pub returns-in_err-write_all-in-Ok-clause-failures :
     goal.returns-in_err-write_all-in-Ok-clause-failures
 returns-in_err-write_all-in-Ok-clause-failures g c =
     let answer = err_from_is_err_and c.from_residual.result c.from_residual.ensures.1 in
-    rw (answer.1, answer.2) (written_failures (Unit {0}) _ _ _ _ _ _ _ c.loop.invariant.failures
+    rw (answer.1, answer.2) (written_failures (Unit {0}) _ _ _ _ _ c.loop.invariant.failures
     c.in_err-write_all-in-Ok.ensures.writes)
 
 pub returns-in_err-write_all-in-Ok-clause-err : goal.returns-in_err-write_all-in-Ok-clause-err
@@ -65,9 +60,8 @@ returns-in-Err-clause-writes g c course end unused is was linked =
     let kept = (g.M.Machine.held c.args.machine.now).kept in
     let old = (g.M.Machine.held c.loop.machine).end in
     let new = (g.M.Machine.held c.give_out.new.self).end in
-    writes_refused (Happens course kept) (puts_at course kept) course.values course.start _ end old
-    new unused c.loop.counter 18446744073709551615 c.in-Err.refusal c.error_of_refusal.result
-    (omega arith) c.in-Err.ensures.answers c.error_of_refusal.ensures.error
+    writes_refused (Happens course kept) (puts_at course kept) new 18446744073709551615
+    c.in-Err.refusal (omega arith) c.in-Err.ensures.answers c.error_of_refusal.ensures.error
     (c.loop.invariant.writes course end unused is was linked)
 
 pub loop-preserved : goal.loop-preserved
@@ -81,16 +75,13 @@ loop-preserved g c =
     record {
       failures = written.1 ∙ c.loop.invariant.failures;
       kept = c.give_out.ensures.kept ∙ c.loop.invariant.kept;
-      writes = λ course end unused is was linked.
-          writes_more (Happens course kept) (puts_at course kept) course.values course.start _ _ end
-          old new unused c.loop.counter 18446744073709551615 c.in-Ok.field-0
-          c.give_out.new.out.items (omega arith) c.in-Ok.ensures.answers gives
-          c.in_ok-write_all-in-Ok.ensures.gives_none written.0
+      writes = λ course end unused is was linked. writes_more (Happens course kept)
+          (puts_at course kept) _ new 18446744073709551615 c.in-Ok.field-0 (omega arith)
+          c.in-Ok.ensures.answers gives c.in_ok-write_all-in-Ok.ensures.gives_none written.0
           (c.loop.invariant.writes course end unused is was linked);
     }
 
 pub returns-clause-writes : goal.returns-clause-writes
 returns-clause-writes g c course end unused is was linked =
-    writes_no_more (Happens course (g.M.Machine.held c.args.machine.now).kept) course.values
-    course.start _ end (g.M.Machine.held c.loop.machine).end unused c.loop.counter (omega arith)
+    writes_no_more (Happens course (g.M.Machine.held c.args.machine.now).kept) (omega arith)
     (c.loop.invariant.writes course end unused is was linked)

@@ -1,5 +1,5 @@
 -- The first field that has the name.
-use Rattle.std.proofs.Common.{sym, ◌∙◌, arith}
+use Rattle.h2_engines.proofs.Names.{sym, ◌∙◌, arith}
 use Rattle.h2_engines.proofs.FieldValues.{value_here, value_later, value_none}
 use Rattle.h2_engines.proofs.request.value_or_nothing.Goals as goal
 

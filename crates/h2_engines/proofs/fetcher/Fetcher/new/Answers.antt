@@ -1,10 +1,7 @@
 -- By the lemmas on a new client's request.
-use Rattle.std.proofs.Common.{◌≡◌, ◌≢◌, refl, rules}
+use Rattle.h2_engines.proofs.Names.{◌≡◌, ◌≢◌, refl, rules, Malformed, message_value}
 use Rattle.h2_log.specs.declared.refusal.Refusal.TheVariants as reasons
 use Rattle.h2_ends.specs.declared.refusal.EndRefusal.TheVariants as refusals
-use Rattle.h2_message.specs.declared.malformed.Malformed.{Malformed}
-use Rattle.h2_config.specs.ConfigValues.{values_of}
-use Rattle.h2_message.specs.Values.{message_value}
 use Rattle.h2_engines.specs.Failures.{error_after}
 use Rattle.h2_engines.proofs.FetcherStart.{has_requested, refused_as_broken, refused_as_large}
 use Rattle.h2_engines.proofs.FetcherStart.{refused_otherwise}
@@ -12,28 +9,25 @@ use Rattle.h2_engines.proofs.fetcher.Fetcher.new.Goals as goal
 
 pub returns-in-Ok-request-clause-ok : goal.returns-in-Ok-request-clause-ok
 returns-in-Ok-request-clause-ok c =
-    has_requested (values_of c.args.config) (message_value c.args.message) c.in-Ok.client.end _
-    c.in-Ok.ensures.ok c.in-Ok-request.ensures refl c.new-in-Ok-request-2.ensures.items
-    c.new-in-Ok-request.ensures.items refl
+    has_requested (message_value c.args.message) _ c.in-Ok.ensures.ok c.in-Ok-request.ensures refl
+    c.new-in-Ok-request-2.ensures.items c.new-in-Ok-request.ensures.items refl
 
 pub returns-in-Err-default-BadMessage-clause-refused :
     goal.returns-in-Err-default-BadMessage-clause-refused
 returns-in-Err-default-BadMessage-clause-refused c =
-    refused_as_broken (values_of c.args.config) (message_value c.args.message)
-    c.in-Ok.client.end c.request.new.self.end c.in-Err-default-BadMessage.field-0-0
-    c.in-Err-default-BadMessage.field-0-1 c.in-Err-default-BadMessage.field-0-1-0
+    refused_as_broken (message_value c.args.message) c.request.new.self.end
+    c.in-Err-default-BadMessage.field-0-0 c.in-Err-default-BadMessage.field-0-1-0
     c.in-Ok.ensures.ok c.in-Err-default-BadMessage.field-0-1-is
     c.in-Err-default-BadMessage.ensures
 
 pub returns-in-Err-default-Conn-ListTooLarge-clause-refused :
     goal.returns-in-Err-default-Conn-ListTooLarge-clause-refused
 returns-in-Err-default-Conn-ListTooLarge-clause-refused c =
-    refused_as_large (values_of c.args.config) (message_value c.args.message)
-    c.in-Ok.client.end c.request.new.self.end c.in-Err-default-Conn-ListTooLarge.field-0-0
-    c.in-Err-default-Conn-ListTooLarge.field-0-1 c.in-Err-default-Conn-ListTooLarge.field-0-1-0
-    c.in-Ok.ensures.ok c.in-Err-default-Conn-ListTooLarge.field-0-1-is
-    (rw c.in-Err-default-Conn-ListTooLarge.field-0-1-is
-    at c.in-Err-default-Conn-ListTooLarge.field-0-1-0-is)
+    refused_as_large (message_value c.args.message) c.request.new.self.end
+    c.in-Err-default-Conn-ListTooLarge.field-0-0 c.in-Err-default-Conn-ListTooLarge.field-0-1-0
+    c.in-Ok.ensures.ok c.in-Err-default-Conn-ListTooLarge.field-0-1-is (rw
+    c.in-Err-default-Conn-ListTooLarge.field-0-1-is at
+    c.in-Err-default-Conn-ListTooLarge.field-0-1-0-is)
     c.in-Err-default-Conn-ListTooLarge.ensures
 
 pub returns-clause-refused : goal.returns-clause-refused
@@ -42,6 +36,5 @@ returns-clause-refused c =
     λ rule. search rules in
     let small : c.in-Err.refusal ≢ refusals.Conn reasons.ListTooLarge = search rules in
     let ends : c.error_of_refusal.result ≡ error_after c.in-Err.refusal = search rules in
-    refused_otherwise (values_of c.args.config) (message_value c.args.message) c.in-Ok.client.end
-    c.request.new.self.end c.in-Err.field-0-0 c.in-Err.refusal c.error_of_refusal.result
-    c.in-Ok.ensures.ok kept small ends c.in-Err.ensures
+    refused_otherwise (message_value c.args.message) c.request.new.self.end c.in-Err.field-0-0
+    c.in-Err.refusal c.in-Ok.ensures.ok kept small ends c.in-Err.ensures

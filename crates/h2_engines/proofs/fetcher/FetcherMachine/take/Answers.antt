@@ -1,6 +1,5 @@
 -- By what the client hears.
-use Rattle.std.proofs.Common.{true, refl}
-use Rattle.std.proofs.lemmas.Result.{err_from_is_err_and}
+use Rattle.h2_engines.proofs.Names.{true, refl, err_from_is_err_and}
 use Rattle.h2_engines.proofs.ClientMachine.{client_hears, client_hears_last}
 use Rattle.h2_engines.proofs.fetcher.FetcherMachine.take.Goals as goal
 

@@ -1,6 +1,5 @@
 -- The method and the path of the head, and whether it asks with HEAD.
-use Rattle.std.proofs.Common.{◌≡◌, ◌++◌, ◌∷◌, [], List, ℕ, refl, ap, ◌∙◌, arith}
-use Rattle.std.specs.Str.{bytes_eq}
+use Rattle.h2_engines.proofs.Names.{◌≡◌, ◌++◌, ◌∷◌, [], List, ℕ, refl, ap, ◌∙◌, arith, bytes_eq}
 use Rattle.h2_engines.proofs.NoteHeads.{is_begun}
 use Rattle.h2_engines.proofs.request.Request.begin.Goals as goal
 
@@ -17,6 +16,6 @@ returns c =
       c.in_ok-text.ensures.items,
     ) refl in
     let whole = c.push-2.new.self.ok.0 in
-    is_begun c.args.head.now _ method path c.value_or_nothing-method.ensures
-    c.value_or_nothing-path.ensures text (omega (arith, c.len.ensures, whole))
+    is_begun c.args.head.now _ c.value_or_nothing-method.ensures c.value_or_nothing-path.ensures
+    text (omega (arith, c.len.ensures, whole))
     (c.eq.ensures ∙ ap (λ (word : List ℕ). bytes_eq method word) c.as_slice.ensures)

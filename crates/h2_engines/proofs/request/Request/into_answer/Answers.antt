@@ -1,5 +1,6 @@
 -- The fields and the body of the answer.
-use Rattle.std.proofs.Common.{◌≡◌, refl, length, vec_len, arith}
+use Rattle.h2_engines.proofs.Names.{◌≡◌, refl, length, arith}
+use Rattle.std.proofs.Common.{vec_len}
 use Rattle.h2_engines.specs.Answers.{answer_with}
 use Rattle.h2_engines.proofs.request.Request.into_answer.Goals as goal
 

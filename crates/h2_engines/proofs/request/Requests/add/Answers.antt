@@ -1,40 +1,38 @@
 -- The octets are added to what is kept.
-use Rattle.std.proofs.Common.{◌≡◌, ℕ, ap, sym, Some, None, refl, arith}
+use Rattle.h2_engines.proofs.Names.{◌≡◌, ℕ, ap, sym, Some, None, refl, inl, inr, arith}
 use Rattle.std.specs.Option.{is_some}
 use Rattle.std.specs.BTreeMap.{BTreeMap}
 use Rattle.h2_engines.specs.declared.request.Request.{Request}
 use Rattle.h2_engines.specs.declared.request.Requests.{Requests}
-use Rattle.h2_engines.specs.PartialMessages.{room_of}
-use Rattle.h2_engines.proofs.RequestTable.{adds_none, adds_no_more, adds_more, adds_last}
-use Rattle.h2_engines.proofs.RequestTable.{changes_one, changes_none, changes_twice}
+use Rattle.h2_engines.specs.PartialMessages.{AddsOctets, EndsRequest, room_of}
+use Rattle.h2_engines.proofs.RequestTable.{adds_last, changes_one, changes_none, changes_twice}
 use Rattle.h2_engines.proofs.request.Requests.add.Goals as goal
 
 pub returns-in_default : goal.returns-in_default
+unfolding AddsOctets
 returns-in_default c =
     let none = sym c.in_default.ensures.value in
-    adds_none c.args.self.now _ c.args.id c.args.bytes.now c.args.end _ none
-    (changes_none c.args.self.now _ c.args.id none
-    (ap (λ (map : BTreeMap ℕ Request). map.entries) c.get_mut.follows.holds-at-none))
+    rw none (
+      refl,
+      changes_none c.args.self.now _ c.args.id none
+          (ap (λ (map : BTreeMap ℕ Request). map.entries) c.get_mut.follows.holds-at-none),
+    )
 
 pub returns-then-bytes-saturating_sub : goal.returns-then-bytes-saturating_sub
+unfolding AddsOctets
 returns-then-bytes-saturating_sub c =
     let request = c.in-Some.request.now in
     let found = sym c.in-Some.ensures.value in
     let before : Requests = record c.args.self.now { kept = c.get_mut.follows.lender request } in
-    let room : c.saturating_sub.result ≡ room_of request =
-    omega (
-      arith,
-      c.saturating_sub.ensures,
-      c.saturating_sub-body.ensures,
-      c.len.ensures,
-      request.text.ok.0,
-    ) in
-    adds_no_more c.args.self.now _ c.args.id c.args.bytes.now c.args.end _ request found
-    (omega (arith, room))
-    (changes_twice c.args.self.now before _ c.args.id (Some request) None
-    (changes_one c.args.self.now before c.args.id (Some request)
-    ((c.get_mut.follows.holds request).3 (ap is_some found)).0)
-    (changes_one before _ c.args.id None c.remove.ensures.updates.0))
+    let room : c.saturating_sub.result ≡ room_of request = omega (arith, request.text.ok.0) in
+    rw found (inl (
+      omega (arith, room),
+      refl,
+      changes_twice
+          (changes_one c.args.self.now before c.args.id (Some request)
+          ((c.get_mut.follows.holds request).3 (ap is_some found)).0)
+          (changes_one before _ c.args.id None c.remove.ensures.updates.0),
+    ))
 
 pub returns-then-end : goal.returns-then-end
 returns-then-end c =
@@ -42,36 +40,29 @@ returns-then-end c =
     let found = sym c.in-Some.ensures.value in
     let longer : Request = record request { text = c.extend_from_slice.new.self } in
     let next : Requests = record c.args.self.now { kept = c.get_mut.follows.lender longer } in
-    let room : c.saturating_sub.result ≡ room_of request =
-    omega (
-      arith,
-      c.saturating_sub.ensures,
-      c.saturating_sub-body.ensures,
-      c.len.ensures,
-      request.text.ok.0,
-    ) in
-    rw c.if-end.true (adds_last c.args.self.now next _ c.args.id c.args.bytes.now _ request longer
-    c.end.result found (omega (arith, room))
+    let room : c.saturating_sub.result ≡ room_of request = omega (arith, request.text.ok.0) in
+    rw c.if-end.true (adds_last _ c.args.bytes.now request c.end.result found (omega (arith, room))
     (record { text = c.in_ok-extend_from_slice.ensures.items; start = refl; to_head = refl })
     (changes_one c.args.self.now next c.args.id (Some longer)
     ((c.get_mut.follows.holds longer).3 (ap is_some found)).0) c.end.ensures)
 
 pub returns : goal.returns
+unfolding AddsOctets EndsRequest
 returns c =
     let request = c.in-Some.request.now in
     let found = sym c.in-Some.ensures.value in
     let longer : Request = record request { text = c.extend_from_slice.new.self } in
     let next : Requests = record c.args.self.now { kept = c.get_mut.follows.lender longer } in
-    let room : c.saturating_sub.result ≡ room_of request =
-    omega (
-      arith,
-      c.saturating_sub.ensures,
-      c.saturating_sub-body.ensures,
-      c.len.ensures,
-      request.text.ok.0,
-    ) in
-    rw c.if-end.false (adds_more c.args.self.now next c.args.id c.args.bytes.now _ request longer
-    found (omega (arith, room))
-    (record { text = c.in_ok-extend_from_slice.ensures.items; start = refl; to_head = refl })
-    (changes_one c.args.self.now next c.args.id (Some longer)
-    ((c.get_mut.follows.holds longer).3 (ap is_some found)).0))
+    let room : c.saturating_sub.result ≡ room_of request = omega (arith, request.text.ok.0) in
+    rw (c.if-end.false, found) (inr (
+      omega (arith, room),
+      (
+        longer,
+        record { text = c.in_ok-extend_from_slice.ensures.items; start = refl; to_head = refl },
+        (
+          refl,
+          changes_one c.args.self.now next c.args.id (Some longer)
+              ((c.get_mut.follows.holds longer).3 (ap is_some found)).0,
+        ),
+      ),
+    ))

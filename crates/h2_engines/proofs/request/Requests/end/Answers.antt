@@ -1,14 +1,17 @@
 -- The request is taken out, if it is kept.
-use Rattle.std.proofs.Common.{None, sym}
-use Rattle.h2_engines.proofs.RequestTable.{changes_one, ends_some, ends_none}
+use Rattle.h2_engines.proofs.Names.{None, refl, sym}
+use Rattle.h2_engines.specs.PartialMessages.{EndsKept, EndsRequest}
+use Rattle.h2_engines.proofs.RequestTable.{changes_one}
 use Rattle.h2_engines.proofs.request.Requests.end.Goals as goal
 
 pub returns-in-Some : goal.returns-in-Some
+unfolding EndsKept EndsRequest
 returns-in-Some c =
-    ends_some c.args.self.now _ c.args.id _ c.in-Some.request (sym c.in-Some.ensures.value)
-    (changes_one c.args.self.now _ c.args.id None c.remove.ensures.updates.0)
+    rw (sym c.in-Some.ensures.value)
+    (refl, changes_one c.args.self.now _ c.args.id None c.remove.ensures.updates.0)
 
 pub returns-in-None : goal.returns-in-None
+unfolding EndsKept
 returns-in-None c =
-    ends_none c.args.self.now _ c.args.id _ (sym c.in-None.ensures.value)
-    (changes_one c.args.self.now _ c.args.id None c.remove.ensures.updates.0)
+    rw (sym c.in-None.ensures.value)
+    (refl, changes_one c.args.self.now _ c.args.id None c.remove.ensures.updates.0)

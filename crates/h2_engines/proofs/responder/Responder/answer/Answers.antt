@@ -1,15 +1,14 @@
 -- By the lemmas on an answer.
-use Rattle.std.proofs.Common.{refl, arith}
-use Rattle.h2_engines.specs.ServerSteps.{counted_answer}
-use Rattle.h2_engines.proofs.ResponderCalls.{answers_none, answers_no_more, answers_done}
-use Rattle.h2_engines.proofs.ResponderCalls.{answers_refused}
+use Rattle.h2_engines.proofs.Names.{refl, arith}
+use Rattle.h2_engines.specs.ServerSteps.{AnsweredSo, counted_answer, counts_no_more, no_memory}
+use Rattle.h2_engines.proofs.ResponderCalls.{answers_done, answers_refused}
 use Rattle.h2_engines.proofs.responder.Responder.answer.Goals as goal
 use Rattle.h2_engines.proofs.responder.Responder.answer.Goals.{in-Ok-respond, in-Err}
 
 pub returns-in_default-clause-answers : goal.returns-in_default-clause-answers
-returns-in_default-clause-answers c =
-    answers_no_more c.args.self.now.server.end c.args.id _ _
-    (omega (arith, c.in_default.ensures))
+unfolding AnsweredSo
+returns-in_default-clause-answers c values end represents =
+    (end, represents, counts_no_more (omega (arith, c.in_default.ensures)) refl)
 
 pub returns-in_default-clause-count : goal.returns-in_default-clause-count
 unfolding counted_answer
@@ -17,8 +16,9 @@ returns-in_default-clause-count c = refl
 
 pub returns-in_default-into_answer-clause-answers :
     goal.returns-in_default-into_answer-clause-answers
-returns-in_default-into_answer-clause-answers c =
-    answers_none c.args.self.now.server.end c.args.id _ c.args.self.now.answered
+unfolding AnsweredSo
+returns-in_default-into_answer-clause-answers c values end represents =
+    (end, represents, no_memory refl refl)
 
 pub returns-in_default-into_answer-clause-count :
     goal.returns-in_default-into_answer-clause-count
@@ -28,12 +28,10 @@ returns-in_default-into_answer-clause-count c = refl
 pub returns-clause-answers : goal.returns-clause-answers
 returns-clause-answers c =
     elim c.match-respond.branch [
-      | in-Ok-respond w ↦ rw (w.self-is, w.result-is)
-          (answers_done c.args.self.now.server.end c.respond.new.self.end c.args.id _ _ _ _
-          c.in-Ok.ensures w.in-Ok-respond.ensures)
-      | in-Err w ↦ rw (w.self-is, w.result-is)
-          (answers_refused c.args.self.now.server.end c.respond.new.self.end c.args.id _ _ _
-          (w.in-Err.field-0-0, w.in-Err.refusal) _ c.in-Ok.ensures
+      | in-Ok-respond w ↦ rw (w.self-is, w.result-is) (answers_done c.args.self.now.server.end
+          c.respond.new.self.end c.args.id _ _ c.in-Ok.ensures w.in-Ok-respond.ensures)
+      | in-Err w ↦ rw (w.self-is, w.result-is) (answers_refused c.args.self.now.server.end
+          c.respond.new.self.end c.args.id _ (w.in-Err.field-0-0, w.in-Err.refusal) c.in-Ok.ensures
           w.error_of_refusal.ensures.error w.in-Err.ensures)
     ]
 

@@ -1,5 +1,5 @@
 -- By the lemmas on a call of `take`.
-use Rattle.std.proofs.Common.{inl, inr, arith}
+use Rattle.h2_engines.proofs.Names.{inl, inr, arith}
 use Rattle.h2_engines.proofs.ResponderHears.{hears_nothing, hears_event, hears_lost, hears_fault}
 use Rattle.h2_engines.proofs.responder.Responder.hear.Goals as goal
 use Rattle.h2_engines.proofs.responder.Responder.hear.Goals.{then-used-piece, else-used-piece}

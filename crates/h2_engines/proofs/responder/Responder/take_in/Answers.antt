@@ -1,5 +1,5 @@
 -- By how the server was driven without a link.
-use Rattle.std.proofs.lemmas.Result.{err_from_is_err_and}
+use Rattle.h2_engines.proofs.Names.{err_from_is_err_and}
 use Rattle.h2_engines.proofs.ServeEnds.{takes_in, takes_in_part}
 use Rattle.h2_engines.proofs.MachineViews.{begun}
 use Rattle.h2_engines.proofs.responder.Responder.take_in.Goals as goal
@@ -13,5 +13,5 @@ returns-in_err-take_all-clause-takes c =
 
 pub returns-clause-takes : goal.returns-clause-takes
 returns-clause-takes c =
-    takes_in begun begun c.args.self.now c.take_all.new.machine c.args.piece.now c.in_ok-take_all.field-0
-    c.in_ok-take_all.ensures.takes
+    takes_in begun begun c.args.self.now c.take_all.new.machine c.args.piece.now
+    c.in_ok-take_all.field-0 c.in_ok-take_all.ensures.takes

@@ -1,20 +1,15 @@
 -- By what the server has answered or reset.
-use Rattle.h2_engines.specs.declared.request.Next.TheVariants as nexts
-use Rattle.h2_engines.proofs.MachineViews.{server_held}
-use Rattle.h2_engines.proofs.ServerMachine.{server_answers, server_resets, acts_as}
+use Rattle.h2_engines.proofs.ServerMachine.{server_answers, server_resets}
 use Rattle.h2_engines.proofs.responder.ResponderMachine.act.Goals as goal
 
 pub returns-in-Answer-clause-acts : goal.returns-in-Answer-clause-acts
 returns-in-Answer-clause-acts c =
-    acts_as (server_held c.args.self.now) (server_held c.answer.new.self) c.args.due
-    (nexts.Answer c.in-Answer.id c.in-Answer.request) c.answer.result c.in-Answer.is
-    (server_answers c.args.self.now c.answer.new.self c.in-Answer.id c.in-Answer.request
-    c.answer.result c.answer.ensures.count c.answer.ensures.requests c.answer.ensures.err
-    c.answer.ensures.answers)
+    rw c.in-Answer.is (server_answers c.args.self.now c.answer.new.self c.in-Answer.id
+    c.in-Answer.request c.answer.result c.answer.ensures.count c.answer.ensures.requests
+    c.answer.ensures.err c.answer.ensures.answers)
 
 pub returns-in-Reset-clause-acts : goal.returns-in-Reset-clause-acts
 returns-in-Reset-clause-acts c =
-    acts_as (server_held c.args.self.now) (server_held c.reset.new.self) c.args.due
-    (nexts.Reset c.in-Reset.id) c.reset.result c.in-Reset.is
-    (server_resets c.args.self.now c.reset.new.self c.in-Reset.id c.reset.result
-    c.reset.ensures.fits c.reset.ensures.answered c.reset.ensures.requests c.reset.ensures.resets)
+    rw c.in-Reset.is (server_resets c.args.self.now c.reset.new.self c.in-Reset.id c.reset.result
+    c.reset.ensures.fits c.reset.ensures.answered c.reset.ensures.requests
+    c.reset.ensures.resets)
