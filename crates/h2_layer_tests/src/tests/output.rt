@@ -217,6 +217,7 @@ fn are_in_order(alloc: Global) -> bool {
         && gives_data(alloc, &mut output, b"ab", true, octets)
 }
 
+// rule: calls (own) Frames join the output that waits, in order
 #[test]
 fn what_is_added_follows_what_waits(rt: HostRuntime) {
     assert!(rt; are_in_order(rt.alloc()));
