@@ -130,14 +130,17 @@ class Table:
             self.add_contracts(parts)
 
     def add_contracts(self, parts):
-        """Adds the contracts that the heads of files name to those tagged, laws apart, or else those of the code."""
+        """Puts laws last, and adds the contracts that heads of files name where there are no others, or those of the code."""
         laws = [it for it in parts["Contract"] if self.is_law(it)]
+        parts["Contract"] = [it for it in parts["Contract"] if it not in laws] + laws
         marks = {it.mark for it in parts["Definition"]}
         if len(laws) < len(parts["Contract"]) or "law" in marks:
             return
         named = [name for it in parts["Definition"] for name, _ in self.tags.heads[it.file]]
         found = [it for name in dict.fromkeys(named) for it in self.by_path[name]]
-        parts["Contract"] = [Tag("contract", "", None, it.file, 0, it.name, it.first + 1) for it in found] + laws
+        tags = [Tag("contract", "", None, it.file, 0, it.name, it.first + 1) for it in found]
+        places = {(it.file, it.at) for it in tags}
+        parts["Contract"] = tags + [it for it in laws if (it.file, it.at) not in places]
         if not parts["Contract"]:
             parts["Contract"] = [it for it in parts["Code"] if self.has_contract(it)]
 

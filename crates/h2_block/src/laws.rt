@@ -9,8 +9,7 @@ ghost use Rattle.h2_block.specs.declared.fault.BlockFault.{BlockFault};
 ghost use Rattle.h2_block.specs.Grouping.{Item, block, Begun, Groups, GroupingFaultAt};
 ghost use Rattle.h2_block.specs.Spread.{spread_frames};
 
-// contract: 4.3 A field block is its HEADERS' fragment and those of CONTINUATION
-// contract: 4.3 A field block ends with the frame that has END_HEADERS
+// contract: 4.3 Each list of frames groups or has a fault; prefixes agree
 /// Frames have one grouping: their items, and the block that has begun after them, are the same,
 /// however they were found.
 pub fn one_grouping()
@@ -19,7 +18,7 @@ pub fn one_grouping()
         → (items ≡ others) × (begun ≡ other) }
 {}
 
-// contract: 6.10 Inside a block any frame but its CONTINUATION is PROTOCOL_ERROR
+// contract: 4.3 Each list of frames groups or has a fault; prefixes agree
 /// Frames at fault have no grouping, whatever follows them, and no other fault: nothing from the
 /// frame at fault on is an item.
 pub fn no_grouping_past_a_fault()

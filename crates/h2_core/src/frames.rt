@@ -19,6 +19,7 @@ use h2_block::Gathered;
 use h2_frame::{Code, FrameRef};
 
 impl Endpoint {
+    // contract: 5.5 A frame of an unknown type passes as it is, and an end ignores it
     // rule: 3.4 A first frame other than SETTINGS without ACK is PROTOCOL_ERROR
     // contract: 6.10 Inside a block any frame but its CONTINUATION is PROTOCOL_ERROR
     // contract: 4.3 A block that does not decode is COMPRESSION_ERROR, of the connection

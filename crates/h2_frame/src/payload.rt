@@ -48,15 +48,9 @@ pub fn payload_fault(head: &Head, payload: &[u8]) -> Option<Code>
 // contract: 5.5 A frame of an unknown type passes as it is, and an end ignores it
 // contract: 6.1 END_STREAM of DATA ends the stream of the sender
 // contract: 6.2 END_STREAM and END_HEADERS are read from their bits
-// contract: 6.3 PRIORITY has five octets (a connection error: own)
-// contract: 6.3 PRIORITY on stream 0 is PROTOCOL_ERROR
 // contract: 6.3 PRIORITY has an exclusive flag, a stream and a weight
-// contract: 6.4 RST_STREAM has four octets
-// contract: 6.4 RST_STREAM on stream 0 is PROTOCOL_ERROR
 // contract: 6.4 RST_STREAM is read with its code of 32 bits
 // contract: 6.5 ACK of SETTINGS and PING is read from its bit
-// contract: 6.7 PING has eight octets
-// contract: 6.7 PING on a stream other than 0 is PROTOCOL_ERROR
 // contract: 6.7 PING is read with its octets
 /// Checks and reads the payload after a head without fault, and lends it (RFC 9113, section 6). The
 /// slice has the head's length. It allocates nothing.
