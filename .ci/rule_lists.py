@@ -110,6 +110,7 @@ SECTIONS = {
     "8.3": "HTTP Control Data",
     "8.3.1": "Request Pseudo-Header Fields",
     "8.3.2": "Response Pseudo-Header Fields",
+    "8.6": "The Upgrade Header Field",
     "10.5": "Denial-of-Service Considerations",
     "10.5.1": "Limits on Field Block Size",
     "HTTP 9.3.2": "HEAD (RFC 9110)",

@@ -14,6 +14,8 @@ MARKS = {
     "tested": "none, no contract says it: it is tested",
     "contract": "",
 }
+# The mark of the test, or of the wrong body, that shows a rule best: its page names that one first.
+BEST = "best"
 TAG = re.compile(r"\s*(?://|--|#) (rule|contract)(?: \((\w+)\))?: (.*)$")
 RULE = re.compile(r"((?:HPACK |HTTP )?[0-9A-Z][0-9.]*|[a-z]+)( \(own\))? (.+)")
 ITEM = re.compile(r"(?:\w+(?:\(\w+\))? )*?(?:fn|enum|struct|trait|const(?! fn)) (\w+)")
@@ -80,7 +82,7 @@ class Tags:
         rule, (name, row) = RULE.fullmatch(text), item_of(file, lines, at)
         if not rule or rule[1] not in SECTIONS:
             self.faults.append(f"{place}: no rule with a section that .ci/rule_lists.py knows: {text}")
-        elif not name or mark and mark not in MARKS or len(lines[at]) > 100 or len(rule[3]) > 75:
+        elif not name or mark and mark not in (*MARKS, BEST) or len(lines[at]) > 100 or len(rule[3]) > 75:
             self.faults.append(f"{place}: the tag is on nothing, its mark is unknown or it is too long")
         else:
             own = Rule(rule[1], rule[2] or "", rule[3])

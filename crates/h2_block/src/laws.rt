@@ -31,7 +31,7 @@ pub fn no_grouping_past_a_fault()
 {}
 
 // contract: 4.2 (own) Payloads of at most 16,384 octets are sent
-// contract: 4.3 A block is sent as HEADERS and CONTINUATION frames, each full but one
+// contract: 4.3 A block is sent as contiguous HEADERS and CONTINUATION, each full but one
 /// The frames over which a block is spread, whatever the greatest payload is, are one block of its
 /// octets. Where a head can say that payload's length they can be written; none has a greater one.
 pub fn spread_block()

@@ -29,10 +29,11 @@ impl Endpoint {
     // contract: 5.4 (own) Only steps that reply, change streams or return credit take memory
     // contract: 6.1 The complete payload of DATA, padding included, counts for windows
     // contract: 6.5.3 Own SETTINGS hold once they are acknowledged, and not before
-    // contract: 6.10 No answer is sent between the frames of a field block
+    // contract: 4.3 No other frame is sent between the frames of a field block
     // contract: 6.8 The last stream of GOAWAY never grows: the least so far is reported
     // contract: 6.9.2 INITIAL_WINDOW_SIZE shifts the window of each stream
     // contract: 6.9.2 A shift of a window above 2^31-1 is FLOW_CONTROL_ERROR
+    // contract: 7 A received code is any number of 32 bits, and an unknown one does nothing
     /// Takes the next frame, one that has come without a fault: the numbers of its stream, of a
     /// last stream and of an increment have 31 bits, and its payload's length 24.
     ///

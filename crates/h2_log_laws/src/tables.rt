@@ -25,7 +25,7 @@ pub fn tables_in_step()
         (encoder_after encoder sendings).table }
 {}
 
-// contract: 6.5.3 The first setting at fault decides, and the last value counts
+// contract: 6.5.3 Settings apply in order: the first fault decides, the last value counts
 // contract: 6.5.3 Own SETTINGS hold once they are acknowledged, and not before
 /// The value of a setting that an end has read last is the one in force at its peer, once the peer
 /// has read what the end has written, and the end has acknowledged what it has read. So a table

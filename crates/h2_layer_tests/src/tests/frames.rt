@@ -46,7 +46,7 @@ fn longer_is_refused(alloc: Global) -> bool {
 
 // rule: 4.1 (own) A frame is refused for length, stream, values, memory, in order
 // rule: 4.1 (own) A refused frame leaves the output as it was
-// rule: 4.2 No payload above 16,777,215 octets is written
+// rule (best): 4.2 No payload above 16,777,215 octets is written
 /// The length comes before the stream and the kind, which are at fault as well.
 #[test]
 fn a_longer_frame_is_refused(rt: HostRuntime) {

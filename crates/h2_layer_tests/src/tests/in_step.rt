@@ -88,7 +88,7 @@ fn all_pass(alloc: Global) -> bool {
     largest > 200
 }
 
-// rule: HPACK 3.1 What is encoded is a block of the list
+// rule (best): HPACK 3.1 What is encoded is a block of the list
 // rule: HPACK 2.3.2 (own) The table that is lent is the decoder's or the encoder's own
 #[test]
 fn lists_in_step(rt: HostRuntime) {

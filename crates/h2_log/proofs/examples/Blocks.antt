@@ -153,7 +153,7 @@ abbrev pub resetting_server : Log
 resetting_server = with_call active_server (ResetStream 1 8) Done
 
 -- Opening a stream closes lower idle ones (section 5.1.1).
--- rule: 5.1.1 A stream that is opened closes all lower idle ones
+-- rule (best): 5.1.1 A stream that is opened closes all lower idle ones
 streams_passed_over :
     map (state server_with_third) (1 ∷ 2 ∷ 3 ∷ 5 ∷ []) ≡ Closed ∷ Idle ∷ Active ∷ Idle ∷ []
 unfolding computing

@@ -49,7 +49,7 @@ bodies =
 -- DATA of one octet more than the connection's window ends the connection; DATA of no octets never
 -- does (RFC 9113, section 6.9.1).
 -- rule: 6.9.1 DATA above the connection's window is FLOW_CONTROL_ERROR
--- rule: 6.9.1 DATA of no octets is within any window
+-- rule (best): 6.9.1 DATA of no octets is within any window
 connection_windows :
     (verdicts (record active_view { recv_window = pos 4 }) (bodies 1)
     ≡ Reported ∷ Reported ∷ Reported ∷ ConnectionFault FlowControlError ∷ [])

@@ -84,7 +84,7 @@ emptied_client = with_call less_full_client (PutOut 100000) (Count 65548)
 
 -- Credit isn't returned as long as 65,536 octets or more wait; a call of `put_out` that finds fewer
 -- returns it first, where its octets count (own).
--- rule: 6.9 Nothing of the window of the connection is lost
+-- rule (best): 6.9 Nothing of the window of the connection is lost
 credit_held_back :
     (map waiting (held_client ∷ fuller_client ∷ less_full_client ∷ emptied_client ∷ [])
     ≡ 65649 ∷ 65536 ∷ 65535 ∷ 0 ∷ [])

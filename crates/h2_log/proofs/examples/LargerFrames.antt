@@ -22,7 +22,7 @@ continuations_of octets long =
 
 -- Where the greatest payload has 16,384 octets, a block of 20,016 octets is two frames (RFC 9113,
 -- section 4.3).
--- rule: 4.3 A block is sent as HEADERS and CONTINUATION frames, each full but one
+-- rule: 4.3 A block is sent as contiguous HEADERS and CONTINUATION, each full but one
 block_in_two : (octets : List ℕ) → length octets ≡ 20016
     → encoding_of_item 16384 (block 1 false octets)
     ≡ encoding_of (Headers 1 false false (take 16384 octets) None None)

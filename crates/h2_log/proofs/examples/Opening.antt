@@ -48,7 +48,7 @@ opens_stream_1 = (refl, refl)
 
 -- A server acknowledges the client's SETTINGS, and reports the request, which ends its stream
 -- (sections 6.5.3 and 8.1).
--- rule: 6.5.3 SETTINGS are acknowledged before anything else is sent
+-- rule (best): 6.5.3 SETTINGS are acknowledged before anything else is sent
 reports_a_request :
     outcome server_with_request ≡ come_to (preface_octets ++ client_settings ++ request_octets)
     (FieldsEvent 1 request true ∷ []) (server_settings ++ acknowledgment) None

@@ -76,7 +76,7 @@ ended_view =
     }
 
 -- C3: this end has ended the stream.
--- rule: 5.1 Each frame is sent only in states that allow it
+-- rule (best): 5.1 Each frame is sent only in states that allow it
 refused_after_the_end :
     answers ended_view (stream_calls 1) ≡ Refused Ended ∷ Refused Ended ∷ Done ∷ Done ∷ []
 unfolding computing
@@ -183,7 +183,7 @@ abbrev pub large_open : Act
 large_open = Open (list_of_size 65537) true
 
 -- Of several conditions the first one in this order refuses.
--- rule: calls (own) A call is refused for its first condition, and changes nothing
+-- rule: calls (own) A call does what it says, or is refused for its first condition
 order_of_refusals :
     (map (λ view. answered view large_open)
     (refusing_view ∷ record refusing_view { failed = None }
@@ -212,7 +212,7 @@ unfolding computing
 order_of_refusals = (refl, refl, refl)
 
 -- A refused call changes nothing of what an end has come to.
--- rule: calls (own) A call is refused for its first condition, and changes nothing
+-- rule: calls (own) A call does what it says, or is refused for its first condition
 refused_call :
     (outcome (with_call active_server (Release 1 5) (Refused NotOwed)) ≡ outcome active_server)
     × ((log_view (with_call active_server (Release 1 5) (Refused NotOwed))).waiting

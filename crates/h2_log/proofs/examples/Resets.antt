@@ -31,7 +31,7 @@ three_resets = alone (Reset 1 8) ∷ alone (Reset 2 8) ∷ alone (Reset 3 8) ∷
 -- ignored (RFC 9113, sections 5.1 and 6.4).
 -- rule: 6.4 RST_STREAM on an idle stream is PROTOCOL_ERROR
 -- rule: 5.1 On an idle stream any but HEADERS or PRIORITY is PROTOCOL_ERROR
--- rule: 5.4.2 RST_STREAM is not answered by RST_STREAM, nor sent twice
+-- rule (best): 5.4.2 RST_STREAM is not answered by RST_STREAM, nor sent twice
 resets_by_state :
     (verdicts active_view three_resets
     ≡ Reported ∷ ConnectionFault ProtocolError ∷ ConnectionFault ProtocolError ∷ [])
@@ -46,7 +46,7 @@ server_with_reset = takes (server_with_body false) (Reset 1 8)
 
 -- What it still owes goes back to the connection (section 6.9).
 -- rule: 5.1 A stream has one state, by what was received and sent
--- rule: 6.4 RST_STREAM closes an active stream and is reported
+-- rule (best): 6.4 RST_STREAM closes an active stream and is reported
 reset_by_the_peer :
     (outcome server_with_reset ≡ come_to (active_octets ++ body_frame ++ reset_frame 1 8)
     (FieldsEvent 1 short_request false ∷ DataEvent 1 abcd 4 false ∷ ResetEvent 1 8 false ∷ [])
@@ -77,7 +77,7 @@ server_with_late_body =
 
 -- It is ignored, and what it took of the connection's window is returned, as is what the stream
 -- owed (sections 5.1 and 6.9).
--- rule: 5.1 DATA on a stream that this end has reset counts for the connection
+-- rule (best): 5.1 DATA on a stream that this end has reset counts for the connection
 credit_of_a_reset_stream :
     (output server_resetting_a_body ≡ active_output ++ reset_frame 1 8 ++ increment_frame 0 4)
     × (outcome server_with_late_body ≡ come_to

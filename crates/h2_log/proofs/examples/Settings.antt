@@ -89,7 +89,7 @@ unfolding computing
 other_values = refl
 
 -- The first pair that is at fault decides (section 6.5.3).
--- rule: 6.5.3 The first setting at fault decides, and the last value counts
+-- rule: 6.5.3 Settings apply in order: the first fault decides, the last value counts
 first_fault_of_several :
     (settings_fault active_view ((1, 0) ∷ (5, 0) ∷ (4, 2147483648) ∷ []) ≡ Some ProtocolError)
     × (settings_fault active_view ((4, 2147483648) ∷ (5, 0) ∷ []) ≡ Some FlowControlError)
@@ -181,7 +181,7 @@ server_with_limits = takes server_with_two (Settings false ((1, 0) ∷ (1, 4096)
 
 -- Each of them counts: the next block has an update to the least of them, and one to the last.
 -- rule: 4.3.1 The encoder follows each HEADER_TABLE_SIZE, up to 4,096 (own)
--- rule: 6.5.3 The first setting at fault decides, and the last value counts
+-- rule: 6.5.3 Settings apply in order: the first fault decides, the last value counts
 follows_each_table_limit :
     output (with_call server_with_limits (SendFields 1 short_answer false) Done)
     ≡ active_output ++ acknowledgment ++ octets (codes "000005 01 04 00000001 203fe11f88")

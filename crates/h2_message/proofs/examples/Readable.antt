@@ -37,7 +37,7 @@ whole_is_well =
     record { interims = (refl, (refl, tt)); head = refl; trailers = refl; declared = refl }
 
 -- So its first parts are readable, before DATA and within it.
--- rule: 8.1 (own) A part is read where the parts so far begin a well-formed message
+-- rule (best): 8.1 (own) A part is read where the parts so far begin a well-formed message
 reads_its_beginning : IsReadable (Responses false) (
     block (answering "103") false ∷ block (answering "100") false
     ∷ block (answering "200" ++ five) false ∷ data_of 2 false ∷ [])

@@ -32,7 +32,7 @@ heads = (refl, refl)
 
 -- M9: no interim response is sent (own).
 -- rule: 8.1 (own) No interim response is sent: a status 100 to 199 breaks M9
--- rule: 8.3.2 A status that is not three digits from 100, or is 101, breaks M9
+-- rule: 8.3.2 A status that is not three digits from 100 on breaks M9
 statuses :
     (of_responses (
     answering "101" ∷ answering "099" ∷ answering "103" ∷ answering "100" ∷ answering "199"

@@ -38,7 +38,7 @@ headers_whole : frame_line (Headers 1 false true four None None) ≡ codes "HEAD
 unfolding frame_words digits
 headers_whole = refl
 
--- rule: show (own) The line of a frame has its type, stream, octets and more
+-- rule (best): show (own) The line of a frame has its type, stream, octets and more
 headers_all : frame_line (Headers 1 true true four (Some 2) (Some (2 ∷ 0 ∷ 0 ∷ 0 ∷ 15 ∷ [])))
     ≡ codes "HEADERS 1 12 end whole pad=2 priority\n"
 unfolding frame_words digits

@@ -160,7 +160,7 @@ fn interrupted_reads(rt: HostRuntime) {
     }
 }
 
-// rule: show (own) The status is 0 only where the input is good to its end
+// rule (best): show (own) The status is 0 only where the input is good to its end
 #[test]
 fn exit_codes(rt: HostRuntime) {
     let codes = [
