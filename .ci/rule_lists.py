@@ -101,6 +101,7 @@ SECTIONS = {
     "6.9": "WINDOW_UPDATE",
     "6.9.1": "The Flow-Control Window",
     "6.9.2": "Initial Flow-Control Window Size",
+    "6.9.3": "Reducing the Stream Window Size",
     "6.10": "CONTINUATION",
     "7": "Error Codes",
     "8.1": "HTTP Message Framing",

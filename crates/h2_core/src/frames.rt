@@ -34,6 +34,7 @@ impl Endpoint {
     // contract: 6.9.2 INITIAL_WINDOW_SIZE shifts the window of each stream
     // contract: 6.9.2 A shift of a window above 2^31-1 is FLOW_CONTROL_ERROR
     // contract: 7 A received code is any number of 32 bits, and an unknown one does nothing
+    // contract: 6.9.3 Until a lower own window is acknowledged the one before it holds
     /// Takes the next frame, one that has come without a fault: the numbers of its stream, of a
     /// last stream and of an increment have 31 bits, and its payload's length 24.
     ///

@@ -107,6 +107,7 @@ impl Endpoint {
 
     // rule: 6.5.3 Own SETTINGS hold once they are acknowledged, and not before
     // rule: 6.5.3 An acknowledgment that is awaited is reported, others are ignored
+    // rule: 6.9.3 Until a lower own window is acknowledged the one before it holds
     /// The acknowledgment of own SETTINGS: those that await it come into force (section 6.5.3).
     pub(crate) fn take_acknowledgment<'a>(&mut self) -> Result<Option<Reported<'a>>, StepError>
         requires sound { IsSound (end_of self.old) }

@@ -77,6 +77,7 @@ up_to_settings count (item ∷ items) =
 -- last of these, and the first value before any. The k-th acknowledgment is of the k-th own
 -- SETTINGS (section 6.5.3).
 -- rule: 6.5.3 Own SETTINGS hold once they are acknowledged, and not before
+-- rule: 6.9.3 Until a lower own window is acknowledged the one before it holds
 abbrev pub own_value : ℕ → ℕ → ℕ → List Item → ℕ
 own_value id first count sent = value_read id first (up_to_settings count sent)
 

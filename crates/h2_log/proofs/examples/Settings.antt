@@ -208,6 +208,7 @@ changed_server = with_call acknowledged_server (ChangeSettings small_values) Don
 -- Own SETTINGS are changed one at a time: those before, the first included, are acknowledged before
 -- that (section 6.5.3).
 -- rule: 6.5.3 (own) Own SETTINGS are changed once those before are acknowledged
+-- rule: 6.9.3 Until a lower own window is acknowledged the one before it holds
 changes_its_settings :
     (answered active_view (ChangeSettings small_values) ≡ Refused SettingsWait)
     × (answered (log_view acknowledged_server) (ChangeSettings small_values) ≡ Done)

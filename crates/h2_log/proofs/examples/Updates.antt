@@ -102,11 +102,11 @@ update_too_far_on_the_connection :
 unfolding computing
 update_too_far_on_the_connection = refl
 
--- the stream's window grules to the greatest
+-- the stream's window grows to the greatest
 abbrev pub server_with_send_window : Log
 server_with_send_window = takes active_server (WindowUpdate 1 2147418112)
 
--- and the peer's initial window grules by one
+-- and the peer's initial window grows by one
 abbrev pub server_above_the_greatest : Log
 server_above_the_greatest = takes server_with_send_window (Settings false ((4, 65536) ∷ []))
 
