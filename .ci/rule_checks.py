@@ -6,7 +6,7 @@ from collections import defaultdict
 
 import edits
 from rule_lists import API, BY_NAME, EXEMPT, FAULT_DEFINITIONS, FAULT_RESULTS
-from rule_tags import DEFINITION, ROOT, is_test, read
+from rule_tags import BEST, DEFINITION, ROOT, is_test, read
 
 
 def forms(table):
@@ -26,6 +26,10 @@ def forms(table):
             yield f"{place}: no wrong body of the rule: {text}"
         if mark == "law" and not parts["Contract"]:
             yield f"{place}: no law of the rule: {text}"
+        for kind, tags in parts.items():
+            best = sum(it.mark == BEST for it in tags)
+            if best > (kind in ("Test", "Wrong body")):
+                yield f"{place}: {best} tags of one kind ({kind}) are marked ({BEST}): {text}"
         if parts["Wrong body"] and mark in ("law", "text", "tested"):
             yield f"{place}: it has a wrong body, and is marked ({mark}): {text}"
 

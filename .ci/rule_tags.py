@@ -14,6 +14,8 @@ MARKS = {
     "tested": "none, no contract says it: it is tested",
     "contract": "",
 }
+# The mark of the test, or of the wrong body, that shows a rule best: its page names that one first.
+BEST = "best"
 TAG = re.compile(r"\s*(?://|--|#) (rule|contract)(?: \((\w+)\))?: (.*)$")
 RULE = re.compile(r"((?:HPACK |HTTP )?[0-9A-Z][0-9.]*|[a-z]+)( \(own\))? (.+)")
 ITEM = re.compile(r"(?:\w+(?:\(\w+\))? )*?(?:fn|enum|struct|trait|const(?! fn)) (\w+)")
@@ -80,7 +82,7 @@ class Tags:
         rule, (name, row) = RULE.fullmatch(text), item_of(file, lines, at)
         if not rule or rule[1] not in SECTIONS:
             self.faults.append(f"{place}: no rule with a section that .ci/rule_lists.py knows: {text}")
-        elif not name or mark and mark not in MARKS or len(lines[at]) > 100 or len(rule[3]) > 75:
+        elif not name or mark and mark not in (*MARKS, BEST) or len(lines[at]) > 100 or len(rule[3]) > 75:
             self.faults.append(f"{place}: the tag is on nothing, its mark is unknown or it is too long")
         else:
             own = Rule(rule[1], rule[2] or "", rule[3])
@@ -130,14 +132,17 @@ class Table:
             self.add_contracts(parts)
 
     def add_contracts(self, parts):
-        """Adds the contracts that the heads of files name to those tagged, laws apart, or else those of the code."""
+        """Puts laws last, and adds the contracts that heads of files name where there are no others, or those of the code."""
         laws = [it for it in parts["Contract"] if self.is_law(it)]
+        parts["Contract"] = [it for it in parts["Contract"] if it not in laws] + laws
         marks = {it.mark for it in parts["Definition"]}
         if len(laws) < len(parts["Contract"]) or "law" in marks:
             return
         named = [name for it in parts["Definition"] for name, _ in self.tags.heads[it.file]]
         found = [it for name in dict.fromkeys(named) for it in self.by_path[name]]
-        parts["Contract"] = [Tag("contract", "", None, it.file, 0, it.name, it.first + 1) for it in found] + laws
+        tags = [Tag("contract", "", None, it.file, 0, it.name, it.first + 1) for it in found]
+        places = {(it.file, it.at) for it in tags}
+        parts["Contract"] = tags + [it for it in laws if (it.file, it.at) not in places]
         if not parts["Contract"]:
             parts["Contract"] = [it for it in parts["Code"] if self.has_contract(it)]
 

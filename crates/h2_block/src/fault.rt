@@ -25,6 +25,7 @@ pub enum BlockFault {
 }
 
 impl BlockFault {
+    // contract: 5.4 (own) Out of memory is INTERNAL_ERROR
     // rule: 5.4 (own) Out of memory is INTERNAL_ERROR
     /// The code with which the connection ends: PROTOCOL_ERROR for a block that is interrupted or
     /// stray, ENHANCE_YOUR_CALM for one that is too long, and INTERNAL_ERROR for lack of memory.

@@ -46,7 +46,6 @@ impl Gather {
     // contract: 6.10 Inside a block any frame but its CONTINUATION is PROTOCOL_ERROR
     // contract: 10.5 (own) A block of more than 65,552 octets is ENHANCE_YOUR_CALM
     // contract: 5.4.1 After a fault each layer answers that fault and changes nothing
-    // contract: 5.4 (own) Out of memory is INTERNAL_ERROR
     /// Takes the next frame (RFC 9113, sections 4.3 and 6.10): one that is no part of a block is
     /// passed on; a block is answered with its last frame.
     ///

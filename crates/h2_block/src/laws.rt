@@ -9,8 +9,7 @@ ghost use Rattle.h2_block.specs.declared.fault.BlockFault.{BlockFault};
 ghost use Rattle.h2_block.specs.Grouping.{Item, block, Begun, Groups, GroupingFaultAt};
 ghost use Rattle.h2_block.specs.Spread.{spread_frames};
 
-// contract: 4.3 A field block is its HEADERS' fragment and those of CONTINUATION
-// contract: 4.3 A field block ends with the frame that has END_HEADERS
+// contract: 4.3 Each list of frames groups or has a fault; prefixes agree
 /// Frames have one grouping: their items, and the block that has begun after them, are the same,
 /// however they were found.
 pub fn one_grouping()
@@ -19,7 +18,7 @@ pub fn one_grouping()
         → (items ≡ others) × (begun ≡ other) }
 {}
 
-// contract: 6.10 Inside a block any frame but its CONTINUATION is PROTOCOL_ERROR
+// contract: 4.3 Each list of frames groups or has a fault; prefixes agree
 /// Frames at fault have no grouping, whatever follows them, and no other fault: nothing from the
 /// frame at fault on is an item.
 pub fn no_grouping_past_a_fault()
@@ -32,7 +31,7 @@ pub fn no_grouping_past_a_fault()
 {}
 
 // contract: 4.2 (own) Payloads of at most 16,384 octets are sent
-// contract: 4.3 A block is sent as HEADERS and CONTINUATION frames, each full but one
+// contract: 4.3 A block is sent as contiguous HEADERS and CONTINUATION, each full but one
 /// The frames over which a block is spread, whatever the greatest payload is, are one block of its
 /// octets. Where a head can say that payload's length they can be written; none has a greater one.
 pub fn spread_block()

@@ -40,7 +40,7 @@ impl Endpoint {
     // contract: 5.1.2 A client has at most as many active streams as the server allows
     // contract: 6.8 No stream is opened after GOAWAY was received
     // contract: 10.5 (own) An own list above 65,536 octets is refused
-    // contract: calls (own) A call is refused for its first condition, and changes nothing
+    // contract: calls (own) A call does what it says, or is refused for its first condition
     /// Opens a stream with a field block; `end` says that nothing follows (END_STREAM). Answers its
     /// number: 1, 3, 5 and so on.
     ///
@@ -89,7 +89,7 @@ impl Endpoint {
     // contract: 5.1 Each frame is sent only in states that allow it
     // contract: 10.5 (own) An own list above 65,536 octets is refused
     // rule: 10.5 (own) An own list above 65,536 octets is refused
-    // contract: calls (own) A call is refused for its first condition, and changes nothing
+    // contract: calls (own) A call does what it says, or is refused for its first condition
     /// Sends a further field block on a stream: a response's, or trailers.
     ///
     /// # Errors
@@ -119,7 +119,7 @@ impl Endpoint {
     // contract: 5.1 Each frame is sent only in states that allow it
     // contract: 6.9.1 DATA is sent within both windows
     // rule: 6.9.1 DATA is sent within both windows
-    // contract: calls (own) A call is refused for its first condition, and changes nothing
+    // contract: calls (own) A call does what it says, or is refused for its first condition
     /// Sends as many octets of a body as both windows let through, and 65,536 at most; answers how
     /// many. Where all went and `end` is set, the last DATA has END_STREAM; an empty slice with
     /// `end` sends one empty DATA.
@@ -150,7 +150,7 @@ impl Endpoint {
     }
 
     // rule: 5.1 Each frame is sent only in states that allow it
-    // rule: calls (own) A call is refused for its first condition, and changes nothing
+    // rule: calls (own) A call does what it says, or is refused for its first condition
     /// The stream, if something may be sent on it.
     fn sendable(&self, id: u32) -> Result<Stream, Refusal>
         ensures ok { IfOk result (λ stream. (self.now.failed ≡ None)
@@ -231,7 +231,7 @@ impl Endpoint {
         add_data_frames(&mut self.output, id, octets, end);
     }
 
-    // rule: 6.10 No answer is sent between the frames of a field block
+    // rule: 4.3 No other frame is sent between the frames of a field block
     /// Encodes a field block, of a list of this size, and adds its frames, with room for a
     /// WINDOW_UPDATE after them.
     ///
@@ -274,7 +274,7 @@ impl Endpoint {
     // rule: 5.1.2 A client has at most as many active streams as the server allows
     // rule: 6.8 No stream is opened after GOAWAY was received
     // rule: 10.5 (own) An own list above 65,536 octets is refused
-    // rule: calls (own) A call is refused for its first condition, and changes nothing
+    // rule: calls (own) A call does what it says, or is refused for its first condition
     /// Why a stream cannot be opened with a list of this size, out of memory put aside.
     fn refusal_of_open(&self, size: usize) -> Option<Refusal>
         requires { self.now.failed ≡ None → self.now.highest < 2 ^ 31 }

@@ -182,7 +182,7 @@ impl Endpoint {
         Ok(())
     }
 
-    // rule: calls (own) A call is refused for its first condition, and changes nothing
+    // rule: calls (own) A call does what it says, or is refused for its first condition
     /// C1: the connection has failed.
     pub(crate) fn check_up(&self) -> Result<(), Refusal>
         ensures ok { OnOk result (self.now.failed ≡ None) }
@@ -195,7 +195,7 @@ impl Endpoint {
         Ok(())
     }
 
-    // rule: calls (own) A call is refused for its first condition, and changes nothing
+    // rule: calls (own) A call does what it says, or is refused for its first condition
     /// C7: too much output waits.
     pub(crate) fn check_room(&self) -> Result<(), Refusal>
         ensures ok { OnOk result (nat_le full_output (length self.now.output.waiting) ≡ false) }

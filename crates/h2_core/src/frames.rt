@@ -19,6 +19,7 @@ use h2_block::Gathered;
 use h2_frame::{Code, FrameRef};
 
 impl Endpoint {
+    // contract: 5.5 A frame of an unknown type passes as it is, and an end ignores it
     // rule: 3.4 A first frame other than SETTINGS without ACK is PROTOCOL_ERROR
     // contract: 6.10 Inside a block any frame but its CONTINUATION is PROTOCOL_ERROR
     // contract: 4.3 A block that does not decode is COMPRESSION_ERROR, of the connection
@@ -28,10 +29,12 @@ impl Endpoint {
     // contract: 5.4 (own) Only steps that reply, change streams or return credit take memory
     // contract: 6.1 The complete payload of DATA, padding included, counts for windows
     // contract: 6.5.3 Own SETTINGS hold once they are acknowledged, and not before
-    // contract: 6.10 No answer is sent between the frames of a field block
+    // contract: 4.3 No other frame is sent between the frames of a field block
     // contract: 6.8 The last stream of GOAWAY never grows: the least so far is reported
     // contract: 6.9.2 INITIAL_WINDOW_SIZE shifts the window of each stream
     // contract: 6.9.2 A shift of a window above 2^31-1 is FLOW_CONTROL_ERROR
+    // contract: 7 A received code is any number of 32 bits, and an unknown one does nothing
+    // contract: 6.9.3 Until a lower own window is acknowledged the one before it holds
     /// Takes the next frame, one that has come without a fault: the numbers of its stream, of a
     /// last stream and of an increment have 31 bits, and its payload's length 24.
     ///

@@ -126,6 +126,7 @@ impl Endpoint {
     // rule: 5.4.2 RST_STREAM is not answered by RST_STREAM, nor sent twice
     // rule: 6.4 RST_STREAM on an idle stream is PROTOCOL_ERROR
     // rule: 6.4 RST_STREAM closes an active stream and is reported
+    // rule: 7 A received code is any number of 32 bits, and an unknown one does nothing
     /// RST_STREAM (section 6.4): it closes an active stream, and is ignored on a closed one.
     pub(crate) fn take_reset<'a>(
         &mut self,
@@ -152,7 +153,7 @@ impl Endpoint {
         }
     }
 
-    // rule: 6.7 PING is answered with the same octets
+    // rule: 6.7 PING is answered with its octets and ACK, and an answer is not answered
     // rule: 10.5 (own) Replies above 262,144 waiting octets are ENHANCE_YOUR_CALM
     /// PING (section 6.7): it is answered.
     pub(crate) fn take_ping<'a>(
@@ -189,6 +190,7 @@ impl Endpoint {
     }
 
     // rule: 6.8 The last stream of GOAWAY never grows: the least so far is reported
+    // rule: 7 A received code is any number of 32 bits, and an unknown one does nothing
     /// GOAWAY (section 6.8): the least of the last streams that it named holds.
     pub(crate) fn take_goaway<'a>(
         &mut self,

@@ -161,6 +161,7 @@ impl Endpoint {
     }
 
     // rule: 6.9.2 A new stream has its initial windows
+    // contract: 6.9.2 A new stream has its initial windows
     /// A stream that is opened now, with these sides.
     pub(crate) fn new_stream(&self, state: StreamState) -> Stream
         ensures { stream_view result

@@ -27,7 +27,7 @@ const MAX_ENCODER_TABLE: u32 = 4_096;
 impl Endpoint {
     // contract: 4.3.1 The encoder follows each HEADER_TABLE_SIZE, up to 4,096 (own)
     // rule: 4.3.1 The encoder follows each HEADER_TABLE_SIZE, up to 4,096 (own)
-    // rule: 6.5.3 The first setting at fault decides, and the last value counts
+    // rule: 6.5.3 Settings apply in order: the first fault decides, the last value counts
     // rule: 6.5.3 SETTINGS are acknowledged before anything else is sent
     // rule: 6.9.2 INITIAL_WINDOW_SIZE shifts the window of each stream
     // rule: 10.5 (own) Replies above 262,144 waiting octets are ENHANCE_YOUR_CALM
@@ -55,7 +55,7 @@ impl Endpoint {
         Ok(None)
     }
 
-    // rule: 6.5.3 The first setting at fault decides, and the last value counts
+    // rule: 6.5.3 Settings apply in order: the first fault decides, the last value counts
     // rule: 6.9.2 A shift of a window above 2^31-1 is FLOW_CONTROL_ERROR
     /// The settings after all pairs, or the fault of the first that has one: a value's own, or an
     /// initial window that would bring a stream's send window above 2<sup>31</sup> - 1 (section
@@ -107,6 +107,7 @@ impl Endpoint {
 
     // rule: 6.5.3 Own SETTINGS hold once they are acknowledged, and not before
     // rule: 6.5.3 An acknowledgment that is awaited is reported, others are ignored
+    // rule: 6.9.3 Until a lower own window is acknowledged the one before it holds
     /// The acknowledgment of own SETTINGS: those that await it come into force (section 6.5.3).
     pub(crate) fn take_acknowledgment<'a>(&mut self) -> Result<Option<Reported<'a>>, StepError>
         requires sound { IsSound (end_of self.old) }

@@ -6,7 +6,7 @@ use Rattle.h2_block.specs.Grouping.{Item, alone}
 
 -- the replies that items ask for, one for each SETTINGS and each PING that is no reply itself
 -- rule: 6.5.3 SETTINGS are acknowledged before anything else is sent
--- rule: 6.7 PING is answered with the same octets
+-- rule: 6.7 PING is answered with its octets and ACK, and an answer is not answered
 unfoldable pub replies_owed : List Item → List Item
 replies_owed [] = []
 replies_owed (alone (Settings false pairs) ∷ items) = alone (Settings true []) ∷ replies_owed items
@@ -15,7 +15,7 @@ replies_owed (_ ∷ items) = replies_owed items
 
 -- the replies among items
 -- rule: 6.5.3 SETTINGS are acknowledged before anything else is sent
--- rule: 6.7 PING is answered with the same octets
+-- rule: 6.7 PING is answered with its octets and ACK, and an answer is not answered
 unfoldable pub replies_among : List Item → List Item
 replies_among [] = []
 replies_among (alone (Settings true pairs) ∷ items) =

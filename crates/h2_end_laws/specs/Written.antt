@@ -12,8 +12,8 @@ abbrev pub IsCredit : List Item → Type 0
 IsCredit items = (items ≡ []) ⊎ ((count : ℕ) × (items ≡ alone (WindowUpdate 0 count) ∷ []))
 
 -- These items were written, the newest first, with nothing in between, and then perhaps credit.
--- rule: 4.3 A block is sent as HEADERS and CONTINUATION frames, each full but one
--- rule: 6.10 No answer is sent between the frames of a field block
+-- rule: 4.3 A block is sent as contiguous HEADERS and CONTINUATION, each full but one
+-- rule: 4.3 No other frame is sent between the frames of a field block
 pub record Writes (before after : Log) (items : List Item) : Type 0 where
   pub credit : List Item
   pub is_credit : IsCredit credit

@@ -26,8 +26,7 @@ ghost use Rattle.h2_end_laws.specs.Sendings.{EncodesInOrder, settings_received, 
 ghost use Rattle.h2_end_laws.specs.Written.{Writes};
 
 // contract: 6.5.3 SETTINGS are acknowledged before anything else is sent
-// contract: 6.7 PING is answered with the same octets
-// contract: 6.10 No answer is sent between the frames of a field block
+// contract: 6.7 PING is answered with its octets and ACK, and an answer is not answered
 /// Each SETTINGS that was read has been acknowledged once, and each PING answered once with its
 /// octets, in order, and nothing else (RFC 9113, sections 6.5.3 and 6.7).
 pub fn each_is_replied_to()
@@ -74,7 +73,7 @@ pub fn receive_window_is_kept()
         ≡ pos (own_value 4 first_window (acked log) log.sent) }
 {}
 
-// contract: 4.3 A block is sent as HEADERS and CONTINUATION frames, each full but one
+// contract: 4.3 No other frame is sent between the frames of a field block
 /// What each step writes: of a call that is accepted, what it owes; of an item that is no fault of
 /// the connection, what is replied to it; and credit. Nothing comes in between, so that field
 /// blocks are unbroken (section 4.3).

@@ -165,6 +165,7 @@ fn a_wrong_answer_resets_its_stream(rt: HostRuntime) -> Result<(), Fail> {
     Ok(())
 }
 
+// rule: 8.3.1 An :authority with an @ in it names a user, and a call says so
 #[test]
 fn no_user_is_served(rt: HostRuntime) -> Result<(), Fail> {
     assert!(rt; a_user_is_refused(rt.alloc()));

@@ -93,7 +93,7 @@ IsPrioritized prioritized body fragment (Some priority) = (prioritized ≡ true)
 -- rule: 6.8 GOAWAY has a reserved bit, a last stream, a code and debug data
 -- rule: 6.9 The reserved bit of WINDOW_UPDATE is ignored
 -- rule: 6.10 CONTINUATION is a fragment, and END_HEADERS ends the block
--- rule: 7 A code that is received may be any number of 32 bits
+-- rule: 7 A received code is any number of 32 bits, and an unknown one does nothing
 abbrev pub Carries : Head → List ℕ → Frame → Type 0
 -- section 6.1
 Carries head payload (Data stream end octets pad) =

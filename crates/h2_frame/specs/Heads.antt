@@ -130,7 +130,7 @@ exceeds_limit head limit = nat_lt limit head.length
 
 -- The fault of a head where payloads may have as many octets as the limit says, known at its ninth
 -- octet: a length above the limit (section 4.2), then a fault of its form.
--- rule: 4.2 A length above the limit is FRAME_SIZE_ERROR, of the connection
+-- rule: 4.2 A length above the limit is FRAME_SIZE_ERROR (of the connection: own)
 -- rule: 4.2 Of the faults of a head a length above the limit is the first
 unfoldable pub head_fault : Head → ℕ → Option Code
 head_fault head limit = if exceeds_limit head limit then Some FrameSizeError else form_fault head

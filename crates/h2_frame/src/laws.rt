@@ -20,8 +20,6 @@ pub fn nine_octets()
         → head_of (octets ++ more) ≡ head_of octets }
 {}
 
-// contract: 4.2 A length above the limit is FRAME_SIZE_ERROR, of the connection
-// contract: 4.2 Of the faults of a head a length above the limit is the first
 /// A head without fault has a length within the limit, and no fault of its form, which is what is
 /// left of the faults with but for the limit.
 pub fn within_limit()

@@ -48,16 +48,11 @@ pub fn payload_fault(head: &Head, payload: &[u8]) -> Option<Code>
 // contract: 5.5 A frame of an unknown type passes as it is, and an end ignores it
 // contract: 6.1 END_STREAM of DATA ends the stream of the sender
 // contract: 6.2 END_STREAM and END_HEADERS are read from their bits
-// contract: 6.3 PRIORITY has five octets (a connection error: own)
-// contract: 6.3 PRIORITY on stream 0 is PROTOCOL_ERROR
 // contract: 6.3 PRIORITY has an exclusive flag, a stream and a weight
-// contract: 6.4 RST_STREAM has four octets
-// contract: 6.4 RST_STREAM on stream 0 is PROTOCOL_ERROR
 // contract: 6.4 RST_STREAM is read with its code of 32 bits
 // contract: 6.5 ACK of SETTINGS and PING is read from its bit
-// contract: 6.7 PING has eight octets
-// contract: 6.7 PING on a stream other than 0 is PROTOCOL_ERROR
 // contract: 6.7 PING is read with its octets
+// contract: 7 A received code is any number of 32 bits, and an unknown one does nothing
 /// Checks and reads the payload after a head without fault, and lends it (RFC 9113, section 6). The
 /// slice has the head's length. It allocates nothing.
 ///
@@ -87,7 +82,7 @@ pub fn read_payload<'a>(head: &Head, payload: &'a [u8]) -> Result<FrameRef<'a>, 
 // rule: 6.8 GOAWAY has a reserved bit, a last stream, a code and debug data
 // rule: 6.9 The reserved bit of WINDOW_UPDATE is ignored
 // rule: 6.10 CONTINUATION is a fragment, and END_HEADERS ends the block
-// rule: 7 A code that is received may be any number of 32 bits
+// rule: 7 A received code is any number of 32 bits, and an unknown one does nothing
 /// The frame of a payload without fault, after a head without fault (RFC 9113, section 6); the
 /// payload is lent. The slice has the head's length, and [`payload_fault`] answers none for it. It
 /// allocates nothing.

@@ -46,18 +46,15 @@ pub fn head(octets: &[u8; 9]) -> Head
     }
 }
 
-// rule: 4.2 A length above the limit is FRAME_SIZE_ERROR, of the connection
+// rule: 4.2 A length above the limit is FRAME_SIZE_ERROR (of the connection: own)
 // rule: 4.2 Of the faults of a head a length above the limit is the first
 // contract: 6.3 PRIORITY has five octets (a connection error: own)
 // contract: 6.3 PRIORITY on stream 0 is PROTOCOL_ERROR
-// contract: 6.3 PRIORITY has an exclusive flag, a stream and a weight
 // contract: 6.4 RST_STREAM has four octets
 // contract: 6.4 RST_STREAM on stream 0 is PROTOCOL_ERROR
-// contract: 6.4 RST_STREAM is read with its code of 32 bits
 // rule: 6.6 PUSH_PROMISE is PROTOCOL_ERROR, since no end here allows push
 // contract: 6.7 PING has eight octets
 // contract: 6.7 PING on a stream other than 0 is PROTOCOL_ERROR
-// contract: 6.7 PING is read with its octets
 /// The fault of a head, where payloads may have at most `limit` octets: the first of these, or
 /// none.
 ///

@@ -30,7 +30,7 @@ use Rattle.h2_frame.specs.Codes.{code_number}
 -- of them.
 
 -- the first refusal of a list of conditions
--- rule: calls (own) A call is refused for its first condition, and changes nothing
+-- rule: calls (own) A call does what it says, or is refused for its first condition
 unfoldable pub first_of : List (Bool × Refusal) → Option Refusal
 first_of [] = None
 first_of ((holds, refusal) ∷ conditions) = if holds then Some refusal else first_of conditions
@@ -81,7 +81,7 @@ is_not_owed view id count = count == 0 || nat_lt (owed_on (view.stream id)) coun
 -- rule: 6.8 No stream is opened after GOAWAY was received
 -- rule: 6.8 An own GOAWAY is sent once, with the greatest stream processed
 -- rule: 10.5 (own) An own list above 65,536 octets is refused
--- rule: calls (own) A call is refused for its first condition, and changes nothing
+-- rule: calls (own) A call does what it says, or is refused for its first condition
 unfoldable pub conditions : View → Act → List (Bool × Refusal)
 conditions view (Open fields end) =
     (has_failed view, Closed) ∷ (has_all_streams view, TooManyStreams) ∷
@@ -125,7 +125,7 @@ conditions view (ChangeSettings values) =
 
 -- the refusal of a call, being out of memory put aside
 -- rule: 5.1.1 When the numbers of 31 bits are used up no stream is opened
--- rule: calls (own) A call is refused for its first condition, and changes nothing
+-- rule: calls (own) A call does what it says, or is refused for its first condition
 abbrev pub refusal_of : View → Act → Option Refusal
 refusal_of view act = first_of (conditions view act)
 
@@ -162,7 +162,7 @@ data_count view (Some stream) count =
     (at_least_none view.send_window)) max_data)
 
 -- the answer to a call that isn't refused
--- rule: calls (own) A call is refused for its first condition, and changes nothing
+-- rule: calls (own) A call does what it says, or is refused for its first condition
 abbrev pub answer_of : View → Act → Answer
 answer_of view (Open fields end) = Number view.next_number
 answer_of view (SendFields id fields end) = Done
@@ -222,7 +222,7 @@ refuse_fault view code =
 
 -- the items that a call writes with its answer, newest first
 -- rule: 6.8 An own GOAWAY is sent once, with the greatest stream processed
--- rule: calls (own) A call is refused for its first condition, and changes nothing
+-- rule: calls (own) A call does what it says, or is refused for its first condition
 unfoldable pub items_of : View → Act → Answer → List Item
 items_of view (Open fields end) (Number id) = block id end (block_of view.encoder fields) ∷ []
 items_of view (SendFields id fields end) Done = block id end (block_of view.encoder fields) ∷ []

@@ -64,7 +64,7 @@ abbrev pub is_at_capacity : View → Bool
 is_at_capacity view = nat_le view.max_streams view.active_count
 
 -- the fault of a pair of SETTINGS, or, where it has none, of those that follow it
--- rule: 6.5.3 The first setting at fault decides, and the last value counts
+-- rule: 6.5.3 Settings apply in order: the first fault decides, the last value counts
 abbrev pub first_fault : Option Code → (overflows : Bool) → Option Code → Option Code
 first_fault (Some code) overflows following = Some code
 first_fault None overflows following = if overflows then Some FlowControlError else following
@@ -72,7 +72,7 @@ first_fault None overflows following = if overflows then Some FlowControlError e
 -- the fault of pairs of SETTINGS: that of the first pair that has one. A value can be at fault
 -- itself, or be an initial window that brings some stream's window above the greatest (sections
 -- 6.5.2 and 6.9.2).
--- rule: 6.5.3 The first setting at fault decides, and the last value counts
+-- rule: 6.5.3 Settings apply in order: the first fault decides, the last value counts
 -- rule: 6.9.2 A shift of a window above 2^31-1 is FLOW_CONTROL_ERROR
 unfoldable pub settings_fault : View → List (ℕ × ℕ) → Option Code
 settings_fault view [] = None
@@ -106,6 +106,7 @@ is_awaited_ping octets (Some awaited) = same_octets octets awaited
 -- rule: 5.1 PRIORITY is ignored in every state
 -- rule: 6.5.3 An acknowledgment that is awaited is reported, others are ignored
 -- rule: 6.7 A PING's answer that is awaited is reported, others are ignored
+-- rule: 7 A received code is any number of 32 bits, and an unknown one does nothing
 unfoldable pub verdict_by_rules : View → Option Decoded → Item → Verdict
 verdict_by_rules view decoded (block stream end octets) = verdict_of_block view stream decoded
 verdict_by_rules view decoded (alone (Data stream end octets pad)) =
@@ -136,7 +137,7 @@ verdict_by_rules view decoded (alone (Unknown kind flags stream payload)) = NoEv
 -- to SETTINGS and to PING
 -- rule: 5.4.2 A stream error is answered by RST_STREAM with its code, and reported
 -- rule: 6.5.3 SETTINGS are acknowledged before anything else is sent
--- rule: 6.7 PING is answered with the same octets
+-- rule: 6.7 PING is answered with its octets and ACK, and an answer is not answered
 unfoldable pub replies_to : Verdict → Item → List Item
 replies_to (ConnectionFault code) item = []
 replies_to (StreamFault code) item = alone (Reset (stream_of_item item) (code_number code)) ∷ []

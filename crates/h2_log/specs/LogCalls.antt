@@ -50,7 +50,7 @@ unfoldable pub before_put_out : Log → Log
 before_put_out log = if returns_before_put_out (log_view log) then with_credit_returned log else log
 
 -- the log after a call with its answer
--- rule: calls (own) A call is refused for its first condition, and changes nothing
+-- rule: calls (own) A call does what it says, or is refused for its first condition
 unfoldable pub with_call : Log → Act → Answer → Log
 with_call log act (Refused refusal) = called log act (Refused refusal)
 with_call log act OutOfMemory = with_failure InternalError (last_processed log)
@@ -64,7 +64,7 @@ with_call log act answer = with_items log act answer
 -- The call may have this answer: the rules' where no condition holds, and otherwise the refusal for
 -- the first one that does; or an allocation was refused where no condition holds, and the call is
 -- refused for it, or, of `Refuse`, the connection fails.
--- rule: calls (own) A call is refused for its first condition, and changes nothing
+-- rule: calls (own) A call does what it says, or is refused for its first condition
 pub data MayAnswer (log : Log) (act : Act) (answer : Answer) : Type 0 where
   accepts : refusal_of (log_view log) act ≡ None → answer ≡ answer_of (log_view log) act
       → MayAnswer log act answer

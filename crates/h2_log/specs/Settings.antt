@@ -36,7 +36,7 @@ value_fault from pair =
 
 -- the value of an identifier after these pairs, in order, where it was `before`: the last pair
 -- decides
--- rule: 6.5.3 The first setting at fault decides, and the last value counts
+-- rule: 6.5.3 Settings apply in order: the first fault decides, the last value counts
 unfoldable pub value_after : ℕ → ℕ → List (ℕ × ℕ) → ℕ
 value_after id before [] = before
 value_after id before (pair ∷ pairs) = value_after id (if pair.0 == id then pair.1
@@ -44,7 +44,7 @@ value_after id before (pair ∷ pairs) = value_after id (if pair.0 == id then pa
 
 -- the value of an identifier after all SETTINGS of the items, where it was `first` before them
 -- (section 6.5.3)
--- rule: 6.5.3 The first setting at fault decides, and the last value counts
+-- rule: 6.5.3 Settings apply in order: the first fault decides, the last value counts
 unfoldable pub value_read : ℕ → ℕ → List Item → ℕ
 value_read id first [] = first
 value_read id first (alone (Settings false pairs) ∷ items) = value_after id
@@ -77,6 +77,7 @@ up_to_settings count (item ∷ items) =
 -- last of these, and the first value before any. The k-th acknowledgment is of the k-th own
 -- SETTINGS (section 6.5.3).
 -- rule: 6.5.3 Own SETTINGS hold once they are acknowledged, and not before
+-- rule: 6.9.3 Until a lower own window is acknowledged the one before it holds
 abbrev pub own_value : ℕ → ℕ → ℕ → List Item → ℕ
 own_value id first count sent = value_read id first (up_to_settings count sent)
 

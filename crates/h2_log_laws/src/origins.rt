@@ -17,14 +17,13 @@ pub fn origin()
         → Origin role received before item ⊎ IsOpening role before item }
 {}
 
+// contract: 5.1.2 A client has at most as many active streams as the server allows
 // contract: 3.4 Both ends begin with SETTINGS
 // contract: 4.2 (own) Payloads of at most 16,384 octets are sent
 // contract: 5.1 Each frame is sent only in states that allow it
 // contract: 5.1.1 A client opens odd numbers, each above all before it
 // contract: 5.1.1 When the numbers of 31 bits are used up no stream is opened
-// contract: 5.4.1 A connection error is answered by GOAWAY, and nothing is sent after
 // contract: 5.4.2 RST_STREAM is not answered by RST_STREAM, nor sent twice
-// contract: 6.4 (own) An end resets a stream on request, and counts it
 // contract: 6.5.3 SETTINGS are acknowledged before anything else is sent
 // contract: 6.5.3 (own) Own SETTINGS are changed once those before are acknowledged
 // contract: 6.7 (own) One own PING at a time awaits its answer

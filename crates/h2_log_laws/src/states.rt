@@ -10,7 +10,6 @@ ghost use Rattle.h2_log.specs.Log.{Log, active, next_active};
 
 // contract: 5.1 A stream has one state, by what was received and sent
 // contract: 5.1.1 A stream that is opened closes all lower idle ones
-// contract: 6.1 END_STREAM of DATA ends the stream of the sender
 /// A stream is idle exactly where its number isn't used, and active exactly where it is said to be
 /// (RFC 9113, section 5.1).
 pub fn states_of_streams()

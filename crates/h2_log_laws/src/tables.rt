@@ -15,7 +15,6 @@ ghost use Rattle.h2_log.specs.Limits.{max_list};
 ghost use Rattle.h2_log.specs.Allowed.{HasAcknowledged, IsReader};
 ghost use Rattle.h2_log_laws.specs.Tables.{Sending, octets_sent, encoder_after, AreWithin, AreRead};
 
-// contract: 4.3 Each received block is decoded, also one that is ignored
 /// What an encoder writes, block by block, with limits that change between blocks, its reader
 /// decodes block by block, with the same table after each, where the reader's limit is never below
 /// the encoder's.
@@ -26,8 +25,7 @@ pub fn tables_in_step()
         (encoder_after encoder sendings).table }
 {}
 
-// contract: 4.3.1 The encoder follows each HEADER_TABLE_SIZE, up to 4,096 (own)
-// contract: 6.5.3 The first setting at fault decides, and the last value counts
+// contract: 6.5.3 Settings apply in order: the first fault decides, the last value counts
 // contract: 6.5.3 Own SETTINGS hold once they are acknowledged, and not before
 /// The value of a setting that an end has read last is the one in force at its peer, once the peer
 /// has read what the end has written, and the end has acknowledged what it has read. So a table
@@ -40,7 +38,6 @@ pub fn limits_agree()
 {}
 
 // contract: 4.3 A block that may be sent is one that may be gathered
-// contract: 10.5 (own) An own list above 65,536 octets is refused
 /// A list that an end may send is a block that its peer may gather.
 pub fn block_fits()
     ensures { (encoder : EncoderState) (fields : List Field) → list_size fields ≤ max_list

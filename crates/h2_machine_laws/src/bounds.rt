@@ -19,8 +19,6 @@ ghost use Rattle.h2_log.specs.declared.role.Role.{Role};
 ghost use Rattle.h2_machine_laws.specs.Bounds.{IsBounded, KeepsConnectionWindow};
 ghost use Rattle.h2_machine_laws.specs.Ranges.{ValuesAreInRange, IsDecodedAt, CountsEntries};
 
-// contract: 5.1.2 A client has at most as many active streams as the server allows
-// contract: 6.4 (own) An end resets a stream on request, and counts it
 // contract: 10.5 (own) An end that resets 1,001 streams ends with ENHANCE_YOUR_CALM
 // contract: 10.5 (own) Replies above 262,144 waiting octets are ENHANCE_YOUR_CALM
 /// An end has at most 1,000 active streams, has reset at most 1,000, and has at most 262,144 octets
@@ -53,8 +51,6 @@ pub fn logs_are_bounded()
         → active_count log ≤ 1000 }
 {}
 
-// contract: 5.1 DATA on a stream that this end has reset counts for the connection
-// contract: 6.8 Streams above the last of an own GOAWAY are ignored
 // contract: 6.9 Nothing of the window of the connection is lost
 /// What the peer may send on the connection, what is owed on all streams, and what is unreturned,
 /// are 65,535 octets together, where nothing is kept of numbers that weren't used: at first, and

@@ -29,9 +29,7 @@ pub fn new_end_represents()
         → Represents values (new_end role values) (opened role values) }
 {}
 
-// contract: 5.1.1 When the numbers of 31 bits are used up no stream is opened
-// contract: calls (own) A call is refused for its first condition, and changes nothing
-// contract: calls (own) A stream that the layer above refuses is reset
+// contract: calls (own) A call does what it says, or is refused for its first condition
 /// A machine refuses a call just where the log that it represents does, and after the call it
 /// represents the log with the call.
 pub fn calls_preserve_representation()

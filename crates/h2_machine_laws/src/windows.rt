@@ -11,7 +11,6 @@ ghost use Rattle.h2_log.specs.Windows.{first_window, connection_send_window};
 ghost use Rattle.h2_log.specs.Windows.{connection_recv_window};
 ghost use Rattle.h2_log_laws.specs.Sums.{sum_below};
 
-// contract: 6.9 What a stream owes is returned when it is released or over
 /// What is owed on all streams of an end is the sum of what its log says is owed on each.
 pub fn owed_on_all_streams()
     ensures { (values : Values) (e : End) (log : Log) (n : ℕ) → Represents values e log

@@ -126,7 +126,7 @@ unfoldable pub has_bad_path : List Field → Bool
 has_bad_path fields = is_bad_path (method_of fields) (path_of fields)
 
 -- M9: the status is no number from 100 to 999, or 101 (section 8.3.2).
--- rule: 8.3.2 A status that is not three digits from 100, or is 101, breaks M9
+-- rule: 8.3.2 A status that is not three digits from 100 on breaks M9
 unfoldable pub has_bad_status : List Field → Bool
 has_bad_status fields = is_bad_status (status_of fields)
 

@@ -102,14 +102,15 @@ unfoldable pub names_user : List ℕ → Bool
 names_user authority = list_any (λ octet. octet == byte "@") authority
 
 -- three digits, of which the first one isn't 0 (RFC 9110, section 15)
--- rule: 8.3.2 A status that is not three digits from 100, or is 101, breaks M9
+-- rule: 8.3.2 A status that is not three digits from 100 on breaks M9
 unfoldable pub is_status_code : List ℕ → Bool
 is_status_code (a ∷ b ∷ c ∷ []) =
     is_ascii_digit a && is_ascii_digit b && is_ascii_digit c && not (a == byte "0")
 is_status_code value = false
 
 -- Whether the value is not the status of a response: 101 is not used in HTTP/2 (section 8.6).
--- rule: 8.3.2 A status that is not three digits from 100, or is 101, breaks M9
+-- rule: 8.3.2 A status that is not three digits from 100 on breaks M9
+-- rule: 8.6 Status 101 breaks M9, sent or read: HTTP/2 has no upgrade
 unfoldable pub is_bad_status : List ℕ → Bool
 is_bad_status value = not (is_status_code value) || bytes_eq value (codes "101")
 

@@ -78,13 +78,14 @@ fn broken_by_request(message: &Message) -> Option<Malformed>
 // contract: 8.2.1 A value that begins or ends with a space or a tab breaks M2
 // rule: 8.3 A pseudo-field after a regular one, or in trailers, breaks M3
 // contract: 8.3.2 A response without :status breaks M6
-// contract: 8.3.2 A status that is not three digits from 100, or is 101, breaks M9
+// contract: 8.3.2 A status that is not three digits from 100 on breaks M9
 // contract: 8.1 (own) No interim response is sent: a status 100 to 199 breaks M9
 // rule: 8.1 (own) No interim response is sent: a status 100 to 199 breaks M9
 // contract: 8.1.1 A content-length that is no number, or several, breaks M11
 // contract: 8.1.1 A body to be sent that content-length denies breaks M11
 // contract: 8.1.1 A body of an own answer to HEAD, 204 or 304 breaks M11
 // contract: 8.1 M1, M2, M3 and M10 hold of trailers
+// contract: 8.6 Status 101 breaks M9, sent or read: HTTP/2 has no upgrade
 /// Whether a response that is to be sent breaks no rule; `to_head` says that it answers HEAD. It
 /// takes no memory.
 ///

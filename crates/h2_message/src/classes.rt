@@ -86,11 +86,13 @@ fn begins_with_slash(value: &[u8]) -> bool
     matches!(value, [b'/', ..])
 }
 
-// contract: 8.3.2 A status that is not three digits from 100, or is 101, breaks M9
-// rule: 8.3.2 A status that is not three digits from 100, or is 101, breaks M9
+// contract: 8.3.2 A status that is not three digits from 100 on breaks M9
+// rule: 8.3.2 A status that is not three digits from 100 on breaks M9
 // rule: 8.1 (own) No interim response is sent: a status 100 to 199 breaks M9
 // rule: 8.1.1 A body of an own answer to HEAD, 204 or 304 breaks M11
 // rule: 8.1.1 No length is compared in an answer to HEAD, in 204 and in 304
+// contract: 8.6 Status 101 breaks M9, sent or read: HTTP/2 has no upgrade
+// rule: 8.6 Status 101 breaks M9, sent or read: HTTP/2 has no upgrade
 /// What a status says.
 #[tactic(auto, unfolding(crate::specs::Classes::status_class, crate::specs::Octets::is_bad_status))]
 pub(crate) fn status_class(value: &[u8]) -> Status
@@ -107,7 +109,7 @@ pub(crate) fn status_class(value: &[u8]) -> Status
     }
 }
 
-// rule: 8.3.2 A status that is not three digits from 100, or is 101, breaks M9
+// rule: 8.3.2 A status that is not three digits from 100 on breaks M9
 /// Three digits, of which the first one isn't 0.
 #[tactic(auto, unfolding(crate::specs::Octets::is_status_code))]
 fn is_status_code(value: &[u8]) -> bool

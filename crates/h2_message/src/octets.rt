@@ -68,6 +68,7 @@ fn is_blank(octet: u8) -> bool
 }
 
 // rule: 8.3.1 An :authority with an @ in it names a user, and a call says so
+// contract: 8.3.1 An :authority with an @ in it names a user, and a call says so
 /// Whether an authority, as the value of `:authority` is one, names a user, as `user@example.com`
 /// does. "`:authority` MUST NOT include the deprecated userinfo subcomponent for `http` or `https`
 /// schemed URIs" (section 8.3.1). No check refuses it, so a server that minds asks here, and answers

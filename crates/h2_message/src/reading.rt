@@ -88,7 +88,7 @@ impl Reading {
     // contract: 8.3.2 A response without :status breaks M6
     // contract: 8.3.1 A method that is no token, or is CONNECT (own), breaks M7
     // contract: 8.3.1 A path without / at its begin, but * with OPTIONS, breaks M8
-    // contract: 8.3.2 A status that is not three digits from 100, or is 101, breaks M9
+    // contract: 8.3.2 A status that is not three digits from 100 on breaks M9
     // contract: 8.1.1 A content-length that is no number, or several, breaks M11
     // contract: 8.1 M1, M2, M3 and M10 hold of trailers
     // rule: 8.1 M1, M2, M3 and M10 hold of trailers
@@ -102,6 +102,7 @@ impl Reading {
     // contract: 8.1.1 DATA that is read is as long as content-length says, or breaks M11
     // rule: 8.1.1 DATA that is read is as long as content-length says, or breaks M11
     // contract: 8.1.1 No length is compared in an answer to HEAD, in 204 and in 304
+    // contract: 8.6 Status 101 breaks M9, sent or read: HTTP/2 has no upgrade
     /// Takes a field block, and answers which part of the message it is; or refuses it, since no
     /// message that breaks no rule begins so. Then nothing has changed.
     pub fn fields(&mut self, list: &FieldList, end: bool) -> Option<Place>

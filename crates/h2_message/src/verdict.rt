@@ -78,7 +78,7 @@ impl Scan {
         self.method == Some(Method::Head)
     }
 
-    // rule: 8.3.2 A status that is not three digits from 100, or is 101, breaks M9
+    // rule: 8.3.2 A status that is not three digits from 100 on breaks M9
     // rule: 8.1 (own) No interim response is sent: a status 100 to 199 breaks M9
     /// Whether the status of a response is not valid, or that of an interim response.
     pub(crate) fn has_no_final_status(&self) -> bool

@@ -13,7 +13,7 @@ pub record OutputState : Type 0 where
   pub ended : Bool
 
 -- what waits of the last frame
--- rule: 5.4.1 (own) The GOAWAY of a failed connection takes no memory
+-- rule: 5.4.1 (own) The GOAWAY of a failed connection goes out last, once, without memory
 abbrev pub waiting_of_last : Option LastFrame → List ℕ
 waiting_of_last None = []
 waiting_of_last (Some last) = drop last.given last.octets

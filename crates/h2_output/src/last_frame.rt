@@ -16,7 +16,7 @@ pub(crate) struct LastFrame {
 }
 
 impl LastFrame {
-    // rule: 5.4.1 (own) The GOAWAY of a failed connection takes no memory
+    // rule: 5.4.1 (own) The GOAWAY of a failed connection goes out last, once, without memory
     /// How many of its octets wait.
     pub(crate) fn len(&self) -> usize
         ensures value { result ≡ length (drop self.now.given self.now.octets) }
@@ -25,7 +25,7 @@ impl LastFrame {
         GOAWAY - self.given
     }
 
-    // rule: 5.4.1 (own) The GOAWAY of a failed connection takes no memory
+    // rule: 5.4.1 (own) The GOAWAY of a failed connection goes out last, once, without memory
     /// Appends so many of its octets to `out`, which has capacity for them, and takes them away.
     pub(crate) fn put_out(&mut self, count: usize, out: &mut Vec<u8>)
         requires within { count ≤ length (drop self.old.given self.old.octets) }

@@ -160,8 +160,8 @@ impl Output {
         self.queue.extend_reserved(octets);
     }
 
-    // contract: 5.4.1 (own) The GOAWAY of a failed connection takes no memory
-    // rule: 5.4.1 (own) The GOAWAY of a failed connection takes no memory
+    // contract: 5.4.1 (own) The GOAWAY of a failed connection goes out last, once, without memory
+    // rule: 5.4.1 (own) The GOAWAY of a failed connection goes out last, once, without memory
     /// Adds the GOAWAY of a connection that fails, after which nothing is added (RFC 9113, section
     /// 6.8). It takes no memory and needs no room.
     pub fn end_with_goaway(&mut self, last: u32, code: u32)
@@ -182,7 +182,7 @@ impl Output {
     }
 
     // rule: calls (own) Output is given out in order and once
-    // contract: 5.4.1 (own) The GOAWAY of a failed connection takes no memory
+    // contract: 5.4.1 (own) The GOAWAY of a failed connection goes out last, once, without memory
     /// Appends as many octets as wait, and at most `count`, to `out`, and takes them away.
     ///
     /// # Errors

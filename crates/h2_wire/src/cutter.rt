@@ -113,7 +113,6 @@ impl Cutter {
     // contract: 4.1 (own) A frame that is cut in two is kept until the next call
     // contract: 5.4.1 After a fault each layer answers that fault and changes nothing
     // contract: 5.4.1 The place of a fault counts the octets up to it, with the preface
-    // contract: 5.4 (own) Out of memory is INTERNAL_ERROR
     // contract: 6.1 A fault of a payload is known at its last octet
     /// Uses octets of the piece, up to the end of one frame, and lends that frame; or uses all of
     /// them, where they complete no frame. The octets that follow a frame are for the next call. It

@@ -24,6 +24,7 @@ pub enum WireFault {
 }
 
 impl WireFault {
+    // contract: 5.4 (own) Out of memory is INTERNAL_ERROR
     // rule: 5.4 (own) Out of memory is INTERNAL_ERROR
     /// The code with which the connection ends: that of the fault, PROTOCOL_ERROR for a wrong
     /// preface, and INTERNAL_ERROR for lack of memory.

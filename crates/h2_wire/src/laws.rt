@@ -8,7 +8,6 @@ ghost use Rattle.h2_wire.specs.declared.fault.WireFault.{WireFault as Fault};
 ghost use Rattle.h2_wire.specs.Streams.{Limits, IsFrame, IsPartial, Frames, WireFaultAt};
 
 // contract: 4.1 The frames of a stream do not depend on the pieces of its octets
-// contract: 4.1 Each frame is answered once, in the call that uses its last octet
 /// A stream has one reading: its frames and its unparsed octets are the same, however it was cut.
 pub fn one_reading()
     ensures { (expects : Bool) (limits : Limits) (stream : List ℕ) (frames others : List Frame)

@@ -11,6 +11,7 @@ no_words : replay_options_of sides [] ≡ Some (record { hex = false; role = Ser
 unfolding clap_on_literals
 no_words = refl
 
+-- rule (best): replay (own) The words of replay choose the end and hexadecimal
 as_client : replay_options_of sides (codes "--hex" ∷ codes "--as=client" ∷ [])
     ≡ Some (record { hex = true; role = Client })
 unfolding clap_on_literals

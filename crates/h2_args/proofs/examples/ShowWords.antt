@@ -17,7 +17,6 @@ hexadecimal : show_options_of sides (codes "--hex" ∷ [])
 unfolding clap_on_literals
 hexadecimal = refl
 
--- rule: show (own) The words choose the end and hexadecimal
 from_server : show_options_of sides (codes "--from" ∷ codes "server" ∷ [])
     ≡ Some (record { hex = false; from = Server })
 unfolding clap_on_literals
@@ -28,6 +27,7 @@ from_client : show_options_of sides (codes "--from" ∷ codes "client" ∷ [])
 unfolding clap_on_literals
 from_client = refl
 
+-- rule: show (own) The words choose the end and hexadecimal
 both_options : show_options_of sides (codes "--from=server" ∷ codes "--hex" ∷ [])
     ≡ Some (record { hex = true; from = Server })
 unfolding clap_on_literals
@@ -54,7 +54,6 @@ a_file : show_faults sides (codes "file" ∷ []) ≡ UnknownArgument ∷ []
 unfolding clap_on_literals
 a_file = refl
 
--- rule: show (own) The words choose the end and hexadecimal
 help : show_faults sides (codes "--help" ∷ []) ≡ DisplayHelp ∷ []
 unfolding clap_on_literals
 help = refl

@@ -21,7 +21,6 @@ port_above_the_greatest : serve_faults (codes "65536" ∷ codes "1" ∷ []) ≡ 
 unfolding clap_on_literals
 port_above_the_greatest = refl
 
--- rule: engines (own) serve, get and loop have their words
 no_connections : serve_faults (codes "9001" ∷ codes "0" ∷ []) ≡ ValueValidation ∷ []
 unfolding clap_on_literals
 no_connections = refl
@@ -46,7 +45,6 @@ no_octets : octets_of (codes "0" ∷ []) ≡ Some 0
 unfolding clap_on_literals
 no_octets = refl
 
--- rule: engines (own) serve, get and loop have their words
 most_octets : octets_of (codes "1048576" ∷ []) ≡ Some 1048576
 unfolding clap_on_literals
 most_octets = refl

@@ -128,7 +128,6 @@ fn plays(alloc: Global) -> Result<bool, AllocError> {
 }
 
 // rule: joined (own) Accepted messages, what was handed out, octets on a pipe are kept
-// rule: joined (own) What one end has handed out is a prefix of what the other accepted
 #[test]
 fn a_list_of_acts(rt: HostRuntime) {
     assert!(rt; runs(rt.alloc()).unwrap_or(false));

@@ -41,7 +41,6 @@ fn is_list_shown(alloc: Global, octets: &[u8]) -> Option<bool> {
     is_value_shown(coders.shown_list()?.as_str())
 }
 
-// rule: HPACK 2.1 (own) The octets of a name and a value are those that were given
 /// The value of a sensitive field isn't shown; that of another is.
 #[test]
 fn debug_form_of_fields(rt: HostRuntime) {
@@ -100,7 +99,6 @@ fn is_encoder(alloc: Global, maximum: u32, shown: &str) -> bool {
     }
 }
 
-// rule: HPACK 2.1 (own) The octets of a name and a value are those that were given
 #[test]
 fn debug_form_of_an_encoder(rt: HostRuntime) {
     let shown = "Encoder { table: Table { len: 0, size: 0, maximum: 64 }, least: 64, limit: 64 }";

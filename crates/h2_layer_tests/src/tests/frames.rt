@@ -27,7 +27,6 @@ fn longest_is_written(alloc: Global) -> bool {
         && out.starts_with(b"\xff\xff\xff\x0a\x00\x00\x00\x00\x00")
 }
 
-// rule: 4.1 (own) A frame of an unknown type is sent with a type from 10 on
 // rule: 4.2 No payload above 16,777,215 octets is written
 #[test]
 fn the_longest_frame_is_written(rt: HostRuntime) {
@@ -45,6 +44,9 @@ fn longer_is_refused(alloc: Global) -> bool {
     write(&longer, &mut out) == Err(Unwritable::TooLong) && out.as_slice() == [7].as_slice()
 }
 
+// rule: 4.1 (own) A frame is refused for length, stream, values, memory, in order
+// rule: 4.1 (own) A refused frame leaves the output as it was
+// rule (best): 4.2 No payload above 16,777,215 octets is written
 /// The length comes before the stream and the kind, which are at fault as well.
 #[test]
 fn a_longer_frame_is_refused(rt: HostRuntime) {

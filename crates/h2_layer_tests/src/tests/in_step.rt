@@ -88,10 +88,8 @@ fn all_pass(alloc: Global) -> bool {
     largest > 200
 }
 
-// rule: 4.3 Each received block is decoded, also one that is ignored
-// rule: HPACK 3.1 A block is decoded exactly where its octets are one
+// rule (best): HPACK 3.1 What is encoded is a block of the list
 // rule: HPACK 2.3.2 (own) The table that is lent is the decoder's or the encoder's own
-// rule: HPACK 3.1 What is encoded is a block of the list
 #[test]
 fn lists_in_step(rt: HostRuntime) {
     assert!(rt; all_pass(rt.alloc()));

@@ -100,7 +100,6 @@ fn laws_of_h2_log_laws_second() {
 // rule: 5.1 A used number stays used, and a stream that is over stays over
 // rule: 5.1 A stream becomes active, and ceases to be, by calls and events alone
 // rule: 6.9 Where nothing is owed nothing is, until octets are reported
-// rule: calls (own) take uses octets up to one frame's end, and answers one event at most
 #[test]
 fn laws_of_h2_end_laws_first() {
     h2_end_laws::active_streams_stay_active();
@@ -119,7 +118,6 @@ fn laws_of_h2_end_laws_first() {
 // rule: 5.1 A used number stays used, and a stream that is over stays over
 // rule: 5.1 A stream becomes active, and ceases to be, by calls and events alone
 // rule: 6.9 Where nothing is owed nothing is, until octets are reported
-// rule: calls (own) take uses octets up to one frame's end, and answers one event at most
 #[test]
 fn laws_of_h2_end_laws_second() {
     h2_end_laws::pieces_do_not_matter();

@@ -53,7 +53,6 @@ fn are_lent(alloc: Global) -> bool {
 }
 
 // rule: 4.1 (own) A frame whole in its piece is lent from there and takes no memory
-// rule: 4.1 (own) A frame that is cut in two is kept until the next call
 #[test]
 fn two_frames_of_a_piece_are_lent_from_it(rt: HostRuntime) {
     assert!(rt; are_lent(rt.alloc()));
@@ -73,7 +72,6 @@ fn is_lent_after_the_preface(alloc: Global) -> bool {
 }
 
 // rule: 4.1 (own) A frame whole in its piece is lent from there and takes no memory
-// rule: 4.1 (own) A frame that is cut in two is kept until the next call
 #[test]
 fn a_frame_after_the_preface_is_lent_from_its_piece(rt: HostRuntime) {
     assert!(rt; is_lent_after_the_preface(rt.alloc()));
@@ -100,7 +98,6 @@ fn first_not_kept(alloc: Global) -> Option<usize> {
     None
 }
 
-// rule: 4.1 (own) A frame whole in its piece is lent from there and takes no memory
 // rule: 4.1 (own) A frame that is cut in two is kept until the next call
 #[test]
 fn a_frame_cut_in_two_is_kept_and_the_next_is_lent_from_its_piece(rt: HostRuntime) {

@@ -72,7 +72,6 @@ fn nothing_changes_at(alloc: Global, maximum: u32, count: u16) -> bool {
     }
 }
 
-// rule: HPACK 3.1 What is encoded is a block of the list
 /// A list that is encoded again after memory was refused is found as the list is that was encoded
 /// at once.
 #[test]

@@ -217,6 +217,7 @@ fn are_in_order(alloc: Global) -> bool {
         && gives_data(alloc, &mut output, b"ab", true, octets)
 }
 
+// rule: calls (own) Frames join the output that waits, in order
 #[test]
 fn what_is_added_follows_what_waits(rt: HostRuntime) {
     assert!(rt; are_in_order(rt.alloc()));
@@ -234,7 +235,7 @@ fn leaves_with(alloc: Global, last: u32, code: u32, octets: &[u8]) -> bool {
     gives(alloc, &mut output, octets)
 }
 
-// rule: 5.4.1 (own) The GOAWAY of a failed connection takes no memory
+// rule: 5.4.1 (own) The GOAWAY of a failed connection goes out last, once, without memory
 #[test]
 fn a_failed_connection_leaves_with_goaway(rt: HostRuntime) {
     let octets = b"\x00\x00\x08\x07\x00\x00\x00\x00\x00\x7f\xff\xff\xff\xff\xff\xff\xff";
@@ -294,7 +295,7 @@ fn first_wrong_size(alloc: Global) -> Option<usize> {
 }
 
 // rule: calls (own) Output is given out in order and once
-// rule: 5.4.1 (own) The GOAWAY of a failed connection takes no memory
+// rule: 5.4.1 (own) The GOAWAY of a failed connection goes out last, once, without memory
 #[test]
 fn output_goes_out_in_pieces(rt: HostRuntime) {
     assert_eq!(rt; first_wrong_size(rt.alloc()), None);

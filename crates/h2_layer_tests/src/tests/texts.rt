@@ -35,6 +35,7 @@ fn refused_allocations_have_their_texts(rt: HostRuntime) {
     assert!(rt; are_printed_in_hpack(rt.alloc()) && are_printed_in_frames(rt.alloc()));
 }
 
+// rule: 5.4 (own) Out of memory is INTERNAL_ERROR
 #[test]
 fn refused_allocations_have_their_code(rt: HostRuntime) {
     assert!(rt;
@@ -43,8 +44,6 @@ fn refused_allocations_have_their_code(rt: HostRuntime) {
     );
 }
 
-// rule: 7 Each error code has its name
-// rule: 7 Each error code has its number
 #[test]
 fn faults_of_payloads_have_their_text(rt: HostRuntime) {
     let error = PayloadError::Code(Code::ProtocolError);

@@ -180,7 +180,6 @@ goes_in_four octets all =
     }
 
 -- Any body of that length goes so.
--- rule: 6.9.1 DATA is sent within both windows
 pub sends_any_body : (octets : List ℕ) → length octets ≡ 70000
     → (answered (log_view asking_client) (SendData 1 octets true) ≡ Count 65535) × GoesInFour octets
 sends_any_body octets all = (answers_any octets all, goes_in_four octets all)

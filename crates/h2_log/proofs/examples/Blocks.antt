@@ -47,6 +47,7 @@ server_with_three_frames =
 
 -- A block is the fragments of its frames, joined; it is one item, and one event (RFC 9113, sections
 -- 4.3 and 6.10).
+-- rule: 4.3 A field block is its HEADERS' fragment and those of CONTINUATION
 joins_three_frames :
     (server_with_three_frames.received ≡ block 1 true get_block ∷ alone (Settings false []) ∷ [])
     × (outcome server_with_three_frames ≡ come_to (preface_octets ++ empty_settings ++ octets
@@ -81,6 +82,7 @@ unfolding computing
 interrupted_by_a_ping = refl
 
 -- So does a CONTINUATION where no block has begun (section 6.10).
+-- rule: 6.10 A CONTINUATION outside a block is PROTOCOL_ERROR
 stray_continuation :
     outcome (takes settled_server (Continuation 1 true get_block)) ≡ come_to
     (preface_octets ++ empty_settings ++ octets (codes "000003 09 04 00000001 828684")) []
@@ -113,6 +115,7 @@ undecodable_server = takes settled_server (Headers 1 true true (octets (codes "b
 
 -- A block that doesn't decode is a COMPRESSION_ERROR, in whatever state its stream is; it opens
 -- none (section 4.3).
+-- rule: 4.3 A block that does not decode is COMPRESSION_ERROR, of the connection
 undecodable_block :
     (outcome undecodable_server ≡ come_to
     (preface_octets ++ empty_settings ++ octets (codes "000001 01 05 00000001 be")) []
@@ -150,6 +153,7 @@ abbrev pub resetting_server : Log
 resetting_server = with_call active_server (ResetStream 1 8) Done
 
 -- Opening a stream closes lower idle ones (section 5.1.1).
+-- rule (best): 5.1.1 A stream that is opened closes all lower idle ones
 streams_passed_over :
     map (state server_with_third) (1 ∷ 2 ∷ 3 ∷ 5 ∷ []) ≡ Closed ∷ Idle ∷ Active ∷ Idle ∷ []
 unfolding computing
@@ -179,7 +183,6 @@ abbrev pub list_of_size : ℕ → List Field
 list_of_size = λ size. plain (codes "a") (replicate (size - 33) 0x62) ∷ []
 
 -- A list has a size of at most 65,536 (own; section 10.5.1).
--- rule: 4.3 Each received block is decoded, also one that is ignored
 -- rule: 10.5.1 A list above 65,536 octets is a stream error ENHANCE_YOUR_CALM
 sizes_of_lists :
     (block_verdicts active_view (list_of_size 65536) (block 1 true [] ∷ block 3 true [] ∷ [])
@@ -211,6 +214,7 @@ decoded_request = Some (record { fields = short_request; after = empty_table 409
 
 -- A block opens its stream where that is idle, one of the peer's, and not refused or ignored
 -- (section 5.1.1).
+-- rule: 6.2 A field block on an idle odd number opens the stream at a server
 what_opens_a_stream :
     (map (opened_by active_view decoded_request)
     (block 3 true [] ∷ block 1 true [] ∷ block 2 true [] ∷ alone (Data 3 true [] None) ∷ [])
@@ -246,6 +250,7 @@ server_with_large count =
 
 -- A list that is too large resets its stream, and the table is kept: 16 such fields are reported,
 -- and 17 are too many (section 10.5.1).
+-- rule: 10.5.1 A list above 65,536 octets is a stream error ENHANCE_YOUR_CALM
 large_lists :
     (outcome (server_with_large 16) ≡ come_to
     (preface_octets ++ empty_settings ++ octets (codes "000fb6 01 04 00000001") ++ large_block 16)

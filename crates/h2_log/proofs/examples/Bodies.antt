@@ -49,7 +49,7 @@ bodies =
 -- DATA of one octet more than the connection's window ends the connection; DATA of no octets never
 -- does (RFC 9113, section 6.9.1).
 -- rule: 6.9.1 DATA above the connection's window is FLOW_CONTROL_ERROR
--- rule: 6.9.1 DATA of no octets is within any window
+-- rule (best): 6.9.1 DATA of no octets is within any window
 connection_windows :
     (verdicts (record active_view { recv_window = pos 4 }) (bodies 1)
     ≡ Reported ∷ Reported ∷ Reported ∷ ConnectionFault FlowControlError ∷ [])
@@ -121,7 +121,6 @@ unfolding computing
 body_on_an_idle_stream = refl
 
 -- DATA on a closed stream.
--- rule: 5.1 A stream has one state, by what was received and sent
 -- rule: 5.1 On a closed stream DATA is STREAM_CLOSED (its scope: own)
 -- rule: 5.1.1 A stream that is opened closes all lower idle ones
 body_on_a_closed_stream :
@@ -139,6 +138,7 @@ server_with_body_after_the_end = takes (server_with_body true) (Data 1 false (0x
 -- DATA after the peer's END_STREAM resets the stream; its octet, and the four that weren't
 -- released, go back to the connection (sections 5.1 and 6.9).
 -- rule: 5.1 After the peer has ended a stream DATA is STREAM_CLOSED
+-- rule: 6.1 END_STREAM of DATA ends the stream of the sender
 body_after_the_end :
     outcome server_with_body_after_the_end ≡ come_to
     (active_octets ++ octets (codes "000004 00 01 00000001 61626364 000001 00 00 00000001 61"))
@@ -172,6 +172,7 @@ long_pad = octets (codes "000005 00 08 00000001 05 00000000")
 abbrev pub no_pad_length : List ℕ
 no_pad_length = octets (codes "000000 00 08 00000001")
 
+-- rule: 6.1 A fault of a payload is known at its last octet
 -- rule: 6.1 Padding as long as the payload of DATA, or longer, is PROTOCOL_ERROR
 faults_of_padding :
     WireFaultAt false (λ place. 16384) long_pad [] 14 (PayloadFault ProtocolError)
@@ -229,8 +230,6 @@ one_octet_after_it = takes no_octets_after_it (Data 1 false (0x61 ∷ []) None)
 -- The own initial window is in force once the peer has acknowledged it, also for what came before
 -- (sections 6.5.3 and 6.9.2).
 -- rule: 6.5.3 Own SETTINGS hold once they are acknowledged, and not before
--- rule: 6.5.3 An acknowledgment that is awaited is reported, others are ignored
--- rule: 6.9.1 DATA above the connection's window is FLOW_CONTROL_ERROR
 own_window_from_the_acknowledgment_on :
     (outcome before_the_acknowledgment ≡ come_to (active_octets ++ eleven_frame)
     (FieldsEvent 1 short_request false ∷ DataEvent 1 eleven 11 false ∷ [])

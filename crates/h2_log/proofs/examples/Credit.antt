@@ -23,7 +23,6 @@ use Rattle.h2_log.proofs.examples.Words.{short_request}
 -- 9113, sections 6.9 and 6.9.1).
 -- rule: 6.9 Nothing of the window of the connection is lost
 -- rule: 6.9 What a stream owes is returned when it is released or over
--- rule: calls (own) A call is refused for its first condition, and changes nothing
 releases_a_body :
     (outcome (server_with_body false)
     ≡ come_to (active_octets ++ body_frame) (FieldsEvent 1 short_request false
@@ -49,7 +48,6 @@ releases_in_part = (refl, refl)
 
 -- Where the peer has ended the stream it goes back to the connection alone.
 -- rule: 6.9 Nothing of the window of the connection is lost
--- rule: 6.9 What a stream owes is returned when it is released or over
 releases_a_last_body : output (server_with_release true) ≡ active_output ++ increment_frame 0 4
 unfolding computing
 releases_a_last_body = refl
@@ -86,6 +84,7 @@ emptied_client = with_call less_full_client (PutOut 100000) (Count 65548)
 
 -- Credit isn't returned as long as 65,536 octets or more wait; a call of `put_out` that finds fewer
 -- returns it first, where its octets count (own).
+-- rule (best): 6.9 Nothing of the window of the connection is lost
 credit_held_back :
     (map waiting (held_client ∷ fuller_client ∷ less_full_client ∷ emptied_client ∷ [])
     ≡ 65649 ∷ 65536 ∷ 65535 ∷ 0 ∷ [])

@@ -39,8 +39,8 @@ client_with_answer =
 
 -- A client reports a GOAWAY, and then each active stream above its last one as unprocessed. Streams
 -- up to it may end, and none is opened (RFC 9113, section 6.8).
--- rule: 6.8 Own streams above GOAWAY's last are reported as unprocessed
 -- rule: 6.8 No stream is opened after GOAWAY was received
+-- rule: 6.8 Own streams above GOAWAY's last are reported as unprocessed
 ends_after_a_goaway :
     (answered asking_view (Open short_request false) ≡ Number 3)
     × (map next_unprocessed (client_with_two ∷ client_at_goaway ∷ client_after_goaway ∷ [])
@@ -71,6 +71,8 @@ abbrev pub client_with_nothing : Log
 client_with_nothing = takes client_with_two (GoAway 0 11 abcd)
 
 -- It may be lowered; streams are reported from the least on, with the code of the frame.
+-- rule: 6.8 Own streams above GOAWAY's last are reported as unprocessed
+-- rule: 6.8 The last stream of GOAWAY never grows: the least so far is reported
 goaway_of_all :
     (next_unprocessed (takes client_after_goaway (GoAway 0 0 [])) ≡ 1)
     × (map next_unprocessed (client_with_nothing ∷ took_none client_with_nothing ∷ []) ≡ 1 ∷ 3 ∷ [])
@@ -94,8 +96,6 @@ leaving_client = with_call asking_client SendGoAway Done
 
 -- It names no stream, since a server opens none; a second one is refused, and so is opening a
 -- stream.
--- rule: 6.8 An own GOAWAY is sent once, with the greatest stream processed
--- rule: calls (own) A call is refused for its first condition, and changes nothing
 client_sends_goaway :
     (answered asking_view SendGoAway ≡ Done)
     × (outcome leaving_client ≡ come_to empty_settings [] (asked_output ++ goaway_frame 0 0) None)
@@ -119,6 +119,7 @@ leaving_server_with_body = takes leaving_server_with_block (Data 3 false abcd No
 
 -- It names the last stream that was processed, which goes on. A later one is ignored: nothing of it
 -- is reported, and what its DATA took of the connection's window is returned (section 6.8).
+-- rule: 6.8 An own GOAWAY is sent once, with the greatest stream processed
 -- rule: 6.8 Streams above the last of an own GOAWAY are ignored
 server_sends_goaway :
     (outcome leaving_server

@@ -22,8 +22,7 @@ continuations_of octets long =
 
 -- Where the greatest payload has 16,384 octets, a block of 20,016 octets is two frames (RFC 9113,
 -- section 4.3).
--- rule: 4.3 A block is sent as HEADERS and CONTINUATION frames, each full but one
--- rule: 4.3 Of the frames of a block that is sent the last has END_HEADERS
+-- rule: 4.3 A block is sent as contiguous HEADERS and CONTINUATION, each full but one
 block_in_two : (octets : List ℕ) → length octets ≡ 20016
     → encoding_of_item 16384 (block 1 false octets)
     ≡ encoding_of (Headers 1 false false (take 16384 octets) None None)
@@ -38,8 +37,6 @@ block_in_two octets long =
     ++ other) (append-nil (encoding_of (Continuation 1 true (drop 16384 octets))))
 
 -- Where it has 65,536, the block is one.
--- rule: 4.3 A block is sent as HEADERS and CONTINUATION frames, each full but one
--- rule: 4.3 Of the frames of a block that is sent the last has END_HEADERS
 block_in_one : (octets : List ℕ) → length octets ≡ 20016
     → encoding_of_item 65536 (block 1 false octets)
     ≡ encoding_of (Headers 1 false true octets None None)

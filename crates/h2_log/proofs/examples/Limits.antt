@@ -61,6 +61,7 @@ unfolding computing
 no_reply_at_the_limit = refl
 
 -- The 1,001st reset ends the connection instead (own; section 10.5).
+-- rule: 10.5 (own) An end that resets 1,001 streams ends with ENHANCE_YOUR_CALM
 resets_at_the_limit :
     (map (λ count. verdicts (record active_view { resets = count }) (alone (WindowUpdate 1 0) ∷ []))
     (999 ∷ 1000 ∷ [])

@@ -56,9 +56,7 @@ first_body_output =
 -- Of a body as much goes as the windows let through, in DATA of 16,384 octets but the last, without
 -- END_STREAM. Then nothing goes until both windows have grown; the others go with END_STREAM (RFC
 -- 9113, sections 6.1, 6.9 and 6.9.1).
--- rule: 4.2 (own) Payloads of at most 16,384 octets are sent
 -- rule: 6.9.1 DATA is sent within both windows
--- rule: calls (own) A call is refused for its first condition, and changes nothing
 sends_a_body :
     (answered asking_view (SendData 1 (replicate 70000 0) true) ≡ Count 65535)
     × (outcome client_with_body ≡ come_to empty_settings [] first_body_output None)
@@ -89,6 +87,7 @@ wide =
     }
 
 -- A call sends at most 65,536 octets (own), and no more than either window lets through.
+-- rule: 6.9.1 DATA is sent within both windows
 octets_of_one_call :
     map (λ view. answered view (SendData 1 (replicate 70000 0) true))
     (record asking_view { send_window = pos 100000; stream = λ i. Some (wide (pos 100000)) }

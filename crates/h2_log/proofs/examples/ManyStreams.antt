@@ -46,7 +46,6 @@ request_on_201 = octets (codes "000003 01 04 000000c9 828684")
 
 -- As many streams are active as the server allows. A further one is refused, and its DATA ignored:
 -- what that took of the connection's window is returned (RFC 9113, sections 5.1.2 and 6.9).
--- rule: 5.1 DATA on a stream that this end has reset counts for the connection
 -- rule: 5.1.2 A stream above the limit of active ones is REFUSED_STREAM
 refuses_a_stream_too_many :
     (outcome (server_with_streams 100)

@@ -27,7 +27,6 @@ use Rattle.h2_log.proofs.examples.Words.{request_octets, server_settings, short_
 -- A new client's output is the preface and its SETTINGS, a new server's its SETTINGS (RFC 9113,
 -- sections 3.4 and 6.5).
 -- rule: 3.4 Both ends begin with SETTINGS
--- rule: 5.1.1 A client opens odd numbers, each above all before it
 opens_with_settings :
     (outcome new_client ≡ come_to [] [] (preface_octets ++ client_settings) None)
     × (outcome new_server ≡ come_to [] [] server_settings None)
@@ -39,6 +38,7 @@ abbrev pub client_with_request : Log
 client_with_request = with_call new_client (Open request true) (Number 1)
 
 -- A client's first stream is stream 1; its block follows the SETTINGS (section 5.1.1).
+-- rule: 5.1.1 A client opens odd numbers, each above all before it
 opens_stream_1 :
     (answered (log_view new_client) (Open request true) ≡ Number 1)
     × (outcome client_with_request
@@ -48,9 +48,7 @@ opens_stream_1 = (refl, refl)
 
 -- A server acknowledges the client's SETTINGS, and reports the request, which ends its stream
 -- (sections 6.5.3 and 8.1).
--- rule: 3.4 Both ends begin with SETTINGS
--- rule: 6.2 A field block on an idle odd number opens the stream at a server
--- rule: 6.5.3 SETTINGS are acknowledged before anything else is sent
+-- rule (best): 6.5.3 SETTINGS are acknowledged before anything else is sent
 reports_a_request :
     outcome server_with_request ≡ come_to (preface_octets ++ client_settings ++ request_octets)
     (FieldsEvent 1 request true ∷ []) (server_settings ++ acknowledgment) None
@@ -71,7 +69,6 @@ reports_the_start_of_a_request = (refl, refl, refl, refl)
 
 -- The first frame must be SETTINGS that are no acknowledgment: PING with any octets, and an
 -- acknowledgment, end the connection (section 3.4).
--- rule: 3.4 A first frame other than SETTINGS without ACK is PROTOCOL_ERROR
 server_refuses_a_first_ping : (a b c d e f g h : ℕ)
     → outcome (takes new_server (Ping false (a ∷ b ∷ c ∷ d ∷ e ∷ f ∷ g ∷ h ∷ [])))
     ≡ come_to

@@ -29,8 +29,7 @@ abbrev pub server_with_ping : Log
 server_with_ping = takes server_with_request (Ping false one_to_eight)
 
 -- A PING is answered with the same octets, and nothing is reported (RFC 9113, section 6.7).
--- rule: 6.7 PING is answered with the same octets
--- rule: 6.10 No answer is sent between the frames of a field block
+-- rule: 6.7 PING is answered with its octets and ACK, and an answer is not answered
 answers_a_ping :
     outcome server_with_ping
     ≡ come_to (preface_octets ++ client_settings ++ request_octets ++ ping_frame)
@@ -47,6 +46,7 @@ abbrev pub answered_client : Log
 answered_client = takes pinging_client (Ping true one_to_eight)
 
 -- The answer is reported, and then another PING may be sent.
+-- rule (best): 6.7 A PING's answer that is awaited is reported, others are ignored
 reports_a_pong :
     (answered asking_view (SendPing one_to_eight) ≡ Done)
     × (output pinging_client ≡ asked_output ++ ping_frame)
@@ -59,7 +59,6 @@ reports_a_pong = (refl, refl, refl, refl)
 
 -- A second one is refused as long as its answer is awaited.
 -- rule: 6.7 (own) One own PING at a time awaits its answer
--- rule: calls (own) A call is refused for its first condition, and changes nothing
 one_ping_at_a_time : (octets : List ℕ) → answered (log_view pinging_client) (SendPing octets)
     ≡ Refused PingWaits
 unfolding computing
@@ -67,6 +66,7 @@ one_ping_at_a_time octets = refl
 
 -- An answer with other octets is ignored, and so is one that nobody awaits.
 -- rule: 6.7 A PING's answer that is awaited is reported, others are ignored
+-- rule: 6.7 PING is answered with its octets and ACK, and an answer is not answered
 unawaited_answers :
     (outcome (takes pinging_client (Ping true (octets (codes "0102030405060709")))) ≡ come_to
     (empty_settings ++ octets (codes "000008 06 01 00000000 0102030405060709")) []

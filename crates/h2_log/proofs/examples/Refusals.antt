@@ -55,6 +55,7 @@ unfolding computing
 refused_after_a_failure = (refl, refl)
 
 -- C2: the stream isn't active.
+-- rule: 5.1 Each frame is sent only in states that allow it
 refused_without_a_stream :
     (answers body_view (stream_calls 3 ++ Refuse 3 1 ∷ []) ≡ replicate 5 (Refused NoSuchStream))
     × (answered body_view (Refuse 3 2) ≡ Done)
@@ -75,6 +76,7 @@ ended_view =
     }
 
 -- C3: this end has ended the stream.
+-- rule (best): 5.1 Each frame is sent only in states that allow it
 refused_after_the_end :
     answers ended_view (stream_calls 1) ≡ Refused Ended ∷ Refused Ended ∷ Done ∷ Done ∷ []
 unfolding computing
@@ -103,6 +105,7 @@ unfolding computing
 no_number_left = (refl, refl)
 
 -- C6: GOAWAY was sent or received; only the own one keeps from sending GOAWAY (section 6.8).
+-- rule: 6.8 No stream is opened after GOAWAY was received
 going_away :
     (answers (record asking_view { goaway_sent = true }) (Open short_request true ∷ SendGoAway ∷ [])
     ≡ Refused GoingAway ∷ Refused GoingAway ∷ [])
@@ -133,6 +136,7 @@ unfolding computing
 ping_waits = refl
 
 -- C9: 1,000 streams were reset.
+-- rule: 6.4 (own) An end resets a stream on request, and counts it
 too_many_resets :
     map (λ count. answers (record body_view { resets = count }) (ResetStream 1 8 ∷ Refuse 1 1 ∷ []))
     (999 ∷ 1000 ∷ []) ≡ (Done ∷ Done ∷ []) ∷ (Refused TooManyResets ∷ Done ∷ []) ∷ []
@@ -179,6 +183,7 @@ abbrev pub large_open : Act
 large_open = Open (list_of_size 65537) true
 
 -- Of several conditions the first one in this order refuses.
+-- rule: calls (own) A call does what it says, or is refused for its first condition
 order_of_refusals :
     (map (λ view. answered view large_open)
     (refusing_view ∷ record refusing_view { failed = None }
@@ -207,6 +212,7 @@ unfolding computing
 order_of_refusals = (refl, refl, refl)
 
 -- A refused call changes nothing of what an end has come to.
+-- rule: calls (own) A call does what it says, or is refused for its first condition
 refused_call :
     (outcome (with_call active_server (Release 1 5) (Refused NotOwed)) ≡ outcome active_server)
     × ((log_view (with_call active_server (Release 1 5) (Refused NotOwed))).waiting

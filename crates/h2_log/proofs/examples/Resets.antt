@@ -29,8 +29,9 @@ three_resets = alone (Reset 1 8) ∷ alone (Reset 2 8) ∷ alone (Reset 3 8) ∷
 
 -- RST_STREAM closes an active stream; on an idle one it ends the connection; otherwise it is
 -- ignored (RFC 9113, sections 5.1 and 6.4).
--- rule: 5.4.2 RST_STREAM is not answered by RST_STREAM, nor sent twice
 -- rule: 6.4 RST_STREAM on an idle stream is PROTOCOL_ERROR
+-- rule: 5.1 On an idle stream any but HEADERS or PRIORITY is PROTOCOL_ERROR
+-- rule (best): 5.4.2 RST_STREAM is not answered by RST_STREAM, nor sent twice
 resets_by_state :
     (verdicts active_view three_resets
     ≡ Reported ∷ ConnectionFault ProtocolError ∷ ConnectionFault ProtocolError ∷ [])
@@ -44,9 +45,8 @@ abbrev pub server_with_reset : Log
 server_with_reset = takes (server_with_body false) (Reset 1 8)
 
 -- What it still owes goes back to the connection (section 6.9).
--- rule: 6.4 RST_STREAM closes an active stream and is reported
--- rule: 6.9 Nothing of the window of the connection is lost
--- rule: 6.9 What a stream owes is returned when it is released or over
+-- rule: 5.1 A stream has one state, by what was received and sent
+-- rule (best): 6.4 RST_STREAM closes an active stream and is reported
 reset_by_the_peer :
     (outcome server_with_reset ≡ come_to (active_octets ++ body_frame ++ reset_frame 1 8)
     (FieldsEvent 1 short_request false ∷ DataEvent 1 abcd 4 false ∷ ResetEvent 1 8 false ∷ [])
@@ -56,6 +56,7 @@ unfolding computing
 reset_by_the_peer = (refl, refl)
 
 -- A stream that this end resets is closed by it, and nothing is reported.
+-- rule: 5.1 A stream has one state, by what was received and sent
 reset_by_this_end :
     (outcome resetting_server
     ≡ come_to active_octets (FieldsEvent 1 short_request false ∷ []) (active_output
@@ -76,8 +77,7 @@ server_with_late_body =
 
 -- It is ignored, and what it took of the connection's window is returned, as is what the stream
 -- owed (sections 5.1 and 6.9).
--- rule: 5.1 DATA on a stream that this end has reset counts for the connection
--- rule: 6.4 (own) An end resets a stream on request, and counts it
+-- rule (best): 5.1 DATA on a stream that this end has reset counts for the connection
 credit_of_a_reset_stream :
     (output server_resetting_a_body ≡ active_output ++ reset_frame 1 8 ++ increment_frame 0 4)
     × (outcome server_with_late_body ≡ come_to
@@ -94,7 +94,6 @@ abbrev pub server_with_refusal : Log
 server_with_refusal = with_call (server_with_body false) (Refuse 1 1) Done
 
 -- It is reset, and what it owed is returned; nothing is reported (section 5.4.2).
--- rule: 5.4.2 A stream error is answered by RST_STREAM with its code, and reported
 -- rule: calls (own) A stream that the layer above refuses is reset
 refuses_a_stream :
     outcome server_with_refusal ≡ come_to (active_octets ++ body_frame)

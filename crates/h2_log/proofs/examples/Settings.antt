@@ -73,7 +73,6 @@ values_of_push = (refl, refl)
 -- An initial window is at most 2^31 - 1, a frame size from 16,384 to 2^24 - 1.
 -- rule: 6.5.2 INITIAL_WINDOW_SIZE above 2^31-1 is FLOW_CONTROL_ERROR
 -- rule: 6.5.2 MAX_FRAME_SIZE below 16,384 or above 2^24-1 is PROTOCOL_ERROR
--- rule: 6.5.2 Settings of other identifiers are ignored
 values_of_windows_and_frames :
     (map (settings_fault (log_view new_server))
     (((4, 2147483647) ∷ []) ∷ ((4, 2147483648) ∷ []) ∷ [])
@@ -90,6 +89,7 @@ unfolding computing
 other_values = refl
 
 -- The first pair that is at fault decides (section 6.5.3).
+-- rule: 6.5.3 Settings apply in order: the first fault decides, the last value counts
 first_fault_of_several :
     (settings_fault active_view ((1, 0) ∷ (5, 0) ∷ (4, 2147483648) ∷ []) ≡ Some ProtocolError)
     × (settings_fault active_view ((4, 2147483648) ∷ (5, 0) ∷ []) ≡ Some FlowControlError)
@@ -102,9 +102,6 @@ first_fault_of_several = (refl, refl, refl, refl)
 
 -- A fault ends the connection without an acknowledgment.
 -- rule: 6.5.2 ENABLE_PUSH of 1 from a server is PROTOCOL_ERROR
--- rule: 6.5.2 INITIAL_WINDOW_SIZE above 2^31-1 is FLOW_CONTROL_ERROR
--- rule: 6.5.2 MAX_FRAME_SIZE below 16,384 or above 2^24-1 is PROTOCOL_ERROR
--- rule: 6.5.2 Settings of other identifiers are ignored
 push_from_a_server :
     outcome (takes new_client (Settings false ((2, 1) ∷ [])))
     ≡ come_to (octets (codes "000006 04 00 00000000 000200000001")) []
@@ -113,6 +110,7 @@ unfolding computing
 push_from_a_server = refl
 
 -- An unknown identifier is ignored, and the frame acknowledged.
+-- rule: 6.5.2 Settings of other identifiers are ignored
 unknown_identifier :
     outcome (takes new_server (Settings false ((240, 7) ∷ []))) ≡ come_to
     (preface_octets ++ octets (codes "000006 04 00 00000000 00f000000007")) []
@@ -125,6 +123,7 @@ abbrev pub acknowledged_server : Log
 acknowledged_server = takes active_server (Settings true [])
 
 -- An acknowledgment that is awaited is reported, another one ignored (section 6.5.3).
+-- rule: 6.5.3 An acknowledgment that is awaited is reported, others are ignored
 acknowledgments :
     (outcome acknowledged_server ≡ come_to (active_octets ++ acknowledgment)
     (FieldsEvent 1 short_request false ∷ AckedEvent ∷ []) active_output None)
@@ -182,7 +181,7 @@ server_with_limits = takes server_with_two (Settings false ((1, 0) ∷ (1, 4096)
 
 -- Each of them counts: the next block has an update to the least of them, and one to the last.
 -- rule: 4.3.1 The encoder follows each HEADER_TABLE_SIZE, up to 4,096 (own)
--- rule: 6.5.3 The first setting at fault decides, and the last value counts
+-- rule: 6.5.3 Settings apply in order: the first fault decides, the last value counts
 follows_each_table_limit :
     output (with_call server_with_limits (SendFields 1 short_answer false) Done)
     ≡ active_output ++ acknowledgment ++ octets (codes "000005 01 04 00000001 203fe11f88")
@@ -194,6 +193,7 @@ abbrev pub encoder_with : (least limit : ℕ) → EncoderState
 encoder_with = λ least limit. record { table = empty_table 4096; least = least; limit = limit }
 
 -- The own encoder's table has at most 4,096 octets (own).
+-- rule: 4.3.1 The encoder follows each HEADER_TABLE_SIZE, up to 4,096 (own)
 encoder_limits :
     (encoder_after_settings (encoder_with 4096 4096) ((1, 8192) ∷ []) ≡ encoder_with 4096 4096)
     × (encoder_after_settings (encoder_with 4096 4096) ((1, 100) ∷ (3, 50) ∷ (1, 200) ∷ [])
@@ -208,6 +208,7 @@ changed_server = with_call acknowledged_server (ChangeSettings small_values) Don
 -- Own SETTINGS are changed one at a time: those before, the first included, are acknowledged before
 -- that (section 6.5.3).
 -- rule: 6.5.3 (own) Own SETTINGS are changed once those before are acknowledged
+-- rule: 6.9.3 Until a lower own window is acknowledged the one before it holds
 changes_its_settings :
     (answered active_view (ChangeSettings small_values) ≡ Refused SettingsWait)
     × (answered (log_view acknowledged_server) (ChangeSettings small_values) ≡ Done)
@@ -250,6 +251,7 @@ server_of_fewer =
 
 -- A server's number of streams is that of its first SETTINGS, and a later one holds once it is
 -- acknowledged (section 6.5.3; own).
+-- rule: 6.5.3 Own SETTINGS hold once they are acknowledged, and not before
 streams_of_a_server :
     map (λ log. (log_view log).max_streams)
     (server_of_many ∷ server_of_fewer ∷ takes server_of_fewer (Settings true []) ∷ [])
@@ -268,7 +270,6 @@ unfolding computing
 streams_of_a_client = refl
 
 -- An end sends at most 16,384 octets in a payload (own; section 4.2).
--- rule: 4.2 The limit of an end is its greatest MAX_FRAME_SIZE of those in force
 payloads :
     map (λ log. (log_view log).max_payload)
     (new_client ∷ takes new_client (Settings false ((5, 65536) ∷ [])) ∷ []) ≡ 16384 ∷ 16384 ∷ []

@@ -52,11 +52,8 @@ update_of_none_at_the_greatest = refl
 -- On an idle stream an update ends the connection; on a closed one, and on one that this end has
 -- reset, it is ignored (section 5.1).
 -- rule: 5.1 On an idle stream any but HEADERS or PRIORITY is PROTOCOL_ERROR
--- rule: 5.4.1 A connection error is answered by GOAWAY, and nothing is sent after
--- rule: 5.4.2 A stream error is answered by RST_STREAM with its code, and reported
--- rule: 6.9 WINDOW_UPDATE on an idle stream is PROTOCOL_ERROR
 -- rule: 6.9 WINDOW_UPDATE on a closed stream is ignored
--- rule: 7 Each error code has its number
+-- rule: 6.9 WINDOW_UPDATE on an idle stream is PROTOCOL_ERROR
 updates_by_state :
     (verdicts active_view (updates 2 ++ updates 3) ≡ replicate 6 (ConnectionFault ProtocolError))
     × (verdicts (log_view server_with_third) (updates 1) ≡ replicate 3 NoEvent)
@@ -66,6 +63,7 @@ updates_by_state = (refl, refl, refl)
 
 -- WINDOW_UPDATE of none on a stream.
 -- rule: 6.9 An increment of 0 on a stream is a stream error PROTOCOL_ERROR
+-- rule: 5.4.2 A stream error is answered by RST_STREAM with its code, and reported
 update_of_none_on_a_stream :
     outcome (takes active_server (WindowUpdate 1 0))
     ≡ come_to (active_octets ++ increment_frame 1 0)
@@ -86,6 +84,7 @@ update_of_none_on_the_connection = refl
 
 -- A stream's window above 2^31 - 1.
 -- rule: 6.9.1 A stream's window above 2^31-1 is a stream error FLOW_CONTROL_ERROR
+-- rule: 5.4.2 A stream error is answered by RST_STREAM with its code, and reported
 update_too_far_on_a_stream :
     outcome (takes active_server (WindowUpdate 1 2147483647)) ≡ come_to
     (active_octets ++ octets (codes "000004 08 00 00000001 7fffffff"))
@@ -103,17 +102,16 @@ update_too_far_on_the_connection :
 unfolding computing
 update_too_far_on_the_connection = refl
 
--- the stream's window grules to the greatest
+-- the stream's window grows to the greatest
 abbrev pub server_with_send_window : Log
 server_with_send_window = takes active_server (WindowUpdate 1 2147418112)
 
--- and the peer's initial window grules by one
+-- and the peer's initial window grows by one
 abbrev pub server_above_the_greatest : Log
 server_above_the_greatest = takes server_with_send_window (Settings false ((4, 65536) ∷ []))
 
 -- An initial window that brings a stream's above 2^31 - 1 ends the connection (section 6.9.2).
 -- rule: 5.4.1 A connection error is answered by GOAWAY, and nothing is sent after
--- rule: 6.9.2 INITIAL_WINDOW_SIZE shifts the window of each stream
 -- rule: 6.9.2 A shift of a window above 2^31-1 is FLOW_CONTROL_ERROR
 raises_a_window_too_far :
     (send_window server_with_send_window 1 ≡ pos 2147483647)
@@ -145,7 +143,6 @@ lowered_output =
 -- A lower initial window can make a stream's window negative: then no octets go, but an empty DATA
 -- with END_STREAM does (sections 6.9.1 and 6.9.2).
 -- rule: 6.9.2 INITIAL_WINDOW_SIZE shifts the window of each stream
--- rule: 6.9.2 A new stream has its initial windows
 lowers_a_window :
     (answered asking_view (SendData 1 (replicate 100 0) false) ≡ Count 100)
     × (outcome lowered_client

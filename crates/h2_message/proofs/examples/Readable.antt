@@ -21,7 +21,6 @@ whole =
     }
 
 -- its parts: the last one alone has END_STREAM (RFC 9113, section 8.1)
--- rule: 8.1 (own) A part is read where the parts so far begin a well-formed message
 parts_of_the_whole :
     message_parts whole
     ≡ block (answering "103") false ∷ block (answering "100") false
@@ -38,6 +37,7 @@ whole_is_well =
     record { interims = (refl, (refl, tt)); head = refl; trailers = refl; declared = refl }
 
 -- So its first parts are readable, before DATA and within it.
+-- rule (best): 8.1 (own) A part is read where the parts so far begin a well-formed message
 reads_its_beginning : IsReadable (Responses false) (
     block (answering "103") false ∷ block (answering "100") false
     ∷ block (answering "200" ++ five) false ∷ data_of 2 false ∷ [])

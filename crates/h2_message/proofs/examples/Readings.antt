@@ -128,8 +128,6 @@ unfolding computing
 parts_of_messages = (refl, refl, refl, refl, refl, refl)
 
 -- A request asks with HEAD by its head alone, and is over with END_STREAM.
--- rule: 8.1 END_STREAM ends the message, and any further part breaks M12
--- rule: HTTP 9.3.2 A request asks with HEAD where the method of its head is HEAD
 heads_and_ends :
     (map asks_head_first (
     (block (asking "HEAD" "/") true ∷ []) ∷ (block (asking "HEAD" "/") false ∷ data_of 1 true ∷ [])

@@ -59,6 +59,8 @@ unfolding computing
 pseudo_fields = (refl, refl, refl, refl, refl)
 
 -- M7 and M8: the method, and the path that goes with it.
+-- rule: 8.3.1 A method that is no token, or is CONNECT (own), breaks M7
+-- rule: 8.3.1 A path without / at its begin, but * with OPTIONS, breaks M8
 methods_and_paths :
     (of_requests (asking "CONNECT" "/" ∷ asking "" "/" ∷ asking "G T" "/" ∷ [])
     ≡ replicate 3 (Some BadMethod))
@@ -114,7 +116,6 @@ unfolding computing
 lengths = (refl, refl)
 
 -- Trailers: M1, M2, M3 and M10. They may be empty, and their `content-length` says nothing.
--- rule: 8.1 M1, M2, M3 and M10 hold of trailers
 trailers :
     (map (λ fields. broken_by_request (with_trailers r fields)) (
     (field "X" "y" ∷ []) ∷ (field "x" "y " ∷ []) ∷ (field ":path" "/" ∷ [])

@@ -31,6 +31,8 @@ unfolding computing
 heads = (refl, refl)
 
 -- M9: no interim response is sent (own).
+-- rule: 8.1 (own) No interim response is sent: a status 100 to 199 breaks M9
+-- rule: 8.3.2 A status that is not three digits from 100 on breaks M9
 statuses :
     (of_responses (
     answering "101" ∷ answering "099" ∷ answering "103" ∷ answering "100" ∷ answering "199"
@@ -87,7 +89,6 @@ unfolding computing
 without_content = (refl, refl, refl, refl)
 
 -- Trailers are those of a request; of two rules the least number counts.
--- rule: 8.1 M1, M2, M3 and M10 hold of trailers
 trailers_and_order :
     (map (λ fields. broken_by_response false (with_trailers (answering "200") fields)) (
     [] ∷ (field "x" "y" ∷ []) ∷ (field "content-length" "x" ∷ []) ∷ [])

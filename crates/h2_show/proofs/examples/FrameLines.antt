@@ -17,7 +17,6 @@ data_ends : frame_line (Data 1 true four None) ≡ codes "DATA 1 4 end\n"
 unfolding frame_words digits
 data_ends = refl
 
--- rule: show (own) The line of a frame has its type, stream, octets and more
 data_padded : frame_line (Data 2147483647 true four (Some 0))
     ≡ codes "DATA 2147483647 5 end pad=0\n"
 unfolding frame_words digits
@@ -39,7 +38,7 @@ headers_whole : frame_line (Headers 1 false true four None None) ≡ codes "HEAD
 unfolding frame_words digits
 headers_whole = refl
 
--- rule: show (own) The line of a frame has its type, stream, octets and more
+-- rule (best): show (own) The line of a frame has its type, stream, octets and more
 headers_all : frame_line (Headers 1 true true four (Some 2) (Some (2 ∷ 0 ∷ 0 ∷ 0 ∷ 15 ∷ [])))
     ≡ codes "HEADERS 1 12 end whole pad=2 priority\n"
 unfolding frame_words digits
@@ -61,7 +60,6 @@ settings_acknowledged : frame_line (Settings true []) ≡ codes "SETTINGS 0 0 ac
 unfolding frame_words digits
 settings_acknowledged = refl
 
--- rule: show (own) The line of a frame has its type, stream, octets and more
 settings_three : frame_line (Settings false ((3, 100) ∷ (4, 65535) ∷ (5, 16384) ∷ []))
     ≡ codes "SETTINGS 0 18 3=100 4=65535 5=16384\n"
 unfolding frame_words digits
@@ -72,7 +70,6 @@ ping : frame_line (Ping false (255 ∷ 160 ∷ 2 ∷ 3 ∷ 4 ∷ 5 ∷ 6 ∷ 7 �
 unfolding frame_words digits
 ping = refl
 
--- rule: show (own) The line of a frame has its type, stream, octets and more
 ping_acknowledged : frame_line (Ping true (0 ∷ 1 ∷ 2 ∷ 3 ∷ 4 ∷ 5 ∷ 6 ∷ 7 ∷ []))
     ≡ codes "PING 0 8 ack 0001020304050607\n"
 unfolding frame_words digits

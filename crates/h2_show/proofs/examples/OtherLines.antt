@@ -14,7 +14,6 @@ plain_field : field_line (record { name = codes ":path"; value = codes "/"; sens
     ≡ codes "  :path: /\n"
 plain_field = refl
 
--- rule: show (own) The line of a field has its mark, its name and its value
 sensitive_field : field_line (record { name = codes "a"; value = []; sensitive = true })
     ≡ codes "  !a: \n"
 sensitive_field = refl
@@ -37,7 +36,6 @@ no_fields : list_lines [] ≡ []
 no_fields = refl
 
 -- a list is shown to its limit, and not one above it
--- rule: show (own) A list above 65,536 octets has one line, without fields
 at_the_limit : (fields : List Field) → list_size fields ≡ 65536
     → list_lines fields ≡ flat_map field_line fields
 at_the_limit fields size =
@@ -76,7 +74,6 @@ ends_in_a_frame_of_a_block = refl
 ends_in_a_block : end_lines 0 true ≡ codes "unfinished block\n"
 ends_in_a_block = refl
 
--- rule: show (own) An input has one output: preface, frames, then how it ends
 whole_preface : preface_lines true (codes "PRI * HTTP/2.0\r\n\r\nSM\r\n\r\n" ++ 0 ∷ [])
     ≡ codes "preface\n"
 unfolding expected_preface preface

@@ -111,7 +111,6 @@ fn fills(alloc: Global, stream: &[u8], lines: &[u8], room: usize) -> bool {
     ended == wanted && Some(out.octets.as_slice()) == lines.get(..room)
 }
 
-// rule: show (own) An input has one output: preface, frames, then how it ends
 #[test]
 fn full_writers_of_long_output(rt: HostRuntime) -> Result<(), AllocError> {
     let stream = long_field(rt.alloc())?;

@@ -60,7 +60,6 @@ fn full_writers(rt: HostRuntime) {
     }
 }
 
-// rule: replay (own) The line of an event has its type, stream and more
 #[test]
 fn events_of_own_calls(rt: HostRuntime) -> Result<(), Fail> {
     let mut out = Vec::new(rt.alloc());

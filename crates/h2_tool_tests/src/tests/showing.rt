@@ -71,7 +71,6 @@ fn shows(alloc: Global, stream: &Stream, reads: usize, writes: usize, is_complet
     is_printed(stream, &out.inner, ended, is_complete)
 }
 
-// rule: show (own) The status is 1 only where the stream is cut off or at fault
 // rule: show (own) Lines are written before the next read and before the end
 // The octets are 58, and the end is read too.
 #[test]
@@ -82,7 +81,6 @@ fn failing_reads(rt: HostRuntime) {
     }
 }
 
-// rule: show (own) The status is 1 only where the stream is cut off or at fault
 // rule: show (own) Lines are written before the next read and before the end
 // Each line is written for itself.
 #[test]
@@ -107,7 +105,6 @@ fn shows_at_once(alloc: Global, stream: &Stream, fails: bool) -> bool {
     is_printed(stream, &out.inner, ended, true)
 }
 
-// rule: show (own) Lines are written before the next read and before the end
 #[test]
 fn failing_writes_in_hexadecimal(rt: HostRuntime) {
     for stream in [OPENING, FAULT, INSIDE] {
@@ -163,7 +160,7 @@ fn interrupted_reads(rt: HostRuntime) {
     }
 }
 
-// rule: show (own) The status is 0 only where the input is good to its end
+// rule (best): show (own) The status is 0 only where the input is good to its end
 #[test]
 fn exit_codes(rt: HostRuntime) {
     let codes = [

@@ -53,7 +53,6 @@ fn ends(alloc: Global, kind: ErrorKind, text: &str, status: Status, unwritten: S
         && no_words(&error, &mut Failing) == unwritten
 }
 
-// rule: show (own) The words choose the end and hexadecimal
 #[test]
 fn words_that_cannot_be_had(rt: HostRuntime) {
     let (invalid, no_text) = (ErrorKind::InvalidData, "error: a word isn't UTF-8\n");

@@ -92,7 +92,6 @@ impl Encoder {
         &self.table
     }
 
-    // contract: 5.4 (own) Out of memory is INTERNAL_ERROR
     // contract: HPACK 6.1 (own) A field with an exact entry is its least index
     // contract: HPACK 3.1 What is encoded is a block of the list
     // rule: HPACK 3.1 What is encoded is a block of the list
