@@ -170,7 +170,7 @@ pub fn split_frame(octets: &[u8]) -> Option<(&[u8; 9], &[u8], &[u8])> {
 /// Adds a line for each frame of octets: its head of nine octets, a space, and its payload; what is
 /// no complete frame at the end has a line of its own. The client's preface, where the octets begin
 /// with it, has a line too.
-pub fn add_frames(_alloc: Global, text: &mut Text, octets: &[u8]) {
+pub fn add_frames(text: &mut Text, octets: &[u8]) {
     let mut others = octets;
     if let Some(following) = octets.strip_prefix(b"PRI * HTTP/2.0\r\n\r\nSM\r\n\r\n".as_slice()) {
         text.push_line("preface");

@@ -20,14 +20,16 @@ impl<'a> Words<'a> {
         }
     }
 
-    /// Notes why the command has no answer.
+    /// Notes why the command has no answer; what was noted first stays.
     pub fn fail(&mut self, fault: CaseError) {
-        self.fault = Some(fault);
+        if self.fault.is_none() {
+            self.fault = Some(fault);
+        }
     }
 
     /// Notes that the command can't be read.
     pub fn unread(&mut self) {
-        self.fault = Some(CaseError::Unread);
+        self.fail(CaseError::Unread);
     }
 
     /// Why the command has no answer, if it has none: what was noted, or that words are left.

@@ -137,7 +137,7 @@ fn make_other(conn: &mut Conn, act: &Act) -> Result<(), Refusal> {
 fn put_out(alloc: Global, conn: &mut Conn, count: usize, text: &mut Text) {
     let mut out = Vec::new(alloc);
     match conn.put_out(count, &mut out) {
-        Ok(given) if given == out.len() => add_frames(alloc, text, &out),
+        Ok(given) if given == out.len() => add_frames(text, &out),
         Ok(given) => write!(text, "{given} octets are said to be these:\n"),
         Err(refusal) => add_name(alloc, text, &refusal),
     }

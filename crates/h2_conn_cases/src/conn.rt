@@ -106,7 +106,7 @@ fn add_lent(alloc: Global, conn: &Conn, words: &mut Words<'_>, text: &mut Text) 
     let (first, last) = conn.waiting_octets();
     let mut lent = copy_of(alloc, first, words);
     extend(&mut lent, last, words);
-    add_frames(alloc, text, &lent);
+    add_frames(text, &lent);
 }
 
 // Adds why fields can't open a stream.
@@ -222,7 +222,7 @@ impl State {
     // Takes all output away, and adds its frames.
     fn add_output(&mut self, text: &mut Text) {
         let out = self.output(text);
-        add_frames(self.alloc, text, &out);
+        add_frames(text, &out);
     }
 
     // Takes output away.

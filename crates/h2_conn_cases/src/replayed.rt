@@ -41,7 +41,7 @@ fn add_turn(alloc: Global, text: &mut Text, turn: &Turn) {
         }
         Turn::Out(octets) => {
             text.push_str("out\n");
-            add_frames(alloc, text, octets);
+            add_frames(text, octets);
         }
         Turn::Call(act) => {
             text.push_str("call ");

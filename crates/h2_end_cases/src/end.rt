@@ -166,7 +166,7 @@ fn add_output(alloc: Global, side: &mut Side, words: &mut Words<'_>, text: &mut 
     } else {
         part_of_output(alloc, side, words.number(), text)
     };
-    add_frames(alloc, text, &out);
+    add_frames(text, &out);
 }
 
 // Takes all output away.

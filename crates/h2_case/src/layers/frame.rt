@@ -184,7 +184,7 @@ fn add_written(
     out: &[u8],
 ) {
     let octets = written_after(text, out);
-    add_frames(alloc, text, octets);
+    add_frames(text, octets);
     match written {
         Ok(()) if is_read_again(alloc, octets, line) => {}
         Ok(()) => text.push_line("it is read or written again otherwise"),

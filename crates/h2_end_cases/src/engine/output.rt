@@ -86,7 +86,7 @@ fn add_type(alloc: Global, output: &[u8], words: &mut Words<'_>, text: &mut Text
     let kind = words.number();
     let mut frames = Vec::new(alloc);
     let _ = add_frames_of(&mut frames, frames_of(output), kind, words);
-    add_frames(alloc, text, &frames);
+    add_frames(text, &frames);
 }
 
 // Adds how many frames of a type there are.
@@ -106,7 +106,7 @@ pub(crate) fn show(
     text: &mut Text,
 ) {
     match name {
-        "output" => add_frames(alloc, text, output),
+        "output" => add_frames(text, output),
         "written" => add_value(text, output.len()),
         "body" => add_body_of(alloc, output, words, text),
         "frames" => add_type(alloc, output, words, text),

@@ -304,7 +304,7 @@ impl Pair {
         let kept = self.kept(side);
         let pipe = kept.moved.get(kept.delivered..).unwrap_or(&[]);
         if count == pipe.len() {
-            add_frames(alloc, text, pipe);
+            add_frames(text, pipe);
         } else {
             write!(text, "another count: {count}\n");
         }
