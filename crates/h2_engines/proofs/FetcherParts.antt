@@ -306,6 +306,4 @@ notes_on {id} {new} {parts} come may (notes_trailers list trailers interims head
     on_stream new parts id (FieldsPart list, true) true
     (on_trailers new list trailers interims head body (may refl) come)
 notes_on {id} {old} {parts} {handed} come may (notes_nothing one none same) =
-    subst (λ (coming : Coming). HasCome coming (parts ++ part_on id handed)) (sym same) (subst
-    (HasCome old)
-    (sym (ap (λ (more : List (Part × Bool)). parts ++ more) none ∙ append-nil parts)) come)
+    rw same (rw ((ap (λ (more : List (Part × Bool)). parts ++ more) none ∙ append-nil parts)) come)

@@ -23,7 +23,9 @@ value_first name field fields true named =
 value_first name field fields false named =
     ap (λ (b : Bool). or_nothing (if b then Some field.value else value_of name fields)) named
 
-value_left : (name : List ℕ) (fields : List Field) (place : ℕ) (field : Field) {named : Bool}
+-- Where it has the name, its value is that of those that are left; where it hasn't, those after it
+-- have the same;
+pub value_left : (name : List ℕ) (fields : List Field) (place : ℕ) (field : Field) {named : Bool}
     → slice_get fields place ≡ Some field → bytes_eq field.name name ≡ named
     → value_or_nothing name (drop place fields)
     ≡ (if named then field.value else value_or_nothing name (drop (place + 1) fields))
@@ -31,18 +33,6 @@ unfolding is_named
 value_left name fields place field {named} there same =
     ap (value_or_nothing name) (left_from fields place field there) ∙ value_first name field
     (drop (place + 1) fields) named same
-
--- Where it has the name, its value is that of those that are left;
-pub value_here : (name : List ℕ) (fields : List Field) (place : ℕ) (field : Field)
-    → slice_get fields place ≡ Some field → bytes_eq field.name name ≡ true
-    → value_or_nothing name (drop place fields) ≡ field.value
-value_here name fields place field there same = value_left name fields place field there same
-
--- where it hasn't, those after it have the same;
-pub value_later : (name : List ℕ) (fields : List Field) (place : ℕ) (field : Field)
-    → slice_get fields place ≡ Some field → bytes_eq field.name name ≡ false
-    → value_or_nothing name (drop place fields) ≡ value_or_nothing name (drop (place + 1) fields)
-value_later name fields place field there same = value_left name fields place field there same
 
 -- and where none is left there is none.
 pub value_none : (name : List ℕ) (fields : List Field) (place : ℕ) → length fields ≤ place

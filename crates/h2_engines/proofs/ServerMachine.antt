@@ -108,11 +108,8 @@ responded_counts end id message done after may =
 -- A request can't be answered: nothing has happened, or the connection has refused a call.
 unchanged_goes : (before after : EndLog) → IsUnchanged before after → GoesOn before.log after.log
 unfolding IsUnchanged
-unchanged_goes before after (inl same) =
-    subst (λ (one : EndLog). GoesOn before.log one.log) (sym same) (goes_none before.log)
-unchanged_goes before after (inr called) =
-    subst (λ (one : EndLog). GoesOn before.log one.log) (sym called.5)
-    (refused_goes before.log called.0 called.1)
+unchanged_goes before after (inl same) = rw same (goes_none before.log)
+unchanged_goes before after (inr called) = rw called.5 (refused_goes before.log called.0 called.1)
 
 same_goes : {before after : EndLog} → after ≡ before → GoesOn before.log after.log
 same_goes {before} same = rw same (goes_none before.log)

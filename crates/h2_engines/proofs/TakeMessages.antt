@@ -37,21 +37,18 @@ pub take_holds : (P : Log → Type 0) {before : EndLog} {piece : List ℕ} {answ
     → ((log : Log) (took : TakeAnswer) → MayTake before.log piece took log → P log)
     → ((log : Log) (id code : ℕ) (said : Answer) → P log → P (with_call log (Refuse id code) said))
     → EndMayTake before piece answer after → P after.log
-take_holds P take call (fails code log takes same now) =
-    subst (λ (end : EndLog). P end.log) (sym now) (take log _ takes)
-take_holds P take call (hands_nothing count log takes same now) =
-    subst (λ (end : EndLog). P end.log) (sym now) (take log _ takes)
-take_holds P take call (passes count event log takes none same now) =
-    subst (λ (end : EndLog). P end.log) (sym now) (take log _ takes)
+take_holds P take call (fails code log takes same now) = rw now (take log _ takes)
+take_holds P take call (hands_nothing count log takes same now) = rw now (take log _ takes)
+take_holds P take call (passes count event log takes none same now) = rw now (take log _ takes)
 take_holds P take call (hands_out count event log takes id part is readable same now) =
-    subst (λ (end : EndLog). P end.log) (sym now) (take log _ takes)
+    rw now (take log _ takes)
 take_holds P {before} {answer} {after} take call
     (refuses count event log takes id part is broken refused may answers) =
     refused_holds P before _ count id answer after _ answers
     (call log id 1 refused (take log _ takes))
 take_holds P take call
     (runs_out_of_memory count id list ends log takes role none readable refused may same now) =
-    subst (λ (end : EndLog). P end.log) (sym now) (call log id 2 refused (take log _ takes))
+    rw now (call log id 2 refused (take log _ takes))
 
 take_keeps_calls : {before : EndLog} {piece : List ℕ} {answer : EndAnswer} {after : EndLog}
     → EndMayTake before piece answer after → KeepsCalls before.log after.log

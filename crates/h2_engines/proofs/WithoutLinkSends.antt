@@ -1,7 +1,7 @@
 -- What is given back and sent before output is put out, and what that leaves.
 use Rattle.h2_engines.proofs.Names.{EndRepresents}
 use Rattle.h2_engines.proofs.Names.{◌≡◌, ◌≢◌, ◌≤◌, true, false, length, Option, Some, None, Result}
-use Rattle.h2_engines.proofs.Names.{Ok, Err, refl, sym, ◌∙◌, subst, arith, Code, Values, Log}
+use Rattle.h2_engines.proofs.Names.{Ok, Err, refl, sym, ◌∙◌, arith, Code, Values, Log}
 use Rattle.h2_engines.proofs.Names.{given_out, End, EndRefusal, EndLog, LinkError}
 use Rattle.std.proofs.Common.{is_some}
 use Rattle.h2_log.specs.declared.refusal.Refusal.TheVariants as reasons
@@ -115,7 +115,7 @@ sent_holds : (P : EndLog → Type 0)
     before result after → P after) → MayPumpOn P
     → {before after : EndLog} {result : Result (Unit {0}) LinkError} → P before
     → HasSent before after result → P after
-sent_holds P release pump was (has_failed failed same) = subst P (sym same) was
+sent_holds P release pump was (has_failed failed same) = rw same was
 sent_holds P release pump {before} {after} was (sends middle released sent up may then) =
     pump middle after sent (release before middle released was may) then
 sent_holds P release pump {before} {after} was (releases_no_more released error is up may) =
