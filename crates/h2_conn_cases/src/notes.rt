@@ -80,7 +80,8 @@ pub struct Used {
 
 /// An end that takes octets in pieces, and notes what comes out.
 pub trait Taker<N> {
-    /// Takes a piece, and notes what comes out, or a fault; nothing where the connection has failed.
+    /// Takes a piece, and notes what comes out, or a fault; nothing where the connection has
+    /// failed.
     fn take_piece(&mut self, piece: &[u8], notes: &mut N) -> Option<Used>;
 }
 

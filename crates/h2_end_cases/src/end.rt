@@ -7,7 +7,7 @@
 //! - `start`: the peer's opening comes, with SETTINGS without values, and all output is taken away
 //!   and not shown.
 //! - `request MESSAGE`, `respond ID MESSAGE`: messages are written as [`h2_case::messages`] says.
-//!   That a refused one is handed back as it was given is looked at.
+//!   That a refused one is handed back as it was given is checked.
 //! - `serve each N MESSAGE`, at a client `ask each N MESSAGE`: see [`crate::crowds`].
 //! - `pump`, `release_all`, `is_quiet`; `active`: the numbers of all active streams, and
 //!   `count active`: how many there are; `count out`: how many octets of output are taken away.
