@@ -56,7 +56,7 @@ IsClientHint error first last_error hint = hint ≡ None
 abbrev pub HasClientHint : Ending → Type 0
 HasClientHint ending =
     ((first : List ℕ) × (last_error : Option ErrorKind)
-        × IsClientHint ending.error first last_error ending.hint)
+    × IsClientHint ending.error first last_error ending.hint)
     ⊎ ((kind : ErrorKind) × (ending.error ≡ errors.Device) × (ending.hint ≡ connect_hint kind))
 
 -- The hint that is due at a server.
