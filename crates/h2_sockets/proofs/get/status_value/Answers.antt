@@ -2,7 +2,7 @@
 use Rattle.std.proofs.Common.{◌≡◌, true, false, length, refl, sym, ◌∙◌, codes, arith}
 use Rattle.std.proofs.lemmas.Option.{slice_get_read}
 use Rattle.std.specs.Str.{bytes_eq}
-use Rattle.h2_engines.proofs.FieldValues.{value_here, value_later, value_none}
+use Rattle.h2_engines.proofs.FieldValues.{value_left, value_none}
 use Rattle.h2_sockets.proofs.get.status_value.Goals as goal
 
 pub returns-then-eq : goal.returns-then-eq
@@ -12,7 +12,7 @@ returns-then-eq c =
     let named = rw c.as_slice-in-loop-field.ensures at equal in
     let same = rw c.as_slice.ensures at named in
     c.as_slice-then-eq.ensures
-    ∙ sym (value_here (codes ":status") c.args.head.now c.loop-field.field-index
+    ∙ sym (value_left (codes ":status") c.args.head.now c.loop-field.field-index
     c.field-item.result (slice_get_read c.args.head.now (length c.args.head.now)
     c.loop-field.field-index c.field-item.result refl (omega arith) c.field-item.is) same)
     ∙ c.loop-field.invariant
@@ -23,7 +23,7 @@ loop-field-preserved c =
     sym c.if-eq.ensures in
     let named = rw c.as_slice-in-loop-field.ensures at equal in
     let other = rw c.as_slice.ensures at named in
-    sym (value_later (codes ":status") c.args.head.now c.loop-field.field-index
+    sym (value_left (codes ":status") c.args.head.now c.loop-field.field-index
     c.field-item.result (slice_get_read c.args.head.now (length c.args.head.now)
     c.loop-field.field-index c.field-item.result refl (omega arith) c.field-item.is) other)
     ∙ c.loop-field.invariant
