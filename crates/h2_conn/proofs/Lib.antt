@@ -15,6 +15,7 @@ mod TakeReports
 -- Where a fault of the stream is made.
 mod TakeFaults
 -- What taking octets makes of a log.
+mod TakeMemory
 mod TakeParts
 -- The values of an end stay sound.
 mod TakeSound
