@@ -1,9 +1,9 @@
 -- For what memory may be refused to an end that takes octets: to keep the octets of a frame that is
--- cut in two, and for a frame whose step needs some. Nothing here is of the standard; it says that
--- being out of memory hides little of what the peer has done.
+-- cut in two, and for a frame whose step needs some; and which calls take none. Nothing here is of
+-- the standard: it says how little of what the peer has done being out of memory may hide.
 -- contract: h2_conn::Conn::take
 use Rattle.std.specs.Prelude.{◌≡◌, ◌≢◌, ◌&&◌, nat_lt, Bool, true, false, ℕ, List, [], ◌++◌}
-use Rattle.std.specs.Prelude.{length, None}
+use Rattle.std.specs.Prelude.{length, None, not, ◌==◌}
 use Rattle.h2_frame.specs.declared.code.Code.{Code}
 use Rattle.h2_frame.specs.Frames.{Frame, Data, Reset, Settings, Ping}
 use Rattle.h2_wire.specs.Streams.{preface, BeginsWithPreface}
@@ -14,6 +14,7 @@ use Rattle.h2_log.specs.Log.{Log, acked}
 use Rattle.h2_log.specs.LogView.{log_view}
 use Rattle.h2_log.specs.View.{View}
 use Rattle.h2_log.specs.Verdicts.{Verdict, ConnectionFault, StreamFault, NoEvent, Reported}
+use Rattle.h2_log.specs.CallRules.{data_count}
 use Rattle.h2_log.specs.ItemRules.{FrameStep, fails_with, begins_block, completes}
 use Rattle.h2_log.specs.ItemRules.{frame_step, verdict_of}
 
@@ -72,3 +73,10 @@ pub record KeepsOctets (log : Log) (octets : List ℕ) : Type 0 where
   pub past_preface : (cutter_of log).in_preface ≡ true → BeginsWithPreface (log.unparsed ++ octets)
   pub no_faulty_head : (code : Code) → FaultsAtHead (cutter_of log) octets code → ⊥
   pub cut_in_two : BeginsWithFrame (cutter_of log) octets → ⊥
+
+-- Whether a call that sends octets of a body sends nothing, and so takes no memory: none of the
+-- octets may be sent, and it isn't that there are none and the stream ends.
+-- rule: calls (own) A call that sends nothing takes no memory
+abbrev pub sends_no_data : View → ℕ → List ℕ → Bool → Bool
+sends_no_data view id octets end =
+    data_count view (view.stream id) (length octets) == 0 && not (length octets == 0 && end)
