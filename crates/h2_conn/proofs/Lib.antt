@@ -8,6 +8,8 @@ pub mod AskRefusing
 -- What a connection answers of itself.
 pub mod AskReaders
 pub mod AskNumbers
+-- Calls that take no memory.
+mod AskMemory
 -- Frames that are taken, and the octets that are kept of them.
 mod TakeFrames
 -- What is reported of a frame.

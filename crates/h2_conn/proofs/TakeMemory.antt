@@ -2,6 +2,7 @@
 use Rattle.std.proofs.Common.{◌≡◌, ◌≢◌, ◌∙◌, ◌++◌, ℕ, List, [], Bool, true, false, Option, None}
 use Rattle.std.proofs.Common.{Result, Err, suc, length, refl, ap, sym, subst, arith}
 use Rattle.std.proofs.Common.{nat_le, if◌then◌else◌}
+use Rattle.std.proofs.lemmas.Bool.Decides.{nat_tests}
 use Rattle.h2_frame.specs.declared.code.Code.{Code}
 use Rattle.h2_frame.specs.Frames.{Frame}
 use Rattle.h2_block.specs.Grouping.{alone, block}
@@ -55,8 +56,7 @@ cutter_lacks cutter piece result is sound checked preface lent none =
     }
 
 not_above : (n : ℕ) → nat_le (suc n) n ≡ false
-not_above 0 = refl
-not_above (suc n) = not_above n
+not_above n = grind (arith, nat_tests)
 
 -- the limit in force at the next octet
 limit_now : (log : Log) → limits_from log (suc (length log.input)) ≡ payload_limit (acked log) log.sent

@@ -1,13 +1,17 @@
 //! One end of a connection.
 
-ghost use Rattle.std.specs.Prelude.{◌≡◌, ◌≤◌, ℕ, List, length, IfOk, IfErr};
+ghost use Rattle.std.specs.Prelude.{◌≡◌, ◌≢◌, ◌≤◌, ℕ, List, length, IfOk, IfErr};
 ghost use Rattle.std.specs.Borrow.{sem};
 ghost use Rattle.std.specs.Io.BufRead.{Rests};
+ghost use Rattle.h2_frame.specs.declared.code.Code.TheVariants.{InternalError};
 ghost use Rattle.h2_frame.specs.Frames.{Frame, Encodes, frame_of};
 ghost use Rattle.h2_wire.specs.Cutter.{HasFrame, octets_of};
 ghost use Rattle.h2_config.specs.ConfigValues.{values_of};
 ghost use Rattle.h2_log.specs.declared.role.Role.TheVariants.{Client, Server};
+ghost use Rattle.h2_log.specs.Acts.{Values};
+ghost use Rattle.h2_log.specs.Log.{Log};
 ghost use Rattle.h2_log.specs.LogCalls.{opened};
+ghost use Rattle.h2_end_laws.specs.Promises.{NeedsNoMemory};
 ghost use Rattle.h2_core.specs.Endpoint.{end_of};
 ghost use Rattle.h2_conn.specs.Inner.{PartsRepresent};
 ghost use Rattle.h2_conn.specs.Conn.{ConnRepresents, ConnTakes, ConnAdvances};
@@ -84,6 +88,10 @@ impl Conn {
         ensures takes { (octets : List ℕ)
             → IsBodyOf self.new.inner.cutter piece.now octets (code_result result)
             → ConnAdvances self.old piece.now octets result self.new }
+
+        // A frame that lies whole in the piece and needs no memory is not refused any.
+        ensures promised { (values : Values) (log : Log) → ConnRepresents values self.old log
+            → NeedsNoMemory log piece.now → IfErr result (λ fault. fault.code ≢ InternalError) }
     {
         match self.inner.take(piece) {
             Ok(progress) => Ok(progress),
@@ -130,6 +138,10 @@ impl Conn {
         // which may have this answer.
         ensures* after { sem 𝓛 (Rests the_row self.entry
             (λ new. ConnTakes self.old piece.now result new)) }
+
+        // A frame that lies whole in the piece and needs no memory is not refused any.
+        ensures promised { (values : Values) (log : Log) → ConnRepresents values self.old log
+            → NeedsNoMemory log piece.now → IfErr result (λ fault. fault.code ≢ InternalError) }
     {
         let progress = self.advance(piece)?;
         let Some(happened) = progress.happened else {

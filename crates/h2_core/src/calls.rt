@@ -1,7 +1,8 @@
 //! Calls that send messages: field blocks and DATA (RFC 9113, sections 6.1, 6.2 and 8.1).
 
 ghost use Rattle.std.specs.Prelude.{◌≡◌, ℕ, ◌+◌, ◌-◌, ◌*◌, ◌/◌, ◌≤◌, ◌<◌, ◌^◌, ◌==◌, Bool, List};
-ghost use Rattle.std.specs.Prelude.{[], ◌∷◌, pos, ◌-ℤ◌, not, ◌&&◌, length, None, ◌≢◌, true, Err};
+ghost use Rattle.std.specs.Prelude.{[], ◌∷◌, pos, ◌-ℤ◌, not, ◌&&◌, length, None, ◌≢◌, true};
+ghost use Rattle.std.specs.Prelude.{Err, IsSome};
 ghost use Rattle.std.specs.Prelude.{Some, false, is_some, ◌||◌, ◌++◌, IfOk, IfErr, OnOk, OnErr};
 ghost use Rattle.hpack.specs.Choice.{block_of, after_block};
 ghost use Rattle.hpack.specs.Lists.{list_size};
@@ -130,6 +131,7 @@ impl Endpoint {
     /// C1, C2, C3, C7 and C12, in this order. Nothing has changed.
     pub fn send_data(&mut self, id: u32, octets: &[u8], end: bool) -> Result<usize, Refusal>
         requires sound { self.old.failed ≡ None → IsSound (end_of self.old) }
+        ensures closed { IsSome self.old.failed → result ≡ Err Refusal.Closed }
         ensures nothing { sends_no_data (end_view (end_of self.old)) id octets.now end ≡ true
             → result ≢ Err Refusal.Memory }
         ensures ok { IfOk result (λ count. (count ≡ data_count (end_view (end_of self.old))
@@ -160,6 +162,7 @@ impl Endpoint {
             × (stream_at (end_of self.now) id ≡ Some (stream_view stream))
             × (stream.state.ended_out ≡ false) × (length self.now.output.waiting < 65536)) }
         ensures err { IfErr result (λ refusal. NotSendable self.now id refusal) }
+        ensures closed { IsSome self.now.failed → result ≡ Err Refusal.Closed }
         ensures memory { result ≢ Err Refusal.Memory }
     {
         if self.failed.is_some() {

@@ -107,13 +107,15 @@ server_releasing_in_part_comes =
 pub server_out_of_memory_comes : IsLog Server default_values (took_out_of_memory active_server [])
 unfolding computing are_pairs are_octets fields_are_octets
 server_out_of_memory_comes =
-    ran_out_of_memory active_server_comes refl [] (0 ∷ [],
-    to_keep refl (record { up = refl; all_reported = refl }) (record {
-      some = λ none. cc;
-      past_preface = λ inside. cc;
-      no_faulty_head = λ code faulty. let nine : 9 ≤ 1 = faulty.head.nine in omega (arith, nine);
-      cut_in_two = λ begins. let nine : 9 ≤ 1 = begins.nine in omega (arith, nine);
-    }))
+    ran_out_of_memory active_server_comes refl [] (
+      0 ∷ [],
+      to_keep refl (record { up = refl; all_reported = refl }) (record {
+        some = λ none. cc;
+        past_preface = λ inside. cc;
+        no_faulty_head = λ code faulty. let nine : 9 ≤ 1 = faulty.head.nine in omega (arith, nine);
+        cut_in_two = λ begins. let nine : 9 ≤ 1 = begins.nine in omega (arith, nine);
+      }),
+    )
 
 pub server_failing_to_refuse_comes : IsLog Server default_values (with_call
     (server_with_body false) (Refuse 1 1) OutOfMemory)
