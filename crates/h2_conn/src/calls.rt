@@ -47,6 +47,7 @@ impl Conn {
         self.inner.end.send_fields(id, fields, end)
     }
 
+    // contract: calls (own) A call that sends nothing takes no memory
     /// Sends as many octets of a body as both windows let through, and 65,536 at most; answers how
     /// many. Where all went and `end` is set, the last DATA has END_STREAM; an empty slice with
     /// `end` sends one empty DATA.

@@ -73,6 +73,7 @@ impl Conn {
         })
     }
 
+    // contract: 5.4 (own) A frame whole in its piece that needs no memory is never refused any
     // contract: calls (own) take uses octets up to one frame's end, and answers one event at most
     // rule: calls (own) take uses octets up to one frame's end, and answers one event at most
     /// [`Conn::take`] without lending: what is reported is answered without its fields and octets,
@@ -118,6 +119,7 @@ impl Conn {
         body(self.inner.cutter.frame(piece, frame))
     }
 
+    // contract: 5.4 (own) A frame whole in its piece that needs no memory is never refused any
     // contract: calls (own) A fault of the octets fails the connection with its code
     // contract: calls (own) An event has the octets, the fields and the numbers of its frame
     // contract: 4.2 The limit of an end is its greatest MAX_FRAME_SIZE of those in force

@@ -24,6 +24,7 @@ impl Conn {
         self.inner.end.waiting()
     }
 
+    // contract: 10.5 (own) What an end holds of a stream is bounded
     /// How many octets of a preface or a frame have come that is not complete: at most 16,393, a
     /// head and the greatest payload that is read. 0 once the connection has failed.
     pub fn held(&self) -> usize

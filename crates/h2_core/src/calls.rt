@@ -122,6 +122,7 @@ impl Endpoint {
     // contract: 6.9.1 DATA is sent within both windows
     // rule: 6.9.1 DATA is sent within both windows
     // contract: calls (own) A call does what it says, or is refused for its first condition
+    // rule: calls (own) A call that sends nothing takes no memory
     /// Sends as many octets of a body as both windows let through, and 65,536 at most; answers how
     /// many. Where all went and `end` is set, the last DATA has END_STREAM; an empty slice with
     /// `end` sends one empty DATA.

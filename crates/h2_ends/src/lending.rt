@@ -18,6 +18,7 @@ use crate::taking::lend;
 use h2_conn::ConnFault;
 
 impl Client {
+    // contract: 5.4 (own) A frame whole in its piece that needs no memory is never refused any
     // contract: 8.1 (own) Something is kept of each active stream, and of no other
     // contract: 8.1.1 A malformed message is a stream error PROTOCOL_ERROR
     // contract: 8.1.1 (own) How the connection takes a refusal is what is answered
@@ -50,6 +51,7 @@ impl Client {
 }
 
 impl Server {
+    // contract: 5.4 (own) A frame whole in its piece that needs no memory is never refused any
     // contract: 8.1 (own) Something is kept of each active stream, and of no other
     // contract: 8.1.1 A malformed message is a stream error PROTOCOL_ERROR
     // contract: 8.1.1 (own) How the connection takes a refusal is what is answered
