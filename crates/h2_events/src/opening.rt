@@ -37,9 +37,9 @@ impl Opening {
     }
 
     // rule: replay (own) The words of replay choose the end and hexadecimal
-    /// What is likely wrong with the options or the input, where the connection fails in this piece:
-    /// none unless it is the first one and its beginning says what it is, or it isn't what is still
-    /// to come of the preface.
+    /// What is likely wrong with the options or the input, where the connection fails in this
+    /// piece: none unless it is the first one and its beginning says what it is, or it isn't what
+    /// is still to come of the preface.
     pub(crate) fn hint(&self, piece: &[u8]) -> Option<Hint> {
         let of_input = if self.is_new {
             Hint::for_input(piece, !self.left.is_empty())

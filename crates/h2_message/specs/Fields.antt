@@ -146,8 +146,8 @@ connection_names =
     codes "connection" ∷ codes "proxy-connection" ∷ codes "keep-alive"
     ∷ codes "transfer-encoding" ∷ codes "upgrade" ∷ []
 
--- Whether a field belongs to one connection: it has such a name, or it is `te` with another value than
--- `trailers` (section 8.2.2).
+-- Whether a field belongs to one connection: it has such a name, or it is `te` with another value
+-- than `trailers` (section 8.2.2).
 -- rule: 8.2.2 te with another value than trailers breaks M10
 unfoldable pub is_connection_field : Field → Bool
 is_connection_field field =

@@ -22,9 +22,9 @@ pub enum Hint {
 
 impl Hint {
     // rule (tested): show (own) A hint names a capture, or the option that is likely missing
-    /// The hint for octets that came as they are: none unless their beginning says what they are, or
-    /// the preface is at fault. `piece` is the piece with the fault, and `place` the number of the
-    /// octet at fault.
+    /// The hint for octets that came as they are: none unless their beginning says what they are,
+    /// or the preface is at fault. `piece` is the piece with the fault, and `place` the number of
+    /// the octet at fault.
     pub(crate) fn for_octets(error: &ShowError, piece: &[u8], place: u64) -> Option<Hint> {
         let is_bad_preface = match error {
             ShowError::Wire(WireFault::BadPreface) => true,
@@ -42,8 +42,8 @@ impl Hint {
     }
 
     // rule (tested): show (own) A hint names a capture, or the option that is likely missing
-    /// What the first piece of an input says of it by itself: that it is a capture, or HTTP/1.1; or,
-    /// unless a client's preface is expected, that it begins with one.
+    /// What the first piece of an input says of it by itself: that it is a capture, or HTTP/1.1;
+    /// or, unless a client's preface is expected, that it begins with one.
     pub fn for_input(piece: &[u8], expects_preface: bool) -> Option<Hint> {
         if is_capture(piece) {
             return Some(Hint::Capture);
