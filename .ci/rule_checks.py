@@ -142,6 +142,16 @@ def others(table):
             yield f"docs/wrong-bodies.tsv:{at}: {row.split(chr(9))[0]}: {row.split(chr(9))[4]}"
 
 
+def unshown(table):
+    """Yields each rule none of whose wrong bodies was refused for what it breaks, which is no fault: it may be new."""
+    rows = [it.split("\t") for it in read("docs/wrong-bodies.tsv").split("\n")[1:]]
+    refused = {re.sub(r"/[\w-]+/", "/", row[0]) for row in rows if len(row) > 4 and row[4] in ("refused", "limit")}
+    for rule, parts in sorted(table.rules.items()):
+        files = {re.sub(r"/[\w-]+/", "/", it.file) for it in parts["Wrong body"] if "/wrong-bodies/" in it.file}
+        if files and len(files) == len(parts["Wrong body"]) and not files & refused:
+            yield f"no wrong body of it was refused yet: {rule.section}{rule.own} {rule.sentence}"
+
+
 def faults(table):
     """Yields all that is wrong but for the pages."""
     for check in (forms, spellings, untagged, unused, others):

@@ -57,8 +57,8 @@ Each event has a line:
   data ID octets=N flow=M
                      N octets of a body, which took M of the windows
   reset ID code=N ours
-                     this end has reset the stream, for a fault of the peer;
-                     `theirs`: the peer has
+                     this end has reset the stream, for a fault of the peer or
+                     since it takes no more; `theirs`: the peer has
   goaway last=N code=M
                      the peer takes no streams above N
   unprocessed ID, pong OCTETS
@@ -70,14 +70,17 @@ Then, once the input has ended or the connection has failed:
   out OCTETS         all that this end sends, in hexadecimal: its opening and
                      its replies
 
-Exit status, with the line on standard error:
+The rules of messages (section 8) are not checked.
+
+Exit status (the lines in backquotes are on standard error):
   0  the connection has not failed, wherever the input ends
   1  a fault
-  2  wrong arguments; or `bad hex`: the input isn't hexadecimal text
+  2  wrong arguments; or `bad hex`: the input isn't hexadecimal text, and
+     nothing of it is used
   3  `N1 Device`: a read or a write failed
   4  `N3 Memory`: out of memory
 
-A hint may follow that line. It is for people, and no status depends on it.
+A hint may follow on standard error. It is for people; no status depends on it.
 
 It reads octets, no capture and no socket. This keeps what a client sends first:
   $ nc -l 127.0.0.1 9002 > client.octets &

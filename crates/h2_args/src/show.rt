@@ -46,8 +46,8 @@ const FROM: &str = "from";
 
 /// The lines that `show` prints, how it ends, and an example.
 const LINES_AND_STATUSES: &str =
-    r"Each frame has a line: its kind, its stream, the length of its payload, and what
-the kind adds, in this order:
+    r"Each frame has a line: its type, its stream, the length of its payload, and what
+the type adds, in this order:
   end, whole, ack    its flag END_STREAM, END_HEADERS or ACK is set
   pad=N              N octets of padding
   priority           HEADERS has a priority
@@ -58,7 +58,7 @@ the kind adds, in this order:
   last=N code=N debug=COUNT
                      of GOAWAY: its last stream, and its octets of debug data
   add=N              an increment of a window
-  KIND66, flags=N    a kind that the RFC doesn't define, and its flags
+  KIND66, flags=N    a type that the RFC doesn't define, and its flags
 PING has its octets in hexadecimal, and PRIORITY the length alone. The fields of
 a block follow the frame that ends it. Other lines:
   preface            the client's preface
@@ -73,14 +73,18 @@ a block follow the frame that ends it. Other lines:
                      which came
   unfinished block   the input ends inside a field block
 
-Exit status, with the line on standard error:
-  0  the input is complete frames and field blocks
+The rules of a connection (`h2 replay` checks them) and those of messages
+(section 8) are not checked.
+
+Exit status (the lines in backquotes are on standard error):
+  0  the input is complete frames and field blocks, or nothing at all
   1  a fault, or the end inside the preface, a frame or a field block
-  2  wrong arguments; or `bad hex`: the input isn't hexadecimal text
+  2  wrong arguments; or `bad hex`: the input isn't hexadecimal text, and
+     nothing of it is shown
   3  `N1 Device`: a read or a write failed
   4  `N3 Memory`: out of memory
 
-A hint may follow that line. It is for people, and no status depends on it.
+A hint may follow on standard error. It is for people; no status depends on it.
 
 A capture of packets is no stream. Of its first connection, tshark gives what
 the client sent, and what the server sent:

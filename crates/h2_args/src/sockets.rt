@@ -151,7 +151,7 @@ for a server that stays idle.
 The URL has the scheme http, a host, and a port of 1 to 65535; a user's name is
 refused, and a fragment is dropped.
 
-Exit status, with the line on standard error:
+Exit status (the lines in backquotes are on standard error):
   0  a response has come, whatever its status
   1  `N2 Stream CODE`: the connection failed with this code (RFC 9113, section
      7)
@@ -178,7 +178,7 @@ const LOOPED_AND_STATUSES: &str =
 is k mod 251, and the server answers as `h2 serve` does. Each end in turn writes
 at most 4096 octets, which the other then reads.
 
-Exit status, with the line on standard error:
+Exit status, with the line on standard error but for 0:
   0  the response has come, and the line `sent N got M status 200` is printed,
      with M = N + 7
   1  `N4 CutOff`: the response isn't complete, and neither end writes any more;

@@ -19,6 +19,8 @@ const HEAD: usize = 9;
 // contract: 4.2 (own) Payloads of at most 16,384 octets are sent
 // contract: 4.3 A block is sent as contiguous HEADERS and CONTINUATION, each full but one
 // rule: 4.3 A block is sent as contiguous HEADERS and CONTINUATION, each full but one
+// contract: 4.3 END_STREAM of a block is that of its HEADERS
+// rule: 4.3 END_STREAM of a block is that of its HEADERS
 // rule: 4.3 Of the frames of a block that is sent the last has END_HEADERS
 // rule: 4.3 (own) Room for all frames of a block is reserved before the first
 /// Appends the frames of a field block on a stream, from 1 to 2<sup>31</sup> - 1, of 65,552 octets

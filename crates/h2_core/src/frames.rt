@@ -115,6 +115,7 @@ impl Endpoint {
     }
 
     // rule: 5.1 PRIORITY is ignored in every state
+    // rule: 5.5 A frame of an unknown type passes as it is, and an end ignores it
     // contract: 5.4 (own) Being out of memory hides no other fault of the connection
     // contract: 5.4 (own) Only steps that reply, change streams or return credit take memory
     // rule: 5.4 (own) Only steps that reply, change streams or return credit take memory

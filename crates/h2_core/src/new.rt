@@ -34,6 +34,7 @@ const FIRST_TABLE: u32 = 4_096;
 impl Endpoint {
     // contract: 3.4 Both ends begin with SETTINGS
     // rule: 3.4 Both ends begin with SETTINGS
+    // contract: 6.5.2 A client sends ENABLE_PUSH 0, and a server sends no ENABLE_PUSH
     /// A new end, whose opening waits: at a client the preface, and SETTINGS (RFC 9113, section
     /// 3.4).
     ///

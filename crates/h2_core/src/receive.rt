@@ -37,6 +37,7 @@ impl Endpoint {
     // rule: 5.1 On an idle stream any but HEADERS or PRIORITY is PROTOCOL_ERROR
     // rule: 5.1 After the peer has ended a stream DATA is STREAM_CLOSED
     // rule: 5.1 On a closed stream DATA is STREAM_CLOSED (its scope: own)
+    // rule: 5.1 What comes on a stream that this end has reset is dropped
     // rule: 6.9.1 DATA above the connection's window is FLOW_CONTROL_ERROR
     // rule: 6.9.1 DATA above its stream's window is FLOW_CONTROL_ERROR (scope: own)
     /// DATA (section 6.1): it takes of both windows; on a stream that this end has closed it is
@@ -126,6 +127,7 @@ impl Endpoint {
     // rule: 5.4.2 RST_STREAM is not answered by RST_STREAM, nor sent twice
     // rule: 6.4 RST_STREAM on an idle stream is PROTOCOL_ERROR
     // rule: 6.4 RST_STREAM closes an active stream and is reported
+    // rule: 6.4 RST_STREAM on a closed stream is ignored
     // rule: 7 A received code is any number of 32 bits, and an unknown one does nothing
     /// RST_STREAM (section 6.4): it closes an active stream, and is ignored on a closed one.
     pub(crate) fn take_reset<'a>(

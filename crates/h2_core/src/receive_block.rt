@@ -60,6 +60,7 @@ impl Endpoint {
 
     // rule: 5.1 On an idle stream any but HEADERS or PRIORITY is PROTOCOL_ERROR
     // rule: 5.1 (own) On a closed stream a field block is PROTOCOL_ERROR
+    // rule: 5.1 What comes on a stream that this end has reset is dropped
     // rule: 5.1.1 A field block on an idle number not the peer's is PROTOCOL_ERROR
     // contract: 5.4 (own) Being out of memory hides no other fault of the connection
     // rule: 5.4 (own) Being out of memory hides no other fault of the connection

@@ -25,6 +25,7 @@ const PAIR: usize = 6;
 const MAX_SETTINGS: usize = 27;
 
 // rule: 3.4 Both ends begin with SETTINGS
+// rule: 6.5.2 A client sends ENABLE_PUSH 0, and a server sends no ENABLE_PUSH
 /// The pairs of an end's first SETTINGS: a client says that it takes no push, both say how large a
 /// list may be.
 pub(crate) fn opening_settings(role: Role, config: Config) -> [(u16, u32); 4]

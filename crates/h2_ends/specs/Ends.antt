@@ -70,6 +70,7 @@ tokens_said end i = tokens_given (message_for i end.accepted)
 abbrev pub tokens_out : EndLog → ℕ → List Token
 tokens_out end i = tokens_sent i end.log.calls
 
+-- what waits on a stream: the rest of its message, after what was sent of it
 -- rule: 8.1 What was sent on a stream is a prefix of its message
 abbrev pub tokens_waiting : EndLog → ℕ → List Token
 tokens_waiting end i = drop (length (tokens_out end i)) (tokens_said end i)
@@ -79,6 +80,7 @@ unfoldable pub tokens_of_part : (Part × Bool) → List Token
 tokens_of_part (FieldsPart list, end) = FieldsToken list end ∷ end_tokens end
 tokens_of_part (OctetsPart octets, end) = each OctetToken octets ++ end_tokens end
 
+-- what it has handed out on a stream in several parts, token by token
 -- rule (law): 8.1 (own) What has come of a message that breaks no rule can be read
 unfoldable pub tokens_of_parts : List (Part × Bool) → List Token
 tokens_of_parts [] = []
@@ -90,6 +92,7 @@ unfoldable pub IsNoEmptyPart : (Part × Bool) → Type 0
 IsNoEmptyPart (FieldsPart list, end) = Unit {0}
 IsNoEmptyPart (OctetsPart octets, end) = (octets ≢ []) ⊎ (end ≡ true)
 
+-- what it has handed out on a stream, all of it, token by token
 -- rule: 8.1 (own) What is handed out of a stream is what was reported, in order
 abbrev pub tokens_handed : EndLog → ℕ → List Token
 tokens_handed end i = tokens_of_parts (parts_on i end.handed)

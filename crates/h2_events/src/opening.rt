@@ -1,7 +1,6 @@
 //! What is still to come of the client's preface.
 
 use h2_conn::Role;
-use h2_hints::is_capture;
 use h2_show::Hint;
 
 /// The client's preface (RFC 9113, section 3.4).
@@ -38,16 +37,20 @@ impl Opening {
     }
 
     // rule: replay (own) The words of replay choose the end and hexadecimal
-    /// What is likely wrong with the options or the input, where the connection fails in this piece:
-    /// none unless it is the first one and begins as a capture does, or isn't what is still to come
-    /// of the preface.
+    /// What is likely wrong with the options or the input, where the connection fails in this
+    /// piece: none unless it is the first one and its beginning says what it is, or it isn't what
+    /// is still to come of the preface.
     pub(crate) fn hint(&self, piece: &[u8]) -> Option<Hint> {
-        if self.is_new && is_capture(piece) {
-            return Some(Hint::Capture);
+        let of_input = if self.is_new {
+            Hint::for_input(piece, !self.left.is_empty())
+        } else {
+            None
+        };
+        match of_input {
+            None if !piece.starts_with(self.left) => {
+                Some(Hint::for_start(piece, self.left.len() == PREFACE.len()))
+            }
+            hint => hint,
         }
-        if piece.starts_with(self.left) {
-            return None;
-        }
-        Some(Hint::for_start(piece, self.left.len() == PREFACE.len()))
     }
 }

@@ -141,6 +141,7 @@ has_good_values (Unknown kind flags stream payload) = nat_le 10 kind
 -- rule: 4.1 (own) A refused frame leaves the output as it was
 -- rule: 4.1 (own) A frame is refused for length, stream, values, memory, in order
 -- rule: 4.1 (own) With room in the output memory is not refused to a frame
+-- rule: 4.1 A frame is sent without its reserved bit and undefined flags
 -- rule: 4.2 No payload above 16,777,215 octets is written
 -- rule: 6 A frame is sent only on a stream that its type allows
 unfoldable pub refusal : Frame → Option Unwritable

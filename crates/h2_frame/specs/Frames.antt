@@ -87,7 +87,7 @@ IsPrioritized prioritized body fragment (Some priority) = (prioritized ≡ true)
 -- rule: 5.5 A frame of an unknown type passes as it is, and an end ignores it
 -- rule: 6.1 With PADDED, DATA has a pad length, data and padding
 -- rule: 6.2 HEADERS has a pad length, a priority, the fragment and the padding
--- rule: 6.3 PRIORITY has an exclusive flag, a stream and a weight
+-- rule: 6.3 PRIORITY is read with its five octets, which are not divided
 -- rule: 6.4 RST_STREAM is read with its code of 32 bits
 -- rule: 6.7 PING is read with its octets
 -- rule: 6.8 GOAWAY has a reserved bit, a last stream, a code and debug data

@@ -29,10 +29,12 @@ head_of octets =
 abbrev pub has_flag : ℕ → ℕ → Bool
 has_flag flags bit = not (bit_and flags bit == 0)
 
+-- Whether ACK is set: bit 0x01 of SETTINGS and PING (sections 6.5 and 6.7).
 -- rule: 6.5 ACK of SETTINGS and PING is read from its bit
 abbrev pub has_ack : ℕ → Bool
 has_ack flags = has_flag flags 0x01
 
+-- Whether END_STREAM is set: bit 0x01 of DATA and HEADERS (sections 6.1 and 6.2).
 -- rule: 6.1 END_STREAM of DATA ends the stream of the sender
 -- rule: 6.2 END_STREAM and END_HEADERS are read from their bits
 abbrev pub has_end_stream : ℕ → Bool
@@ -131,6 +133,7 @@ exceeds_limit head limit = nat_lt limit head.length
 -- The fault of a head where payloads may have as many octets as the limit says, known at its ninth
 -- octet: a length above the limit (section 4.2), then a fault of its form.
 -- rule: 4.2 A length above the limit is FRAME_SIZE_ERROR (of the connection: own)
+-- rule: 4.2 A payload as long as the limit is received
 -- rule: 4.2 Of the faults of a head a length above the limit is the first
 unfoldable pub head_fault : Head → ℕ → Option Code
 head_fault head limit = if exceeds_limit head limit then Some FrameSizeError else form_fault head

@@ -198,6 +198,7 @@ impl<'a> FrameParts<'a> {
         }
     }
 
+    // rule: 4.1 A frame is sent without its reserved bit and undefined flags
     /// Whether the stream's number has 31 bits, and a frame of the kind may be on it.
     pub(crate) fn has_good_stream(&self) -> bool
         ensures { result ≡ (nat_lt self.now.stream (2 ^ 31)
@@ -206,6 +207,7 @@ impl<'a> FrameParts<'a> {
         self.stream < ABOVE_31_BITS && fits_stream(self.kind, self.stream)
     }
 
+    // rule: 4.1 A frame is sent without its reserved bit and undefined flags
     // The parts of a payload that is this body, with no flags.
     fn plain(kind: Kind, stream: u32, body: &'a [u8]) -> FrameParts<'a>
         ensures { IsPlain result kind stream body.now }

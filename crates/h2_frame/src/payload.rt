@@ -48,7 +48,7 @@ pub fn payload_fault(head: &Head, payload: &[u8]) -> Option<Code>
 // contract: 5.5 A frame of an unknown type passes as it is, and an end ignores it
 // contract: 6.1 END_STREAM of DATA ends the stream of the sender
 // contract: 6.2 END_STREAM and END_HEADERS are read from their bits
-// contract: 6.3 PRIORITY has an exclusive flag, a stream and a weight
+// contract: 6.3 PRIORITY is read with its five octets, which are not divided
 // contract: 6.4 RST_STREAM is read with its code of 32 bits
 // contract: 6.5 ACK of SETTINGS and PING is read from its bit
 // contract: 6.7 PING is read with its octets
@@ -212,7 +212,7 @@ fn without_priority(flags: u8, body: &[u8]) -> (&[u8], Option<[u8; 5]>)
     (fragment, Some(five(priority)))
 }
 
-// rule: 6.3 PRIORITY has an exclusive flag, a stream and a weight
+// rule: 6.3 PRIORITY is read with its five octets, which are not divided
 // A copy of five octets.
 fn five(payload: &[u8]) -> [u8; 5]
     requires { length payload.now ≡ 5 }

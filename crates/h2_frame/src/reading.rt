@@ -47,6 +47,8 @@ pub fn head(octets: &[u8; 9]) -> Head
 }
 
 // rule: 4.2 A length above the limit is FRAME_SIZE_ERROR (of the connection: own)
+// contract: 4.2 A payload as long as the limit is received
+// rule: 4.2 A payload as long as the limit is received
 // rule: 4.2 Of the faults of a head a length above the limit is the first
 // contract: 6.3 PRIORITY has five octets (a connection error: own)
 // contract: 6.3 PRIORITY on stream 0 is PROTOCOL_ERROR

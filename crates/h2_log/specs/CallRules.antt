@@ -179,6 +179,7 @@ answer_of view (ChangeSettings values) = Done
 -- the pairs of own SETTINGS. A client that opens says that it takes no push; both say in their
 -- opening how large a list may be.
 -- rule: 3.4 Both ends begin with SETTINGS
+-- rule: 6.5.2 A client sends ENABLE_PUSH 0, and a server sends no ENABLE_PUSH
 unfoldable pub opening_pairs : Role → Values → List (ℕ × ℕ)
 opening_pairs Client values = (1, values.table_limit) ∷ (2, 0) ∷ (4, values.initial_window) ∷
     (6, max_list) ∷ []
@@ -186,6 +187,9 @@ opening_pairs Server values =
     (1, values.table_limit) ∷ (3, values.max_streams) ∷ (4, values.initial_window) ∷
     (6, max_list) ∷ []
 
+-- the pairs of SETTINGS that change own values later: a server sends no ENABLE_PUSH, and a client
+-- leaves it as it was
+-- rule: 6.5.2 A client sends ENABLE_PUSH 0, and a server sends no ENABLE_PUSH
 unfoldable pub changed_pairs : Role → Values → List (ℕ × ℕ)
 changed_pairs Client values = (1, values.table_limit) ∷ (4, values.initial_window) ∷ []
 changed_pairs Server values = (1, values.table_limit) ∷ (3, values.max_streams) ∷

@@ -39,6 +39,7 @@ pub record Decoded : Type 0 where
 abbrev pub exceeds : ℕ → ℤ → Bool
 exceeds count window = nat_lt 0 count && int_lt window (pos count)
 
+-- Whether DATA of so many octets exceeds the window of its stream, where that is active.
 -- rule: 6.9.1 DATA above its stream's window is FLOW_CONTROL_ERROR (scope: own)
 abbrev pub exceeds_stream : ℕ → Option StreamView → Bool
 exceeds_stream count None = false
@@ -48,6 +49,7 @@ exceeds_stream count (Some stream) = exceeds count stream.recv_window
 abbrev pub overflows_by : ℕ → ℤ → Bool
 overflows_by increment window = int_lt (pos greatest_window) (window +ℤ pos increment)
 
+-- Whether an increment brings the window of a stream above the greatest, where that is active.
 -- rule: 6.9.1 A stream's window above 2^31-1 is a stream error FLOW_CONTROL_ERROR
 abbrev pub overflows_stream : ℕ → Option StreamView → Bool
 overflows_stream increment None = false

@@ -26,6 +26,7 @@ pub data Verdict : Type 0 where
 -- rule: 5.1 After the peer has ended a stream DATA is STREAM_CLOSED
 -- rule: 5.1 On a closed stream DATA is STREAM_CLOSED (its scope: own)
 -- rule: 5.1 DATA on a stream that this end has reset counts for the connection
+-- rule: 5.1 What comes on a stream that this end has reset is dropped
 -- rule: 6.8 Streams above the last of an own GOAWAY are ignored
 -- rule: 6.9.1 DATA above the connection's window is FLOW_CONTROL_ERROR
 unfoldable pub data_verdict : State → (passes_connection peer_ended passes_stream : Bool) → Verdict
@@ -45,6 +46,7 @@ data_verdict Active passes_connection peer_ended passes_stream =
 -- rule: 5.4.2 RST_STREAM is not answered by RST_STREAM, nor sent twice
 -- rule: 6.4 RST_STREAM on an idle stream is PROTOCOL_ERROR
 -- rule: 6.4 RST_STREAM closes an active stream and is reported
+-- rule: 6.4 RST_STREAM on a closed stream is ignored
 unfoldable pub reset_verdict : State → Verdict
 reset_verdict Idle = ConnectionFault ProtocolError
 reset_verdict Active = Reported
@@ -95,6 +97,7 @@ opening_verdict left full too_large =
 -- rule: 5.1 On an idle stream any but HEADERS or PRIORITY is PROTOCOL_ERROR
 -- rule: 5.1 After the peer has ended a stream a field block is STREAM_CLOSED
 -- rule: 5.1 (own) On a closed stream a field block is PROTOCOL_ERROR
+-- rule: 5.1 What comes on a stream that this end has reset is dropped
 -- rule: 5.1.1 A field block on an idle number not the peer's is PROTOCOL_ERROR
 -- rule: 6.2 A field block on an idle odd number opens the stream at a server
 -- rule: 10.5.1 A list above 65,536 octets is a stream error ENHANCE_YOUR_CALM

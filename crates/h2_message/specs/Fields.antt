@@ -36,7 +36,7 @@ value_of name (field ∷ fields) =
     if is_named name field then Some field.value else value_of name fields
 
 -- the pseudo-fields of a request and of a response (sections 8.3.1 and 8.3.2)
--- rule: 8.3 A pseudo-field other than the five breaks M4
+-- rule: 8.3 A pseudo-field that its kind of message does not have breaks M4
 unfoldable pub pseudo_names : Kind → List (List ℕ)
 pseudo_names Request =
     codes ":method" ∷ codes ":scheme" ∷ codes ":path" ∷ codes ":authority" ∷ []
@@ -75,12 +75,12 @@ unfoldable pub has_pseudo : List Field → Bool
 has_pseudo fields = list_any is_pseudo fields
 
 -- M4: this kind of message has no such pseudo-field (section 8.3).
--- rule: 8.3 A pseudo-field other than the five breaks M4
+-- rule: 8.3 A pseudo-field that its kind of message does not have breaks M4
 unfoldable pub is_unknown_pseudo : Kind → Field → Bool
 is_unknown_pseudo kind field =
     is_pseudo field && not (list_any (λ name. is_named name field) (pseudo_names kind))
 
--- rule: 8.3 A pseudo-field other than the five breaks M4
+-- rule: 8.3 A pseudo-field that its kind of message does not have breaks M4
 unfoldable pub has_unknown_pseudo : Kind → List Field → Bool
 has_unknown_pseudo kind fields = list_any (is_unknown_pseudo kind) fields
 
@@ -146,6 +146,8 @@ connection_names =
     codes "connection" ∷ codes "proxy-connection" ∷ codes "keep-alive"
     ∷ codes "transfer-encoding" ∷ codes "upgrade" ∷ []
 
+-- Whether a field belongs to one connection: it has such a name, or it is `te` with another value
+-- than `trailers` (section 8.2.2).
 -- rule: 8.2.2 te with another value than trailers breaks M10
 unfoldable pub is_connection_field : Field → Bool
 is_connection_field field =

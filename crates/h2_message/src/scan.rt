@@ -130,7 +130,7 @@ impl Scan {
         }
     }
 
-    // rule: 8.3 A pseudo-field other than the five breaks M4
+    // rule: 8.3 A pseudo-field that its kind of message does not have breaks M4
     // rule: 8.3 A pseudo-field that stands twice breaks M5
     /// Adds a pseudo-field of a request.
     fn add_of_request(&mut self, name: &[u8], value: &[u8])
@@ -157,7 +157,7 @@ impl Scan {
         }
     }
 
-    // rule: 8.3 A pseudo-field other than the five breaks M4
+    // rule: 8.3 A pseudo-field that its kind of message does not have breaks M4
     // rule: 8.3 A pseudo-field that stands twice breaks M5
     /// Adds a pseudo-field of a response.
     fn add_of_response(&mut self, name: &[u8], value: &[u8])

@@ -2,15 +2,18 @@
 
 use crate::hexadecimal::is_hexadecimal;
 use crate::viewer::ShowError;
-use h2_hints::is_capture;
+use h2_hints::{answers_http1, asks_http1, is_capture};
 use h2_wire::WireFault;
 
-/// What is likely wrong with the options, where the first octets aren't the preface; or that the
-/// input is a capture.
+/// What is likely wrong with the options, or with the input, where its first octets are at fault.
 #[derive(Clone, Copy, Debug, PartialEq, Eq, Hash)]
 pub enum Hint {
     /// The input is a capture of packets, and not octets of HTTP/2.
     Capture,
+    /// The input is HTTP/1.1, and not HTTP/2.
+    Http1,
+    /// The octets are those of a client, where a server's are expected.
+    ClientPreface,
     /// The input looks like hexadecimal text.
     Hexadecimal,
     /// The octets look like those of a server.
@@ -19,17 +22,39 @@ pub enum Hint {
 
 impl Hint {
     // rule (tested): show (own) A hint names a capture, or the option that is likely missing
-    /// The hint for octets that came as they are: none unless they begin as a capture does, or the
-    /// preface is at fault. `piece` is the piece with the fault, and `place` the number of the octet
-    /// at fault.
+    /// The hint for octets that came as they are: none unless their beginning says what they are,
+    /// or the preface is at fault. `piece` is the piece with the fault, and `place` the number of
+    /// the octet at fault.
     pub(crate) fn for_octets(error: &ShowError, piece: &[u8], place: u64) -> Option<Hint> {
-        if place <= HEAD && is_capture(piece) {
+        let is_bad_preface = match error {
+            ShowError::Wire(WireFault::BadPreface) => true,
+            _ => false,
+        };
+        let of_input = if place <= HEAD {
+            Hint::for_input(piece, is_bad_preface)
+        } else {
+            None
+        };
+        match of_input {
+            None if is_bad_preface => Some(Hint::for_start(piece, place == 1)),
+            hint => hint,
+        }
+    }
+
+    // rule (tested): show (own) A hint names a capture, or the option that is likely missing
+    /// What the first piece of an input says of it by itself: that it is a capture, or HTTP/1.1;
+    /// or, unless a client's preface is expected, that it begins with one.
+    pub fn for_input(piece: &[u8], expects_preface: bool) -> Option<Hint> {
+        if is_capture(piece) {
             return Some(Hint::Capture);
         }
-        match error {
-            ShowError::Wire(WireFault::BadPreface) => Some(Hint::for_start(piece, place == 1)),
-            _ => None,
+        if asks_http1(piece) || answers_http1(piece) {
+            return Some(Hint::Http1);
         }
+        if !expects_preface && piece.starts_with(b"PRI * HTTP/2") {
+            return Some(Hint::ClientPreface);
+        }
+        None
     }
 
     // rule (tested): show (own) A hint names a capture, or the option that is likely missing

@@ -115,6 +115,11 @@ pub(crate) fn give_hint<E: Write>(hint: Option<Hint>, from_server: &str, err: &m
     let _ = match hint {
         None => Ok(()),
         Some(Hint::Capture) => write_hint(Some(h2_hints::Hint::Capture), err),
+        Some(Hint::Http1) => writeln!(err, "hint: the input is HTTP/1.1, and not HTTP/2"),
+        Some(Hint::ClientPreface) => writeln!(
+            err,
+            "hint: the input begins with a client's preface: leave out {from_server}"
+        ),
         Some(Hint::Hexadecimal) => {
             writeln!(
                 err,

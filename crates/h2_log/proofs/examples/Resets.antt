@@ -32,6 +32,7 @@ three_resets = alone (Reset 1 8) ∷ alone (Reset 2 8) ∷ alone (Reset 3 8) ∷
 -- rule: 6.4 RST_STREAM on an idle stream is PROTOCOL_ERROR
 -- rule: 5.1 On an idle stream any but HEADERS or PRIORITY is PROTOCOL_ERROR
 -- rule (best): 5.4.2 RST_STREAM is not answered by RST_STREAM, nor sent twice
+-- rule (best): 6.4 RST_STREAM on a closed stream is ignored
 resets_by_state :
     (verdicts active_view three_resets
     ≡ Reported ∷ ConnectionFault ProtocolError ∷ ConnectionFault ProtocolError ∷ [])

@@ -29,7 +29,7 @@ names_and_values = (refl, refl, refl)
 
 -- M3 to M6: where pseudo-fields stand, and which.
 -- rule: 8.3 A pseudo-field after a regular one, or in trailers, breaks M3
--- rule: 8.3 A pseudo-field other than the five breaks M4
+-- rule: 8.3 A pseudo-field that its kind of message does not have breaks M4
 -- rule: 8.3 A pseudo-field that stands twice breaks M5
 -- rule: 8.3.1 A request without :method, :scheme or :path breaks M6
 pseudo_fields :
