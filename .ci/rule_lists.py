@@ -40,7 +40,8 @@ FAULT_DEFINITIONS = {(file, name) for file, names in FAULTS.items() for name in 
 EXEMPT = {"h2_machine/specs/End.antt", "h2_machine/specs/Machine.antt"}
 
 # Crates of tests and cases, whose calls are no use of a function.
-TESTS = {"h2_cases", "h2_case", "h2_conn_cases", "h2_end_cases", "h2_end_tests", "h2_layer_tests", "h2_tool_tests"}
+TESTS = {"h2_cases", "h2_case", "h2_conn_cases", "h2_end_cases", "h2_end_tests", "h2_layer_tests",
+         "h2_scarce_tests", "h2_tool_tests"}
 TESTS |= {"h2_measure", "h2_uses"}
 
 # Functions that the language calls, or a macro of a library.

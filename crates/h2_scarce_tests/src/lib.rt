@@ -1,0 +1,43 @@
+//! What stands where memory is refused: scenarios that make each call again that was refused it.
+//!
+//! Each test runs a scenario twice. The first run has ample memory; of the second, which stands
+//! between two marks, `bench/scarce` refuses one allocation, another one each time the test is run.
+//! A call that answers that memory was refused has changed nothing that can be read, and is made
+//! again; a connection that has failed for it ends with GOAWAY. All other answers, and the octets
+//! that are put out, are those of the first run, or the first of them. In the gate nothing is
+//! refused, and both runs are the same.
+//!
+//! - `record`: what a run has shown, and the marks. `lists`: messages and fields.
+//! - `end`, `call`, `walk`: a connection, a client or a server, the calls of it, and lists of them.
+//! - `ends`, `joined`, `links`: such lists, two joined ends, and connections over links.
+//! - `writers`, `coders`, `frames`: the layers below.
+//! - `promises`: what takes no memory, with all allocations refused.
+//! - `ignoring`: a scenario that ignores a refusal, by which `bench/scarce` tests itself.
+#![tactic(auto)]
+
+#[cfg(test)]
+mod call;
+#[cfg(test)]
+mod coders;
+#[cfg(test)]
+mod end;
+#[cfg(test)]
+mod ends;
+#[cfg(test)]
+mod frames;
+#[cfg(test)]
+mod ignoring;
+#[cfg(test)]
+mod joined;
+#[cfg(test)]
+mod links;
+#[cfg(test)]
+mod lists;
+#[cfg(test)]
+mod promises;
+#[cfg(test)]
+mod record;
+#[cfg(test)]
+mod walk;
+#[cfg(test)]
+mod writers;

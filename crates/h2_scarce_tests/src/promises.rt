@@ -1,0 +1,277 @@
+//! What takes no memory, with all allocations refused.
+
+use crate::end::{End, Kind, new_end};
+use crate::record::{Record, Scenario, takes_no_memory};
+use h2_block::{Gather, Gathered};
+use h2_ends::Code;
+use h2_flow::{Settings, StreamState, Window};
+use h2_frame::{FrameRef, write_ref};
+use h2_log::Role;
+use h2_wire::Cutter;
+use std::alloc::{AllocError, Global};
+
+/// A whole frame of each type, whatever a connection makes of it.
+const FRAMES: &[&[u8]] = &[
+    b"\x00\x00\x03\x00\x01\x00\x00\x00\x01abc",
+    b"\x00\x00\x05\x00\x09\x00\x00\x00\x01\x02ab\x00\x00",
+    b"\x00\x00\x01\x01\x05\x00\x00\x00\x01\x82",
+    b"\x00\x00\x05\x02\x00\x00\x00\x00\x01\x00\x00\x00\x00\x0f",
+    b"\x00\x00\x04\x03\x00\x00\x00\x00\x01\x00\x00\x00\x08",
+    b"\x00\x00\x06\x04\x00\x00\x00\x00\x00\x00\x04\x00\x00\xff\xff",
+    b"\x00\x00\x08\x06\x00\x00\x00\x00\x00abcdefgh",
+    b"\x00\x00\x08\x07\x00\x00\x00\x00\x00\x00\x00\x00\x01\x00\x00\x00\x00",
+    b"\x00\x00\x04\x08\x00\x00\x00\x00\x00\x00\x00\x00\x01",
+    b"\x00\x00\x01\x09\x04\x00\x00\x00\x01\x84",
+    b"\x00\x00\x03\x20\x00\x00\x00\x00\x01abc",
+];
+
+/// A cutter that holds nothing and expects no preface lends a whole frame from its piece.
+#[derive(Drop)]
+struct Lending;
+
+/// Whether a cutter lends a frame that is the whole piece.
+fn lends(cutter: &mut Cutter, piece: &[u8]) -> bool {
+    match cutter.cut(piece) {
+        Ok(cut) => cut.used == piece.len() && cut.frame.is_some(),
+        Err(_) => false,
+    }
+}
+
+/// Notes the frame that a cutter lends of a piece that has it and more.
+fn note_lent(cutter: &mut Cutter, piece: &[u8], record: &mut Record) {
+    if let Ok(cut) = cutter.cut(piece)
+        && let Some(FrameRef::Data { octets, .. }) = cut.frame
+    {
+        record.note_octets(octets);
+    }
+}
+
+/// The preface but for its last octet, cut in two.
+const PREFACE: [&[u8]; 2] = [b"PRI * HTTP/2", b".0\r\n\r\nSM\r\n\r"];
+
+/// Notes how much of the preface a cutter that expects it holds.
+fn note_preface(cutter: &mut Cutter, record: &mut Record) {
+    for piece in PREFACE {
+        record.check(cutter.cut(piece).is_ok());
+    }
+    record.check(cutter.held() == 23 && !cutter.is_past_preface());
+}
+
+impl Scenario for Lending {
+    fn run(&mut self, record: &mut Record) {
+        note_preface(&mut Cutter::new(record.alloc, 16_384, true), record);
+        let mut cutter = Cutter::new(record.alloc, 16_384, false);
+        for piece in FRAMES {
+            record.check(lends(&mut cutter, piece));
+            record.check(cutter.held() == 0);
+        }
+        note_lent(&mut cutter, b"\0\0\x01\0\0\0\0\0\x01a\0", record);
+    }
+}
+
+/// What is taken of a client's octets before memory is refused: its opening, the acknowledgment of
+/// the server's, and POST on stream 1.
+const BEFORE: &[u8] = b"PRI * HTTP/2.0\r\n\r\nSM\r\n\r\n\x00\x00\x00\x04\x00\x00\x00\x00\x00\
+    \x00\x00\x00\x04\x01\x00\x00\x00\x00\x00\x00\x03\x01\x04\x00\x00\x00\x01\x83\x86\x84";
+
+/// PRIORITY, a frame of an unknown type, PING with ACK, WINDOW_UPDATE for the connection and for
+/// the stream, and DATA that is reported and does not end the stream.
+const TAKEN: &[&[u8]] = &[
+    b"\x00\x00\x05\x02\x00\x00\x00\x00\x01\x00\x00\x00\x00\x0f",
+    b"\x00\x00\x03\x20\x00\x00\x00\x00\x01abc",
+    b"\x00\x00\x08\x06\x01\x00\x00\x00\x00abcdefgh",
+    b"\x00\x00\x04\x08\x00\x00\x00\x00\x00\x00\x00\x00\x01",
+    b"\x00\x00\x04\x08\x00\x00\x00\x00\x01\x00\x00\x00\x01",
+    b"\x00\x00\x03\x00\x00\x00\x00\x00\x01abc",
+    b"\x00\x00\x05\x00\x08\x00\x00\x00\x01\x02ab\x00\x00",
+];
+
+/// An end takes whole frames that need no memory.
+#[derive(Drop)]
+struct Taking {
+    end: End,
+}
+
+impl Scenario for Taking {
+    fn run(&mut self, record: &mut Record) {
+        for piece in TAKEN {
+            let taken = self.end.take(piece, record);
+            record.check(matches!(taken, Ok((used, _)) if used == piece.len()));
+        }
+        record.check(self.end.conn().failed().is_none());
+    }
+}
+
+/// An end of a kind that has taken what is taken first.
+fn begun(alloc: Global, kind: Kind) -> Option<End> {
+    let mut record = Record::new(alloc).ok()?;
+    let mut end = new_end(kind, &mut record)?;
+    let mut unused = BEFORE;
+    for _ in 0..4 {
+        let (used, _) = end.take(unused, &mut record).ok()?;
+        unused = unused.get(used..)?;
+    }
+    if unused.is_empty() { Some(end) } else { None }
+}
+
+/// WINDOW_UPDATE for the connection with an increment of 0, which is PROTOCOL_ERROR.
+const FAULTY: &[u8] = b"\x00\x00\x04\x08\x00\x00\x00\x00\x00\x00\x00\x00\x00";
+
+/// An end takes a frame that is at fault: the fault is answered, and its GOAWAY waits.
+#[derive(Drop)]
+struct Failing {
+    end: End,
+}
+
+impl Scenario for Failing {
+    fn run(&mut self, record: &mut Record) {
+        let waiting = self.end.conn().waiting();
+        let taken = self.end.take(FAULTY, record);
+        record.check(taken == Err(Code::ProtocolError));
+        record.check(self.end.conn().waiting() == waiting.saturating_add(17));
+    }
+}
+
+/// A frame that is no part of a field block.
+const PING: FrameRef<'static> = FrameRef::Ping {
+    ack: false,
+    octets: *b"abcdefgh",
+};
+
+/// A frame that a gatherer passes on, and that is written to an output with room for it.
+#[derive(Drop)]
+struct Passing {
+    out: Vec<u8>,
+}
+
+/// Whether a gatherer passes a frame on.
+fn passes(gather: &mut Gather, frame: FrameRef<'_>) -> bool {
+    matches!(gather.take(frame), Ok(Gathered::Pass(passed)) if passed == frame)
+}
+
+impl Scenario for Passing {
+    fn run(&mut self, record: &mut Record) {
+        record.check(passes(&mut Gather::new(record.alloc), PING));
+        record.check(write_ref(PING, &mut self.out).is_ok());
+        record.put_out(&self.out);
+    }
+}
+
+/// What `h2_flow` decides.
+#[derive(Drop)]
+struct Flow;
+
+/// Notes windows.
+fn note_windows(record: &mut Record) {
+    let mut window = Window::new(65_535);
+    record.check(window.take(65_535).is_ok() && window.take(1).is_err());
+    record.check(window.give(70_000).is_ok() && window.give(u32::MAX).is_err());
+    record.check(window.shift(-70_001).is_ok() && window.value() == -1);
+}
+
+/// Notes settings.
+fn note_settings(record: &mut Record) {
+    let mut settings = Settings::first();
+    for id in 0..8 {
+        let applied = settings.apply(Role::Client, id, 20_000);
+        record.check(applied.is_ok() == (id != 2));
+    }
+    record.check(settings.initial_window_size == 20_000 && settings.max_frame_size == 20_000);
+    record.check(settings.max_concurrent_streams == Some(20_000));
+}
+
+/// Notes the state of a stream.
+fn note_states(record: &mut Record) {
+    let mut state = StreamState::open();
+    record.check(state.end_in().is_ok() && state.end_in().is_err() && !state.closed());
+    record.check(state.end_out().is_ok() && state.end_out().is_err() && state.closed());
+}
+
+impl Scenario for Flow {
+    fn run(&mut self, record: &mut Record) {
+        note_windows(record);
+        note_settings(record);
+        note_states(record);
+    }
+}
+
+/// Whether a cutter lends without memory.
+fn cutter_keeps(alloc: Global) -> bool {
+    takes_no_memory(alloc, &mut Lending, &mut Lending)
+}
+
+/// Whether an end takes frames without memory.
+fn end_keeps(alloc: Global, kind: Kind) -> bool {
+    match (begun(alloc, kind), begun(alloc, kind)) {
+        (Some(first), Some(second)) => {
+            let (mut first, mut second) = (Taking { end: first }, Taking { end: second });
+            takes_no_memory(alloc, &mut first, &mut second)
+        }
+        _ => false,
+    }
+}
+
+/// Whether an end fails without memory for a fault.
+fn fault_keeps(alloc: Global, kind: Kind) -> bool {
+    match (begun(alloc, kind), begun(alloc, kind)) {
+        (Some(first), Some(second)) => {
+            let (mut first, mut second) = (Failing { end: first }, Failing { end: second });
+            takes_no_memory(alloc, &mut first, &mut second)
+        }
+        _ => false,
+    }
+}
+
+/// An output with room for a frame.
+fn passing(alloc: Global) -> Result<Passing, AllocError> {
+    Ok(Passing {
+        out: Vec::with_capacity(alloc, 17)?,
+    })
+}
+
+/// Whether a frame is passed on and written without memory.
+fn passing_keeps(alloc: Global) -> Result<bool, AllocError> {
+    Ok(takes_no_memory(alloc, &mut passing(alloc)?, &mut passing(alloc)?))
+}
+
+/// Whether `h2_flow` takes no memory.
+fn flow_keeps(alloc: Global) -> bool {
+    takes_no_memory(alloc, &mut Flow, &mut Flow)
+}
+
+// rule: 3.4 (own) No octet of the preface is stored, so memory is not refused in it
+// rule: 4.1 (own) A frame whole in its piece is lent from there and takes no memory
+#[test]
+fn a_cutter_without_memory(rt: HostRuntime) {
+    assert!(rt; cutter_keeps(rt.alloc()));
+}
+
+// rule: 5.4 (own) Only steps that reply, change streams or return credit take memory
+#[test]
+fn a_connection_without_memory(rt: HostRuntime) {
+    assert!(rt; end_keeps(rt.alloc(), Kind::ConnOfServer));
+}
+
+#[test]
+fn a_server_without_memory(rt: HostRuntime) {
+    assert!(rt; end_keeps(rt.alloc(), Kind::Server));
+}
+
+// rule: 5.4 (own) Being out of memory hides no other fault of the connection
+// rule: 5.4.1 (own) The GOAWAY of a failed connection goes out last, once, without memory
+#[test]
+fn a_fault_without_memory(rt: HostRuntime) {
+    assert!(rt; fault_keeps(rt.alloc(), Kind::ConnOfServer));
+}
+
+// rule: 4.1 (own) With room in the output memory is not refused to a frame
+// rule: 4.3 Frames that are no part of a block pass and need no memory
+#[test]
+fn a_frame_without_memory(rt: HostRuntime) {
+    assert!(rt; passing_keeps(rt.alloc()).unwrap_or(false));
+}
+
+#[test]
+fn windows_and_settings_without_memory(rt: HostRuntime) {
+    assert!(rt; flow_keeps(rt.alloc()));
+}
