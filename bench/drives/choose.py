@@ -54,8 +54,8 @@ class Chooser:
     def stream(self):
         """A number of a stream: an active one, the next one, or any."""
         random, end = self.random, self.end
-        closed = [number for number in range(1, end.highest + 1, 2) if end.state(number) == "closed"]
-        if self.mood == "wild" and closed and random.percent(12):
+        closed = self.closed() if self.mood == "wild" else []
+        if closed and random.percent(12):
             return random.one_of(closed)
         if random.percent(60 if self.mood == "wild" else 95) and end.streams:
             return random.one_of(list(end.streams))
@@ -65,10 +65,15 @@ class Chooser:
         if place == 0:
             return (random.below(20) + 1) * 2
         if place < 5:
-            return random.one_of(end.reset or [1])
+            return random.one_of(list(end.reset) or [1])
         if place == 5:
             return end.next_number() + random.below(5) * 2
-        return random.one_of(closed or [1])
+        return random.one_of(self.closed() or [1])
+
+    def closed(self):
+        """The numbers of streams that are over."""
+        end = self.end
+        return [number for number in range(1, end.highest + 1, 2) if end.state(number) == "closed"]
 
     # Frames.
 

@@ -72,29 +72,30 @@ class Half:
         """Sends what waits: streams in rising order, each as far as its windows go."""
         count = 0
         for number in sorted(self.waiting):
-            try:
-                count += self.pump_stream(number)
-            except calls.Refused as refused:
-                assert refused.number == 7
-                count += self.sent
+            sent, is_full = self.pump_stream(number)
+            count += sent
+            if is_full:
                 break
         self.forget_over()
         return count
 
     def pump_stream(self, number):
-        """Sends what waits on a stream; how many octets of its body went."""
-        self.sent = 0
-        left = self.waiting[number]
-        while left[0]:
-            count = calls.make(self.end, "data", number, left[0], left[1] is None)
-            if count == 0:
-                return self.sent
-            left[0] = left[0][count:]
-            self.sent += count
-        if left[1] is not None:
-            calls.make(self.end, "fields", number, left[1], True)
+        """Sends what waits on a stream; how many octets of its body went, and whether the output is full."""
+        left, count = self.waiting[number], 0
+        try:
+            while left[0]:
+                sent = calls.make(self.end, "data", number, left[0], left[1] is None)
+                if sent == 0:
+                    return count, False
+                left[0] = left[0][sent:]
+                count += sent
+            if left[1] is not None:
+                calls.make(self.end, "fields", number, left[1], True)
+        except calls.Refused as refused:
+            assert refused.number == 7
+            return count, True
         del self.waiting[number]
-        return self.sent
+        return count, False
 
     def release_all(self):
         for number in list(self.end.streams):
@@ -132,7 +133,6 @@ class Half:
             return
         assert event.kind != "fault", event.lines
         self.count += 1
-        self.last_kind = event.kind
         number = event.stream
         match event.kind:
             case "fields":

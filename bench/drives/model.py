@@ -54,7 +54,7 @@ class Model:
         self.is_cut = False  # whether the first frame that waits has lost octets already
         self.due = self.made_due = 0
         self.streams = {}  # active ones, by number, in rising order
-        self.reset = []  # numbers that this end has reset
+        self.reset = {}  # numbers that this end has reset, in their order
         self.highest = 0  # the greatest number that was used
         self.processed = 0  # the greatest of the peer's that was processed
         self.goaway_sent = self.goaway_read = None
@@ -142,7 +142,7 @@ class Model:
 
     def count_reset(self, number):
         self.close(number)
-        self.reset.append(number)
+        self.reset[number] = True
 
     def return_made_due(self):
         """Only a step that has made some due returns credit, where little enough waits."""
