@@ -5,7 +5,8 @@
 //! - `take OCTETS`: what is reported of them, as [`crate::conn_events`] says, and `fault CODE`
 //!   where the connection fails. `take each N FRAMES` is the frames N times, with numbers of
 //!   streams that are 2 higher each time. `take quietly ..`: how many of each kind are reported,
-//!   and the last.
+//!   and the last. `take once ..`: once the octets are used, nothing more is asked for; without
+//!   octets that is one call.
 //! - The calls: `open FIELDS`, `fields ID FIELDS`, `data ID OCTETS` (each with `end` before its
 //!   fields or octets where it ends the stream), `release ID N`, `reset ID CODE`, `refuse ID CODE`,
 //!   `ping OCTETS`, `go_away`, `change VALUES` (as of `new`), and `out N`: the frames of so many
@@ -15,6 +16,9 @@
 //! - The readers: `waiting`, `lent` (the frames of the output that waits), `held`, `place`, `due`,
 //!   `failed`, `next_number`, `room ID`, `owed ID`, `next_live ID`, `is_active ID`, and
 //!   `refusal_to_open FIELDS`.
+//! - `changes`: which of these numbers have changed since the last such command, or, at the first
+//!   one, all: `waiting N`, `held N`, `due N`, `room N`; `room ID N` and `owed ID N` of each active
+//!   stream; `live N`, how many of these there are, and `sum N`, the sum of their numbers.
 //! - `replay`: the calls and octets so far, by `h2_replay`: what it keeps, in order.
 //!
 //! Each case is done with the octets of a `take` whole, and then one a piece, or seven as long as
@@ -25,7 +29,8 @@ use crate::acts::{make_call, read_act, read_values};
 use crate::answers::{add_name, add_option, add_rule, add_value, copy_of, extend};
 use crate::conn_events::{note_event, note_fault};
 use crate::cuts::{Cut, Cutting, answers_in_cuts, read_frames};
-use crate::notes::{Notes, Taker, Used, add_taken};
+use crate::notes::{Notes, Taker, Used, add_taken, add_taken_once};
+use crate::numbers::{Number, add_changed, numbers_of};
 use crate::replayed::add_replay;
 use h2_case::case::Case;
 use h2_case::driver::{Answer, Driver};
@@ -46,6 +51,8 @@ struct State {
     config: Config,
     conn: Option<Conn>,
     acts: Vec<Act>,
+    /// The numbers of the end, as they were last said.
+    numbers: Vec<Number>,
 }
 
 // A new end.
@@ -173,6 +180,7 @@ impl State {
     fn open(&mut self, config: Config, text: &mut Text) {
         self.config = config;
         self.acts.clear();
+        self.numbers.clear();
         match new_conn(self.alloc, self.role, config) {
             Ok(conn) => self.conn = Some(conn),
             Err(_) => text.refuse(),
@@ -183,15 +191,13 @@ impl State {
     fn take(&mut self, words: &mut Words<'_>, text: &mut Text) {
         let is_quiet = words.has("quietly");
         let _ = words.has("anywhere");
+        let is_once = words.has("once");
         let octets = read_frames(self.alloc, words);
-        if let Some(conn) = &mut self.conn {
-            add_taken(
-                conn,
-                self.cut,
-                &octets,
-                Notes::new(self.alloc, is_quiet),
-                text,
-            );
+        let notes = Notes::new(self.alloc, is_quiet);
+        match &mut self.conn {
+            Some(conn) if is_once => add_taken_once(conn, self.cut, &octets, notes, text),
+            Some(conn) => add_taken(conn, self.cut, &octets, notes, text),
+            None => {}
         }
         keep(&mut self.acts, Act::Take(octets), text);
     }
@@ -236,6 +242,15 @@ impl State {
         drop_out(&out, text);
     }
 
+    // Adds the numbers that have changed.
+    fn add_changes(&mut self, text: &mut Text) {
+        if let Some(conn) = &self.conn {
+            let now = numbers_of(self.alloc, conn, text);
+            add_changed(&self.numbers, &now, text);
+            self.numbers = now;
+        }
+    }
+
     // Replays what was done.
     fn replay(&mut self, text: &mut Text) {
         let acts = std::mem::replace(&mut self.acts, Vec::new(self.alloc));
@@ -266,6 +281,7 @@ impl Driver for State {
             "take" => self.take(words, text),
             "out" if words.is_empty() => self.add_output(text),
             "drop" => self.drop_output(words, text),
+            "changes" => self.add_changes(text),
             "replay" => self.replay(text),
             _ => self.call(name, words, text),
         }
@@ -281,6 +297,7 @@ impl Cutting for State {
             config: Config::default(),
             conn: None,
             acts: Vec::new(alloc),
+            numbers: Vec::new(alloc),
         }
     }
 }

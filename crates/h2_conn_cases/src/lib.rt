@@ -10,4 +10,5 @@ pub mod cuts;
 mod each_octet;
 pub mod message;
 pub mod notes;
+mod numbers;
 mod replayed;

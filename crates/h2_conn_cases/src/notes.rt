@@ -105,6 +105,39 @@ pub fn add_taken<T: Taker<Notes>>(
     notes.add_to(text);
 }
 
+/// Hands octets over, and adds what comes out until they are used; where there are none, the end is
+/// asked once.
+pub(crate) fn add_taken_once<T: Taker<Notes>>(
+    taker: &mut T,
+    cut: Cut,
+    octets: &[u8],
+    mut notes: Notes,
+    text: &mut Text,
+) {
+    let (before, from) = cut.split(octets);
+    if before.is_empty() {
+        let _ = take_used(taker, cut, from, &mut notes);
+    } else if take_used(taker, cut, before, &mut notes) && !from.is_empty() {
+        let _ = take_used(taker, cut, from, &mut notes);
+    }
+    notes.add_to(text);
+}
+
+// Hands octets over, up to a fault or until they are used; whether the connection has not failed.
+fn take_used<N, T: Taker<N>>(taker: &mut T, cut: Cut, octets: &[u8], notes: &mut N) -> bool {
+    let mut left = octets;
+    for _ in 0..u64::MAX {
+        let Some(used) = taker.take_piece(cut.piece(left), notes) else {
+            return false;
+        };
+        left = left.get(used.count..).unwrap_or(&[]);
+        if left.is_empty() {
+            break;
+        }
+    }
+    true
+}
+
 /// Hands octets over, up to a fault or until they are used and nothing more comes out; whether the
 /// connection has not failed.
 pub fn take_part<N, T: Taker<N>>(taker: &mut T, cut: Cut, octets: &[u8], notes: &mut N) -> bool {

@@ -16,6 +16,10 @@
 //! - `quiet`: whether they are. `waits SIDE`: how many octets of an end's output wait.
 //!   `pipes SIDE`: how many are on its pipe, and `piped SIDE`: those octets, as frames.
 //! - `room SIDE ID`: how many octets an end may send on a stream, or on the connection (0).
+//! - `ends`: of each end how many messages it has accepted, how many events it has handed out, how
+//!   many octets of its output wait, how many are on its pipe, and how many it may send on the
+//!   connection, where one of these has changed since the last such command; and `quiet` where both
+//!   ends are.
 //! - `accepted SIDE`: the messages that an end has accepted, with their streams.
 //! - `handed SIDE`: what an end has handed out since the last such command: `interim ID`, `head ID`
 //!   and `trailers ID`, and a line for each field; `body ID OCTETS`; each with `end` after its

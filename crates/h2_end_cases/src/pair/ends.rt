@@ -45,6 +45,8 @@ struct Kept {
     delivered: usize,
     /// How many of its events were answered.
     read: usize,
+    /// What was last said to be seen of it.
+    seen: Option<Half>,
 }
 
 /// What is seen of an end.
@@ -58,12 +60,20 @@ struct Half {
     failed: Option<Code>,
 }
 
+// Adds the line of what is seen of an end.
+fn add_half(name: &str, half: Half, text: &mut Text) {
+    write!(text, "{name} {} {} ", half.accepted, half.handed);
+    write!(text, "{} {} ", half.waiting, half.piped);
+    add_option(text, half.room);
+}
+
 // What is kept of a new end.
 fn new_kept(alloc: Global) -> Kept {
     Kept {
         moved: Vec::new(alloc),
         delivered: 0,
         read: 0,
+        seen: None,
     }
 }
 
@@ -290,6 +300,25 @@ impl Pair {
         self.kept(side).read = all;
     }
 
+    // Adds the line of what is seen of an end, if that has changed.
+    fn add_changed_half(&mut self, name: &str, side: Side, text: &mut Text) {
+        let half = self.half(side);
+        let kept = self.kept(side);
+        if kept.seen != Some(half) {
+            kept.seen = Some(half);
+            add_half(name, half, text);
+        }
+    }
+
+    // Adds what is seen of each end of which it has changed, and whether both are quiet.
+    fn add_halves(&mut self, text: &mut Text) {
+        self.add_changed_half("client", Side::Client, text);
+        self.add_changed_half("server", Side::Server, text);
+        if self.joined.quiet() {
+            text.push_line("quiet");
+        }
+    }
+
     // Adds the messages that an end has accepted.
     fn add_accepted(&self, side: Side, text: &mut Text) {
         for accepted in self.joined.accepted(side) {
@@ -334,6 +363,7 @@ impl Pair {
             "settle" => self.settle(words, text),
             "quiet" if self.joined.quiet() => text.push_line("yes"),
             "quiet" => text.push_line("no"),
+            "ends" => self.add_halves(text),
             _ => {
                 let side = read_side(words);
                 self.show_side(name, side, words, text);

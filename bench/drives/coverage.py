@@ -1,0 +1,74 @@
+"""What a drive has reached: marks, each of which is a rule that was decided."""
+import collections
+
+CONN_MARKS = """
+bad preface, malformed, first frame, interrupted, stray continuation, block too long, block undecodable,
+block above goaway, block refused, block opens, block on idle, block on closed, block ignored, block on ended,
+block too large, block reported, data on idle, data on closed, data above connection, data ignored, data on ended,
+data above stream, data reported, priority, reset on idle, reset reported, reset ignored, settings push,
+settings window, settings frame, settings overflow, settings taken, ack reported, ack ignored, settings changed,
+ping answered, pong reported, pong ignored, goaway reported, unprocessed, update by nothing, update overflow,
+update taken, stream update on idle, stream update ignored, stream update by nothing, stream update overflow,
+stream update taken, unknown, too many resets, too much output, credit returned, credit held back,
+credit returned later, refused with internal error, refused at a thousand, take after failure, partial frame
+"""
+
+
+def names_of(text):
+    return [name.strip() for name in text.replace("\n", " ").split(",")]
+
+
+# What connections are to reach: the rules; all refusals of calls but C12, since memory is ample;
+# codes with which a connection fails and with which an end resets a stream; moods and roles.
+CONN_WANTED = (
+    names_of(CONN_MARKS)
+    + [f"C{number}" for number in (1, 2, 3, 4, 5, 6, 7, 8, 9, 10, 11, 13)]
+    + [f"fault {code}" for code in (1, 2, 3, 5, 6, 9, 11)]
+    + [f"reset with {code}" for code in (1, 3, 5, 7, 11)]
+    + [f"{mood} {role}" for mood in ("calm", "wild", "crowd", "resets", "flood", "greedy")
+       for role in ("client", "server")]
+)
+
+ACTS = "request respond pump move deliver release_all reset ping go_away change".split()
+
+# What lists of acts are to reach. A pump, a move and a deliver are never refused, as no connection
+# fails (C1) and memory is ample (C12); a release_all is in few lists alone (C7). Lists are too short
+# for C4, C5 and C9; C3 and C11 are of calls that no act makes. M12 is of reading alone, and no end
+# sends what is handed out as `interim`.
+PAIR_WANTED = (
+    [f"{act} done" for act in ACTS]
+    + [f"{act} refused" for act in ("request", "respond", "reset", "ping", "go_away", "change")]
+    + [f"E{number}" for number in (1, 2, 3, 4)]
+    + [f"M{number}" for number in range(1, 12)]
+    + [f"C{number}" for number in (2, 6, 7, 8, 10, 13)]
+    + [f"{event} handed out" for event in
+       ("head", "body", "trailers", "reset", "unprocessed", "goaway", "acked", "pong")]
+    + ["a list with bodies both ways", "a list with a reset", "a list with a go_away",
+       "a list with changed settings", "a list with one octet delivered", "light", "heavy"]
+)
+
+
+class Marks:
+    """How often each mark was reached."""
+
+    def __init__(self):
+        self.counts = collections.Counter()
+
+    def reach(self, mark):
+        self.counts[mark] += 1
+
+    def refuse(self, number):
+        self.reach(f"C{number}")
+
+    def fault(self, code):
+        self.reach(f"fault {code}")
+
+    def reset(self, code):
+        self.reach(f"reset with {code}")
+
+    def missing(self, wanted):
+        return [mark for mark in wanted if not self.counts[mark]]
+
+    def report(self, wanted):
+        """A line for each mark that is wanted, with how often it was reached."""
+        return [f"{self.counts[mark]:6} {mark}" for mark in wanted]

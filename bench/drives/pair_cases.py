@@ -1,0 +1,199 @@
+"""Lists of acts on a client and a server that are joined by two pipes, as cases of group `pair`.
+
+Each act has the answer that the model expects, what is handed out, and what is seen of both ends."""
+from coverage import Marks
+from joined import EndRefused, Joined
+from messages import REQUESTS, RESPONSES, any_message
+from model import Config
+
+KINDS = {"request": 90, "respond": 110, "pump": 110, "move": 270, "deliver": 270, "release_all": 60, "reset": 20,
+         "ping": 30, "go_away": 12, "change": 34}
+ALL = 1 << 40
+COUNTS = [0, 1, 1, 9, 50, 300, ALL, ALL, ALL, ALL, ALL, ALL]
+# What both ends do in a round: each moves all, returns credit, sends what it can and moves that.
+ROUND = [("move", "client"), ("release_all", "client"), ("pump", "client"), ("move", "client"),
+         ("deliver", "server"), ("move", "server"), ("release_all", "server"), ("pump", "server"),
+         ("move", "server"), ("deliver", "client")]
+ROUNDS = 300
+# The rule that the first case is to show on its page of docs/rules.
+RULE = "joined (own) What one end has handed out is a prefix of what the other accepted"
+
+
+def config(is_heavy, random):
+    table = random.one_of([0, 33, 100, 4_096, 65_536])
+    heavy = [20_000, 65_535, 65_535, 100_000, 2_147_483_647]
+    window = random.one_of(heavy if is_heavy else [4, 10, 100, 65_535])
+    return Config(table, window, random.one_of([100, 101, 1_000]))
+
+
+class Play:
+    """A list of acts that is played, and the lines of its case."""
+
+    def __init__(self, name, random, marks):
+        self.random, self.marks = random, marks
+        self.is_heavy = random.below(25) == 0
+        client, server = config(self.is_heavy, random), config(self.is_heavy, random)
+        self.events = Marks()
+        self.joined = Joined(client, server, self.events)
+        mood = "heavy" if self.is_heavy else "light"
+        pieces = " pieces 997" if self.is_heavy else ""
+        self.lines = [f"case {name}: {mood}", f"> new client {client.text()} server {server.text()}{pieces}"]
+        self.done = set()
+        marks.reach(mood)
+
+    def command(self, words, answer=()):
+        self.lines += ["> " + words, *answer]
+
+    def stream(self):
+        """The first that is to be answered, or that of a request, or any."""
+        random, client, server = self.random, *self.joined.halves.values()
+        if random.percent(50):
+            for number in client.accepted:
+                if number in server.heads and number not in server.accepted:
+                    return number
+        if client.accepted and random.percent(90):
+            return random.one_of(list(client.accepted))
+        return random.below(20)
+
+    def any_act(self):
+        """An act: its name, its end, and what else it has."""
+        random = self.random
+        name = random.weighted(KINDS)
+        side = self.side_of(name)
+        match name:
+            case "request":
+                return name, side, any_message(REQUESTS, self.is_heavy, random)
+            case "respond":
+                return name, side, self.stream(), any_message(RESPONSES, self.is_heavy, random)
+            case "move" | "deliver":
+                return name, side, random.one_of(COUNTS)
+            case "reset":
+                return name, side, self.stream(), random.below(16)
+            case "ping":
+                return name, side, random.octets()
+            case "change":
+                return name, side, config(self.is_heavy, random)
+        return name, side
+
+    def side_of(self, name):
+        random, joined = self.random, self.joined
+        if name == "request":
+            return "client"
+        if name == "respond":
+            return "server"
+        if name == "deliver":
+            if len(joined.half("server").pipe) > len(joined.half("client").pipe):
+                return "server"
+            if random.percent(80):
+                return "client"
+        return "client" if random.percent(50) else "server"
+
+    def make(self, name, side, *words):
+        """Makes an act, and writes it down."""
+        try:
+            answer = self.joined.act(name, side, *words)
+        except EndRefused as refused:
+            self.note_refusal(name, str(refused))
+            answer = str(refused)
+        else:
+            self.marks.reach(f"{name} done")
+            self.done.add(name)
+            if name == "deliver" and words == (1,) and answer == 1:
+                self.marks.reach("a list with one octet delivered")
+            answer = "done" if answer is None else str(answer)
+        self.command(act_text(name, side, words), [answer])
+        self.show_handed()
+
+    def note_refusal(self, name, refused):
+        self.marks.reach(f"{name} refused")
+        self.marks.reach(refused.split()[0])
+        if ": " in refused:
+            self.marks.reach(refused.split(": ")[1].split()[0])
+
+    def show_handed(self):
+        for side, half in self.joined.halves.items():
+            if half.handed:
+                self.command(f"handed {side}", half.handed)
+                half.handed = []
+
+    def drain(self):
+        """Both go on until they are quiet."""
+        if not self.is_heavy:
+            return self.settle()
+        for _ in range(ROUNDS):
+            if self.joined.is_quiet():
+                return
+            for name, side in ROUND:
+                self.make(name, side, *([ALL] if name in ("move", "deliver") else []))
+            self.command("ends", self.joined.lines())
+        raise AssertionError("never quiet")
+
+    def settle(self):
+        """As the command `settle` does it: each end pumps, releases and moves all, which is delivered."""
+        for _ in range(ROUNDS):
+            if self.joined.is_quiet():
+                self.command("settle", ["quiet"])
+                return self.show_handed()
+            for side, other in (("client", "server"), ("server", "client")):
+                for act in (("pump", side), ("release_all", side), ("move", side, ALL), ("deliver", other, ALL)):
+                    self.joined.act(*act)
+        raise AssertionError("never quiet")
+
+    def finish(self):
+        """What was accepted was handed out whole, but for streams that were reset or not processed."""
+        joined = self.joined
+        self.command("ends", joined.lines())
+        for side, half in joined.halves.items():
+            self.command(f"accepted {side}", [f"{number}: {one.text()}" for number, one in half.accepted.items()])
+            other = joined.other(side)
+            for number in half.accepted:
+                is_whole = number in other.whole
+                assert is_whole or joined.was_disturbed(number), number
+                self.command(f"whole {other.side} {number}", ["yes" if is_whole else "no"])
+        self.mark_list()
+
+    def mark_list(self):
+        halves = self.joined.halves.values()
+        bodies = [any(one.body and number in self.joined.other(half.side).whole
+                      for number, one in half.accepted.items()) for half in halves]
+        if all(bodies):
+            self.marks.reach("a list with bodies both ways")
+        for act, what in (("reset", "a reset"), ("go_away", "a go_away"), ("change", "changed settings")):
+            if act in self.done:
+                self.marks.reach(f"a list with {what}")
+        for mark, count in self.events.counts.items():
+            if mark.endswith(" handed out"):
+                self.marks.counts[mark] += count
+
+    def run(self):
+        for _ in range(self.random.below(56) + 5):
+            self.make(*self.any_act())
+            self.command("ends", self.joined.lines())
+        self.drain()
+        self.finish()
+
+
+def act_text(name, side, words):
+    """An act as crates/h2_end_cases/src/pair.rt reads it."""
+    match name:
+        case "request":
+            return f"request {words[0].text()}"
+        case "respond":
+            return f"respond {words[0]} {words[1].text()}"
+        case "move" | "deliver":
+            return f"{name} {side} {'all' if words[0] == ALL else words[0]}"
+        case "ping":
+            return f"ping {side} {words[0].hex()}"
+        case "change":
+            return f"change {side} {words[0].text()}"
+    return " ".join([name, side, *map(str, words)])
+
+
+def cases(seed, lists, random, marks):
+    """The cases of so many lists, one after another."""
+    for number in range(lists):
+        play = Play(f"seed {seed}, list {number}", random, marks)
+        if number == 0:
+            play.lines.insert(1, f"# rule: {RULE}")
+        play.run()
+        yield play.lines
