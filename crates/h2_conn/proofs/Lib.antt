@@ -8,6 +8,8 @@ pub mod AskRefusing
 -- What a connection answers of itself.
 pub mod AskReaders
 pub mod AskNumbers
+-- Calls that take no memory.
+mod AskMemory
 -- Frames that are taken, and the octets that are kept of them.
 mod TakeFrames
 -- What is reported of a frame.
@@ -15,6 +17,7 @@ mod TakeReports
 -- Where a fault of the stream is made.
 mod TakeFaults
 -- What taking octets makes of a log.
+mod TakeMemory
 mod TakeParts
 -- The values of an end stay sound.
 mod TakeSound

@@ -25,7 +25,7 @@ use Rattle.h2_log.specs.Log.{Log, next_unprocessed}
 use Rattle.h2_log.specs.LogSteps.{limits_from, used, took_part, took_frame, took_fault, took_none}
 use Rattle.h2_log.specs.LogSteps.{took_out_of_memory, with_sent}
 use Rattle.h2_log.specs.Histories.{IsLog, TakesOctets, TakesPart, TakesFrame, TakesFault}
-use Rattle.h2_log.specs.Histories.{IsDecodedFor, MayRunOutOfMemory, with_none, with_frame}
+use Rattle.h2_log.specs.Histories.{IsDecodedFor, LacksMemory, to_report, to_keep, to_take}
 use Rattle.h2_log.proofs.StreamLemmas.{Keeps-frame, Keeps-none}
 use Rattle.h2_machine.specs.End.{End}
 use Rattle.h2_machine.specs.Machine.{after_frame, fail, close_unprocessed, unprocessed_of_end}
@@ -46,6 +46,7 @@ use Rattle.h2_conn.specs.declared.happened.Happened.{Happened}
 use Rattle.h2_conn.specs.Events.{happened_value}
 use Rattle.h2_conn.specs.Inner.{PartsRepresent, happened_events, FrameHappens}
 use Rattle.h2_conn.proofs.TakeFaults.{fault_in}
+use Rattle.h2_conn.proofs.TakeMemory.{CutterLacks, keeps_octets, frame_needs}
 use Rattle.h2_conn.proofs.TakeReports.{frame_reported, decoded_for}
 
 -- A call of `take` may answer so, and the parts represent the log with it.
@@ -290,14 +291,14 @@ frame_fails values cutter new e other log piece count frame code p takes up cut 
 -- Memory was refused with so many octets.
 pub memory_refused : (values : Values) (cutter new : CutterState) (e other : End) (log : Log)
     (piece octets unused : List ℕ) (code : Code) → PartsRepresent values cutter e log
-    → log.failed ≡ None → piece ≡ octets ++ unused → MayRunOutOfMemory log.role log octets
+    → log.failed ≡ None → piece ≡ octets ++ unused → LacksMemory log.role log octets unused
     → new.place ≡ saturated (length (log.input ++ octets))
     → FailsWithoutMemory e code other → Takes values log piece (Failed code) new other
 unfolding MayStep log_after machine_after
 memory_refused values cutter new e other log piece octets unused code p up joined may place h =
     let after : Log = took_out_of_memory log octets in
     let machine : Represents values (fail InternalError e.streams.last_processed e) after =
-    steps_represent values e log (no_memory octets) p.machine (up, may) in (
+    steps_represent values e log (no_memory octets) p.machine (up, (unused, may)) in (
       after,
       runs_out_of_memory up octets unused joined may (ap Failed h.lacks) refl,
       alike_parts values new (fail InternalError e.streams.last_processed e) other after machine
@@ -307,14 +308,15 @@ memory_refused values cutter new e other log piece octets unused code p up joine
 -- Memory was refused with a frame.
 pub frame_lacks : (values : Values) (cutter new : CutterState) (e other : End) (log : Log)
     (piece : List ℕ) (count : ℕ) (frame : Frame) (code : Code)
-    → PartsRepresent values cutter e log → TakesOctets log
-    → IsCut cutter new piece count frame → FailsWithoutMemory e code other
+    → PartsRepresent values cutter e log → TakesOctets log → e.failed ≡ None
+    → IsCut cutter new piece count frame → FrameLacksMemory e frame code other
     → Takes values log piece (Failed code) new other
-frame_lacks values cutter new e other log piece count frame code p takes cut h =
+frame_lacks values cutter new e other log piece count frame code p takes up cut lacks =
     memory_refused values cutter new e other log piece (take count piece) (drop count piece) code p
     takes.up (sym (take-append-drop count piece))
-    (with_frame takes frame (read_of values cutter new e log piece count frame p takes.up cut))
-    (cut_now values cutter new e log piece count frame p takes.up cut).place h
+    (to_take takes frame (read_of values cutter new e log piece count frame p takes.up cut)
+    (frame_needs values e log frame p.machine up lacks.needs))
+    (cut_now values cutter new e log piece count frame p takes.up cut).place lacks.fails
 
 -- Either of them.
 pub frame_stops : (values : Values) (cutter new : CutterState) (e other : End) (log : Log)
@@ -326,7 +328,7 @@ pub frame_stops : (values : Values) (cutter new : CutterState) (e other : End) (
 frame_stops values cutter new e other log piece count frame code p takes up cut (inl fails) =
     frame_fails values cutter new e other log piece count frame code p takes up cut fails
 frame_stops values cutter new e other log piece count frame code p takes up cut (inr lacks) =
-    frame_lacks values cutter new e other log piece count frame code p takes cut lacks.fails
+    frame_lacks values cutter new e other log piece count frame code p takes up cut lacks
 
 -- A fault of a head or a payload has the code that it names.
 pub code_of : (fault : WireFault) (code : Code)
@@ -430,31 +432,36 @@ used_none cutter log at_end =
 -- Or memory is refused to it.
 pub unprocessed_lacks : (values : Values) (cutter : CutterState) (e other : End) (log : Log)
     (piece : List ℕ) (code : Code) → PartsRepresent values cutter e log → e.failed ≡ None
+    → unprocessed_of_end e.role e.streams.entries e.goaway.received ≢ 0
     → FailsWithoutMemory e code other → Takes values log piece (Failed code) cutter other
-unprocessed_lacks values cutter e other log piece code p up h =
-    memory_refused values cutter cutter e other log piece [] piece code p
-    (sym p.machine.failed ∙ up) refl (with_none refl) (used_none cutter log p.place) h
+unprocessed_lacks values cutter e other log piece code p up some h =
+    let log_up : log.failed ≡ None = sym p.machine.failed ∙ up in
+    memory_refused values cutter cutter e other log piece [] piece code p log_up refl
+    (to_report refl (λ none. some (next_same values e log p.machine log_up ∙ none)))
+    (used_none cutter log p.place) h
 
 -- What stops the cutter.
 pub cut_stopped : (values : Values) (cutter new : CutterState) (e other : End) (log : Log)
     (piece : List ℕ) (fault : WireFault) → PartsRepresent values cutter e log → TakesOctets log
-    → CutterFails cutter piece fault new
+    → CutterFails cutter piece fault new → (fault ≡ faults.Memory → CutterLacks cutter piece)
     → other ≡ fail (wire_fault_code fault) e.streams.last_processed e
     → Takes values log piece (Failed (wire_fault_code fault)) new other
-cut_stopped values cutter new e other log piece faults.Memory p takes fails failed =
+cut_stopped values cutter new e other log piece faults.Memory p takes fails lacks failed =
     memory_refused values cutter new e other log piece [] piece InternalError p takes.up refl
-    (with_none refl) (ap (λ (state : CutterState). state.place) fails
+    (to_keep refl takes (keeps_octets values cutter e log piece p takes.up (lacks refl)))
+    (ap (λ (state : CutterState). state.place) fails
     ∙ used_none cutter log p.place)
     (record { lacks = refl; after = fails_alike e other InternalError failed })
-cut_stopped values cutter new e other log piece faults.BadPreface p takes fails failed =
+cut_stopped values cutter new e other log piece faults.BadPreface p takes fails lacks failed =
     fault_taken values cutter new e other log piece faults.BadPreface p takes
     (first_fault cutter.fault (CutterFaults cutter piece faults.BadPreface new) (new ≡ cutter)
     (p.cut takes.up).sound fails) failed
-cut_stopped values cutter new e other log piece (faults.HeadFault code) p takes fails failed =
+cut_stopped values cutter new e other log piece (faults.HeadFault code) p takes fails lacks failed =
     fault_taken values cutter new e other log piece (faults.HeadFault code) p takes
     (first_fault cutter.fault (CutterFaults cutter piece (faults.HeadFault code) new)
     (new ≡ cutter) (p.cut takes.up).sound fails) failed
-cut_stopped values cutter new e other log piece (faults.PayloadFault code) p takes fails failed =
+cut_stopped values cutter new e other log piece (faults.PayloadFault code) p takes fails lacks
+    failed =
     fault_taken values cutter new e other log piece (faults.PayloadFault code) p takes
     (first_fault cutter.fault (CutterFaults cutter piece (faults.PayloadFault code) new)
     (new ≡ cutter) (p.cut takes.up).sound fails) failed

@@ -1,11 +1,17 @@
 //! The calls of a connection.
 
-ghost use Rattle.std.specs.Prelude.{◌≡◌, ◌≤◌, length, IfOk, OnErr};
+ghost use Rattle.std.specs.Prelude.{◌≡◌, ◌≢◌, ◌≤◌, ◌+◌, min, length, true, false, vec_len, IfOk};
+ghost use Rattle.std.specs.Prelude.{IsOk, OnErr, Err};
+ghost use Rattle.std.specs.Vec.{vec_capacity};
 ghost use Rattle.h2_log.specs.Acts.{Open, SendFields, SendData, Release, ResetStream, Refuse};
 ghost use Rattle.h2_log.specs.Acts.{SendPing, SendGoAway, ChangeSettings, PutOut};
-ghost use Rattle.h2_log.specs.Acts.{Number, Count, Done};
+ghost use Rattle.h2_log.specs.Acts.{Values, Number, Count, Done};
+ghost use Rattle.h2_log.specs.CallRules.{returns_before_put_out};
+ghost use Rattle.h2_log.specs.Log.{Log, waiting};
+ghost use Rattle.h2_log.specs.LogView.{log_view};
+ghost use Rattle.h2_log.specs.Memory.{sends_no_data};
 ghost use Rattle.h2_config.specs.ConfigValues.{values_of};
-ghost use Rattle.h2_conn.specs.Conn.{ConnAnswers, ConnShows, GivesOut, answer_by};
+ghost use Rattle.h2_conn.specs.Conn.{ConnAnswers, ConnRepresents, ConnShows, GivesOut, answer_by};
 
 use crate::conn::Conn;
 use h2_config::Config;
@@ -41,6 +47,7 @@ impl Conn {
         self.inner.end.send_fields(id, fields, end)
     }
 
+    // contract: calls (own) A call that sends nothing takes no memory
     /// Sends as many octets of a body as both windows let through, and 65,536 at most; answers how
     /// many. Where all went and `end` is set, the last DATA has END_STREAM; an empty slice with
     /// `end` sends one empty DATA.
@@ -53,6 +60,11 @@ impl Conn {
         ensures answers { ConnAnswers self.old (SendData id octets.now end)
             (answer_by (λ count. Count count) result) self.new }
         ensures within { IfOk result (λ count. count ≤ length octets.now) }
+
+        // A call that sends nothing takes no memory.
+        ensures nothing { (values : Values) (log : Log) → ConnRepresents values self.old log
+            → sends_no_data (log_view log) id octets.now end ≡ true
+            → result ≢ Err Refusal.Memory }
     {
         self.inner.end.send_data(id, octets, end)
     }
@@ -158,6 +170,11 @@ impl Conn {
         ensures ok { IfOk result (λ given. GivesOut self.old count given out.old.items
             out.new.items) }
         ensures err { OnErr result (out.new.items ≡ out.old.items) }
+
+        // Where nothing is returned first, the capacity of `out` is enough.
+        ensures room { (values : Values) (log : Log) → ConnRepresents values self.old log
+            → returns_before_put_out (log_view log) ≡ false
+            → vec_len out.old + min count (waiting log) ≤ vec_capacity out.old → IsOk result }
     {
         self.inner.end.put_out(count, out)
     }

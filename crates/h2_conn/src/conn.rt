@@ -1,13 +1,17 @@
 //! One end of a connection.
 
-ghost use Rattle.std.specs.Prelude.{◌≡◌, ◌≤◌, ℕ, List, length, IfOk, IfErr};
+ghost use Rattle.std.specs.Prelude.{◌≡◌, ◌≢◌, ◌≤◌, ℕ, List, length, IfOk, IfErr};
 ghost use Rattle.std.specs.Borrow.{sem};
 ghost use Rattle.std.specs.Io.BufRead.{Rests};
+ghost use Rattle.h2_frame.specs.declared.code.Code.TheVariants.{InternalError};
 ghost use Rattle.h2_frame.specs.Frames.{Frame, Encodes, frame_of};
 ghost use Rattle.h2_wire.specs.Cutter.{HasFrame, octets_of};
 ghost use Rattle.h2_config.specs.ConfigValues.{values_of};
 ghost use Rattle.h2_log.specs.declared.role.Role.TheVariants.{Client, Server};
+ghost use Rattle.h2_log.specs.Acts.{Values};
+ghost use Rattle.h2_log.specs.Log.{Log};
 ghost use Rattle.h2_log.specs.LogCalls.{opened};
+ghost use Rattle.h2_end_laws.specs.Promises.{NeedsNoMemory};
 ghost use Rattle.h2_core.specs.Endpoint.{end_of};
 ghost use Rattle.h2_conn.specs.Inner.{PartsRepresent};
 ghost use Rattle.h2_conn.specs.Conn.{ConnRepresents, ConnTakes, ConnAdvances};
@@ -69,6 +73,7 @@ impl Conn {
         })
     }
 
+    // contract: 5.4 (own) A frame whole in its piece that needs no memory is never refused any
     // contract: calls (own) take uses octets up to one frame's end, and answers one event at most
     // rule: calls (own) take uses octets up to one frame's end, and answers one event at most
     /// [`Conn::take`] without lending: what is reported is answered without its fields and octets,
@@ -84,6 +89,10 @@ impl Conn {
         ensures takes { (octets : List ℕ)
             → IsBodyOf self.new.inner.cutter piece.now octets (code_result result)
             → ConnAdvances self.old piece.now octets result self.new }
+
+        // A frame that lies whole in the piece and needs no memory is not refused any.
+        ensures promised { (values : Values) (log : Log) → ConnRepresents values self.old log
+            → NeedsNoMemory log piece.now → IfErr result (λ fault. fault.code ≢ InternalError) }
     {
         match self.inner.take(piece) {
             Ok(progress) => Ok(progress),
@@ -110,6 +119,7 @@ impl Conn {
         body(self.inner.cutter.frame(piece, frame))
     }
 
+    // contract: 5.4 (own) A frame whole in its piece that needs no memory is never refused any
     // contract: calls (own) A fault of the octets fails the connection with its code
     // contract: calls (own) An event has the octets, the fields and the numbers of its frame
     // contract: 4.2 The limit of an end is its greatest MAX_FRAME_SIZE of those in force
@@ -130,6 +140,10 @@ impl Conn {
         // which may have this answer.
         ensures* after { sem 𝓛 (Rests the_row self.entry
             (λ new. ConnTakes self.old piece.now result new)) }
+
+        // A frame that lies whole in the piece and needs no memory is not refused any.
+        ensures promised { (values : Values) (log : Log) → ConnRepresents values self.old log
+            → NeedsNoMemory log piece.now → IfErr result (λ fault. fault.code ≢ InternalError) }
     {
         let progress = self.advance(piece)?;
         let Some(happened) = progress.happened else {

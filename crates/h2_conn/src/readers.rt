@@ -24,11 +24,14 @@ impl Conn {
         self.inner.end.waiting()
     }
 
-    /// How many octets of a preface or a frame have come that is not complete; 0 once the
-    /// connection has failed.
+    // contract: 10.5 (own) What an end holds of a stream is bounded
+    /// How many octets of a preface or a frame have come that is not complete: at most 16,393, a
+    /// head and the greatest payload that is read. 0 once the connection has failed.
     pub fn held(&self) -> usize
-        ensures { (values : Values) (log : Log) → ConnRepresents values self.now log
+        ensures value { (values : Values) (log : Log) → ConnRepresents values self.now log
             → result ≡ reader_held log }
+        ensures bound { (values : Values) (log : Log) → ConnRepresents values self.now log
+            → result ≤ 16393 }
     {
         if self.inner.end.failed().is_some() {
             return 0;

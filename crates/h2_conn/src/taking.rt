@@ -40,6 +40,7 @@ impl Inner {
 
 // rule: calls (own) A fault of the octets fails the connection with its code
 // rule: calls (own) take uses octets up to one frame's end, and answers one event at most
+// rule: 5.4 (own) A frame whole in its piece that needs no memory is never refused any
 /// Cuts the piece, and takes the frame that it completes.
 fn take_piece(cutter: &mut Cutter, end: &mut Endpoint, piece: &[u8]) -> Result<Progress, Code>
     requires up { end.old.failed ≡ None }

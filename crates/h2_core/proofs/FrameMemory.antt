@@ -10,8 +10,10 @@ use Rattle.h2_block.specs.Grouping.{Begun, next_fault, fault_outside, fault_insi
 use Rattle.h2_block.specs.Grouping.{max_block_octets}
 use Rattle.h2_block.specs.Gather.{ReportsFault}
 use Rattle.h2_log.specs.ItemRules.{grouped, may_be_first}
-use Rattle.h2_machine.specs.End.{End}
-use Rattle.h2_core.specs.Frames.{FailsWithoutMemory, FrameLacksMemory, step_needs_memory}
+use Rattle.h2_machine.specs.End.{End, end_view}
+use Rattle.h2_machine.specs.Machine.{with_begun}
+use Rattle.h2_core.specs.Frames.{FailsWithoutMemory, FrameLacksMemory}
+use Rattle.h2_log.specs.Memory.{step_needs_memory}
 use Rattle.h2_core.proofs.FrameTaking.{step_grouped}
 
 -- No frame is at fault for memory.
@@ -66,7 +68,7 @@ lacking_unfaulty begun frame fault (Some other) is lacks reports =
 -- A frame without a fault that isn't passed on by itself is a part of a block.
 part_needs : (e : End) (begun : Option Begun) (frame : Frame) → next_fault begun frame ≡ None
     → (begun ≡ None → is_standalone frame ≡ true → ⊥)
-    → step_needs_memory e (grouped begun frame) ≡ true
+    → step_needs_memory (end_view (with_begun e None)) (grouped begun frame) ≡ true
 unfolding fault_outside fault_inside grouped is_standalone
 part_needs e None (Data stream end octets pad) good part = absurd (part refl refl)
 part_needs e None (Headers stream end true fragment pad priority) good part = refl
@@ -102,7 +104,8 @@ gathering_lacks e new frame fault code started lacks reports part fails =
     lacking_unfaulty e.reading.begun frame fault (next_fault e.reading.begun frame) refl lacks
     reports in
     record {
-      needs = ap (step_needs_memory e) (step_grouped e frame started good)
+      needs = ap (step_needs_memory (end_view (with_begun e None)))
+          (step_grouped e frame started good)
           ∙ part_needs e e.reading.begun frame good part;
       fails = fails;
     }

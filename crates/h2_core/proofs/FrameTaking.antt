@@ -18,9 +18,10 @@ use Rattle.h2_machine.specs.Machine.{with_begun, after_frame, after_step, after_
 use Rattle.h2_machine.specs.Machine.{fail}
 use Rattle.h2_core.specs.Endpoint.{IsSound}
 use Rattle.h2_core.specs.Failure.{FailsAlike}
-use Rattle.h2_core.specs.Items.{ItemTaken, TakesItem, item_events, needs_memory}
+use Rattle.h2_core.specs.Items.{ItemTaken, TakesItem, item_events}
 use Rattle.h2_core.specs.Frames.{FrameTaken, FrameFails, FrameLacksMemory, TakesFrame}
-use Rattle.h2_core.specs.Frames.{IsDecodedBy, step_events, step_needs_memory}
+use Rattle.h2_core.specs.Frames.{IsDecodedBy, step_events}
+use Rattle.h2_log.specs.Memory.{needs_memory, step_needs_memory}
 use Rattle.h2_core.specs.Blocks.{TakesBlock, IsDecodedOf}
 use Rattle.h2_core.specs.Stops.{IsSmall, FailsBy}
 use Rattle.h2_core.specs.declared.reader.Reported.{Reported as Answer}
@@ -161,7 +162,7 @@ alone_stopped e mid new frame list (Fault code opened) answer is none stopped fa
     })
 alone_stopped e mid new frame list OutOfMemory answer is none stopped fails =
     inr (record {
-      needs = ap (step_needs_memory e) is
+      needs = ap (step_needs_memory (end_view (with_begun e None))) is
           ∙ ap (λ (x : End). needs_memory (verdict_of (end_view x) None (alone frame)) (alone frame))
           (outside e none)
           ∙ stopped.0;
@@ -210,7 +211,7 @@ block_frame e new frame id end octets list (Err code) is (inl t) =
     })
 block_frame e new frame id end octets list (Err code) is (inr t) =
     inr (record {
-      needs = ap (step_needs_memory e) is;
+      needs = ap (step_needs_memory (end_view (with_begun e None))) is;
       fails = record {
         lacks = t.lacks;
         after = record {

@@ -33,7 +33,8 @@ use Rattle.h2_machine.specs.Machine.{return_credit, more_unreturned, mark_used, 
 use Rattle.h2_machine.specs.Machine.{queue_output, is_one, is_calm, receive_block}
 use Rattle.h2_log.specs.CallRules.{returns_credit}
 use Rattle.h2_core.specs.Endpoint.{end_of, IsSound}
-use Rattle.h2_core.specs.Items.{ItemTaken, TakesItem, item_events, needs_memory}
+use Rattle.h2_core.specs.Items.{ItemTaken, TakesItem, item_events}
+use Rattle.h2_log.specs.Memory.{needs_memory}
 use Rattle.h2_core.specs.declared.reader.Reported.{Reported as Answer}
 use Rattle.h2_core.specs.declared.reader.Reported.TheVariants.{Reset, Fields}
 use Rattle.h2_core.specs.declared.endpoint.Endpoint.{Endpoint}

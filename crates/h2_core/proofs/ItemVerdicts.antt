@@ -27,7 +27,8 @@ use Rattle.h2_core.specs.declared.reader.StepError.TheVariants.{Fault, OutOfMemo
 use Rattle.h2_core.specs.declared.endpoint.Endpoint.{Endpoint}
 use Rattle.h2_core.specs.Endpoint.{end_of}
 use Rattle.h2_core.specs.Resets.{is_over_limits, ResetsForFault}
-use Rattle.h2_core.specs.Items.{TakesItem, ItemTaken, event_of, needs_memory}
+use Rattle.h2_core.specs.Items.{TakesItem, ItemTaken, event_of}
+use Rattle.h2_log.specs.Memory.{needs_memory}
 
 -- A verdict to which nothing is replied stands.
 pub quiet_verdict : (view : View) (frame : Frame) (verdict : Verdict)

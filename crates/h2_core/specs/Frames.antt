@@ -10,13 +10,14 @@ use Rattle.h2_frame.specs.Frames.{Frame}
 use Rattle.h2_block.specs.Grouping.{alone, block}
 use Rattle.h2_log.specs.Events.{Event}
 use Rattle.h2_log.specs.ItemRules.{Decoded, FrameStep, fails_with, begins_block, completes}
-use Rattle.h2_log.specs.ItemRules.{frame_step, may_be_first, verdict_of}
+use Rattle.h2_log.specs.ItemRules.{frame_step, may_be_first}
+use Rattle.h2_log.specs.Memory.{step_needs_memory}
 use Rattle.h2_machine.specs.End.{End, end_view}
 use Rattle.h2_machine.specs.Machine.{after_frame, with_begun, fail}
 use Rattle.h2_core.specs.declared.endpoint.Endpoint.{Endpoint}
 use Rattle.h2_core.specs.declared.reader.Reported.{Reported}
 use Rattle.h2_core.specs.Failure.{FailsAlike}
-use Rattle.h2_core.specs.Items.{events_in, item_events, needs_memory}
+use Rattle.h2_core.specs.Items.{events_in, item_events}
 
 -- What was seen of the field block that a frame completes is what it says at the end's table and
 -- limit; nothing was seen where it says nothing. Nothing is decoded of anything else.
@@ -59,21 +60,11 @@ pub record FailsWithoutMemory (e : End) (code : Code) (new : End) : Type 0 where
   pub lacks : code ≡ InternalError
   pub after : FailsAlike (fail InternalError e.streams.last_processed e) new
 
--- Whether a frame with this step may take memory: a part of a field block always may, to gather and
--- decode it; any other frame only where its verdict needs it, and one that fails the connection
--- before it is an item never does.
--- rule: 5.4 (own) Only steps that reply, change streams or return credit take memory
-abbrev pub step_needs_memory : End → FrameStep → Bool
-step_needs_memory e (fails_with code) = false
-step_needs_memory e (begins_block begun) = true
-step_needs_memory e (completes (block stream end octets)) = true
-step_needs_memory e (completes (alone frame)) =
-    needs_memory (verdict_of (end_view (with_begun e None)) None (alone frame)) (alone frame)
-
 -- Memory was refused to a frame that may take some, and the connection failed for that.
 -- rule: 5.4 (own) Being out of memory hides no other fault of the connection
 pub record FrameLacksMemory (e : End) (frame : Frame) (code : Code) (new : End) : Type 0 where
-  pub needs : step_needs_memory e (frame_step (end_view e) frame) ≡ true
+  pub needs : step_needs_memory (end_view (with_begun e None)) (frame_step (end_view e) frame)
+      ≡ true
   pub fails : FailsWithoutMemory e code new
 
 -- what a call that takes a frame makes of an end

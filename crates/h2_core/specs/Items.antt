@@ -3,15 +3,13 @@ use Rattle.std.specs.Prelude.{◌≡◌, ◌≢◌, ℕ, Bool, true, false, List
 use Rattle.std.specs.Prelude.{Result, Ok, Err}
 use Rattle.hpack.specs.declared.types.field.Field.{Field}
 use Rattle.h2_frame.specs.declared.code.Code.{Code}
-use Rattle.h2_frame.specs.Frames.{Data as DataFrame, Settings as SettingsFrame, Ping}
-use Rattle.h2_frame.specs.Frames.{Reset as ResetFrame}
-use Rattle.h2_block.specs.Grouping.{Item, alone, block}
+use Rattle.h2_block.specs.Grouping.{Item}
 use Rattle.h2_log.specs.Events.{Event, FieldsEvent, DataEvent, ResetEvent, GoAwayEvent, AckedEvent}
 use Rattle.h2_log.specs.Events.{PongEvent}
-use Rattle.h2_log.specs.Verdicts.{Verdict, ConnectionFault, StreamFault, NoEvent}
-use Rattle.h2_log.specs.Verdicts.{Reported as ReportedVerdict}
+use Rattle.h2_log.specs.Verdicts.{ConnectionFault}
 use Rattle.h2_log.specs.ItemRules.{Decoded, verdict_of, opened_by}
 use Rattle.h2_log.specs.ItemEffects.{events_of}
+use Rattle.h2_log.specs.Memory.{needs_memory}
 use Rattle.h2_machine.specs.End.{End, end_view}
 use Rattle.h2_machine.specs.Machine.{after_item, add_unreturned, narrow_recv_window}
 use Rattle.h2_core.specs.declared.reader.Reported.{Reported}
@@ -45,21 +43,6 @@ pub record ItemTaken (e : End) (decoded : Option Decoded) (item : Item) (list : 
   pub goes_on : (code : Code) → verdict_of (end_view e) decoded item ≢ ConnectionFault code
   pub after : new ≡ after_item e decoded item
   pub events : events_in list reported ≡ item_events e decoded item
-
--- Whether a step may take memory for an item with this verdict: where the item is replied to, a
--- stream is opened, reset or over, or credit is returned for DATA that is discarded. A fault of the
--- connection takes none, so that being out of memory hides none.
--- rule: 5.4 (own) Being out of memory hides no other fault of the connection
--- rule: 5.4 (own) Only steps that reply, change streams or return credit take memory
-abbrev pub needs_memory : Verdict → Item → Bool
-needs_memory (StreamFault code) item = true
-needs_memory NoEvent (alone (DataFrame stream end octets pad)) = true
-needs_memory NoEvent (alone (SettingsFrame false pairs)) = true
-needs_memory NoEvent (alone (Ping false octets)) = true
-needs_memory ReportedVerdict (alone (DataFrame stream end octets pad)) = end
-needs_memory ReportedVerdict (alone (ResetFrame stream code)) = true
-needs_memory ReportedVerdict (block stream end octets) = true
-needs_memory verdict item = false
 
 -- What a step makes of an item. One that is at fault, or out of memory, has changed nothing.
 abbrev pub TakesItem : End → Option Decoded → Item → List Field → Result (Option Reported) StepError

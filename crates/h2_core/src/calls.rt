@@ -1,7 +1,8 @@
 //! Calls that send messages: field blocks and DATA (RFC 9113, sections 6.1, 6.2 and 8.1).
 
 ghost use Rattle.std.specs.Prelude.{◌≡◌, ℕ, ◌+◌, ◌-◌, ◌*◌, ◌/◌, ◌≤◌, ◌<◌, ◌^◌, ◌==◌, Bool, List};
-ghost use Rattle.std.specs.Prelude.{[], ◌∷◌, pos, ◌-ℤ◌, not, ◌&&◌, length, None};
+ghost use Rattle.std.specs.Prelude.{[], ◌∷◌, pos, ◌-ℤ◌, not, ◌&&◌, length, None, ◌≢◌, true};
+ghost use Rattle.std.specs.Prelude.{Err, IsSome};
 ghost use Rattle.std.specs.Prelude.{Some, false, is_some, ◌||◌, ◌++◌, IfOk, IfErr, OnOk, OnErr};
 ghost use Rattle.hpack.specs.Choice.{block_of, after_block};
 ghost use Rattle.hpack.specs.Lists.{list_size};
@@ -12,6 +13,7 @@ ghost use Rattle.h2_block.specs.Spread.{max_payload, spread_frames, encoding_of_
 ghost use Rattle.h2_log.specs.Acts.{Open, SendFields, SendData};
 ghost use Rattle.h2_log.specs.Items.{encoding_of_items};
 ghost use Rattle.h2_log.specs.Limits.{max_list};
+ghost use Rattle.h2_log.specs.Memory.{sends_no_data};
 ghost use Rattle.h2_log.specs.CallRules.{refusal_of, data_frames, data_count};
 ghost use Rattle.h2_log.specs.CallRules.{has_all_streams, has_no_number, at_least_none};
 ghost use Rattle.h2_streams.specs.Streams.{stream_view, is_far};
@@ -120,6 +122,7 @@ impl Endpoint {
     // contract: 6.9.1 DATA is sent within both windows
     // rule: 6.9.1 DATA is sent within both windows
     // contract: calls (own) A call does what it says, or is refused for its first condition
+    // rule: calls (own) A call that sends nothing takes no memory
     /// Sends as many octets of a body as both windows let through, and 65,536 at most; answers how
     /// many. Where all went and `end` is set, the last DATA has END_STREAM; an empty slice with
     /// `end` sends one empty DATA.
@@ -129,6 +132,9 @@ impl Endpoint {
     /// C1, C2, C3, C7 and C12, in this order. Nothing has changed.
     pub fn send_data(&mut self, id: u32, octets: &[u8], end: bool) -> Result<usize, Refusal>
         requires sound { self.old.failed ≡ None → IsSound (end_of self.old) }
+        ensures closed { IsSome self.old.failed → result ≡ Err Refusal.Closed }
+        ensures nothing { sends_no_data (end_view (end_of self.old)) id octets.now end ≡ true
+            → result ≢ Err Refusal.Memory }
         ensures ok { IfOk result (λ count. (count ≡ data_count (end_view (end_of self.old))
             (stream_at (end_of self.old) id) (length octets.now))
             × CallAccepted (end_of self.old) (SendData id octets.now end) (end_of self.new)) }
@@ -157,6 +163,8 @@ impl Endpoint {
             × (stream_at (end_of self.now) id ≡ Some (stream_view stream))
             × (stream.state.ended_out ≡ false) × (length self.now.output.waiting < 65536)) }
         ensures err { IfErr result (λ refusal. NotSendable self.now id refusal) }
+        ensures closed { IsSome self.now.failed → result ≡ Err Refusal.Closed }
+        ensures memory { result ≢ Err Refusal.Memory }
     {
         if self.failed.is_some() {
             return Err(Refusal::Closed);

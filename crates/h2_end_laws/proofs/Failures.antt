@@ -83,7 +83,7 @@ unfolding before_put_out
 put_out_failed log = put_out_by log (returns_before_put_out (log_view log))
 
 -- Nor a verdict that is no fault of the connection.
-replied_failed : (log read : Log) (more : ℕ) (replies : List Item) (events : List Event)
+pub replied_failed : (log read : Log) (more : ℕ) (replies : List Item) (events : List Event)
     → read.failed ≡ log.failed
     → (with_reported (with_unreturned more (with_sent read replies)) events).failed ≡ log.failed
 replied_failed log read more replies events same =

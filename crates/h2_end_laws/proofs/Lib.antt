@@ -9,6 +9,7 @@ pub mod FrameEnds
 pub mod GoAwaysRead
 pub mod Grouped
 pub mod GroupedPrefixes
+pub mod NotInternal
 pub mod OneTake
 pub mod OutputPrefixes
 pub mod OverCalls
@@ -22,6 +23,7 @@ pub mod Overlaps
 pub mod PayloadLimits
 pub mod PieceParts
 pub mod PieceRuns
+pub mod Promised
 pub mod ReadPrefixes
 pub mod ReadVerdicts
 pub mod ReadingCalls

@@ -85,7 +85,7 @@ line before piece octets unused joined =
     ap (λ (piece : List ℕ). before ++ piece) joined ∙ sym (append_assoc before octets unused)
 
 -- Two of them.
-one_line : (before piece octets unused others left : List ℕ) → piece ≡ octets ++ unused
+pub one_line : (before piece octets unused others left : List ℕ) → piece ≡ octets ++ unused
     → piece ≡ others ++ left → (before ++ octets) ++ unused ≡ (before ++ others) ++ left
 one_line before piece octets unused others left joined again =
     sym (line before piece octets unused joined) ∙ line before piece others left again
@@ -116,7 +116,7 @@ part_fault log piece unparsed octets unused fault part at joined =
     (line log.input piece octets unused joined) part
 
 -- A piece in which a frame ends first makes no fault before.
-frame_fault : (log : Log) (piece octets unused others left : List ℕ) (frame : Frame)
+pub frame_fault : (log : Log) (piece octets unused others left : List ℕ) (frame : Frame)
     (fault : WireFault) → TakesFrame log.role log octets frame
     → TakesFault log.role log others fault → piece ≡ octets ++ unused → piece ≡ others ++ left → ⊥
 frame_fault log piece octets unused others left frame fault framed at joined again =
@@ -125,7 +125,7 @@ frame_fault log piece octets unused others left frame fault framed at joined aga
     framed (one_line log.input piece others left octets unused again joined)
 
 -- the last of two lists that are one
-same_last : (frames : List Frame) (frame other : Frame)
+pub same_last : (frames : List Frame) (frame other : Frame)
     → frames ++ frame ∷ [] ≡ frames ++ other ∷ [] → frame ≡ other
 same_last [] frame other same = cc
 same_last (first ∷ frames) frame other same =

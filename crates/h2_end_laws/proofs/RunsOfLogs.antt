@@ -12,8 +12,8 @@ use Rattle.h2_log.specs.Log.{Log}
 use Rattle.h2_log.specs.ItemRules.{Decoded}
 use Rattle.h2_log.specs.LogSteps.{took_frame, took_fault, took_out_of_memory}
 use Rattle.h2_log.specs.Histories.{IsLog, begins, took_some, took_one, met_fault, ran_out_of_memory}
-use Rattle.h2_log.specs.Histories.{reported_one, called_one, MayRunOutOfMemory, with_none}
-use Rattle.h2_log.specs.Histories.{with_part, with_frame, IsDecodedFor, TakesPart, TakesFrame}
+use Rattle.h2_log.specs.Histories.{reported_one, called_one, MayRunOutOfMemory, to_report}
+use Rattle.h2_log.specs.Histories.{to_keep, to_take, IsDecodedFor, TakesPart, TakesFrame}
 use Rattle.h2_log.specs.Histories.{TakesFault}
 use Rattle.h2_log.proofs.StreamLemmas.{stream_of_log}
 use Rattle.h2_end_laws.specs.Scripts.{Mark, Octet, Call, Unprocessed, OutOfMemory, script_of}
@@ -22,7 +22,7 @@ use Rattle.h2_end_laws.proofs.BareLogs.{bare, none_same, call_same}
 use Rattle.h2_end_laws.proofs.PayloadLimits.{payload_limits, limits_of_log, limits_to_come}
 use Rattle.h2_end_laws.proofs.PieceParts.{last_or}
 use Rattle.h2_end_laws.proofs.PieceRuns.{back, IsReadOf, parts_run, frame_run, fault_run, lost_run}
-use Rattle.h2_end_laws.proofs.PieceRuns.{refused_run, refused_at_once, none_end}
+use Rattle.h2_end_laws.proofs.PieceRuns.{refused_at_once, none_end}
 use Rattle.h2_end_laws.proofs.Runs.{Run, one_run, no_fault}
 
 -- Marks after marks.
@@ -134,17 +134,17 @@ memory_piece : (role : Role) (values : Values) (octets : List ℕ) (marks : List
     → Run role values marks (bare log)
     → Run role values (back (each Octet octets ++ OutOfMemory (is_in_frame may) ∷ []) marks)
     (bare (took_out_of_memory log octets))
-memory_piece role values octets marks log is up (with_none none) run =
+memory_piece role values octets marks log is up (unused, to_report none some) run =
     subst (λ (line : List ℕ). Run role values
     (back (each Octet line ++ OutOfMemory false ∷ []) marks)
     (bare (took_out_of_memory log line))) (sym none)
     (refused_at_once role values marks log run)
-memory_piece role values octets marks log is up (with_part takes unparsed part) run =
-    subst (λ (line : List Mark). Run role values line (bare (took_out_of_memory log octets)))
-    (sym (back_after (each Octet octets) (OutOfMemory false ∷ []) marks))
-    (refused_run role values octets unparsed marks log run (log_read role values log is up)
-    (part_read role values log octets unparsed is part))
-memory_piece role values octets marks log is up (with_frame takes frame ends) run =
+memory_piece role values octets marks log is up (unused, to_keep none takes keeps) run =
+    subst (λ (line : List ℕ). Run role values
+    (back (each Octet line ++ OutOfMemory false ∷ []) marks)
+    (bare (took_out_of_memory log line))) (sym none)
+    (refused_at_once role values marks log run)
+memory_piece role values octets marks log is up (unused, to_take takes frame ends needs) run =
     lost_piece role values octets marks log frame run (log_read role values log is up)
     (frame_read role values log octets frame is ends)
 

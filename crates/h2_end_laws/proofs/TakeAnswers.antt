@@ -61,7 +61,7 @@ take_closed role values log after piece answer is
     (runs_out_of_memory up octets unused joined may answers same) =
     let own = (stream_of_log role values log is).role in
     rw same (ran_out_of_memory is up octets
-    (subst (λ (r : Role). MayRunOutOfMemory r log octets) own may))
+    (subst (λ (r : Role). MayRunOutOfMemory r log octets) own (unused, may)))
 
 -- Events that are reported stand before those before.
 pub reported_is : (log : Log) (events : List Event)

@@ -2,6 +2,7 @@ pub mod Over
 pub mod Failures
 pub mod Grouped
 pub mod Prefixes
+pub mod Promises
 pub mod Readings
 pub mod Replies
 pub mod Replays

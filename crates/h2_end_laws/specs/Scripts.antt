@@ -7,8 +7,8 @@ use Rattle.h2_log.specs.declared.role.Role.{Role}
 use Rattle.h2_log.specs.Acts.{Values, Act, Answer}
 use Rattle.h2_log.specs.Log.{Log}
 use Rattle.h2_log.specs.Histories.{IsLog, begins, took_some, took_one, met_fault, ran_out_of_memory}
-use Rattle.h2_log.specs.Histories.{reported_one, called_one, MayRunOutOfMemory, with_none}
-use Rattle.h2_log.specs.Histories.{with_part, with_frame}
+use Rattle.h2_log.specs.Histories.{reported_one, called_one, LacksMemory, MayRunOutOfMemory}
+use Rattle.h2_log.specs.Histories.{to_report, to_keep, to_take}
 
 pub data Mark : Type 0 where
   -- an octet was used
@@ -21,11 +21,15 @@ pub data Mark : Type 0 where
   OutOfMemory : (in_frame : Bool) → Mark
 
 -- Whether memory was refused for a frame that had ended.
+abbrev pub lacks_in_frame : {role : Role} → {log : Log} → {octets unused : List ℕ}
+    → LacksMemory role log octets unused → Bool
+lacks_in_frame (to_report none some) = false
+lacks_in_frame (to_keep none takes keeps) = false
+lacks_in_frame (to_take takes frame ends needs) = true
+
 abbrev pub is_in_frame : {role : Role} → {log : Log} → {octets : List ℕ}
     → MayRunOutOfMemory role log octets → Bool
-is_in_frame (with_none none) = false
-is_in_frame (with_part takes unparsed part) = false
-is_in_frame (with_frame takes frame ends) = true
+is_in_frame may = lacks_in_frame may.1
 
 -- the marks of a log's history, the first one first
 -- rule: 4.1 The frames of a stream do not depend on the pieces of its octets

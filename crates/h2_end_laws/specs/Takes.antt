@@ -11,7 +11,7 @@ use Rattle.h2_log.specs.Log.{Log, next_unprocessed}
 use Rattle.h2_log.specs.ItemRules.{Decoded}
 use Rattle.h2_log.specs.LogSteps.{took_part, took_frame, took_fault, took_out_of_memory, took_none}
 use Rattle.h2_log.specs.Histories.{TakesOctets, TakesPart, TakesFrame, TakesFault, IsDecodedFor}
-use Rattle.h2_log.specs.Histories.{MayRunOutOfMemory}
+use Rattle.h2_log.specs.Histories.{LacksMemory}
 
 pub data TakeAnswer : Type 0 where
   -- so many octets were used, and this was reported
@@ -55,7 +55,7 @@ pub data MayTake (log : Log) (piece : List ℕ) (answer : TakeAnswer) (after : L
       → answer ≡ Failed (wire_fault_code fault) → after ≡ took_fault log octets fault
       → MayTake log piece answer after
   runs_out_of_memory : log.failed ≡ None → (octets unused : List ℕ) → piece ≡ octets ++ unused
-      → MayRunOutOfMemory log.role log octets → answer ≡ Failed InternalError
+      → LacksMemory log.role log octets unused → answer ≡ Failed InternalError
       → after ≡ took_out_of_memory log octets → MayTake log piece answer after
 
 -- Memory was not refused in the call.

@@ -22,7 +22,7 @@ pub use streams::{
     events_are_of_streams_in_use, opened_numbers_are_new, over_streams_stay_over,
     released_is_not_owed, sending_gives_no_room,
 };
-pub use takes::take_answers;
+pub use takes::{frames_without_memory_are_taken, take_answers};
 pub use writes::{
     blocks_are_of_the_lists, each_is_replied_to, each_step_writes_what_it_owes,
     nothing_follows_a_failure, receive_window_is_kept, stream_window_is_conserved,

@@ -1,14 +1,18 @@
 //! What a call of `take` answers.
 
-ghost use Rattle.std.specs.Prelude.{◌≡◌, List, ℕ, Option};
+ghost use Rattle.std.specs.Prelude.{◌≡◌, ◌≢◌, List, ℕ, Option, None, false};
+ghost use Rattle.h2_frame.specs.declared.code.Code.TheVariants.{InternalError};
 ghost use Rattle.h2_frame.specs.Frames.{Frame};
 ghost use Rattle.h2_log.specs.declared.role.Role.{Role};
 ghost use Rattle.h2_log.specs.Acts.{Values};
 ghost use Rattle.h2_log.specs.Log.{Log};
+ghost use Rattle.h2_log.specs.LogView.{log_view};
+ghost use Rattle.h2_log.specs.Memory.{frame_needs_memory};
 ghost use Rattle.h2_log.specs.ItemRules.{Decoded};
 ghost use Rattle.h2_log.specs.LogSteps.{took_frame};
 ghost use Rattle.h2_log.specs.Histories.{IsLog, TakesOctets, TakesFrame, IsDecodedFor};
-ghost use Rattle.h2_end_laws.specs.Takes.{TakeAnswer, MayTake, HadMemory, AfterTake};
+ghost use Rattle.h2_end_laws.specs.Promises.{NeedsNoMemory, IsFree};
+ghost use Rattle.h2_end_laws.specs.Takes.{TakeAnswer, Failed, MayTake, HadMemory, AfterTake};
 
 // contract: calls (own) take uses octets up to one frame's end, and answers one event at most
 /// After each call an end has a log that comes about. The octets used are a prefix of the piece,
@@ -28,4 +32,18 @@ pub fn take_answers()
     ensures one { (log after other : Log) (piece : List ℕ) (answer answered : TakeAnswer)
         → (a : MayTake log piece answer after) → (b : MayTake log piece answered other)
         → HadMemory a → HadMemory b → (answer ≡ answered) × (after ≡ other) }
+{}
+
+// contract: 5.4 (own) A frame whole in its piece that needs no memory is never refused any
+/// A piece that begins with a frame is not answered with INTERNAL_ERROR where nothing is unparsed,
+/// all unprocessed streams were reported and the frame takes no memory (`promised`). PRIORITY, a
+/// frame of an unknown type, the answer to a PING, WINDOW_UPDATE without a fault and DATA without
+/// END_STREAM that is reported take none (`free`).
+pub fn frames_without_memory_are_taken()
+    ensures promised { (log after : Log) (piece : List ℕ) (answer : TakeAnswer)
+        → MayTake log piece answer after → NeedsNoMemory log piece
+        → answer ≢ Failed InternalError }
+    ensures free { (log : Log) (frame : Frame)
+        → IsFree (log_view (record log { begun = None })) frame
+        → frame_needs_memory log frame ≡ false }
 {}

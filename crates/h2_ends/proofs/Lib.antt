@@ -11,6 +11,7 @@ mod TakeInStep
 pub mod TakeRefusing
 mod TakeReads
 mod TakeHands
+mod TakeMemory
 mod TakeSteps
 mod RequestTable
 mod RequestSteps

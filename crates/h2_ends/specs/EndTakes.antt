@@ -9,8 +9,9 @@ use Rattle.h2_log.specs.Acts.{Answer, Refuse}
 use Rattle.h2_log.specs.Events.{Event, FieldsEvent, ResetEvent}
 use Rattle.h2_log.specs.Log.{Log}
 use Rattle.h2_log.specs.LogCalls.{MayAnswer, with_call}
+use Rattle.h2_end_laws.specs.Promises.{NeedsNoMemory}
 use Rattle.h2_end_laws.specs.Takes.{MayTake, Took, Failed}
-use Rattle.h2_message.specs.Reading.{Part, FieldsPart, IsReadable}
+use Rattle.h2_message.specs.Reading.{Part, FieldsPart, OctetsPart, IsReadable}
 use Rattle.h2_ends.specs.Ends.{EndLog, Handed, Passed, EndAnswer, EndTook, EndFailed, parts_on}
 use Rattle.h2_ends.specs.Ends.{reads_on, part_of_event, handed_as}
 
@@ -82,3 +83,13 @@ pub data EndMayTake (end : EndLog) (piece : List ℕ) (answer : EndAnswer) (afte
         → answer ≡ EndFailed InternalError
         → after ≡ end_with_log end (with_call log (Refuse id 2) refused)
         → EndMayTake end piece answer after
+
+-- A frame lies whole in the piece and needs no memory; and what it reports, if that is a part of a
+-- message, is octets of a body with which the message still breaks no rule.
+-- rule: 5.4 (own) A frame whole in its piece that needs no memory is never refused any
+pub record EndNeedsNoMemory (end : EndLog) (piece : List ℕ) : Type 0 where
+  pub frame : NeedsNoMemory end.log piece
+  pub reads : (count : ℕ) (event : Event) (log : Log)
+      → MayTake end.log piece (Took count (Some event)) log
+      → (id : ℕ) (part : Part × Bool) → part_of_event event ≡ Some (id, part)
+      → (octets : List ℕ) × (part.0 ≡ OctetsPart octets) × IsReadableWith end id part

@@ -1,9 +1,13 @@
 //! Taking octets at a client and at a server: what is handed out is lent.
 
-ghost use Rattle.std.specs.Prelude.{◌≤◌, length, IfOk};
+ghost use Rattle.std.specs.Prelude.{◌≢◌, ◌≤◌, length, IfOk, IfErr};
 ghost use Rattle.std.specs.Borrow.{sem};
 ghost use Rattle.std.specs.Io.BufRead.{Rests};
-ghost use Rattle.h2_ends.specs.Represents.{EndTakes};
+ghost use Rattle.h2_frame.specs.declared.code.Code.TheVariants.{InternalError};
+ghost use Rattle.h2_log.specs.Acts.{Values};
+ghost use Rattle.h2_ends.specs.Ends.{EndLog};
+ghost use Rattle.h2_ends.specs.EndTakes.{EndNeedsNoMemory};
+ghost use Rattle.h2_ends.specs.Represents.{EndRepresents, EndTakes};
 ghost use Rattle.h2_ends.specs.contracts.client.Client.{the_row as client_row};
 ghost use Rattle.h2_ends.specs.contracts.server.Server.{the_row as server_row};
 
@@ -14,6 +18,7 @@ use crate::taking::lend;
 use h2_conn::ConnFault;
 
 impl Client {
+    // contract: 5.4 (own) A frame whole in its piece that needs no memory is never refused any
     // contract: 8.1 (own) Something is kept of each active stream, and of no other
     // contract: 8.1.1 A malformed message is a stream error PROTOCOL_ERROR
     // contract: 8.1.1 (own) How the connection takes a refusal is what is answered
@@ -33,6 +38,12 @@ impl Client {
         ensures used { IfOk result (λ taken. taken.used ≤ length piece.now) }
         ensures* after { sem 𝓛 (Rests client_row self.entry
             (λ new. EndTakes self.old.end piece.now result new.end)) }
+
+        // A frame that lies whole in the piece and needs no memory is not refused any, unless what
+        // it reports is refused.
+        ensures promised { (values : Values) (end : EndLog)
+            → EndRepresents values self.old.end end → EndNeedsNoMemory end piece.now
+            → IfErr result (λ fault. fault.code ≢ InternalError) }
     {
         let progress = self.end.advance(piece)?;
         Ok(lend(&self.end, piece, progress))
@@ -40,6 +51,7 @@ impl Client {
 }
 
 impl Server {
+    // contract: 5.4 (own) A frame whole in its piece that needs no memory is never refused any
     // contract: 8.1 (own) Something is kept of each active stream, and of no other
     // contract: 8.1.1 A malformed message is a stream error PROTOCOL_ERROR
     // contract: 8.1.1 (own) How the connection takes a refusal is what is answered
@@ -60,6 +72,12 @@ impl Server {
         ensures used { IfOk result (λ taken. taken.used ≤ length piece.now) }
         ensures* after { sem 𝓛 (Rests server_row self.entry
             (λ new. EndTakes self.old.end piece.now result new.end)) }
+
+        // A frame that lies whole in the piece and needs no memory is not refused any, unless what
+        // it reports is refused.
+        ensures promised { (values : Values) (end : EndLog)
+            → EndRepresents values self.old.end end → EndNeedsNoMemory end piece.now
+            → IfErr result (λ fault. fault.code ≢ InternalError) }
     {
         let progress = self.end.advance(piece)?;
         Ok(lend(&self.end, piece, progress))

@@ -18,6 +18,7 @@ use Rattle.h2_log.specs.ItemRules.{frame_step}
 use Rattle.h2_log.specs.LogSteps.{limits_from, took_part, took_frame, took_fault}
 use Rattle.h2_log.specs.LogSteps.{took_out_of_memory, took_none}
 use Rattle.h2_log.specs.LogCalls.{MayAnswer, with_call, opened}
+use Rattle.h2_log.specs.Memory.{frame_needs_memory, KeepsOctets}
 
 -- the limit of the peer's table of fields: the own value 1 that is in force (RFC 9113, section
 -- 4.3.1)
@@ -65,14 +66,22 @@ TakesFault role log octets fault =
     WireFaultAt (is_server role) (limits_from log) (log.input ++ octets) log.frames (length
     (log.input ++ octets)) fault
 
--- Memory may be refused before any octet was used, or with octets with which a frame ended, or
--- none.
-pub data MayRunOutOfMemory (role : Role) (log : Log) (octets : List ℕ) : Type 0 where
-  with_none : octets ≡ [] → MayRunOutOfMemory role log octets
-  with_part : TakesOctets log → (unparsed : List ℕ) → TakesPart role log octets unparsed
-      → MayRunOutOfMemory role log octets
-  with_frame : TakesOctets log → (frame : Frame) → TakesFrame role log octets frame
-      → MayRunOutOfMemory role log octets
+-- For what memory is refused, where these octets are used with that and these are not: to return
+-- credit for a stream that is reported as unprocessed, or to keep octets of a frame that is cut in
+-- two, before any octet is used; or for what a frame makes of the end, with the octets of that
+-- frame.
+-- rule: 5.4 (own) Out of memory is INTERNAL_ERROR
+-- rule: 5.4 (own) Being out of memory hides no other fault of the connection
+pub data LacksMemory (role : Role) (log : Log) (octets unused : List ℕ) : Type 0 where
+  to_report : octets ≡ [] → next_unprocessed log ≢ 0 → LacksMemory role log octets unused
+  to_keep : octets ≡ [] → TakesOctets log → KeepsOctets log unused
+      → LacksMemory role log octets unused
+  to_take : TakesOctets log → (frame : Frame) → TakesFrame role log octets frame
+      → frame_needs_memory log frame ≡ true → LacksMemory role log octets unused
+
+-- Memory may be refused with these octets, of those that have come.
+abbrev pub MayRunOutOfMemory : Role → Log → List ℕ → Type 0
+MayRunOutOfMemory role log octets = (unused : List ℕ) × LacksMemory role log octets unused
 
 pub data IsLog (role : Role) (values : Values) : Log → Type 0 where
   begins : AreInRange values → IsLog role values (opened role values)

@@ -14,6 +14,7 @@ pub mod Log
 pub mod LogView
 pub mod LogSteps
 pub mod LogCalls
+pub mod Memory
 pub mod Histories
 pub mod Allowed
 pub mod WrittenFrames

@@ -96,5 +96,5 @@ take_is_steps one other piece later answer after came
 take_is_steps one other piece later answer after came
     (runs_out_of_memory up octets unused joined may answers same) =
     rw (answers, same) (one_step one other piece later unused _
-    (machine.runs_out_of_memory octets) came joined tt (up, may) (λ act answer is. cc)
+    (machine.runs_out_of_memory octets) came joined tt (up, (unused, may)) (λ act answer is. cc)
     (λ other. absurd (other refl)))

@@ -1,11 +1,14 @@
 -- What the steps of a call make of a buffer's state.
-use Rattle.std.proofs.Common.{◌≡◌, ℕ, ◌+◌, ◌-◌, ◌<◌, ◌≤◌, Bool, false, List, ◌++◌, length}
+use Rattle.std.proofs.Common.{◌≡◌, ◌≢◌, ℕ, ◌+◌, ◌-◌, ◌<◌, ◌≤◌, Bool, false, List, ◌++◌, length}
 use Rattle.std.proofs.Common.{take, drop}
 use Rattle.std.proofs.Common.{Option, None, Some, MatchOption, Result, Ok, Err, refl, arith}
 use Rattle.std.proofs.Common.{length-append}
 use Rattle.std.proofs.Common.{length-take, length-drop}
 use Rattle.std.proofs.Common.{append_assoc, subst, ap, sym, ◌∙◌}
-use Rattle.std.proofs.lemmas.List.{take_rest, take-append-drop}
+use Rattle.std.proofs.lemmas.List.{take_rest, take-append-drop, length-take-le, drop-append-le}
+use Rattle.std.proofs.lemmas.List.{get_or-drop, get_or_append_left}
+use Rattle.std.proofs.Math.ListN.{get_or}
+use Rattle.std.proofs.Math.Seq.{drop-append_seam, drop-append-add}
 use Rattle.h2_frame.specs.declared.code.Code.{Code}
 use Rattle.h2_wire.specs.declared.fault.WireFault.{WireFault}
 use Rattle.h2_wire.specs.declared.fault.WireFault.TheVariants as faults
@@ -276,3 +279,53 @@ begins_with_preface matched count unparsed piece kept same = record {
       ∙ ap (λ (octets : List ℕ). take matched preface ++ octets) same
       ∙ take-append-drop matched preface);
 }
+
+-- what follows the preface, where so many octets of a piece complete it
+pub follows_preface : (matched count : ℕ) (piece : List ℕ) → matched + count ≡ 24
+    → drop (length preface) (take matched preface ++ piece) ≡ drop count piece
+unfolding preface
+follows_preface matched count piece all =
+    let few : length (take matched preface) ≡ matched =
+    length-take-le matched preface (omega (arith, all)) in
+    ap (λ (n : ℕ). drop n (take matched preface ++ piece))
+    (sym all ∙ ap (λ (n : ℕ). n + count) (sym few))
+    ∙ drop-append-add (take matched preface) piece count
+
+-- A piece that completes the preface goes on as it does.
+pub goes_on : (matched : ℕ) (piece : List ℕ) → matched ≤ 24
+    → BeginsWithPreface (take matched preface ++ piece)
+    → (following : List ℕ) × (piece ≡ drop matched preface ++ following)
+unfolding preface
+goes_on matched piece within begins =
+    let few : length (take matched preface) ≡ matched = length-take-le matched preface within in (
+      begins.following,
+      sym (drop-append_seam (take matched preface) piece)
+          ∙ ap (λ (n : ℕ). drop n (take matched preface ++ piece)) few
+          ∙ ap (λ (octets : List ℕ). drop matched octets) begins.joined
+          ∙ drop-append-le matched preface begins.following within,
+    )
+
+-- So one that is shorter doesn't complete it.
+pub short_of_preface : (matched : ℕ) (piece : List ℕ) → matched + length piece < 24
+    → BeginsWithPreface (take matched preface ++ piece) → ⊥
+unfolding preface
+short_of_preface matched piece short begins =
+    let (following, same) = goes_on matched piece (omega (arith, short)) begins in
+    let long : length piece ≡ (24 - matched) + length following =
+    ap (λ (octets : List ℕ). length octets) same
+    ∙ length-append (drop matched preface) following
+    ∙ ap (λ (n : ℕ). n + length following) (length-drop matched preface) in
+    omega (arith, short, long)
+
+-- Nor does one with an octet that isn't the preface's.
+pub unlike_preface : (matched count : ℕ) (piece : List ℕ) → matched + count < 24
+    → get_or piece count 0 ≢ get_or preface (matched + count) 0
+    → BeginsWithPreface (take matched preface ++ piece) → ⊥
+unfolding preface
+unlike_preface matched count piece few differs begins =
+    let (following, same) = goes_on matched piece (omega (arith, few)) begins in
+    let inside : count < length (drop matched preface) =
+    rw length-drop (omega (arith, few)) in
+    differs (ap (λ (octets : List ℕ). get_or octets count 0) same
+    ∙ get_or_append_left (drop matched preface) following 0 count inside
+    ∙ get_or-drop matched preface count 0)

@@ -3,7 +3,7 @@
 -- contract: h2_wire::Cutter::cut
 use Rattle.std.specs.Prelude.{◌≡◌, ℕ, ◌+◌, ◌-◌, ◌^◌, ◌<◌, min, nat_lt, ◌&&◌, Bool, List, [], ◌∷◌}
 use Rattle.std.specs.Prelude.{◌++◌, length, take, drop, Option, None, Some, MatchOption, IsSome}
-use Rattle.std.specs.Prelude.{Result, Ok, Err, false, ◌≤◌}
+use Rattle.std.specs.Prelude.{Result, Ok, Err, true, false, ◌≤◌, if◌then◌else◌}
 use Rattle.h2_frame.specs.declared.code.Code.{Code}
 use Rattle.h2_frame.specs.Heads.{head_of, form_fault, head_fault}
 use Rattle.h2_frame.specs.Frames.{Frame, Encodes, frame_of, payload_fault}
@@ -16,7 +16,7 @@ use Rattle.h2_wire.specs.declared.cut.Advance.{Advance}
 use Rattle.h2_wire.specs.declared.cut.Cut.{Cut}
 use Rattle.h2_frame.specs.declared.frame.FrameRef.{FrameRef}
 use Rattle.h2_wire.specs.Faults.{is_bad_preface}
-use Rattle.h2_wire.specs.Streams.{Limits, Frames, WireFaultAt, preface}
+use Rattle.h2_wire.specs.Streams.{Limits, Frames, WireFaultAt, preface, BeginsWithPreface}
 
 -- a cutter between calls
 pub record CutterState : Type 0 where
@@ -84,24 +84,30 @@ pub record IsFaultyHead (octets : List ℕ) (limit : ℕ) (code : Code) : Type 0
   pub nine : 9 ≤ length octets
   pub faulty : head_fault (head_of octets) limit ≡ Some code
 
--- After the preface, with no fault so far, the ninth octet of a head is in the piece, and the head
--- is at fault.
+-- The octets of frames that a call looks at: what is unparsed, and the piece; where the preface is
+-- expected, what follows it.
+abbrev pub frame_octets : CutterState → List ℕ → List ℕ
+frame_octets old piece =
+    if old.in_preface then drop (length preface) (old.unparsed ++ piece) else old.unparsed ++ piece
+
+-- With no fault so far, and with the preface, where it is expected, complete in the piece: the
+-- ninth octet of a head is in the piece, and the head is at fault.
 -- rule: 4.2 A fault of a head is known at its ninth octet, whatever memory is
 pub record FaultsAtHead (old : CutterState) (piece : List ℕ) (code : Code) : Type 0 where
   pub sound : old.fault ≡ None
-  pub after_preface : old.in_preface ≡ false
-  pub begun : length old.unparsed < 9
-  pub head : IsFaultyHead (old.unparsed ++ piece) old.limit code
+  pub with_preface : old.in_preface ≡ true → BeginsWithPreface (old.unparsed ++ piece)
+  pub begun : old.in_preface ≡ false → length old.unparsed < 9
+  pub head : IsFaultyHead (frame_octets old piece) old.limit code
 
--- After the preface, with no fault so far and nothing unparsed, the piece begins with a frame: a
--- head and as many octets as it asks for.
+-- With no fault so far, nothing unparsed, and with the preface, where it is expected, complete in
+-- the piece: a frame follows in the piece, a head and as many octets as it asks for.
 -- rule: 4.1 (own) A frame whole in its piece is lent from there and takes no memory
 pub record BeginsWithFrame (old : CutterState) (piece : List ℕ) : Type 0 where
   pub sound : old.fault ≡ None
-  pub after_preface : old.in_preface ≡ false
-  pub none_unparsed : old.unparsed ≡ []
-  pub nine : 9 ≤ length piece
-  pub whole : 9 + (head_of piece).length ≤ length piece
+  pub with_preface : old.in_preface ≡ true → BeginsWithPreface (old.unparsed ++ piece)
+  pub none_unparsed : old.in_preface ≡ false → old.unparsed ≡ []
+  pub nine : 9 ≤ length (frame_octets old piece)
+  pub whole : 9 + (head_of (frame_octets old piece)).length ≤ length (frame_octets old piece)
 
 -- the octets of a complete frame, where they lie
 abbrev pub octets_at : List ℕ → List ℕ → ℕ → Source → List ℕ

@@ -2,7 +2,7 @@
 
 ghost use Rattle.std.specs.Prelude.{◌≡◌, ◌≢◌, ◌+◌, ◌<◌, ◌≤◌, ◌++◌, [], length, take, drop, vec_len};
 ghost use Rattle.std.specs.Prelude.{IfSome};
-ghost use Rattle.std.specs.Prelude.{IfNone, IfErr, OnOk, None, Some, not, true, false};
+ghost use Rattle.std.specs.Prelude.{IfNone, IfErr, OnOk, IsOk, None, Some, not, true, false};
 ghost use Rattle.h2_frame.specs.declared.code.Code.{Code as AnyCode};
 ghost use Rattle.h2_frame.specs.Heads.{head_of, form_fault};
 ghost use Rattle.h2_wire.specs.Cutter.{saturated, IsFaultyHead, FaultsAtHead, BeginsWithFrame};
@@ -10,7 +10,7 @@ ghost use Rattle.h2_wire.specs.Cutter.{octets_of};
 ghost use Rattle.h2_wire.specs.Buffer.{state_of, fault_of, is_in_preface, unparsed_of};
 ghost use Rattle.h2_wire.specs.Buffer.{BufferInvariant};
 ghost use Rattle.h2_wire.specs.Step.{BufferTakes, StartsFrame, StartsPayload, EndsFrame};
-ghost use Rattle.h2_wire.specs.Streams.{BeginsWithPreface};
+ghost use Rattle.h2_wire.specs.Streams.{preface, BeginsWithPreface};
 
 use crate::cut::{Advance, Complete, Source};
 use crate::fault::WireFault;
@@ -85,6 +85,8 @@ impl Buffer {
             → BeginsWithPreface (unparsed_of self.old.phase self.old.octets.items ++ piece.now) }
         ensures lent { BeginsWithFrame (state_of self.old) piece.now
             → result ≢ Err WireFault.Memory }
+        ensures none { fault_of self.old.phase ≡ None → piece.now ≡ []
+            → result ≢ Err WireFault.Memory }
         ensures takes { BufferTakes (state_of self.old) piece.now result self.new }
     {
         match self.phase {
@@ -144,8 +146,18 @@ impl Buffer {
     fn take_preface(&mut self, matched: usize, piece: &[u8]) -> Result<Advance, WireFault>
         requires phase { self.old.phase ≡ Phase.Preface matched }
         requires invariant { BufferInvariant self.old }
+        ensures checked { (code : AnyCode)
+            → BeginsWithPreface (take matched preface ++ piece.now)
+            → IsFaultyHead (drop (length preface) (take matched preface ++ piece.now))
+            self.old.limit code → result ≡ Err (WireFault.HeadFault code) }
         ensures preface { result ≡ Err WireFault.Memory
             → BeginsWithPreface (unparsed_of self.old.phase self.old.octets.items ++ piece.now) }
+        ensures lent { BeginsWithPreface (take matched preface ++ piece.now)
+            → 9 ≤ length (drop (length preface) (take matched preface ++ piece.now))
+            → 9 + (head_of (drop (length preface) (take matched preface ++ piece.now))).length
+            ≤ length (drop (length preface) (take matched preface ++ piece.now))
+            → result ≢ Err WireFault.Memory }
+        ensures none { piece.now ≡ [] → result ≢ Err WireFault.Memory }
         ensures takes { BufferTakes (state_of self.old) piece.now result self.new }
     {
         let count = preface::matching_octets(matched, piece);
@@ -172,6 +184,7 @@ impl Buffer {
         ensures lent { self.old.octets.items ≡ [] → 9 ≤ length (drop start piece.now)
             → 9 + (head_of (drop start piece.now)).length ≤ length (drop start piece.now)
             → result ≢ Err WireFault.Memory }
+        ensures none { piece.now ≡ [] → result ≢ Err WireFault.Memory }
         ensures takes { BufferTakes (state_of self.old) piece.now result self.new }
     {
         let following = &piece[start..];
@@ -197,6 +210,7 @@ impl Buffer {
         requires starts { StartsPayload self.old piece.now start head }
         ensures lent { self.old.octets.items ≡ []
             → 9 + head.length ≤ length (drop start piece.now) → result ≢ Err WireFault.Memory }
+        ensures none { piece.now ≡ [] → result ≢ Err WireFault.Memory }
         ensures takes { BufferTakes (state_of self.old) piece.now result self.new }
     {
         let following = &piece[start..];
@@ -259,6 +273,7 @@ impl Buffer {
         ensures ok { OnOk result (self.new.octets.items ≡ self.old.octets.items ++ octets.now) }
         ensures err { IfErr result (λ fault. (fault ≡ WireFault.Memory)
             × (self.new.octets.items ≡ self.old.octets.items)) }
+        ensures none { octets.now ≡ [] → IsOk result }
         ensures same { self.new ≡ record self.old { octets = self.new.octets } }
     {
         self.octets

@@ -71,8 +71,7 @@ impl Cutter {
         // A fault is answered again.
         ensures failed { IfSome self.old.fault (λ fault. result ≡ Err fault) }
 
-        // A head at fault is reported with its ninth octet, whatever memory there is, in a call
-        // that begins after the preface.
+        // A head at fault is reported with its ninth octet, whatever memory there is.
         ensures checked { (code : Code) → FaultsAtHead self.old piece.now code
             → result ≡ Err (WireFault.HeadFault code) }
 
@@ -82,6 +81,9 @@ impl Cutter {
 
         // A frame that isn't cut in two needs no memory.
         ensures lent { BeginsWithFrame self.old piece.now → result ≢ Err WireFault.Memory }
+
+        // Nor does a call without octets.
+        ensures none { self.old.fault ≡ None → piece.now ≡ [] → result ≢ Err WireFault.Memory }
 
         // Where the cutter represented a stream and its frames, it does with what was used, and
         // with the frame that is complete, which lies where the answer says; or the stream is at
@@ -134,8 +136,7 @@ impl Cutter {
         // A fault is answered again.
         ensures failed { IfSome self.old.fault (λ fault. result ≡ Err fault) }
 
-        // A head at fault is reported with its ninth octet, whatever memory there is, in a call
-        // that begins after the preface.
+        // A head at fault is reported with its ninth octet, whatever memory there is.
         ensures checked { (code : Code) → FaultsAtHead self.old piece.now code
             → result ≡ Err (WireFault.HeadFault code) }
 
@@ -145,6 +146,9 @@ impl Cutter {
 
         // A frame that isn't cut in two needs no memory.
         ensures lent { BeginsWithFrame self.old piece.now → result ≢ Err WireFault.Memory }
+
+        // Nor does a call without octets.
+        ensures none { self.old.fault ≡ None → piece.now ≡ [] → result ≢ Err WireFault.Memory }
 
         // After the borrow ends: if the cutter represented `stream` and `frames`, it now represents
         // `stream ++ piece[..used]` and `frames` with this one appended; or `stream ++ piece` is at

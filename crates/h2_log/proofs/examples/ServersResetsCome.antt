@@ -1,13 +1,14 @@
 -- The logs of the examples' servers that reset streams, refuse calls, leave or fail come about:
 -- each
 -- step is a frame in its encoding, or a call with its answer.
-use Rattle.std.specs.Prelude.{None, [], false, refl, replicate, true, ℕ, ◌∷◌}
+use Rattle.std.proofs.Common.{arith}
+use Rattle.std.specs.Prelude.{None, [], false, refl, replicate, true, ℕ, ◌∷◌, ◌≤◌}
 use Rattle.hpack.specs.Lists.{empty_table}
 use Rattle.h2_frame.specs.Frames.{Data, GoAway, Ping, Reset, Settings}
 use Rattle.h2_wire.specs.declared.fault.WireFault.TheVariants.{BadPreface}
 use Rattle.h2_log.specs.Acts.{Done, OutOfMemory, Refuse, Refused, Release, ResetStream, SendGoAway}
 use Rattle.h2_log.specs.Acts.{SendPing}
-use Rattle.h2_log.specs.Histories.{IsLog, called_one, met_fault, ran_out_of_memory, with_none}
+use Rattle.h2_log.specs.Histories.{IsLog, called_one, met_fault, ran_out_of_memory, to_keep}
 use Rattle.h2_log.specs.LogCalls.{accepts, fails, lacks, refuses, with_call}
 use Rattle.h2_log.specs.LogSteps.{limits_from, took_out_of_memory}
 use Rattle.h2_log.specs.WrittenFrames.{takes}
@@ -106,7 +107,15 @@ server_releasing_in_part_comes =
 pub server_out_of_memory_comes : IsLog Server default_values (took_out_of_memory active_server [])
 unfolding computing are_pairs are_octets fields_are_octets
 server_out_of_memory_comes =
-    ran_out_of_memory active_server_comes refl [] (with_none refl)
+    ran_out_of_memory active_server_comes refl [] (
+      0 ∷ [],
+      to_keep refl (record { up = refl; all_reported = refl }) (record {
+        some = λ none. cc;
+        past_preface = λ inside. cc;
+        no_faulty_head = λ code faulty. let nine : 9 ≤ 1 = faulty.head.nine in omega (arith, nine);
+        cut_in_two = λ begins. let nine : 9 ≤ 1 = begins.nine in omega (arith, nine);
+      }),
+    )
 
 pub server_failing_to_refuse_comes : IsLog Server default_values (with_call
     (server_with_body false) (Refuse 1 1) OutOfMemory)

@@ -1,5 +1,5 @@
 -- A piece is a step of each log that the parts represent: by the lemmas on each.
-use Rattle.std.proofs.Common.{◌≡◌, ◌∙◌, sym, ap, ℕ, take}
+use Rattle.std.proofs.Common.{◌≡◌, ◌∙◌, sym, ap, ℕ, take, Err}
 use Rattle.std.proofs.Math.Seq.{take-length}
 use Rattle.h2_frame.specs.Frames.{frame_of}
 use Rattle.h2_wire.specs.Faults.{wire_fault_code}
@@ -8,6 +8,7 @@ use Rattle.h2_machine.specs.Machine.{fail}
 use Rattle.h2_conn.proofs.TakeFrames.{lies_there, same_body}
 use Rattle.h2_conn.proofs.TakeParts.{no_frame_taken, takes_octets, frame_taken, frame_stops}
 use Rattle.h2_conn.proofs.TakeParts.{cut_stopped, code_of, said_so}
+use Rattle.h2_conn.proofs.TakeMemory.{cutter_lacks}
 use Rattle.h2_conn.proofs.TakeSound.{frame_sound}
 use Rattle.h2_conn.proofs.taking.take_piece.Goals as goal
 use Rattle.h2_conn.proofs.taking.take_piece.Goals.{in-BadPreface, in-Memory}
@@ -25,6 +26,8 @@ returns-in-Err-clause-takes c = λ octets body values log p.
     ] in
     rw code (cut_stopped values _ _ _ _ log c.args.piece.now c.in-Err.fault p
     (takes_octets values _ log p.machine c.requires.up c.requires.reported) fails
+    (λ memory. cutter_lacks _ c.args.piece.now _ (ap Err memory) c.requires.cuts
+    c.in-Err.ensures.checked c.in-Err.ensures.preface c.in-Err.ensures.lent c.in-Err.ensures.none)
     (c.fail_with.ensures
     ∙ ap (λ x. fail x c.args.end.now.last_processed (end_of c.args.end.now)) code))
 

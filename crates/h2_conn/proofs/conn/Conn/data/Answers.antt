@@ -5,6 +5,7 @@ use Rattle.h2_log.specs.Acts.{SendData, Count, IsTypedAct}
 use Rattle.h2_log.specs.CallRules.{may_lack_memory}
 use Rattle.h2_core.specs.Endpoint.{end_of}
 use Rattle.h2_conn.proofs.AskCalls.{answers_by, value_as}
+use Rattle.h2_conn.proofs.AskMemory.{nothing_taken}
 use Rattle.h2_conn.proofs.AskSound.{was_up, sound_by, beside_value}
 use Rattle.h2_conn.proofs.conn.Conn.data.Goals as goal
 
@@ -31,3 +32,9 @@ returns-clause-answers c =
     (c.ranges.id.fits, all_octets c.args.octets.now c.type_inv.octets) refl
     (value_as _ _ _ c.send_data.result (λ value is. ap Count is)
     c.send_data.ensures.ok) c.send_data.ensures.err
+
+pub returns-clause-nothing : goal.returns-clause-nothing
+returns-clause-nothing c = λ values log parts none.
+    nothing_taken values (end_of c.args.self.now.inner.end) log c.args.id c.args.octets.now
+    c.args.end c.send_data.result parts.machine c.send_data.ensures.closed
+    c.send_data.ensures.nothing none

@@ -2,6 +2,8 @@
 use Rattle.std.proofs.Common.{◌≡◌, None, sym, ◌∙◌, rules}
 use Rattle.h2_log.specs.Acts.{IsTypedAct}
 use Rattle.h2_core.specs.Endpoint.{end_of}
+use Rattle.h2_machine_laws.proofs.AlikeAnswers.{waiting_alike}
+use Rattle.h2_conn.proofs.AskMemory.{returns_alike}
 use Rattle.h2_conn.proofs.AskOutput.{put_out_answers, given_out, ok_as}
 use Rattle.h2_conn.proofs.AskSound.{put_out_sound, still_failed}
 use Rattle.h2_conn.proofs.conn.Conn.put_out.Goals as goal
@@ -32,3 +34,9 @@ pub returns-clause-ok : goal.returns-clause-ok
 returns-clause-ok c =
     ok_as _ _ c.put_out.result (λ given puts values log parts. given_out values _ _ log _ given _ _
     parts.machine puts) c.put_out.ensures.ok
+
+pub returns-clause-room : goal.returns-clause-room
+returns-clause-room c = λ values log parts none enough.
+    let e = end_of c.args.self.now.inner.end in
+    c.put_out.ensures.room (returns_alike values e log parts.machine ∙ none)
+    (rw (waiting_alike values e log parts.machine) enough)

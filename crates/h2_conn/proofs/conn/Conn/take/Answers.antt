@@ -17,7 +17,7 @@ returns-in_err-progress c =
     let answer = err_from_is_err_and c.from_residual.result c.from_residual.ensures.1 in
     rw (answer.1, answer.2) (
       (refl, λ _. tt, λ values log p. c.in_err-progress.ensures.takes [] tt values log p),
-      record { used = tt; after = tt },
+      record { used = tt; after = tt; promised = c.in_err-progress.ensures.promised },
     )
 
 pub returns-in_default : goal.returns-in_default
@@ -31,7 +31,11 @@ returns-in_default c =
             (sym (ap value c.in_default.is))
             (c.in_ok-progress.ensures.takes [] (rw c.in_default.is tt) values log p),
       ),
-      record { used = c.in_ok-progress.ensures.used; after = tt },
+      record {
+        used = c.in_ok-progress.ensures.used;
+        after = tt;
+        promised = λ values log p promised. tt;
+      },
     )
 
 pub returns : goal.returns
@@ -53,7 +57,11 @@ returns c =
                   (c.in_ok-progress.ensures.takes []
                   (rw (c.in-Some.is ∙ ap Some w.in-Fields.is) tt) values log p),
             ),
-            record { used = c.in_ok-progress.ensures.used; after = tt },
+            record {
+              used = c.in_ok-progress.ensures.used;
+              after = tt;
+              promised = λ values log p promised. tt;
+            },
           )
       | in-Data w ↦
           let lent : List ℕ = w.octets.result.now in
@@ -69,7 +77,11 @@ returns c =
                   (rw (c.in-Some.is ∙ ap Some w.in-Data.is) w.octets.ensures)
                   values log p),
             ),
-            record { used = c.in_ok-progress.ensures.used; after = tt },
+            record {
+              used = c.in_ok-progress.ensures.used;
+              after = tt;
+              promised = λ values log p promised. tt;
+            },
           )
       | in-Reset w ↦
           rw (w.self-is, w.event-is) (
@@ -82,7 +94,11 @@ returns c =
                   (c.in_ok-progress.ensures.takes []
                   (rw (c.in-Some.is ∙ ap Some w.in-Reset.is) tt) values log p),
             ),
-            record { used = c.in_ok-progress.ensures.used; after = tt },
+            record {
+              used = c.in_ok-progress.ensures.used;
+              after = tt;
+              promised = λ values log p promised. tt;
+            },
           )
       | in-GoAway w ↦
           rw (w.self-is, w.event-is) (
@@ -95,7 +111,11 @@ returns c =
                   (c.in_ok-progress.ensures.takes []
                   (rw (c.in-Some.is ∙ ap Some w.in-GoAway.is) tt) values log p),
             ),
-            record { used = c.in_ok-progress.ensures.used; after = tt },
+            record {
+              used = c.in_ok-progress.ensures.used;
+              after = tt;
+              promised = λ values log p promised. tt;
+            },
           )
       | in-Unprocessed w ↦
           rw (w.self-is, w.event-is) (
@@ -108,7 +128,11 @@ returns c =
                   (c.in_ok-progress.ensures.takes []
                   (rw (c.in-Some.is ∙ ap Some w.in-Unprocessed.is) tt) values log p),
             ),
-            record { used = c.in_ok-progress.ensures.used; after = tt },
+            record {
+              used = c.in_ok-progress.ensures.used;
+              after = tt;
+              promised = λ values log p promised. tt;
+            },
           )
       | in-Acked w ↦
           rw (w.self-is, w.event-is) (
@@ -121,7 +145,11 @@ returns c =
                   (c.in_ok-progress.ensures.takes []
                   (rw (c.in-Some.is ∙ ap Some w.in-Acked.is) tt) values log p),
             ),
-            record { used = c.in_ok-progress.ensures.used; after = tt },
+            record {
+              used = c.in_ok-progress.ensures.used;
+              after = tt;
+              promised = λ values log p promised. tt;
+            },
           )
       | in-Pong w ↦
           rw (w.self-is, w.event-is) (
@@ -134,6 +162,10 @@ returns c =
                   (c.in_ok-progress.ensures.takes []
                   (rw (c.in-Some.is ∙ ap Some w.in-Pong.is) tt) values log p),
             ),
-            record { used = c.in_ok-progress.ensures.used; after = tt },
+            record {
+              used = c.in_ok-progress.ensures.used;
+              after = tt;
+              promised = λ values log p promised. tt;
+            },
           )
     ]

@@ -1,7 +1,9 @@
 -- What is lent is what is handed out.
-use Rattle.std.proofs.Common.{[], length, refl}
+use Rattle.std.proofs.Common.{[], length, refl, ap}
 use Rattle.std.proofs.lemmas.Result.{err_from_is_err_and}
 use Rattle.h2_ends.specs.Loans.{BodyLiesThere, IsBodyHanded}
+use Rattle.h2_ends.specs.Ends.{EndFailed}
+use Rattle.h2_ends.proofs.TakeMemory.{never_at_ends}
 use Rattle.h2_ends.proofs.TakeSteps.{lent_so, used_so}
 use Rattle.h2_ends.proofs.client.Client.take.Goals as goal
 
@@ -11,7 +13,13 @@ returns-in_err-progress c =
     let answer = err_from_is_err_and c.from_residual.result c.from_residual.ensures.1 in
     rw (answer.1, answer.2) (
       (refl, λ _. tt, λ values end is. c.in_err-progress.ensures.takes [] tt values end is),
-      record { used = tt; after = tt },
+      record {
+        used = tt;
+        after = tt;
+        promised = λ values end is promised failed.
+            let taken = c.in_err-progress.ensures.takes [] tt values end is in
+            never_at_ends end taken.0 c.args.piece.now _ taken.1 promised (ap EndFailed failed);
+      },
     )
 
 pub lend-requires : goal.lend-requires
@@ -31,5 +39,6 @@ returns c = (
     used = used_so c.in_ok-progress.progress.used (length c.args.piece.now) c.lend.result.used _ _
         c.lend.ensures.2 c.in_ok-progress.ensures.used;
     after = tt;
+    promised = λ values end is promised. tt;
   },
 )

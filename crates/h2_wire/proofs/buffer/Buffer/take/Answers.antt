@@ -46,3 +46,8 @@ returns-in-Lent-clause-takes c =
     c.take_head-in-Lent.result c.take_head-in-Lent.new.self
     (rw (after, c.forget.ensures.none, c.in-Lent.is) refl) sound
     c.take_head-in-Lent.ensures.takes
+
+pub returns-in-Preface-clause-checked : goal.returns-in-Preface-clause-checked
+returns-in-Preface-clause-checked c = λ code faulty.
+    c.take_preface.ensures.checked code (rw c.in-Preface.is at (faulty.with_preface (rw
+    c.in-Preface.is refl))) (rw c.in-Preface.is at faulty.head)

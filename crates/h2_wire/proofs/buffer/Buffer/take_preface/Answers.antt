@@ -8,7 +8,8 @@ use Rattle.h2_wire.specs.declared.buffer.Phase.TheVariants as phases
 use Rattle.h2_wire.specs.Streams.{preface}
 use Rattle.h2_wire.specs.Buffer.{state_of, fault_of, is_in_preface, unparsed_of, FitsPhase}
 use Rattle.h2_wire.specs.Step.{Opens}
-use Rattle.h2_wire.proofs.BufferLemmas.{fails_preface, begins_with_preface}
+use Rattle.h2_wire.proofs.BufferLemmas.{fails_preface, begins_with_preface, follows_preface}
+use Rattle.h2_wire.proofs.BufferLemmas.{short_of_preface, unlike_preface}
 use Rattle.h2_wire.proofs.CallLemmas.{fails_at}
 use Rattle.h2_wire.proofs.StepLemmas.{opens_first, continues_preface, wrong_preface}
 use Rattle.h2_wire.proofs.buffer.Buffer.take_preface.Goals as goal
@@ -107,3 +108,37 @@ returns-clause-takes c =
             unparsed few_now same refl;
       });
     }
+
+pub returns-then-matched-count-eq24-clause-checked
+    : goal.returns-then-matched-count-eq24-clause-checked
+returns-then-matched-count-eq24-clause-checked c = λ code begins faulty.
+    let old = c.args.self.now in
+    let fits : FitsPhase old.limit (phases.Preface c.args.matched) old.octets.items =
+    rw c.requires.phase at c.requires.invariant in
+    let count = c.matching_octets-count.result in
+    let follows = follows_preface c.args.matched count c.args.piece.now (omega arith) in
+    c.take_head.ensures.checked code (rw fits.1 (rw follows at faulty))
+
+pub returns-then-matched-count-eq24-clause-lent : goal.returns-then-matched-count-eq24-clause-lent
+returns-then-matched-count-eq24-clause-lent c = λ begins nine enough.
+    let old = c.args.self.now in
+    let fits : FitsPhase old.limit (phases.Preface c.args.matched) old.octets.items =
+    rw c.requires.phase at c.requires.invariant in
+    let count = c.matching_octets-count.result in
+    let follows = follows_preface c.args.matched count c.args.piece.now (omega arith) in
+    c.take_head.ensures.lent fits.1 (rw follows at nine) (rw follows at enough)
+
+pub returns-then-count-piece-clause-checked : goal.returns-then-count-piece-clause-checked
+returns-then-count-piece-clause-checked c = λ code begins faulty.
+    let count = c.matching_octets-count.result in
+    let few : c.args.matched + c.matching_octets-count.result < 24 =
+    omega (arith, c.matching_octets-count.ensures.bound) in
+    let less : c.matching_octets-count.result < length c.args.piece.now = omega arith in
+    absurd (unlike_preface c.args.matched count c.args.piece.now few
+    (c.matching_octets-count.ensures.differs less few) begins)
+
+pub returns-clause-checked : goal.returns-clause-checked
+returns-clause-checked c = λ code begins faulty.
+    let few : c.args.matched + length c.args.piece.now < 24 =
+    omega (arith, c.matching_octets-count.ensures.bound, c.matching_octets-count.ensures.within) in
+    absurd (short_of_preface c.args.matched c.args.piece.now few begins)

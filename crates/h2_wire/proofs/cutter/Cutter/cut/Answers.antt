@@ -26,6 +26,8 @@ returns-in_err-advance c =
             (c.in_err-advance.ensures.preface inside);
         lent = λ begins. memory_again _ _ _ c.in_err-advance.field-0.0
             (c.in_err-advance.ensures.lent begins);
+        none = λ sound empty. memory_again _ _ _ c.in_err-advance.field-0.0
+            (c.in_err-advance.ensures.none sound empty);
         after = tt;
       },
     )
@@ -51,6 +53,7 @@ returns c = elim c.match-advance.branch [
               c.in_ok-advance.advance _ c.in_ok-advance.ensures.checked;
           preface = λ inside memory. (cc);
           lent = λ begins memory. (cc);
+          none = λ sound empty memory. (cc);
           after = tt;
         },
       )
@@ -74,6 +77,7 @@ returns c = elim c.match-advance.branch [
               c.in_ok-advance.advance _ c.in_ok-advance.ensures.checked;
           preface = λ inside memory. (cc);
           lent = λ begins memory. (cc);
+          none = λ sound empty memory. (cc);
           after = tt;
         },
       )

@@ -1,0 +1,78 @@
+-- Calls that take no memory, and how many octets are kept at most.
+use Rattle.std.proofs.Common.{◌≡◌, ◌≢◌, ◌∙◌, ◌+◌, ◌≤◌, ℕ, suc, Bool, true, false, List, length, min}
+use Rattle.std.proofs.Common.{Option, Some, None, is_some, IsSome, Result, Err, refl, ap, sym, arith}
+use Rattle.h2_frame.specs.declared.code.Code.{Code}
+use Rattle.h2_log.specs.declared.refusal.Refusal.{Refusal}
+use Rattle.h2_log.specs.declared.refusal.Refusal.TheVariants.{Memory, Closed}
+use Rattle.h2_log.specs.Acts.{Values}
+use Rattle.h2_log.specs.CallRules.{returns_before_put_out}
+use Rattle.h2_log.specs.Log.{Log}
+use Rattle.h2_log.specs.LogSteps.{limits_from}
+use Rattle.h2_log.specs.LogView.{log_view}
+use Rattle.h2_log.specs.Memory.{sends_no_data}
+use Rattle.h2_log.specs.View.{View}
+use Rattle.h2_machine.specs.End.{End, end_view}
+use Rattle.h2_machine.specs.Represents.{Represents}
+use Rattle.h2_machine_laws.proofs.AlikeAnswers.{views_alike}
+use Rattle.h2_end_laws.proofs.PayloadLimits.{limits_to_come}
+use Rattle.h2_wire.specs.Cutter.{CutterState}
+use Rattle.h2_conn.specs.Inner.{PartsRepresent}
+
+-- Whether credit is returned before output is put out is the same at a machine as at its log, by
+-- whether the connection has failed.
+returns_by : (values : Values) (e : End) (log : Log) (failed : Option Code) → e.failed ≡ failed
+    → Represents values e log
+    → returns_before_put_out (end_view e) ≡ returns_before_put_out (log_view log)
+returns_by values e log (Some code) is represents = rw (sym represents.failed, is) refl
+returns_by values e log None is represents =
+    ap (λ (view : View). returns_before_put_out view) (views_alike values e log represents is)
+
+pub returns_alike : (values : Values) (e : End) (log : Log) → Represents values e log
+    → returns_before_put_out (end_view e) ≡ returns_before_put_out (log_view log)
+returns_alike values e log represents = returns_by values e log e.failed refl represents
+
+-- A call that sends nothing takes no memory, by whether the connection has failed.
+nothing_by : (values : Values) (e : End) (log : Log) (id : ℕ) (octets : List ℕ) (end : Bool)
+    (result : Result ℕ Refusal) (failed : Option Code) → e.failed ≡ failed
+    → Represents values e log → (IsSome e.failed → result ≡ Err Closed)
+    → (sends_no_data (end_view e) id octets end ≡ true → result ≢ Err Memory)
+    → sends_no_data (log_view log) id octets end ≡ true → result ≢ Err Memory
+nothing_by values e log id octets end result (Some code) is represents closed free none = λ lacks.
+    let wrong = sym (closed (rw is refl)) ∙ lacks in
+    cc
+nothing_by values e log id octets end result None is represents closed free none =
+    free (ap (λ (view : View). sends_no_data view id octets end)
+    (views_alike values e log represents is) ∙ none)
+
+pub nothing_taken : (values : Values) (e : End) (log : Log) (id : ℕ) (octets : List ℕ) (end : Bool)
+    (result : Result ℕ Refusal) → Represents values e log
+    → (IsSome e.failed → result ≡ Err Closed)
+    → (sends_no_data (end_view e) id octets end ≡ true → result ≢ Err Memory)
+    → sends_no_data (log_view log) id octets end ≡ true → result ≢ Err Memory
+nothing_taken values e log id octets end result represents closed free none =
+    nothing_by values e log id octets end result e.failed refl represents closed free none
+
+-- A head and the greatest payload are kept at most.
+pub limit_of_cutter : (values : Values) (cutter : CutterState) (e : End) (log : Log)
+    → PartsRepresent values cutter e log → log.failed ≡ None → cutter.limit ≡ 16384
+limit_of_cutter values cutter e log p up =
+    sym ((p.cut up).ahead (suc (length log.input)) (omega arith))
+    ∙ ap (λ (limits : ℕ → ℕ). limits (suc (length log.input)))
+    (limits_to_come e.role values log p.machine.came)
+
+held_by : (inside : Bool) (count limit : ℕ) → (inside ≡ true → count ≤ 24)
+    → (inside ≡ false → count ≤ 9 + limit) → limit ≡ 16384 → count ≤ 16393
+held_by true count limit few most is = omega (arith, few refl)
+held_by false count limit few most is = omega (arith, most refl, is)
+
+pub none_of : (value : Option Code) → is_some value ≡ false → value ≡ None
+none_of None is = refl
+none_of (Some code) is = cc
+
+pub held_at_most : (values : Values) (cutter : CutterState) (e : End) (log : Log) (count : ℕ)
+    → PartsRepresent values cutter e log → log.failed ≡ None
+    → (cutter.in_preface ≡ true → count ≤ 24)
+    → (cutter.in_preface ≡ false → count ≤ 9 + cutter.limit) → count ≤ 16393
+held_at_most values cutter e log count p up few most =
+    held_by cutter.in_preface count cutter.limit few most
+    (limit_of_cutter values cutter e log p up)

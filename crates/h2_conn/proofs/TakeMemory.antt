@@ -1,0 +1,120 @@
+-- Memory is refused for a cause: what a cutter and an end say of it, as a log does.
+use Rattle.std.proofs.Common.{◌≡◌, ◌≢◌, ◌∙◌, ◌++◌, ℕ, List, [], Bool, true, false, Option, None}
+use Rattle.std.proofs.Common.{Result, Err, suc, length, refl, ap, sym, subst, arith}
+use Rattle.std.proofs.Common.{nat_le, if◌then◌else◌}
+use Rattle.std.proofs.lemmas.Bool.Decides.{nat_tests}
+use Rattle.h2_frame.specs.declared.code.Code.{Code}
+use Rattle.h2_frame.specs.Frames.{Frame}
+use Rattle.h2_block.specs.Grouping.{alone, block}
+use Rattle.h2_wire.specs.declared.cut.Advance.{Advance}
+use Rattle.h2_wire.specs.declared.fault.WireFault.{WireFault}
+use Rattle.h2_wire.specs.declared.fault.WireFault.TheVariants as faults
+use Rattle.h2_wire.specs.Streams.{BeginsWithPreface}
+use Rattle.h2_wire.specs.Cutter.{CutterState, CutterRepresents, FaultsAtHead, BeginsWithFrame}
+use Rattle.h2_log.specs.Acts.{Values}
+use Rattle.h2_log.specs.ItemRules.{FrameStep, fails_with, begins_block, completes, frame_step}
+use Rattle.h2_log.specs.ItemRules.{verdict_of}
+use Rattle.h2_log.specs.Log.{Log, acked}
+use Rattle.h2_log.specs.LogSteps.{limits_from}
+use Rattle.h2_log.specs.LogView.{log_view}
+use Rattle.h2_log.specs.Memory.{KeepsOctets, cutter_of, frame_needs_memory, needs_memory}
+use Rattle.h2_log.specs.Memory.{step_needs_memory}
+use Rattle.h2_log.specs.Settings.{is_server, payload_limit}
+use Rattle.h2_log.specs.Verdicts.{Verdict}
+use Rattle.h2_log.specs.View.{View}
+use Rattle.h2_machine.specs.End.{End, end_view}
+use Rattle.h2_machine.specs.Machine.{with_begun}
+use Rattle.h2_machine.specs.Represents.{Represents}
+use Rattle.h2_machine_laws.proofs.AlikeFrames.{step_alike, verdict_alike}
+use Rattle.h2_conn.specs.Inner.{PartsRepresent}
+
+-- What the cutter says where memory was refused to it.
+pub record CutterLacks (cutter : CutterState) (piece : List ℕ) : Type 0 where
+  pub some : piece ≢ []
+  pub past_preface : cutter.in_preface ≡ true → BeginsWithPreface (cutter.unparsed ++ piece)
+  pub no_faulty_head : (code : Code) → FaultsAtHead cutter piece code → ⊥
+  pub cut_in_two : BeginsWithFrame cutter piece → ⊥
+
+-- It follows from the clauses of the call.
+pub cutter_lacks : (cutter : CutterState) (piece : List ℕ) (result : Result Advance WireFault)
+    → result ≡ Err faults.Memory → cutter.fault ≡ None
+    → ((code : Code) → FaultsAtHead cutter piece code → result ≡ Err (faults.HeadFault code))
+    → (cutter.in_preface ≡ true → result ≡ Err faults.Memory
+    → BeginsWithPreface (cutter.unparsed ++ piece))
+    → (BeginsWithFrame cutter piece → result ≢ Err faults.Memory)
+    → (cutter.fault ≡ None → piece ≡ [] → result ≢ Err faults.Memory)
+    → CutterLacks cutter piece
+cutter_lacks cutter piece result is sound checked preface lent none =
+    record {
+      some = λ empty. none sound empty is;
+      past_preface = λ inside. preface inside is;
+      no_faulty_head = λ code faulty.
+          let wrong : Err faults.Memory ≡ Err (faults.HeadFault code) =
+          sym is ∙ checked code faulty in
+          cc;
+      cut_in_two = λ begins. lent begins is;
+    }
+
+not_above : (n : ℕ) → nat_le (suc n) n ≡ false
+not_above n = grind (arith, nat_tests)
+
+-- the limit in force at the next octet
+limit_now : (log : Log) → limits_from log (suc (length log.input)) ≡ payload_limit (acked log) log.sent
+limit_now log = rw not_above refl
+
+-- The cutter is the log's.
+limit_same : (values : Values) (cutter : CutterState) (e : End) (log : Log)
+    → PartsRepresent values cutter e log → log.failed ≡ None
+    → cutter.limit ≡ (cutter_of log).limit
+limit_same values cutter e log p up =
+    sym ((p.cut up).ahead (suc (length log.input)) (omega arith)) ∙ limit_now log
+
+pub keeps_octets : (values : Values) (cutter : CutterState) (e : End) (log : Log)
+    (piece : List ℕ) → PartsRepresent values cutter e log → log.failed ≡ None
+    → CutterLacks cutter piece → KeepsOctets log piece
+keeps_octets values cutter e log piece p up lacks =
+    let limit : cutter.limit ≡ (cutter_of log).limit = limit_same values cutter e log p up in
+    let inside : cutter.in_preface ≡ (cutter_of log).in_preface = (p.cut up).in_preface in
+    let unparsed : cutter.unparsed ≡ log.unparsed = p.unparsed up in
+    let sound : cutter.fault ≡ None = (p.cut up).sound in
+    record {
+      some = lacks.some;
+      past_preface = λ within. rw (← unparsed) (lacks.past_preface (inside ∙ within));
+      no_faulty_head = λ code faulty. lacks.no_faulty_head code (record {
+        sound = sound;
+        with_preface = λ within. rw unparsed (faulty.with_preface (sym inside ∙ within));
+        begun = λ past. rw unparsed (faulty.begun (sym inside ∙ past));
+        head = rw (inside, unparsed, limit) faulty.head;
+      });
+      cut_in_two = λ begins. lacks.cut_in_two (record {
+        sound = sound;
+        with_preface = λ within. rw unparsed (begins.with_preface (sym inside ∙ within));
+        none_unparsed = λ past. unparsed ∙ begins.none_unparsed (sym inside ∙ past);
+        nine = rw (inside, unparsed) begins.nine;
+        whole = rw (inside, unparsed) begins.whole;
+      });
+    }
+
+-- Steps of views with the same verdicts need memory alike.
+needs_alike : (one other : View) (step : FrameStep)
+    → ((frame : Frame)
+    → verdict_of one None (alone frame) ≡ verdict_of other None (alone frame))
+    → step_needs_memory one step ≡ step_needs_memory other step
+needs_alike one other (fails_with code) same = refl
+needs_alike one other (begins_block begun) same = refl
+needs_alike one other (completes (block stream end octets)) same = refl
+needs_alike one other (completes (alone frame)) same =
+    ap (λ (verdict : Verdict). needs_memory verdict (alone frame)) (same frame)
+
+-- A frame that may take memory by the end does so by the log.
+pub frame_needs : (values : Values) (e : End) (log : Log) (frame : Frame)
+    → Represents values e log → e.failed ≡ None
+    → step_needs_memory (end_view (with_begun e None)) (frame_step (end_view e) frame) ≡ true
+    → frame_needs_memory log frame ≡ true
+frame_needs values e log frame represents up needs =
+    sym (ap (step_needs_memory (log_view (record log { begun = None })))
+    (step_alike values e log frame represents up))
+    ∙ sym (needs_alike (end_view (with_begun e None)) (log_view (record log { begun = None }))
+    (frame_step (end_view e) frame)
+    (λ item. verdict_alike values e log None (alone item) represents up))
+    ∙ needs

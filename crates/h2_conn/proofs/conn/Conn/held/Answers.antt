@@ -1,0 +1,13 @@
+-- A head and the greatest payload are kept at most.
+use Rattle.std.proofs.Common.{◌≡◌, ◌∙◌, sym, None}
+use Rattle.h2_core.specs.Endpoint.{end_of}
+use Rattle.h2_conn.proofs.AskMemory.{held_at_most, none_of}
+use Rattle.h2_conn.proofs.conn.Conn.held.Goals as goal
+
+pub returns-clause-bound : goal.returns-clause-bound
+returns-clause-bound c values log parts =
+    let e = end_of c.args.self.now.inner.end in
+    let up : e.failed ≡ None =
+    sym c.failed.ensures ∙ none_of c.failed.result (sym c.if-is_some.ensures) in
+    held_at_most values c.args.self.now.inner.cutter e log c.held.result parts
+    (sym parts.machine.failed ∙ up) c.held.ensures.preface c.held.ensures.frame

@@ -1,0 +1,42 @@
+-- A client and a server don't run out of memory at a frame that needs none.
+use Rattle.std.proofs.Common.{◌≡◌, ◌≢◌, ◌∙◌, ℕ, Bool, List, Option, Some, None, refl, sym, ap}
+use Rattle.hpack.specs.declared.types.field.Field.{Field}
+use Rattle.h2_frame.specs.declared.code.Code.{Code}
+use Rattle.h2_frame.specs.declared.code.Code.TheVariants.{InternalError}
+use Rattle.h2_end_laws.specs.Takes.{Failed}
+use Rattle.h2_end_laws.proofs.Promised.{never_out_of_memory}
+use Rattle.h2_message.specs.Reading.{Part, FieldsPart, OctetsPart}
+use Rattle.h2_ends.specs.Ends.{EndLog, EndAnswer, EndTook, EndFailed, part_of_event}
+use Rattle.h2_ends.specs.EndTakes.{EndMayTake, EndNeedsNoMemory, fails, hands_nothing, passes}
+use Rattle.h2_ends.specs.EndTakes.{hands_out, refuses, runs_out_of_memory}
+
+-- A call that took octets hasn't failed.
+took_none : (count : ℕ) (answer : EndAnswer) (taken : EndAnswer) → answer ≡ taken
+    → taken ≢ EndFailed InternalError → answer ≢ EndFailed InternalError
+took_none count answer taken says other = λ is. other (sym says ∙ is)
+
+pub never_at_ends : (end after : EndLog) (piece : List ℕ) (answer : EndAnswer)
+    → EndMayTake end piece answer after → EndNeedsNoMemory end piece
+    → answer ≢ EndFailed InternalError
+unfolding part_of_event
+never_at_ends end after piece answer (fails code log may says same) promised = λ is.
+    let failed : EndFailed code ≡ EndFailed InternalError = sym says ∙ is in
+    let wrong : code ≡ InternalError = cc in
+    never_out_of_memory end.log log piece (Failed code) may promised.frame (ap Failed wrong)
+never_at_ends end after piece answer (hands_nothing count log may says same) promised =
+    took_none count answer _ says (λ is. cc)
+never_at_ends end after piece answer (passes count event log may none says same) promised =
+    took_none count answer _ says (λ is. cc)
+never_at_ends end after piece answer
+    (hands_out count event log may id part is_part readable says same) promised =
+    took_none count answer _ says (λ is. cc)
+never_at_ends end after piece answer
+    (refuses count event log may id part is_part unreadable refused answered answers) promised =
+    λ is. unreadable (promised.reads count event log may id part is_part).2
+never_at_ends end after piece answer
+    (runs_out_of_memory count id list ends log may role first readable refused answered says same)
+    promised = λ is.
+    let (octets, part, reads) =
+    promised.reads count _ log may id (FieldsPart list, ends) refl in
+    let wrong : FieldsPart list ≡ OctetsPart octets = part in
+    cc
