@@ -79,7 +79,7 @@ impl Coverage {
     }
 
     /// An event was handed out.
-    pub(crate) fn event(&mut self, event: &JointEvent) {
+    pub(crate) fn event(&mut self, event: &JointEvent<'_>) {
         let place = match event {
             JointEvent::Interim { .. } => 0,
             JointEvent::Head { .. } => 1,

@@ -65,10 +65,13 @@ impl Run {
     /// Whether what an end has handed out since the last time may follow.
     fn hears(&mut self, to: Side) -> bool {
         let before = self.records.at(to).handed;
-        for event in self.tried.joined.handed(to).iter().skip(before) {
-            self.coverage.event(event);
-            if !self.records.hears(to, event) {
-                return false;
+        let events = self.tried.joined.handed(to);
+        for place in before..events.len() {
+            if let Some(event) = events.get(place) {
+                self.coverage.event(&event);
+                if !self.records.hears(to, &event) {
+                    return false;
+                }
             }
         }
         true

@@ -1,6 +1,6 @@
 //! Messages, as data.
 
-use h2_joined::{Field, Malformed, Message};
+use h2_joined::{Field, KeptFields, Malformed, Message};
 use std::alloc::{AllocError, Global};
 
 /// A name and a value.
@@ -99,6 +99,17 @@ pub(crate) fn are_pairs(fields: &[Field], pairs: &[Pair]) -> bool {
     for (place, pair) in pairs.iter().enumerate() {
         match fields.get(place) {
             Some(field) if is_pair(field, *pair) => {}
+            _ => return false,
+        }
+    }
+    fields.len() == pairs.len()
+}
+
+/// Whether fields that are lent are these pairs.
+pub(crate) fn are_lent_pairs(fields: KeptFields<'_>, pairs: &[Pair]) -> bool {
+    for (place, (name, value)) in pairs.iter().enumerate() {
+        match fields.get(place) {
+            Some(field) if field.name == name.as_bytes() && field.value == value.as_bytes() => {}
             _ => return false,
         }
     }

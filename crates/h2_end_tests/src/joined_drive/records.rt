@@ -1,8 +1,8 @@
 //! Plain records of two joined ends: what was accepted, and how much of it was handed out.
 
 use crate::joined_drive::acts::{Act, Kind, other};
-use crate::joined_drive::messages::{Said, are_octets, are_pairs};
-use h2_joined::{Acted, Field, JointEvent, Side};
+use crate::joined_drive::messages::{Said, are_lent_pairs, are_octets};
+use h2_joined::{Acted, JointEvent, KeptFields, Side};
 use std::alloc::Global;
 
 /// A message that an end has accepted.
@@ -21,11 +21,11 @@ pub(crate) struct Entry {
 
 impl Entry {
     /// Whether a head is the message's.
-    fn takes_head(&mut self, list: &[Field], end: bool) -> bool {
+    fn takes_head(&mut self, list: KeptFields<'_>, end: bool) -> bool {
         let first = !self.begun;
         self.begun = true;
         self.whole = end;
-        first && end == self.said.is_alone() && are_pairs(list, self.said.head)
+        first && end == self.said.is_alone() && are_lent_pairs(list, self.said.head)
     }
 
     /// Whether octets come next in the message. There are none only where it ends with them.
@@ -42,18 +42,18 @@ impl Entry {
     }
 
     /// Whether trailers come next in the message.
-    fn takes_trailers(&mut self, list: &[Field]) -> bool {
+    fn takes_trailers(&mut self, list: KeptFields<'_>) -> bool {
         let next = self.begun && !self.whole && self.heard == self.said.body;
         self.whole = true;
-        next && !list.is_empty() && are_pairs(list, self.said.trailers)
+        next && !list.is_empty() && are_lent_pairs(list, self.said.trailers)
     }
 
     /// Whether what was handed out on its stream comes next in the message.
-    fn takes(&mut self, event: &JointEvent) -> bool {
+    fn takes(&mut self, event: &JointEvent<'_>) -> bool {
         match event {
-            JointEvent::Head { list, end, .. } => self.takes_head(list, *end),
+            JointEvent::Head { list, end, .. } => self.takes_head(*list, *end),
             JointEvent::Body { bytes, end, .. } => self.takes_body(bytes, *end),
-            JointEvent::Trailers { list, .. } => self.takes_trailers(list),
+            JointEvent::Trailers { list, .. } => self.takes_trailers(*list),
             JointEvent::Unprocessed { .. } => {
                 self.unprocessed = true;
                 !self.begun
@@ -111,7 +111,7 @@ impl Half {
     }
 
     /// Whether a part of what was accepted for a stream comes next there.
-    fn takes(&mut self, stream: u32, event: &JointEvent) -> bool {
+    fn takes(&mut self, stream: u32, event: &JointEvent<'_>) -> bool {
         for entry in self.entries.iter_mut() {
             if entry.id == stream {
                 return entry.takes(event);
@@ -147,7 +147,7 @@ impl Half {
     }
 
     /// Whether it may hand out what says nothing of a message, or that it hears GOAWAY.
-    fn hears(&mut self, event: &JointEvent) -> bool {
+    fn hears(&mut self, event: &JointEvent<'_>) -> bool {
         match event {
             JointEvent::GoAway { code, .. } => {
                 self.hears_goaway = true;
@@ -228,7 +228,7 @@ impl Records {
     }
 
     /// Whether an end may hand an event out, after those before.
-    pub(crate) fn hears(&mut self, to: Side, event: &JointEvent) -> bool {
+    pub(crate) fn hears(&mut self, to: Side, event: &JointEvent<'_>) -> bool {
         let half = self.at_mut(to);
         half.handed = half.handed.saturating_add(1);
         let from = other(to);
