@@ -1,9 +1,12 @@
 -- What is kept at places stays where more is kept after it.
-use Rattle.std.proofs.Common.{◌≡◌, ℕ, zero, suc, ◌-◌, ◌≤◌, List, [], ◌∷◌, ◌++◌}
-use Rattle.std.proofs.Common.{length, take, drop, map, refl, ap, ap₂, ◌∙◌, arith}
+use Rattle.std.proofs.Common.{◌≡◌, ℕ, zero, suc, ◌-◌, ◌<◌, ◌≤◌, List, [], ◌∷◌, ◌++◌}
+use Rattle.std.proofs.Common.{length, take, drop, map, get_or, Some, refl, ap, ap₂, ◌∙◌, arith}
 use Rattle.std.proofs.Common.{length-drop}
 use Rattle.std.specs.List.{AllByRecursion}
+use Rattle.std.specs.List.{slice_get}
+use Rattle.std.specs.Option.{option_map}
 use Rattle.std.proofs.lemmas.List.{take-append-le, drop-append-le}
+use Rattle.std.proofs.lemmas.Option.{slice_get-map, slice_get-get_or}
 use Rattle.hpack.specs.declared.types.field.Field.{Field}
 use Rattle.h2_ends.specs.Ends.{Handed, InterimHanded, HeadHanded, BodyHanded, TrailersHanded}
 use Rattle.h2_joined.specs.declared.store.Span.{Span}
@@ -12,6 +15,12 @@ use Rattle.h2_joined.specs.declared.store.EventPlace.{EventPlace}
 use Rattle.h2_joined.specs.declared.store.EventPlace.TheVariants as places
 use Rattle.h2_joined.specs.Stored.{part_of, field_of, fields_of, event_of, IsSpan, IsFieldPlace}
 use Rattle.h2_joined.specs.Stored.{IsEventPlace}
+
+-- The item at a place of a list, with what is made of it.
+pub made_at : {A B : Type 0} (f : A → B) (items : List A) (i : ℕ) (other : A) → i < length items
+    → slice_get (map f items) i ≡ Some (f (get_or items i other))
+made_at f items i other within =
+    slice_get-map f items i ∙ ap (option_map f) (slice_get-get_or items i other within)
 
 -- The items of a span stay.
 pub part_more : {A : Type 0} (items more : List A) (span : Span) → IsSpan (length items) span
@@ -43,22 +52,22 @@ fields_more octets more (place ∷ fields) all =
     (fields_more octets more fields all.1)
 
 -- What holds of all items holds of those of a span.
-all_taken : {A : Type 0} {P : A → Type 0} (n : ℕ) (items : List A) → AllByRecursion P items
+all_taken : {A : Type 0} (P : A → Type 0) (n : ℕ) (items : List A) → AllByRecursion P items
     → AllByRecursion P (take n items)
-all_taken zero items all = tt
-all_taken (suc n) [] all = tt
-all_taken (suc n) (item ∷ items) all = (all.0, all_taken n items all.1)
+all_taken P zero items all = tt
+all_taken P (suc n) [] all = tt
+all_taken P (suc n) (item ∷ items) all = (all.0, all_taken P n items all.1)
 
-all_dropped : {A : Type 0} {P : A → Type 0} (n : ℕ) (items : List A) → AllByRecursion P items
+all_dropped : {A : Type 0} (P : A → Type 0) (n : ℕ) (items : List A) → AllByRecursion P items
     → AllByRecursion P (drop n items)
-all_dropped zero items all = all
-all_dropped (suc n) [] all = tt
-all_dropped (suc n) (item ∷ items) all = all_dropped n items all.1
+all_dropped P zero items all = all
+all_dropped P (suc n) [] all = tt
+all_dropped P (suc n) (item ∷ items) all = all_dropped P n items all.1
 
-pub all_joined : {A : Type 0} {P : A → Type 0} (one other : List A) → AllByRecursion P one
+pub all_joined : {A : Type 0} (P : A → Type 0) (one other : List A) → AllByRecursion P one
     → AllByRecursion P other → AllByRecursion P (one ++ other)
-all_joined [] other all others = others
-all_joined (item ∷ one) other all others = (all.0, all_joined one other all.1 others)
+all_joined P [] other all others = others
+all_joined P (item ∷ one) other all others = (all.0, all_joined P one other all.1 others)
 
 -- The fields of a span stay,
 listed : (octets more : List ℕ) (fields others : List FieldPlace) (list : Span)
@@ -68,8 +77,8 @@ listed : (octets more : List ℕ) (fields others : List FieldPlace) (list : Span
 listed octets more fields others list all is =
     ap (λ (l : List FieldPlace). fields_of (octets ++ more) l) (part_more fields others list is)
     ∙ fields_more octets more (part_of fields list)
-    (all_taken (list.end - list.start) (drop list.start fields)
-    (all_dropped list.start fields all))
+    (all_taken (IsFieldPlace (length octets)) (list.end - list.start) (drop list.start fields)
+    (all_dropped (IsFieldPlace (length octets)) list.start fields all))
 
 -- and an event,
 event_more : (octets more : List ℕ) (fields others : List FieldPlace) (place : EventPlace)

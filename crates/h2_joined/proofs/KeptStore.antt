@@ -1,23 +1,25 @@
 -- What a store keeps, once octets, fields or an event are kept after what was kept before.
 use Rattle.std.proofs.Common.{◌≡◌, ℕ, suc, ◌+◌, ◌*◌, ◌-◌, ◌<◌, ◌≤◌, Bool, true, false, List, [], ◌∷◌}
 use Rattle.std.proofs.Common.{◌++◌, length, take, drop, map, reverse, sum_by, refl, sym, ap, ap₂, ◌∙◌}
-use Rattle.std.proofs.Common.{arith, subst, append_assoc, append-nil, length-append, length-drop}
+use Rattle.std.proofs.Common.{if◌then◌else◌, arith, subst, append_assoc, append-nil, length-append, length-drop}
 use Rattle.std.proofs.Math.Seq.{drop-append_seam, take-append_seam, take-length}
-use Rattle.std.proofs.lemmas.List.{map-append}
+use Rattle.std.proofs.lemmas.List.{map-append, take_all}
 use Rattle.std.proofs.lemmas.List.Sums.{sum_by-cons}
+use Rattle.std.proofs.lemmas.Bool.{both_ways}
 use Rattle.std.specs.List.{AllByRecursion}
 use Rattle.std.specs.Vec.{vec_len, vec_capacity}
 use Rattle.hpack.specs.declared.types.field.Field.{Field}
 use Rattle.hpack.specs.Lists.{list_size}
-use Rattle.h2_ends.specs.Ends.{Handed}
+use Rattle.h2_ends.specs.Ends.{Handed, BodyHanded}
 use Rattle.h2_joined.specs.declared.store.Span.{Span}
 use Rattle.h2_joined.specs.declared.store.FieldPlace.{FieldPlace}
 use Rattle.h2_joined.specs.declared.store.EventPlace.{EventPlace}
+use Rattle.h2_joined.specs.declared.store.EventPlace.TheVariants as places
 use Rattle.h2_joined.specs.declared.store.Store.{Store}
 use Rattle.h2_joined.specs.Stored.{part_of, field_of, fields_of, event_of, events_of, IsSpan}
 use Rattle.h2_joined.specs.Stored.{IsFieldPlace, IsEventPlace, AreStored, HasRoom, KeepsItems}
 use Rattle.h2_joined.specs.Stored.{KeepsMore, KeepsOctets, IsFieldKept, KeepsField, AreFieldsKept}
-use Rattle.h2_joined.specs.Stored.{IsPlaced, most_octets, most_fields}
+use Rattle.h2_joined.specs.Stored.{KeepsList, IsPlaced, PlacesEvent, Fits, most_octets, most_fields}
 use Rattle.h2_joined.specs.Kept.{KeepsHanded}
 use Rattle.h2_joined.proofs.KeptPlaces.{fields_more, events_more, fields_within, events_within}
 use Rattle.h2_joined.proofs.KeptPlaces.{all_joined}
@@ -41,6 +43,12 @@ same_handed old new handed same keeps =
           (sym (same_events old new same));
       stored = same_stored old new same keeps.stored;
     }
+
+-- What was pushed is there, where that was done.
+pub is_pushed : {A : Type 0} (ok : Bool) (now before more : List A)
+    → now ≡ (if ok then more else before) → ok ≡ true → now ≡ more
+is_pushed true now before more is done = is
+is_pushed false now before more is done = absurd (both_ways false refl done)
 
 -- Octets that are kept after others are those of their span.
 part_kept : {A : Type 0} (before more : List A) (span : Span) → span.start ≡ length before
@@ -159,13 +167,14 @@ event_kept old mid new handed place placed octets fields events stored =
       stored = record {
         fields = subst (λ (f : List FieldPlace).
             AllByRecursion (IsFieldPlace (length new.octets.items)) f) (sym fields_are)
-            (all_joined old.fields.items placed.fields
+            (all_joined (IsFieldPlace (length new.octets.items)) old.fields.items placed.fields
             (fields_within _ _ old.fields.items less stored.fields)
             (subst (λ (o : List ℕ). AllByRecursion (IsFieldPlace (length o)) placed.fields)
             (sym octets) placed.fields_within));
         events = subst (λ (e : List EventPlace). AllByRecursion
             (IsEventPlace (length new.octets.items) (length new.fields.items)) e) (sym events)
-            (all_joined old.events.items (place ∷ [])
+            (all_joined (IsEventPlace (length new.octets.items) (length new.fields.items))
+            old.events.items (place ∷ [])
             (events_within _ _ _ _ old.events.items less fewer stored.events)
             (rw (octets, fields) placed.within, tt));
       };
@@ -209,6 +218,20 @@ list_begins old list =
       };
     }
 
+-- All of them are.
+pub list_ends : (old now : Store) (list : List Field) (count : ℕ) (span : Span)
+    → length list ≤ count → span.start ≡ length old.fields.items
+    → span.end ≡ length now.fields.items → ListSoFar old list count now
+    → KeepsList old list span now
+list_ends old now list count span all starts ends sofar =
+    record {
+      events = sofar.events;
+      start = starts;
+      end = ends;
+      kept = λ room small. subst (λ (l : List Field). AreFieldsKept old l now)
+          (take_all count list all) (sofar.kept room small).kept;
+    }
+
 pub list_goes_on : (old now new : Store) (list : List Field) (count : ℕ) (field : Field)
     → drop count list ≡ field ∷ drop (count + 1) list
     → take (count + 1) list ≡ take count list ++ field ∷ []
@@ -245,12 +268,105 @@ list_goes_on old now new list count field left taken sofar keeps =
                   ∙ fields_more now.octets.items text before.places before.within ∙ before.same)
                   one.same
                   ∙ sym taken;
-              within = all_joined before.places (one.place ∷ [])
-                  (fields_within _ _ before.places less before.within) (one.within, tt);
+              within = all_joined (IsFieldPlace (length new.octets.items)) before.places
+                  (one.place ∷ []) (fields_within _ _ before.places less before.within) (one.within, tt);
             };
             octets_room = omega (arith, some.octets_room, size, octets_count, halves,
             keeps.octets_capacity, now.octets.ok.0, new.octets.ok.0);
             fields_room = omega (arith, some.fields_room, others, fields_count,
             keeps.fields_capacity, now.fields.ok.0, new.fields.ok.0);
           };
+    }
+
+-- A list that is kept is that of its span.
+record ListPlaced (list : List Field) (span : Span) (new : Store) : Type 0 where
+  same : fields_of new.octets.items (part_of new.fields.items span) ≡ list
+  within : IsSpan (length new.fields.items) span
+
+list_placed : (old new : Store) (list : List Field) (span : Span) → KeepsList old list span new
+    → AreFieldsKept old list new → ListPlaced list span new
+list_placed old new list span keeps kept =
+    let count = ap length kept.fields_are ∙ length-append old.fields.items kept.places in
+    record {
+      same = ap (λ (f : List FieldPlace). fields_of new.octets.items (part_of f span))
+          kept.fields_are
+          ∙ ap (λ (f : List FieldPlace). fields_of new.octets.items f)
+          (part_kept old.fields.items kept.places span keeps.start
+          (keeps.end ∙ ap length kept.fields_are))
+          ∙ kept.same;
+      within = record {
+        ordered = omega (arith, keeps.start, keeps.end, count);
+        within = omega (arith, keeps.end);
+      };
+    }
+
+-- So an event with a list has its place,
+pub list_event : (old new : Store) (list : List Field) (span : Span) (handed : Handed)
+    (place : EventPlace) → KeepsList old list span new → (Fits handed → list_size list ≤ most_octets)
+    → (fields_of new.octets.items (part_of new.fields.items span) ≡ list
+    → event_of new.octets.items new.fields.items place ≡ handed)
+    → (IsSpan (length new.fields.items) span
+    → IsEventPlace (length new.octets.items) (length new.fields.items) place)
+    → PlacesEvent old handed place new
+list_event old new list span handed place keeps small same within =
+    record {
+      events = keeps.events;
+      placed = λ room fit.
+          let kept = keeps.kept room (small fit) in
+          let placed = list_placed old new list span keeps kept in
+          record {
+            octets = kept.octets;
+            fields = kept.places;
+            octets_are = kept.octets_are;
+            fields_are = kept.fields_are;
+            same = same placed.same;
+            fields_within = kept.within;
+            within = within placed.within;
+          };
+    }
+
+-- one with a body,
+pub body_event : (old new : Store) (octets : List ℕ) (span : Span) (id : ℕ) (end : Bool)
+    → KeepsOctets old octets span new
+    → PlacesEvent old (BodyHanded id octets end) (places.Body id span end) new
+unfolding event_of Fits IsEventPlace
+body_event old new octets span id end keeps =
+    record {
+      events = keeps.events;
+      placed = λ room fit.
+          let (are, starts, ends) = keeps.kept (omega (arith, room.octets, fit)) in
+          let count = ap length are ∙ length-append old.octets.items octets in
+          record {
+            octets = octets;
+            fields = [];
+            octets_are = are;
+            fields_are = ap (λ v. v.items) keeps.fields ∙ sym (append-nil old.fields.items);
+            same = ap (λ (o : List ℕ). BodyHanded id o end)
+                (ap (λ (o : List ℕ). part_of o span) are
+                ∙ part_kept old.octets.items octets span starts (ends ∙ ap length are));
+            fields_within = tt;
+            within = record {
+              ordered = omega (arith, starts, ends, count);
+              within = omega (arith, ends);
+            };
+          };
+    }
+
+-- and one without either.
+pub bare_event : (old : Store) (handed : Handed) (place : EventPlace)
+    → event_of old.octets.items old.fields.items place ≡ handed
+    → IsEventPlace (length old.octets.items) (length old.fields.items) place
+    → PlacesEvent old handed place old
+bare_event old handed place same within =
+    record {
+      events = refl;
+      placed = λ room fit. record {
+        octets = [];
+        fields = [];
+        octets_are = sym (append-nil old.octets.items);
+        fields_are = sym (append-nil old.fields.items);
+        same = same;
+        fields_within = tt;
+        within = within;
+      };
     }

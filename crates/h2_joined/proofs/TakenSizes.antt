@@ -6,6 +6,7 @@ use Rattle.std.proofs.Common.{if◌then◌else◌, List, [], ◌∷◌, ◌++◌
 use Rattle.std.proofs.Common.{refl, sym, ap, ◌∙◌, subst, inl, inr, arith, length-append, length-drop}
 use Rattle.std.specs.List.{AllByRecursion}
 use Rattle.std.proofs.lemmas.Bool.{ltb-false}
+use Rattle.hpack.specs.declared.types.field.Field.{Field}
 use Rattle.hpack.specs.Lists.{list_size}
 use Rattle.h2_frame.specs.declared.code.Code.{Code}
 use Rattle.h2_frame.specs.declared.code.Code.TheVariants.{FrameSizeError, ProtocolError}
@@ -17,10 +18,10 @@ use Rattle.h2_block.specs.declared.fault.BlockFault.{BlockFault}
 use Rattle.h2_block.specs.Grouping.{Item, alone, block, Begun, next_fault}
 use Rattle.h2_log.specs.declared.role.Role.{Role}
 use Rattle.h2_log.specs.Acts.{Values}
-use Rattle.h2_log.specs.Events.{Event, FieldsEvent, DataEvent, UnprocessedEvent}
+use Rattle.h2_log.specs.Events.{Event, FieldsEvent, DataEvent, ResetEvent, UnprocessedEvent}
 use Rattle.h2_log.specs.Settings.{is_server}
 use Rattle.h2_log.specs.Limits.{max_list}
-use Rattle.h2_log.specs.Log.{Log}
+use Rattle.h2_log.specs.Log.{Log, next_unprocessed}
 use Rattle.h2_log.specs.LogView.{log_view}
 use Rattle.h2_log.specs.View.{View}
 use Rattle.h2_log.specs.States.{State, Idle, Active, ClosedByUs, Closed}
@@ -46,7 +47,7 @@ use Rattle.h2_end_laws.proofs.ReadVerdicts.{Says, says_of}
 use Rattle.h2_end_laws.proofs.TakeAnswers.{reported_is, sent_reported, unreturned_reported}
 use Rattle.h2_ends.specs.declared.end.End.{End}
 use Rattle.h2_ends.specs.Ends.{EndLog, Handed, Passed, EndAnswer, EndTook, EndFailed}
-use Rattle.h2_ends.specs.Ends.{part_of_event, handed_at, handed_as}
+use Rattle.h2_ends.specs.Ends.{part_of_event, handed_at, handed_as, reads_on, parts_on}
 use Rattle.h2_ends.specs.EndTakes.{EndMayTake, AnswersRefused, fails, hands_nothing, passes}
 use Rattle.h2_ends.specs.EndTakes.{hands_out, refuses, runs_out_of_memory}
 use Rattle.h2_ends.specs.Represents.{EndRepresents}
@@ -296,7 +297,8 @@ frame_reports log octets decoded frame fit =
 one_fits : (event : Event) (events before : List Event) → event ∷ before ≡ events ++ before
     → AllFit events → FitsEvent event
 one_fits event [] before is fit =
-    let counted : suc (length before) ≡ length before = ap length is in omega (arith, counted)
+    let counted : suc (length before) ≡ length before = ap length is in
+    absurd (omega (arith, counted))
 one_fits event (first ∷ events) before is fit =
     let same : event ≡ first = cc in subst FitsEvent (sym same) fit.0
 
@@ -308,7 +310,8 @@ event_fits role values log after piece answer count event came
     (has_failed code failed answers same) is = absurd (cc)
 event_fits role values log after piece answer count event came
     (reports_unprocessed up some answers same) is =
-    let one : event ≡ UnprocessedEvent _ = cc in subst FitsEvent (sym one) tt
+    let one : event ≡ UnprocessedEvent (next_unprocessed log) = cc in
+    subst FitsEvent (sym one) tt
 event_fits role values log after piece answer count event came
     (ends_no_frame takes unparsed part answers same) is = absurd (cc)
 event_fits role values log after piece answer count event came
@@ -335,23 +338,25 @@ part_fits : (event : Event) (id : ℕ) (part : Part × Bool) → part_of_event e
     → FitsEvent event → FitsPart part
 unfolding part_of_event
 part_fits (FieldsEvent on list end) id part is fit =
-    let same : part ≡ (FieldsPart list, end) = cc in subst FitsPart (sym same) fit
+    let both : (on, (FieldsPart list, end)) ≡ (id, part) = cc in
+    subst FitsPart (ap (λ (p : ℕ × (Part × Bool)). p.1) both) fit
 part_fits (DataEvent on octets flow end) id part is fit =
-    let same : part ≡ (OctetsPart octets, end) = cc in subst FitsPart (sym same) fit
+    let both : (on, (OctetsPart octets, end)) ≡ (id, part) = cc in
+    subst FitsPart (ap (λ (p : ℕ × (Part × Bool)). p.1) both) fit
 part_fits event id part is fit = absurd (cc)
 
-placed_fits : (place : Place) (id : ℕ) (part : Part × Bool) (list : _) (end : Bool)
+placed_fits : (place : Place) (id : ℕ) (list : List Field) (end : Bool)
     → list_size list ≤ 65536 → Fits (handed_at place id list end)
 unfolding handed_at Fits
-placed_fits places.Interim id part list end fit = fit
-placed_fits places.Head id part list end fit = fit
-placed_fits places.Trailers id part list end fit = fit
+placed_fits places.Interim id list end fit = fit
+placed_fits places.Head id list end fit = fit
+placed_fits places.Trailers id list end fit = fit
 
 handed_fits : (reads : Reads) (parts : List (Part × Bool)) (id : ℕ) (part : Part × Bool)
     → FitsPart part → Fits (handed_as reads parts id part)
 unfolding handed_as Fits
 handed_fits reads parts id (FieldsPart list, end) fit =
-    placed_fits _ id (FieldsPart list, end) list end fit
+    placed_fits _ id list end fit
 handed_fits reads parts id (OctetsPart octets, end) fit = fit
 
 -- What is no part of a message has no octets.
@@ -365,7 +370,8 @@ refusal_fits : (end after : EndLog) (log : Log) (count id used : ℕ) (answer : 
 unfolding AnswersRefused
 refusal_fits end after log count id used answer handed None answers is =
     let one = answers.0 in
-    let same : handed ≡ Passed _ = cc in subst Fits (sym same) (passed_fits _)
+    let same : handed ≡ Passed (ResetEvent id 1 true) = cc in
+    subst Fits (sym same) (passed_fits (ResetEvent id 1 true))
 refusal_fits end after log count id used answer handed (Some code) answers is =
     let one = answers.0 in absurd (cc)
 
@@ -381,8 +387,8 @@ answer_fits role values end after piece answer used handed came
     let one : handed ≡ Passed event = cc in subst Fits (sym one) (passed_fits event)
 answer_fits role values end after piece answer used handed came
     (hands_out count event log may id part of readable answers same) is =
-    let one : handed ≡ handed_as _ _ id part = cc in
-    subst Fits (sym one) (handed_fits _ _ id part (part_fits event id part of
+    let one : handed ≡ handed_as (reads_on end id) (parts_on id end.handed) id part = cc in
+    subst Fits (sym one) (handed_fits (reads_on end id) (parts_on id end.handed) id part (part_fits event id part of
     (event_fits role values end.log log piece (Took count (Some event)) count event came may refl)))
 answer_fits role values end after piece answer used handed came
     (refuses count event log may id part of broken refused answers leads) is =

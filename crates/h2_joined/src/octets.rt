@@ -152,11 +152,13 @@ impl Joined {
         }
         match self.take_once(to, piece) {
             Taking::Took { used, hands } => {
-                if hands || used < piece.len() {
-                    Next::Again(used)
-                } else {
-                    Next::Whole
+                if hands {
+                    return Next::Again(used);
                 }
+                if used < piece.len() {
+                    return Next::Again(used);
+                }
+                Next::Whole
             }
             Taking::Failed { code } => Next::Failed(code),
         }
