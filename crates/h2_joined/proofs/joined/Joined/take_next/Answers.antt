@@ -14,8 +14,8 @@ returns-then-used-piece c =
     c.args.piece.now c.make_room.result c.make_room.ensures c.if-not-make_room.false c.in-Took.used
     (rw c.if-hands.false at c.in-Took.ensures) c.if-used-piece.true
 
-pub returns-in-Took : goal.returns-in-Took
-returns-in-Took c =
+pub returns-else-used-piece : goal.returns-else-used-piece
+returns-else-used-piece c =
     next_whole c.args.to c.args.self.now c.make_room.new.self c.take_once.new.self
     c.args.piece.now c.make_room.result c.make_room.ensures c.if-not-make_room.false c.in-Took.used
     (rw c.if-hands.false at c.in-Took.ensures) c.if-used-piece.false
