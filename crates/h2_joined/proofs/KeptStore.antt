@@ -120,12 +120,12 @@ field_kept old one two new name value names values sensitive first second same_e
               value = v;
               sensitive = sensitive;
             })
-            (part_kept_first old.octets.items names values name name_start
-            (name_end ∙ ap length names_are))
-            (ap (λ (o : List ℕ). part_of o value) (sym (append_assoc old.octets.items names values))
-            ∙ part_kept (old.octets.items ++ names) values value
-            (value_start ∙ ap length names_are)
-            (value_end ∙ ap length (values_are ∙ ap (λ (o : List ℕ). o ++ values) names_are))));
+                (part_kept_first old.octets.items names values name name_start
+                (name_end ∙ ap length names_are))
+                (ap (λ (o : List ℕ). part_of o value) (sym (append_assoc old.octets.items names values))
+                ∙ part_kept (old.octets.items ++ names) values value
+                (value_start ∙ ap length names_are)
+                (value_end ∙ ap length (values_are ∙ ap (λ (o : List ℕ). o ++ values) names_are))));
             within = record {
               name = record {
                 ordered = omega (arith, name_start, name_end, middle);
@@ -271,10 +271,25 @@ list_goes_on old now new list count field left taken sofar keeps =
               within = all_joined (IsFieldPlace (length new.octets.items)) before.places
                   (one.place ∷ []) (fields_within _ _ before.places less before.within) (one.within, tt);
             };
-            octets_room = omega (arith, some.octets_room, size, octets_count, halves,
-            keeps.octets_capacity, now.octets.ok.0, new.octets.ok.0);
-            fields_room = omega (arith, some.fields_room, others, fields_count,
-            keeps.fields_capacity, now.fields.ok.0, new.fields.ok.0);
+            octets_room = omega (
+              arith,
+              some.octets_room,
+              size,
+              octets_count,
+              halves,
+              keeps.octets_capacity,
+              now.octets.ok.0,
+              new.octets.ok.0,
+            );
+            fields_room = omega (
+              arith,
+              some.fields_room,
+              others,
+              fields_count,
+              keeps.fields_capacity,
+              now.fields.ok.0,
+              new.fields.ok.0,
+            );
           };
     }
 

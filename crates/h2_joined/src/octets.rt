@@ -19,14 +19,9 @@ use std::mem;
 #[derive(Clone, Copy)]
 pub(crate) enum Taking {
     /// So many octets were used, and whether something was handed out, which is kept.
-    Took {
-        used: usize,
-        hands: bool,
-    },
+    Took { used: usize, hands: bool },
     /// The connection has failed.
-    Failed {
-        code: Code,
-    },
+    Failed { code: Code },
 }
 
 /// How a delivery goes on after a call of `take`.

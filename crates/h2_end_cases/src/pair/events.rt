@@ -10,13 +10,7 @@ use h2_joined::{Accepted, JointEvent, KeptFields};
 use std::alloc::Global;
 
 // Adds the lines of a list of fields: what it is, its stream, and the fields.
-fn add_part(
-    alloc: Global,
-    text: &mut Text,
-    kind: &str,
-    stream: (u32, bool),
-    list: KeptFields<'_>,
-) {
+fn add_part(alloc: Global, text: &mut Text, kind: &str, stream: (u32, bool), list: KeptFields<'_>) {
     let (id, end) = stream;
     begin_line(text, kind, id, end);
     text.push_str("\n");

@@ -186,11 +186,7 @@ fn are_accepted(events: HandedEvents<'_>, accepted: &[Accepted]) -> bool {
 
 /// Whether all of the message that was accepted for a stream was handed out there; nothing where
 /// what was handed out on some stream is no prefix of the message that was accepted for it.
-pub(crate) fn is_whole(
-    events: HandedEvents<'_>,
-    accepted: &[Accepted],
-    id: u32,
-) -> Option<bool> {
+pub(crate) fn is_whole(events: HandedEvents<'_>, accepted: &[Accepted], id: u32) -> Option<bool> {
     let mut is_whole = false;
     for one in accepted {
         let heard = heard_of(events, one);

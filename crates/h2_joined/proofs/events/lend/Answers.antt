@@ -21,8 +21,11 @@ returns-in-Body c = rw (c.in-Body.is, c.octets_at.ensures, c.deref.ensures.value
 pub returns-in-Trailers : goal.returns-in-Trailers
 unfolding event_of
 returns-in-Trailers c =
-    rw (c.in-Trailers.is, c.lend_fields-in-Trailers.ensures.octets,
-    c.lend_fields-in-Trailers.ensures.places) refl
+    rw (
+      c.in-Trailers.is,
+      c.lend_fields-in-Trailers.ensures.octets,
+      c.lend_fields-in-Trailers.ensures.places,
+    ) refl
 
 pub returns-in-Reset : goal.returns-in-Reset
 unfolding event_of
