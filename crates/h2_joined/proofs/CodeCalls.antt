@@ -40,7 +40,8 @@ pump_acts side old new result answer same changes does =
     }))
 
 pub release_acts : (side : Side) (old new : Joined) (result : Result (Unit {0}) EndRefusal)
-    (answer : Acted) → answer ≡ acted_by (λ done. acted.Done) result → ChangesEnd side old new → EndReleases (end_at side old) result (end_at side new)
+    (answer : Acted) → answer ≡ acted_by (λ done. acted.Done) result
+    → ChangesEnd side old new → EndReleases (end_at side old) result (end_at side new)
     → MakesAct old (made side ReleasesAll answer) new
 release_acts side old new result answer same changes does =
     answered_as side old new ReleasesAll answer _ same
@@ -57,7 +58,8 @@ release_acts side old new result answer same changes does =
     }))
 
 pub call_acts : (side : Side) (old new : Joined) (act : Act) (answered : Answer) (answer : Acted)
-    → answer ≡ acted_as answered → IsCall act → IsTypedAct act → ChangesEnd side old new → EndAnswers (end_at side old) act answered (end_at side new)
+    → answer ≡ acted_as answered → IsCall act → IsTypedAct act
+    → ChangesEnd side old new → EndAnswers (end_at side old) act answered (end_at side new)
     → MakesAct old (made side (Calls act) answer) new
 call_acts side old new act answered answer same is typed changes does =
     answered_as side old new (Calls act) answer _ same

@@ -1,5 +1,5 @@
 -- A call of `take` of an end, and what is kept of it then.
-use Rattle.std.proofs.Common.{◌≡◌, ◌≢◌, ℕ, ◌<◌, ◌≤◌, Bool, true, false, List, [], ◌∷◌, ◌++◌}
+use Rattle.std.proofs.Common.{◌≡◌, ℕ, ◌<◌, ◌≤◌, Bool, true, false, List, [], ◌∷◌}
 use Rattle.std.proofs.Common.{length, reverse, Option, Some, None, Ok, Err, option_map, refl, sym}
 use Rattle.std.proofs.Common.{ap, ◌∙◌, subst, inl, inr, arith}
 use Rattle.std.proofs.lemmas.List.{reverse-append}
@@ -19,10 +19,10 @@ use Rattle.h2_joined.specs.declared.octets.Taking.{Taking}
 use Rattle.h2_joined.specs.declared.octets.Taking.TheVariants as takings
 use Rattle.h2_joined.specs.declared.octets.Next.TheVariants as nexts
 use Rattle.h2_joined.specs.declared.joined.Joined.{Joined}
-use Rattle.h2_joined.specs.Stored.{AreStored, Fits, HasRoom, KeepsItems, KeepsMore, events_of}
+use Rattle.h2_joined.specs.Stored.{AreStored, Fits, HasRoom, KeepsMore, events_of}
 use Rattle.h2_joined.specs.Kept.{KeepsHanded, end_at, kept_of}
 use Rattle.h2_joined.specs.Delivering.{TakesOnce, ChangesOnly, IsKeptAt, IsTaken, MakesRoom}
-use Rattle.h2_joined.specs.Delivering.{TakesNextOf, TakesNext, TookAt}
+use Rattle.h2_joined.specs.Delivering.{TakesNext, TookAt}
 use Rattle.h2_joined.proofs.KeptEnds.{taken_says}
 use Rattle.h2_joined.proofs.KeptStore.{same_handed}
 use Rattle.h2_joined.proofs.TakenSizes.{taken_fits}

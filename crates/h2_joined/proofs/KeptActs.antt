@@ -1,5 +1,5 @@
 -- An act at one end of two joined ends is one more act of both.
-use Rattle.std.proofs.Common.{map as each, ◌≡◌, ℕ, Bool, List, [], ◌∷◌, ◌++◌, reverse, refl, sym}
+use Rattle.std.proofs.Common.{map as each, ◌≡◌, ℕ, List, [], ◌∷◌, ◌++◌, reverse, refl, sym}
 use Rattle.std.proofs.Common.{ap, ◌∙◌, subst}
 use Rattle.std.proofs.lemmas.List.{map_push, reverse-append}
 use Rattle.h2_log.specs.Acts.{Values}

@@ -103,7 +103,8 @@ event_more octets more fields others (places.Pong pong) all is = refl
 pub events_more : (octets more : List ℕ) (fields others : List FieldPlace)
     (events : List EventPlace) → AllByRecursion (IsFieldPlace (length octets)) fields
     → AllByRecursion (IsEventPlace (length octets) (length fields)) events
-    → map (event_of (octets ++ more) (fields ++ others)) events ≡ map (event_of octets fields) events
+    → map (event_of (octets ++ more) (fields ++ others)) events
+    ≡ map (event_of octets fields) events
 events_more octets more fields others [] all are = refl
 events_more octets more fields others (place ∷ events) all are =
     ap₂ (λ (h : Handed) (hs : List Handed). h ∷ hs)

@@ -1,7 +1,8 @@
 -- What a store keeps, once octets, fields or an event are kept after what was kept before.
-use Rattle.std.proofs.Common.{◌≡◌, ℕ, suc, ◌+◌, ◌*◌, ◌-◌, ◌<◌, ◌≤◌, Bool, true, false, List, [], ◌∷◌}
-use Rattle.std.proofs.Common.{◌++◌, length, take, drop, map, reverse, sum_by, refl, sym, ap, ap₂, ◌∙◌}
-use Rattle.std.proofs.Common.{if◌then◌else◌, arith, subst, append_assoc, append-nil, length-append, length-drop}
+use Rattle.std.proofs.Common.{◌≡◌, ℕ, ◌+◌, ◌*◌, ◌-◌, ◌<◌, ◌≤◌, Bool, true, false, List, [], ◌∷◌}
+use Rattle.std.proofs.Common.{◌++◌, length, take, drop, map, reverse, refl, sym, ap, ap₂, ◌∙◌}
+use Rattle.std.proofs.Common.{if◌then◌else◌, arith, subst, append_assoc, append-nil}
+use Rattle.std.proofs.Common.{length-append}
 use Rattle.std.proofs.Math.Seq.{drop-append_seam, take-append_seam, take-length}
 use Rattle.std.proofs.lemmas.List.{map-append, take_all}
 use Rattle.std.proofs.lemmas.List.Sums.{sum_by-cons}
@@ -18,8 +19,8 @@ use Rattle.h2_joined.specs.declared.store.EventPlace.TheVariants as places
 use Rattle.h2_joined.specs.declared.store.Store.{Store}
 use Rattle.h2_joined.specs.Stored.{part_of, field_of, fields_of, event_of, events_of, IsSpan}
 use Rattle.h2_joined.specs.Stored.{IsFieldPlace, IsEventPlace, AreStored, HasRoom, KeepsItems}
-use Rattle.h2_joined.specs.Stored.{KeepsMore, KeepsOctets, IsFieldKept, KeepsField, AreFieldsKept}
-use Rattle.h2_joined.specs.Stored.{KeepsList, IsPlaced, PlacesEvent, Fits, most_octets, most_fields}
+use Rattle.h2_joined.specs.Stored.{KeepsMore, KeepsOctets, KeepsField, AreFieldsKept}
+use Rattle.h2_joined.specs.Stored.{KeepsList, IsPlaced, PlacesEvent, Fits, most_octets}
 use Rattle.h2_joined.specs.Kept.{KeepsHanded}
 use Rattle.h2_joined.proofs.KeptPlaces.{fields_more, events_more, fields_within, events_within}
 use Rattle.h2_joined.proofs.KeptPlaces.{all_joined}
@@ -122,7 +123,8 @@ field_kept old one two new name value names values sensitive first second same_e
             })
                 (part_kept_first old.octets.items names values name name_start
                 (name_end ∙ ap length names_are))
-                (ap (λ (o : List ℕ). part_of o value) (sym (append_assoc old.octets.items names values))
+                (ap (λ (o : List ℕ). part_of o value)
+                (sym (append_assoc old.octets.items names values))
                 ∙ part_kept (old.octets.items ++ names) values value
                 (value_start ∙ ap length names_are)
                 (value_end ∙ ap length (values_are ∙ ap (λ (o : List ℕ). o ++ values) names_are))));
@@ -269,7 +271,8 @@ list_goes_on old now new list count field left taken sofar keeps =
                   one.same
                   ∙ sym taken;
               within = all_joined (IsFieldPlace (length new.octets.items)) before.places
-                  (one.place ∷ []) (fields_within _ _ before.places less before.within) (one.within, tt);
+                  (one.place ∷ []) (fields_within _ _ before.places less before.within)
+                  (one.within, tt);
             };
             octets_room = omega (
               arith,
@@ -317,7 +320,8 @@ list_placed old new list span keeps kept =
 
 -- So an event with a list has its place,
 pub list_event : (old new : Store) (list : List Field) (span : Span) (handed : Handed)
-    (place : EventPlace) → KeepsList old list span new → (Fits handed → list_size list ≤ most_octets)
+    (place : EventPlace) → KeepsList old list span new
+    → (Fits handed → list_size list ≤ most_octets)
     → (fields_of new.octets.items (part_of new.fields.items span) ≡ list
     → event_of new.octets.items new.fields.items place ≡ handed)
     → (IsSpan (length new.fields.items) span

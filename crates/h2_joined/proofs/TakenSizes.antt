@@ -3,7 +3,8 @@
 -- crate below has it.
 use Rattle.std.proofs.Common.{◌≡◌, ℕ, suc, ◌+◌, ◌≤◌, nat_lt, ◌&&◌, not, Bool, true, false}
 use Rattle.std.proofs.Common.{if◌then◌else◌, List, [], ◌∷◌, ◌++◌, length, drop, Option, Some, None}
-use Rattle.std.proofs.Common.{refl, sym, ap, ◌∙◌, subst, inl, inr, arith, length-append, length-drop}
+use Rattle.std.proofs.Common.{refl, sym, ap, ◌∙◌, subst, inl, inr, arith, length-append}
+use Rattle.std.proofs.Common.{length-drop}
 use Rattle.std.specs.List.{AllByRecursion}
 use Rattle.std.proofs.lemmas.Bool.{ltb-false}
 use Rattle.hpack.specs.declared.types.field.Field.{Field}
@@ -12,7 +13,7 @@ use Rattle.h2_frame.specs.declared.code.Code.{Code}
 use Rattle.h2_frame.specs.declared.code.Code.TheVariants.{FrameSizeError, ProtocolError}
 use Rattle.h2_frame.specs.Heads.{head_of, head_fault, form_fault}
 use Rattle.h2_frame.specs.Frames.{Frame, Data, Headers, Priority, Reset, Settings, Ping, GoAway}
-use Rattle.h2_frame.specs.Frames.{WindowUpdate, Continuation, Unknown, IsPadded, Encodes}
+use Rattle.h2_frame.specs.Frames.{WindowUpdate, Continuation, Unknown, IsPadded}
 use Rattle.h2_wire.specs.Streams.{Limits, IsFrame, AreFrames, Frames}
 use Rattle.h2_block.specs.declared.fault.BlockFault.{BlockFault}
 use Rattle.h2_block.specs.Grouping.{Item, alone, block, Begun, next_fault}
@@ -29,24 +30,24 @@ use Rattle.h2_log.specs.Verdicts.{Verdict, ConnectionFault, StreamFault, NoEvent
 use Rattle.h2_log.specs.Verdicts.{block_verdict, opening_verdict}
 use Rattle.h2_log.specs.ItemRules.{Decoded, FrameStep, fails_with, begins_block, completes}
 use Rattle.h2_log.specs.ItemRules.{frame_step, grouped, grouping_step, may_be_first}
-use Rattle.h2_log.specs.ItemRules.{verdict_by_rules, verdict_of, verdict_of_block, replies_to}
+use Rattle.h2_log.specs.ItemRules.{verdict_by_rules, verdict_of}
 use Rattle.h2_log.specs.ItemEffects.{events_of, fields_of}
 use Rattle.h2_log.specs.LogSteps.{limits_from, used, read, with_sent, with_reported}
-use Rattle.h2_log.specs.LogSteps.{with_unreturned, with_failure, with_verdict, with_step, with_frame}
-use Rattle.h2_log.specs.LogSteps.{took_frame}
+use Rattle.h2_log.specs.LogSteps.{with_unreturned, with_failure, with_verdict, with_step}
+use Rattle.h2_log.specs.LogSteps.{with_frame, took_frame}
 use Rattle.h2_log.specs.Histories.{IsLog}
 use Rattle.h2_message.specs.Reading.{Part, FieldsPart, OctetsPart}
 use Rattle.h2_message.specs.declared.reading.Place.{Place}
 use Rattle.h2_message.specs.declared.reading.Place.TheVariants as places
 use Rattle.h2_message.specs.declared.reading.Reads.{Reads}
-use Rattle.h2_end_laws.specs.Takes.{MayTake, TakeAnswer, Took, Failed, AnswersFrame, has_failed}
+use Rattle.h2_end_laws.specs.Takes.{MayTake, TakeAnswer, Took, AnswersFrame, has_failed}
 use Rattle.h2_end_laws.specs.Takes.{reports_unprocessed, ends_no_frame, ends_frame, meets_fault}
 use Rattle.h2_end_laws.specs.Takes as takes
 use Rattle.h2_end_laws.proofs.PayloadLimits.{limits_to_come}
 use Rattle.h2_end_laws.proofs.ReadVerdicts.{Says, says_of}
 use Rattle.h2_end_laws.proofs.TakeAnswers.{reported_is, sent_reported, unreturned_reported}
 use Rattle.h2_ends.specs.declared.end.End.{End}
-use Rattle.h2_ends.specs.Ends.{EndLog, Handed, Passed, EndAnswer, EndTook, EndFailed}
+use Rattle.h2_ends.specs.Ends.{EndLog, Handed, Passed, EndAnswer, EndTook}
 use Rattle.h2_ends.specs.Ends.{part_of_event, handed_at, handed_as, reads_on, parts_on}
 use Rattle.h2_ends.specs.EndTakes.{EndMayTake, AnswersRefused, fails, hands_nothing, passes}
 use Rattle.h2_ends.specs.EndTakes.{hands_out, refuses, runs_out_of_memory}
@@ -388,7 +389,8 @@ answer_fits role values end after piece answer used handed came
 answer_fits role values end after piece answer used handed came
     (hands_out count event log may id part of readable answers same) is =
     let one : handed ≡ handed_as (reads_on end id) (parts_on id end.handed) id part = cc in
-    subst Fits (sym one) (handed_fits (reads_on end id) (parts_on id end.handed) id part (part_fits event id part of
+    subst Fits (sym one) (handed_fits (reads_on end id) (parts_on id end.handed) id part
+    (part_fits event id part of
     (event_fits role values end.log log piece (Took count (Some event)) count event came may refl)))
 answer_fits role values end after piece answer used handed came
     (refuses count event log may id part of broken refused answers leads) is =

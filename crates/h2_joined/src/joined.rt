@@ -85,8 +85,8 @@ impl Joined {
 
     // rule: joined (own) Two joined ends are quiet where both are, and both pipes are empty
     /// Whether nothing is under way between the two ends, and neither has anything to do: both are
-    /// quiet ([`Client::is_quiet`]), both pipes are empty, and no last delivery to either end has
-    /// answered [`Acted::Memory`], so that all was handed out. An end that has failed is not quiet.
+    /// quiet ([`Client::is_quiet`]), both pipes are empty, and the last delivery to either end has
+    /// not answered [`Acted::Memory`]: all was handed out. An end that has failed is not quiet.
     pub fn quiet(&self) -> bool
         ensures { (client_values server_values : Values) (made : List Made)
             (client server : JointEnd)

@@ -25,7 +25,7 @@ pub(crate) struct Kept {
     pub(crate) accepted: Vec<Accepted>,
     /// What it has handed out, in order.
     pub(crate) handed: Store,
-    /// Whether the last delivery to it has stopped, so that it may have something to hand out still.
+    /// Whether the last delivery to it has stopped: it may have something to hand out still.
     pub(crate) unfinished: bool,
 }
 

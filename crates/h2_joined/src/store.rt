@@ -2,8 +2,9 @@
 
 ghost use Rattle.std.specs.Prelude.{◌≡◌, true, length, []};
 ghost use Rattle.h2_ends.specs.Loans.{event_handed};
-ghost use Rattle.h2_joined.specs.Stored.{AreStored, Fits, HasRoom, KeepsItems, KeepsMore, events_of};
-ghost use Rattle.h2_joined.specs.Stored.{KeepsField, KeepsList, KeepsOctets, PlacesEvent, part_of};
+ghost use Rattle.h2_joined.specs.Stored.{AreStored, Fits, HasRoom, KeepsItems, KeepsMore};
+ghost use Rattle.h2_joined.specs.Stored.{KeepsField, KeepsList, KeepsOctets, PlacesEvent};
+ghost use Rattle.h2_joined.specs.Stored.{events_of, part_of};
 
 use h2_ends::{EndEvent, FieldList, FieldRef};
 use std::alloc::Global;

@@ -75,8 +75,8 @@ fn is_closed(act: &JointAct, acted: Acted) -> bool {
     }
 }
 
-/// Whether an end has failed, and an act of it is answered as it must be then; and a refused act has
-/// changed nothing.
+/// Whether an end has failed, and an act of it is answered as it must be then; and a refused act
+/// has changed nothing.
 fn makes(joined: &mut Joined, act: &JointAct, side: Side) -> bool {
     let before = (half_of(joined, Side::Client), half_of(joined, Side::Server));
     let failed = half_of(joined, side).3.is_some();
@@ -86,8 +86,9 @@ fn makes(joined: &mut Joined, act: &JointAct, side: Side) -> bool {
     (!failed || is_closed(act, acted)) && (!refused || before == after)
 }
 
-/// Whether a delivery that has stopped, since memory was refused, goes on where it has stopped: what
-/// it had not used is still on the pipe, and the two ends are not quiet before it was made again.
+/// Whether a delivery that has stopped, since memory was refused, goes on where it has stopped:
+/// what it had not used is still on the pipe, and the two ends are not quiet before it was made
+/// again.
 fn goes_on(joined: &mut Joined, act: &JointAct, side: Side) -> bool {
     let other = match side {
         Side::Client => Side::Server,

@@ -1,7 +1,7 @@
 -- By the lemmas on what an event has.
 use Rattle.std.proofs.Common.{List, refl, ap}
 use Rattle.hpack.specs.declared.types.field.Field.{Field}
-use Rattle.h2_ends.specs.Ends.{InterimHanded, HeadHanded, TrailersHanded, Passed}
+use Rattle.h2_ends.specs.Ends.{InterimHanded, HeadHanded, TrailersHanded}
 use Rattle.h2_joined.specs.declared.store.EventPlace.TheVariants as places
 use Rattle.h2_joined.specs.Stored.{event_of, Fits, IsEventPlace}
 use Rattle.h2_joined.proofs.KeptStore.{list_event, body_event, bare_event}
@@ -11,7 +11,8 @@ pub returns-in-Interim : goal.returns-in-Interim
 unfolding event_of Fits IsEventPlace
 returns-in-Interim c =
     let handed = λ (l : List Field). InterimHanded c.in-Interim.id l in
-    rw c.in-Interim.is (list_event c.args.self.now c.keep_list.new.self c.in-Interim.list.now c.keep_list.result
+    rw c.in-Interim.is (list_event c.args.self.now c.keep_list.new.self c.in-Interim.list.now
+    c.keep_list.result
     (handed c.in-Interim.list.now) (places.Interim c.in-Interim.id c.keep_list.result)
     c.keep_list.ensures (λ fit. fit) (λ same. ap handed same) (λ within. within))
 
@@ -19,7 +20,8 @@ pub returns-in-Head : goal.returns-in-Head
 unfolding event_of Fits IsEventPlace
 returns-in-Head c =
     let handed = λ (l : List Field). HeadHanded c.in-Head.id l c.in-Head.end in
-    rw c.in-Head.is (list_event c.args.self.now c.keep_list-in-Head.new.self c.in-Head.list.now c.keep_list-in-Head.result
+    rw c.in-Head.is (list_event c.args.self.now c.keep_list-in-Head.new.self
+    c.in-Head.list.now c.keep_list-in-Head.result
     (handed c.in-Head.list.now) (places.Head c.in-Head.id c.keep_list-in-Head.result c.in-Head.end)
     c.keep_list-in-Head.ensures (λ fit. fit) (λ same. ap handed same) (λ within. within))
 
@@ -27,8 +29,10 @@ pub returns-in-Trailers : goal.returns-in-Trailers
 unfolding event_of Fits IsEventPlace
 returns-in-Trailers c =
     let handed = λ (l : List Field). TrailersHanded c.in-Trailers.id l in
-    rw c.in-Trailers.is (list_event c.args.self.now c.keep_list-in-Trailers.new.self c.in-Trailers.list.now c.keep_list-in-Trailers.result
-    (handed c.in-Trailers.list.now) (places.Trailers c.in-Trailers.id c.keep_list-in-Trailers.result)
+    rw c.in-Trailers.is (list_event c.args.self.now c.keep_list-in-Trailers.new.self
+    c.in-Trailers.list.now c.keep_list-in-Trailers.result
+    (handed c.in-Trailers.list.now)
+    (places.Trailers c.in-Trailers.id c.keep_list-in-Trailers.result)
     c.keep_list-in-Trailers.ensures (λ fit. fit) (λ same. ap handed same) (λ within. within))
 
 pub returns-in-Body : goal.returns-in-Body
